@@ -1,0 +1,46 @@
+-- What is written is read again.
+use Rattle.std.proofs.Common.{◌≡◌, ℕ, ℤ, ◌^◌, ◌<◌, false, ltb, leb, List, ◌++◌, length, Some, Ok, refl, ap, ◌∙◌, append_assoc, arith}
+use Rattle.std.specs.Int.{Width, w32, to_le_bytes, cast_signed, cast_unsigned}
+use Rattle.std.specs.Prelude.{FitsSigned}
+use Rattle.std.proofs.lemmas.Int.{to_z-of_z}
+use Rattle.std.specs.Str.{IsUtf8}
+use Rattle.std.proofs.lemmas.Bool.{le-ltb, lt-leb}
+use Rattle.std.proofs.lemmas.List.{take_at, drop_at, length-append}
+use Rattle.std.proofs.lemmas.Nat.{from_le_bytes-to_le_bytes_4}
+use Rattle.std.proofs.lemmas.Str.{is_utf8-from_IsUtf8}
+use Rattle.ua_binary.specs.Reading.{IsReadAgain}
+use Rattle.ua_binary.specs.Numbers.{bytes_reading, octets_reading, number_reading, number_encoding}
+use Rattle.ua_binary.specs.Texts.{text_reading, text_encoding, byte_string_reading, byte_string_encoding}
+
+pub number32_again : (n : ℕ) (x : List ℕ) → n < 2 ^ 32 → number_reading w32 (number_encoding w32 n ++ x) ≡ Ok (n, x)
+unfolding number_reading number_encoding
+number32_again n x lt =
+    let long : ltb (length (to_le_bytes w32 n ++ x)) 4 ≡ false = le-ltb _ _ (omega (arith, length-append (to_le_bytes w32 n) x)) in
+    rw (long, from_le_bytes-to_le_bytes_4 n lt) refl
+
+-- so many bytes are read as they stand
+bytes_again : (n : ℕ) (bytes x : List ℕ) → length bytes ≡ n → bytes_reading n (bytes ++ x) ≡ Ok (bytes, x)
+bytes_again n bytes x e =
+    let enough : ltb (length (bytes ++ x)) n ≡ false = le-ltb _ _ (omega (arith, length-append bytes x)) in
+    rw (enough, take_at bytes x n e, drop_at bytes x n e) refl
+
+pub octets_again : (n : ℕ) (bytes x : List ℕ) → length bytes ≡ n → octets_reading n (bytes ++ x) ≡ Ok (bytes, x)
+unfolding octets_reading
+octets_again n bytes x e = bytes_again n bytes x e
+
+pub text_again : (bytes : List ℕ) → length bytes < 2 ^ 31 → IsUtf8 bytes → IsReadAgain text_reading text_encoding (Some bytes)
+unfolding text_reading byte_string_encoding
+text_again bytes short utf8 x =
+    let n = length bytes in
+    let small : leb (2 ^ 31) n ≡ false = lt-leb _ _ short in
+    ap text_reading (append_assoc (number_encoding w32 n) bytes x) ∙ rw (number32_again n (bytes ++ x) (omega arith), small, bytes_again n bytes x refl, is_utf8-from_IsUtf8 bytes utf8) refl
+
+pub byte_string_again : (bytes : List ℕ) → length bytes < 2 ^ 31 → IsReadAgain byte_string_reading byte_string_encoding (Some bytes)
+unfolding byte_string_reading byte_string_encoding
+byte_string_again bytes short x =
+    let n = length bytes in
+    let small : leb (2 ^ 31) n ≡ false = lt-leb _ _ short in
+    ap byte_string_reading (append_assoc (number_encoding w32 n) bytes x) ∙ rw (number32_again n (bytes ++ x) (omega arith), small, bytes_again n bytes x refl) refl
+
+pub cast_back : (w : Width) (z : ℤ) → FitsSigned w z → cast_signed w (cast_unsigned w z) ≡ z
+cast_back w z fits = to_z-of_z w z fits

@@ -1,0 +1,5 @@
+pub mod Utf8Tests
+pub mod Again
+pub mod Elements
+pub mod Extending
+pub mod Flags

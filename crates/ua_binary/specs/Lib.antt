@@ -1,0 +1,12 @@
+pub mod Reading
+pub mod Numbers
+pub mod Texts
+pub mod Arrays
+pub mod Scalars
+pub mod Guids
+pub mod NodeIds
+pub mod Parts
+pub mod ExpandedNodeIds
+pub mod QualifiedNames
+pub mod LocalizedTexts
+pub mod ExtensionObjects

@@ -1,0 +1,89 @@
+//! Lists, for every type of elements.
+
+ghost use Rattle.std.specs.Prelude.{◌≡◌, ◌≤◌, ◌<◌, ◌^◌, Some, length, IfOk, OnOk, OnErr, ◌++◌, All};
+ghost use Rattle.std.specs.List.{flat_map};
+ghost use Rattle.std.specs.Vec.{vec_len};
+ghost use Rattle.ua_binary.specs.Reading.{ReadsAs, Extends, IsReadAgain};
+ghost use Rattle.ua_binary.specs.Texts.{ClaimsTooMany};
+ghost use Rattle.ua_binary.specs.Arrays.{array_reading, elements_reading, array_encoding};
+
+use crate::cursor::Cursor;
+use crate::fault::TakeFault;
+use crate::texts::NULL;
+use crate::wire::Wire;
+use std::alloc::{AllocError, Global};
+use ua_types::Array;
+
+/// The most elements for which room is taken before they are read.
+const ROOM: usize = 1024;
+
+fn elements<T: Wire>(
+    alloc: Global,
+    count: usize,
+    cursor: &mut Cursor<'_>,
+) -> Result<Vec<T>, TakeFault>
+    ensures reads { ReadsAs (λ v. v.items) result cursor.new (elements_reading T.reading count cursor.old) }
+    ensures len { IfOk result (λ v. vec_len v ≡ count) }
+{
+    let mut items = Vec::with_capacity(alloc, count.min(ROOM))?;
+    for _ in 0..count {
+        let item = T::parse(alloc, cursor)?;
+        items.push(item)?;
+    }
+    Ok(items)
+}
+
+#[tactic(auto, using(crate::proofs::Extending::extends_more))]
+fn append_all<T: Wire>(items: &[T], out: &mut Vec<u8>) -> Result<(), AllocError>
+    ensures ok { OnOk result (out.new.items ≡ out.old.items ++ flat_map T.encoding items.now) }
+    ensures err { OnErr result (Extends out.old.items out.new.items) }
+    ensures again { OnOk result (All (IsReadAgain T.reading T.encoding) items.now) }
+    ensures some { OnOk result (length items.now ≤ length (flat_map T.encoding items.now)) }
+{
+    for item in items {
+        item.append(out)?;
+    }
+    Ok(())
+}
+
+// Writes a list that isn't null.
+#[tactic(auto, using(crate::proofs::Elements::array_again, crate::proofs::Extending::extends_more), unfolding(crate::specs::Arrays::array_encoding))]
+fn append_slice<T: Wire>(items: &[T], out: &mut Vec<u8>) -> Result<(), AllocError>
+    requires { length items.now < 2 ^ 31 }
+    ensures ok { OnOk result (out.new.items ≡ out.old.items ++ array_encoding T.encoding (Some items.now)) }
+    ensures err { OnErr result (Extends out.old.items out.new.items) }
+    ensures again { OnOk result (IsReadAgain (array_reading T.reading) (array_encoding T.encoding) (Some items.now)) }
+    ensures some { OnOk result (0 < length (array_encoding T.encoding (Some items.now))) }
+{
+    (items.len() as u32).append(out)?;
+    append_all(items, out)?;
+    Ok(())
+}
+
+#[tactic(auto, using(crate::proofs::Elements::array_again), unfolding(crate::specs::Arrays::array_reading, crate::specs::Arrays::array_encoding))]
+impl<T: Wire> Wire for Array<T> {
+    ghost reading = { array_reading T.reading };
+
+    ghost encoding = { array_encoding T.encoding };
+
+    ghost overclaims = { ClaimsTooMany };
+
+    fn parse(alloc: Global, cursor: &mut Cursor<'_>) -> Result<Array<T>, TakeFault> {
+        let len = cursor.number()?;
+        if len >= 1 << 31 {
+            return Ok(Array::null());
+        }
+        let len = len as usize;
+        if cursor.rest().len() < len {
+            return Err(TakeFault::Length);
+        }
+        Ok(Array::new(elements(alloc, len, cursor)?))
+    }
+
+    fn append(&self, out: &mut Vec<u8>) -> Result<(), AllocError> {
+        match self.as_slice() {
+            None => NULL.append(out),
+            Some(items) => append_slice(items, out),
+        }
+    }
+}

@@ -1,0 +1,32 @@
+//! Globally unique ids.
+
+ghost use Rattle.ua_binary.specs.Guids.{guid_reading, guid_encoding};
+
+use crate::cursor::Cursor;
+use crate::fault::TakeFault;
+use crate::wire::Wire;
+use std::alloc::{AllocError, Global};
+use ua_types::Guid;
+
+#[tactic(auto, using(crate::proofs::Extending::extends_more), unfolding(crate::specs::Guids::guid_reading, crate::specs::Guids::guid_encoding))]
+impl Wire for Guid {
+    ghost reading = { guid_reading };
+
+    ghost encoding = { guid_encoding };
+
+    fn parse(alloc: Global, cursor: &mut Cursor<'_>) -> Result<Guid, TakeFault> {
+        Ok(Guid {
+            data1: u32::parse(alloc, cursor)?,
+            data2: u16::parse(alloc, cursor)?,
+            data3: u16::parse(alloc, cursor)?,
+            data4: <[u8; 8]>::parse(alloc, cursor)?,
+        })
+    }
+
+    fn append(&self, out: &mut Vec<u8>) -> Result<(), AllocError> {
+        self.data1.append(out)?;
+        self.data2.append(out)?;
+        self.data3.append(out)?;
+        self.data4.append(out)
+    }
+}

@@ -1,0 +1,38 @@
+//! The binary encoding of OPC UA (IEC 62541-6, 5.2): bytes to values and back.
+//!
+//! A type of the encoding is [`Wire`]: [`Wire::take`] reads a value at a [`Cursor`], [`Wire::put`]
+//! writes one behind an output. Contracts see both by two ghost members of the type: *reading*, what
+//! bytes begin with (a value and the bytes after it, or the first fault), and *encoding*, the one
+//! text that is written for a value. From the trait alone it holds for every type that
+//!
+//! - `take` gives what the reading gives and moves past it, or the first fault and stays;
+//! - `put` appends the encoding, or nothing;
+//! - what was put is read again, whatever follows it;
+//! - a claim of more bytes or elements than are left takes no memory.
+//!
+//! Nothing here knows messages, frames or sockets. Lists have one impl for every element type.
+//!
+//! Read [`Wire`] first, then `numbers` for the smallest impls and `node_ids` for one with forms.
+#![tactic(auto)]
+
+mod arrays;
+mod cursor;
+mod expanded_node_ids;
+mod extension_objects;
+mod fault;
+mod guids;
+mod localized_texts;
+mod node_ids;
+mod numbers;
+mod parts;
+mod qualified_names;
+mod scalars;
+mod texts;
+mod wire;
+
+pub use cursor::Cursor;
+pub use fault::TakeFault;
+pub use wire::Wire;
+
+#[cfg(test)]
+mod tests;

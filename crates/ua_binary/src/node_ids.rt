@@ -1,0 +1,135 @@
+//! Ids of nodes.
+
+ghost use Rattle.std.specs.Prelude.{◌≡◌, ◌<◌, ℕ, List, ◌++◌, Ok, OnOk, OnErr};
+ghost use Rattle.ua_binary.specs.Reading.{Reads, Extends};
+ghost use Rattle.ua_binary.specs.NodeIds.{node_id_reading, after_form_reading, node_id_encoding, form_of, after_form_encoding};
+
+use crate::cursor::Cursor;
+use crate::fault::TakeFault;
+use crate::wire::Wire;
+use std::alloc::{AllocError, Global};
+use ua_types::{ByteString, Guid, Identifier, NodeId, Text};
+
+// Reads what follows a first byte of this form.
+#[tactic(auto, unfolding(crate::specs::NodeIds::after_form_reading))]
+pub(crate) fn parse_form(
+    alloc: Global,
+    form: u8,
+    cursor: &mut Cursor<'_>,
+) -> Result<NodeId, TakeFault>
+    ensures { Reads result cursor.new (after_form_reading form cursor.old) }
+{
+    match form {
+        0 => {
+            let number = u8::parse(alloc, cursor)?;
+            Ok(NodeId::numeric(0, number as u32))
+        }
+        1 => {
+            let namespace = u8::parse(alloc, cursor)?;
+            let number = u16::parse(alloc, cursor)?;
+            Ok(NodeId::numeric(namespace as u16, number as u32))
+        }
+        2 => {
+            let namespace = u16::parse(alloc, cursor)?;
+            let number = u32::parse(alloc, cursor)?;
+            Ok(NodeId::numeric(namespace, number))
+        }
+        3 => {
+            let namespace = u16::parse(alloc, cursor)?;
+            let text = Text::parse(alloc, cursor)?;
+            Ok(NodeId {
+                namespace,
+                identifier: Identifier::String(text),
+            })
+        }
+        4 => {
+            let namespace = u16::parse(alloc, cursor)?;
+            let guid = Guid::parse(alloc, cursor)?;
+            Ok(NodeId {
+                namespace,
+                identifier: Identifier::Guid(guid),
+            })
+        }
+        5 => {
+            let namespace = u16::parse(alloc, cursor)?;
+            let bytes = ByteString::parse(alloc, cursor)?;
+            Ok(NodeId {
+                namespace,
+                identifier: Identifier::Opaque(bytes),
+            })
+        }
+        _ => Err(TakeFault::Form),
+    }
+}
+
+// The form in which an id is written: the shortest.
+pub(crate) fn form(id: &NodeId) -> u8
+    ensures form { result ≡ form_of id.now.namespace id.now.identifier }
+    ensures small { result < 6 }
+{
+    match &id.identifier {
+        Identifier::Numeric(number) => {
+            if id.namespace == 0 && *number < 1 << 8 {
+                0
+            } else if id.namespace < 1 << 8 && *number < 1 << 16 {
+                1
+            } else {
+                2
+            }
+        }
+        Identifier::String(_) => 3,
+        Identifier::Guid(_) => 4,
+        Identifier::Opaque(_) => 5,
+    }
+}
+
+// Writes what follows the first byte.
+#[tactic(auto, using(crate::proofs::Extending::extends_more), unfolding(crate::specs::NodeIds::after_form_reading))]
+pub(crate) fn append_form(id: &NodeId, out: &mut Vec<u8>) -> Result<(), AllocError>
+    ensures ok { OnOk result (out.new.items ≡ out.old.items ++ after_form_encoding id.now.namespace id.now.identifier) }
+    ensures err { OnErr result (Extends out.old.items out.new.items) }
+    ensures again { OnOk result ((x : List ℕ) → after_form_reading (form_of id.now.namespace id.now.identifier) (after_form_encoding id.now.namespace id.now.identifier ++ x) ≡ Ok (id.now, x)) }
+{
+    match &id.identifier {
+        Identifier::Numeric(number) => {
+            if id.namespace == 0 && *number < 1 << 8 {
+                (*number as u8).append(out)
+            } else if id.namespace < 1 << 8 && *number < 1 << 16 {
+                (id.namespace as u8).append(out)?;
+                (*number as u16).append(out)
+            } else {
+                id.namespace.append(out)?;
+                number.append(out)
+            }
+        }
+        Identifier::String(text) => {
+            id.namespace.append(out)?;
+            text.append(out)
+        }
+        Identifier::Guid(guid) => {
+            id.namespace.append(out)?;
+            guid.append(out)
+        }
+        Identifier::Opaque(bytes) => {
+            id.namespace.append(out)?;
+            bytes.append(out)
+        }
+    }
+}
+
+#[tactic(auto, using(crate::proofs::Extending::extends_more), unfolding(crate::specs::NodeIds::node_id_reading, crate::specs::NodeIds::node_id_encoding))]
+impl Wire for NodeId {
+    ghost reading = { node_id_reading };
+
+    ghost encoding = { node_id_encoding };
+
+    fn parse(alloc: Global, cursor: &mut Cursor<'_>) -> Result<NodeId, TakeFault> {
+        let form = u8::parse(alloc, cursor)?;
+        parse_form(alloc, form, cursor)
+    }
+
+    fn append(&self, out: &mut Vec<u8>) -> Result<(), AllocError> {
+        form(self).append(out)?;
+        append_form(self, out)
+    }
+}

@@ -1,0 +1,140 @@
+//! Numbers, truth values, and fields of so many bytes.
+
+ghost use Rattle.std.specs.Prelude.{◌≡◌};
+ghost use Rattle.std.specs.Int.{w16, w32, w64};
+ghost use Rattle.ua_binary.specs.Numbers.{number_reading, signed_reading, byte_reading, boolean_reading, number_encoding, signed_encoding, byte_encoding, boolean_encoding, octets_reading, octets_encoding};
+
+use crate::cursor::Cursor;
+use crate::fault::TakeFault;
+use crate::wire::Wire;
+use std::alloc::{AllocError, Global};
+
+impl Wire for u8 {
+    ghost reading = { byte_reading };
+
+    ghost encoding = { byte_encoding };
+
+    fn parse(_alloc: Global, cursor: &mut Cursor<'_>) -> Result<u8, TakeFault> {
+        cursor.byte()
+    }
+
+    fn append(&self, out: &mut Vec<u8>) -> Result<(), AllocError> {
+        out.push(*self)?;
+        Ok(())
+    }
+}
+
+#[tactic(auto, unfolding(crate::specs::Numbers::boolean_reading, crate::specs::Numbers::boolean_encoding))]
+impl Wire for bool {
+    ghost reading = { boolean_reading };
+
+    ghost encoding = { boolean_encoding };
+
+    fn parse(_alloc: Global, cursor: &mut Cursor<'_>) -> Result<bool, TakeFault> {
+        let byte = cursor.byte()?;
+        Ok(byte != 0)
+    }
+
+    fn append(&self, out: &mut Vec<u8>) -> Result<(), AllocError> {
+        out.push(if *self { 1 } else { 0 })?;
+        Ok(())
+    }
+}
+
+#[tactic(auto, unfolding(crate::specs::Numbers::number_reading, crate::specs::Numbers::number_encoding))]
+impl Wire for u16 {
+    ghost reading = { number_reading w16 };
+
+    ghost encoding = { number_encoding w16 };
+
+    fn parse(_alloc: Global, cursor: &mut Cursor<'_>) -> Result<u16, TakeFault> {
+        let b = cursor.lend(2)?;
+        Ok(u16::from_le_bytes([b[0], b[1]]))
+    }
+
+    fn append(&self, out: &mut Vec<u8>) -> Result<(), AllocError> {
+        out.extend_from_slice(&self.to_le_bytes())?;
+        Ok(())
+    }
+}
+
+#[tactic(auto, unfolding(crate::specs::Numbers::number_reading, crate::specs::Numbers::number_encoding))]
+impl Wire for u32 {
+    ghost reading = { number_reading w32 };
+
+    ghost encoding = { number_encoding w32 };
+
+    fn parse(_alloc: Global, cursor: &mut Cursor<'_>) -> Result<u32, TakeFault> {
+        cursor.number()
+    }
+
+    fn append(&self, out: &mut Vec<u8>) -> Result<(), AllocError> {
+        out.extend_from_slice(&self.to_le_bytes())?;
+        Ok(())
+    }
+}
+
+#[tactic(auto, unfolding(crate::specs::Numbers::number_reading, crate::specs::Numbers::number_encoding))]
+impl Wire for u64 {
+    ghost reading = { number_reading w64 };
+
+    ghost encoding = { number_encoding w64 };
+
+    fn parse(_alloc: Global, cursor: &mut Cursor<'_>) -> Result<u64, TakeFault> {
+        let b = cursor.lend(8)?;
+        Ok(u64::from_le_bytes([b[0], b[1], b[2], b[3], b[4], b[5], b[6], b[7]]))
+    }
+
+    fn append(&self, out: &mut Vec<u8>) -> Result<(), AllocError> {
+        out.extend_from_slice(&self.to_le_bytes())?;
+        Ok(())
+    }
+}
+
+#[tactic(auto, using(crate::proofs::Again::cast_back), unfolding(crate::specs::Numbers::signed_reading, crate::specs::Numbers::signed_encoding))]
+impl Wire for i32 {
+    ghost reading = { signed_reading w32 };
+
+    ghost encoding = { signed_encoding w32 };
+
+    fn parse(alloc: Global, cursor: &mut Cursor<'_>) -> Result<i32, TakeFault> {
+        let number = u32::parse(alloc, cursor)?;
+        Ok(number.cast_signed())
+    }
+
+    fn append(&self, out: &mut Vec<u8>) -> Result<(), AllocError> {
+        self.cast_unsigned().append(out)
+    }
+}
+
+#[tactic(auto, using(crate::proofs::Again::cast_back), unfolding(crate::specs::Numbers::signed_reading, crate::specs::Numbers::signed_encoding))]
+impl Wire for i64 {
+    ghost reading = { signed_reading w64 };
+
+    ghost encoding = { signed_encoding w64 };
+
+    fn parse(alloc: Global, cursor: &mut Cursor<'_>) -> Result<i64, TakeFault> {
+        let number = u64::parse(alloc, cursor)?;
+        Ok(number.cast_signed())
+    }
+
+    fn append(&self, out: &mut Vec<u8>) -> Result<(), AllocError> {
+        self.cast_unsigned().append(out)
+    }
+}
+
+#[tactic(auto, unfolding(crate::specs::Numbers::octets_reading))]
+impl Wire for [u8; 8] {
+    ghost reading = { octets_reading 8 };
+
+    ghost encoding = { octets_encoding };
+
+    fn parse(_alloc: Global, cursor: &mut Cursor<'_>) -> Result<[u8; 8], TakeFault> {
+        let b = cursor.lend(8)?;
+        Ok([b[0], b[1], b[2], b[3], b[4], b[5], b[6], b[7]])
+    }
+
+    fn append(&self, out: &mut Vec<u8>) -> Result<(), AllocError> {
+        out.extend_from_slice(self)
+    }
+}

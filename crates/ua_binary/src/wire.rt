@@ -1,0 +1,65 @@
+//! What can be read and written.
+
+ghost use Rattle.std.specs.Prelude.{◌≡◌, ◌≢◌, ◌<◌, ℕ, List, ◌++◌, length, Err, OnOk, OnErr};
+ghost use Rattle.ua_binary.specs.Reading.{Reading, Reads, Extends, IsReadAgain};
+ghost use Rattle.ua_binary.specs.declared.fault.TakeFault.TheVariants.{Memory};
+
+use crate::cursor::Cursor;
+use crate::fault::TakeFault;
+use std::alloc::{AllocError, Global};
+
+/// A type of the binary encoding (IEC 62541-6, 5.2).
+///
+/// Callers use [`Wire::take`] and [`Wire::put`], which at an `Err` leave the cursor and the output
+/// as they were. Implementors write `parse` and `append`, plain chains of `?` over the fields.
+pub trait Wire: Drop {
+    /// What bytes begin with: a value and the bytes after it, or the first fault.
+    ghost reading: { Reading Self };
+
+    /// The one text that is written for a value.
+    ghost encoding: { Self → List ℕ };
+
+    /// The bytes begin with a claim of more than is left, which is refused before memory is taken.
+    ghost overclaims: { List ℕ → Type 0 } = { λ _. ⊥ };
+
+    /// Reads the fields in order. At an `Err` the cursor stands where the fault is.
+    fn parse(alloc: Global, cursor: &mut Cursor<'_>) -> Result<Self, TakeFault>
+        ensures reads { Reads result cursor.new (reading cursor.old) }
+        ensures claim { overclaims cursor.old → result ≢ Err Memory };
+
+    /// Writes the fields in order. At an `Err` some of them are written.
+    fn append(&self, out: &mut Vec<u8>) -> Result<(), AllocError>
+        ensures ok { OnOk result (out.new.items ≡ out.old.items ++ encoding self.now) }
+        ensures err { OnErr result (Extends out.old.items out.new.items) }
+        ensures again { OnOk result (IsReadAgain reading encoding self.now) }
+        ensures some { OnOk result (0 < length (encoding self.now)) };
+
+    /// Reads a value and moves past it; what follows it isn't looked at.
+    ///
+    /// At an `Err`, the first fault, the cursor stands where it stood. `Memory` comes only where a
+    /// growth was refused.
+    final fn take(alloc: Global, cursor: &mut Cursor<'_>) -> Result<Self, TakeFault>
+        ensures reads { Reads result cursor.new (reading cursor.old) }
+        ensures claim { overclaims cursor.old → result ≢ Err Memory }
+        ensures err { OnErr result (cursor.new ≡ cursor.old) }
+    {
+        let mut at = Cursor::new(cursor.rest());
+        let value = Self::parse(alloc, &mut at)?;
+        *cursor = at;
+        Ok(value)
+    }
+
+    /// Writes a value behind what was written before. At an `Err` nothing is written.
+    final fn put(&self, out: &mut Vec<u8>) -> Result<(), AllocError>
+        ensures ok { OnOk result (out.new.items ≡ out.old.items ++ encoding self.now) }
+        ensures err { OnErr result (out.new.items ≡ out.old.items) }
+        ensures again { OnOk result (IsReadAgain reading encoding self.now) }
+    {
+        let start = out.len();
+        let outcome = self.append(out);
+        if outcome.is_err() {
+            out.truncate(start);
+        }
+        outcome
+    }
+}

@@ -1,0 +1,3 @@
+pub mod NullableOrder
+pub mod NodeIds
+pub mod Configuration

@@ -1,0 +1,90 @@
+//! Lists, each of which may be null.
+
+ghost use Rattle.std.specs.Prelude.{◌≡◌, ◌<◌, ◌^◌, List, length, Option, Some, None, option_map, IfSome, IfOk, is_none};
+ghost use Rattle.std.specs.Vec.{vec_len};
+
+use crate::copyable::Copyable;
+use std::alloc::{AllocError, Global};
+use std::marker::Model;
+
+/// A list of fewer than 2^31 elements, or null (arrays, IEC 62541-6, 5.2.5).
+///
+/// Null differs from the empty list.
+#[derive(Debug, Drop)]
+pub struct Array<T> {
+    inside: Option<Vec<T>>,
+}
+
+impl<T> Model for Array<T> {
+    ghost Value = { Option (List T) };
+
+    ghost view = { λ a. option_map (λ v. v.items) a.inside };
+
+    ghost invariant = { λ a. IfSome a.inside (λ v. vec_len v < 2 ^ 31) };
+}
+
+impl<T> Array<T> {
+    /// The null list.
+    pub const fn null() -> Array<T>
+        ensures { result ≡ None }
+    {
+        Array { inside: None }
+    }
+
+    /// A list of these elements.
+    pub fn new(items: Vec<T>) -> Array<T>
+        requires { vec_len items < 2 ^ 31 }
+        ensures { result ≡ Some items.items }
+    {
+        Array {
+            inside: Some(items),
+        }
+    }
+
+    /// Whether it is null.
+    pub fn is_null(&self) -> bool
+        ensures { result ≡ is_none self.now }
+    {
+        self.inside.is_none()
+    }
+
+    /// The elements, unless it is null.
+    pub fn as_slice(&self) -> Option<&[T]>
+        ensures items { option_map (λ s. s.now) result ≡ self.now }
+        ensures short { IfSome self.now (λ items. length items < 2 ^ 31) }
+    {
+        match &self.inside {
+            None => None,
+            Some(items) => Some(items.as_slice()),
+        }
+    }
+
+    /// The elements themselves, unless it is null.
+    pub fn into_vec(self) -> Option<Vec<T>>
+        ensures items { option_map (λ v. v.items) result ≡ self }
+        ensures short { IfSome result (λ v. vec_len v < 2 ^ 31) }
+    {
+        self.inside
+    }
+}
+
+/// Copies of these elements, in order.
+fn copied<T: Copyable>(items: &[T], alloc: Global) -> Result<Vec<T>, AllocError>
+    ensures items { IfOk result (λ copies. copies.items ≡ items.now) }
+    ensures len { IfOk result (λ copies. vec_len copies ≡ length items.now) }
+{
+    let mut copies = Vec::with_capacity(alloc, items.len())?;
+    for item in items {
+        copies.push(item.copy(alloc)?)?;
+    }
+    Ok(copies)
+}
+
+impl<T: Copyable> Copyable for Array<T> {
+    fn copy(&self, alloc: Global) -> Result<Array<T>, AllocError> {
+        match self.as_slice() {
+            None => Ok(Array::null()),
+            Some(items) => Ok(Array::new(copied(items, alloc)?)),
+        }
+    }
+}

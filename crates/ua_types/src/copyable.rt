@@ -1,0 +1,46 @@
+//! Copies of values that hold memory of their own.
+
+ghost use Rattle.std.specs.Prelude.{◌≡◌, IfOk};
+
+use crate::duration::Duration;
+use crate::guid::Guid;
+use crate::moment::Moment;
+use crate::status::Status;
+use std::alloc::{AllocError, Global};
+
+/// A value that can be copied, where the copy may want memory.
+pub trait Copyable: Drop {
+    /// An equal value. An `Err` leaves nothing behind.
+    fn copy(&self, alloc: Global) -> Result<Self, AllocError>
+        ensures { IfOk result (λ copy. copy ≡ self.now) };
+}
+
+impl Copyable for u32 {
+    fn copy(&self, _alloc: Global) -> Result<u32, AllocError> {
+        Ok(*self)
+    }
+}
+
+impl Copyable for Status {
+    fn copy(&self, _alloc: Global) -> Result<Status, AllocError> {
+        Ok(*self)
+    }
+}
+
+impl Copyable for Moment {
+    fn copy(&self, _alloc: Global) -> Result<Moment, AllocError> {
+        Ok(*self)
+    }
+}
+
+impl Copyable for Duration {
+    fn copy(&self, _alloc: Global) -> Result<Duration, AllocError> {
+        Ok(*self)
+    }
+}
+
+impl Copyable for Guid {
+    fn copy(&self, _alloc: Global) -> Result<Guid, AllocError> {
+        Ok(*self)
+    }
+}

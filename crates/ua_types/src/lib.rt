@@ -1,0 +1,50 @@
+//! The values of OPC UA (IEC 62541-3 and -6): status codes, moments, ids of nodes, texts and byte
+//! strings that may be null, and the server's configuration.
+//!
+//! Everything here is plain data. Nothing reads bytes of the wire (`ua_binary` does), a clock or a
+//! socket. What a contract sees:
+//!
+//! - `Text`, `ByteString` and `Array` are optional lists, where null is `None` and differs from empty;
+//! - `NodeId`, `ExtensionObject` and the other structures are the records of their fields;
+//! - `Config` is a record whose numbers always lie in their ranges (`IsConfigured`).
+//!
+//! Memory is always taken from an allocator that is passed in, and a refusal is answered as
+//! [`Memory`]. A value that holds texts or lists isn't `Clone`: it is copied by [`Copyable`].
+//!
+//! Read [`NodeId`] and [`Text`] first.
+#![tactic(auto)]
+
+mod array;
+mod byte_string;
+mod config;
+mod copyable;
+mod duration;
+mod extension_object;
+mod guid;
+mod localized_text;
+mod moment;
+mod node_id;
+mod qualified_name;
+mod refusal;
+mod status;
+mod text;
+
+pub use array::Array;
+pub use byte_string::ByteString;
+pub use config::Config;
+pub use copyable::Copyable;
+pub use duration::Duration;
+pub use extension_object::{ExtensionObject, ExtensionObjectBody};
+pub use guid::Guid;
+pub use localized_text::LocalizedText;
+pub use moment::Moment;
+pub use node_id::{ExpandedNodeId, Identifier, NodeId};
+pub use qualified_name::QualifiedName;
+pub use refusal::Refusal;
+/// Want of memory: a growth was refused.
+pub use status::Status;
+pub use std::alloc::AllocError as Memory;
+pub use text::Text;
+
+#[cfg(test)]
+mod tests;

@@ -1,0 +1,130 @@
+//! Texts, each of which may be null.
+
+ghost use Rattle.std.specs.Prelude.{◌≡◌, ℕ, ◌<◌, ◌^◌, List, length, Option, Some, None, option_map, IfSome, IfOk, is_none, ◌==◌};
+ghost use Rattle.std.specs.String.{string_bytes, string_len};
+ghost use Rattle.std.specs.Option.{option_eq, option_cmp};
+ghost use Rattle.std.specs.Cmp.{partial_order_from_own_ties};
+ghost use Rattle.std.specs.Cmp.Lexicographic.{pointwise, slice_cmp};
+ghost use Rattle.std.specs.Cmp.Rules.{comparing};
+ghost use Rattle.std.specs.Ordering.{nat_cmp, as_partial_cmp};
+ghost use Rattle.std.proofs.Common.{rules};
+ghost use Rattle.ua_types.specs.NullableOrder.{ties};
+
+use crate::copyable::Copyable;
+use std::alloc::{AllocError, Global};
+use std::cmp::Ordering;
+use std::marker::Model;
+
+/// A text of UTF-8 of fewer than 2^31 bytes, or null (String, IEC 62541-6, 5.2.2.4).
+///
+/// Null differs from the empty text. Null comes first in the order, and texts go by their bytes.
+#[derive(Debug, Drop)]
+pub struct Text {
+    inside: Option<String>,
+}
+
+impl Model for Text {
+    ghost Value = { Option (List ℕ) };
+
+    ghost view = { λ t. option_map (λ s. string_bytes s) t.inside };
+
+    ghost invariant = { λ t. IfSome t.inside (λ s. string_len s < 2 ^ 31) };
+}
+
+impl Text {
+    /// The null text.
+    pub const fn null() -> Text
+        ensures { result ≡ None }
+    {
+        Text { inside: None }
+    }
+
+    /// A text with these characters.
+    pub fn new(text: String) -> Text
+        requires { string_len text < 2 ^ 31 }
+        ensures { result ≡ Some (string_bytes text) }
+    {
+        Text { inside: Some(text) }
+    }
+
+    /// A text with a copy of these characters.
+    pub fn from_str(alloc: Global, text: &str) -> Result<Text, AllocError>
+        requires { length text.now < 2 ^ 31 }
+        ensures { IfOk result (λ t. t ≡ Some text.now) }
+    {
+        Ok(Text::new(String::from_str(alloc, text)?))
+    }
+
+    /// Whether it is null.
+    pub fn is_null(&self) -> bool
+        ensures { result ≡ is_none self.now }
+    {
+        self.inside.is_none()
+    }
+
+    /// The characters, unless it is null.
+    pub fn as_str(&self) -> Option<&str>
+        ensures text { option_map (λ s. s.now) result ≡ self.now }
+        ensures short { IfSome self.now (λ bytes. length bytes < 2 ^ 31) }
+    {
+        match &self.inside {
+            None => None,
+            Some(text) => Some(text.as_str()),
+        }
+    }
+
+    /// The characters themselves, unless it is null.
+    pub fn into_string(self) -> Option<String>
+        ensures text { option_map (λ s. string_bytes s) result ≡ self }
+        ensures short { IfSome result (λ s. string_len s < 2 ^ 31) }
+    {
+        self.inside
+    }
+}
+
+impl Copyable for Text {
+    fn copy(&self, alloc: Global) -> Result<Text, AllocError> {
+        match self.as_str() {
+            None => Ok(Text::null()),
+            Some(text) => Text::from_str(alloc, text),
+        }
+    }
+}
+
+impl PartialEq for Text {
+    ghost eq = { option_eq (pointwise ◌==◌) };
+
+    ghost laws = { Prim.search (comparing, rules) };
+
+    fn eq(&self, other: &Text) -> bool {
+        self.inside == other.inside
+    }
+}
+
+impl Eq for Text {
+    ghost laws = { Prim.search (comparing, rules) };
+}
+
+impl PartialOrd for Text {
+    ghost partial_cmp = { as_partial_cmp (option_cmp (slice_cmp nat_cmp)) };
+
+    ghost laws = { partial_order_from_own_ties (Prim.search (comparing, rules)) ties };
+
+    fn partial_cmp(&self, other: &Text) -> Option<Ordering> {
+        Some(self.cmp(other))
+    }
+}
+
+impl Ord for Text {
+    ghost cmp = { option_cmp (slice_cmp nat_cmp) };
+
+    ghost total = { Prim.search (comparing, rules) };
+
+    ghost matches_partial_cmp = { Prim.search (comparing, rules) };
+
+    ghost matches_eq = { ties };
+
+    fn cmp(&self, other: &Text) -> Ordering {
+        self.inside.cmp(&other.inside)
+    }
+}
