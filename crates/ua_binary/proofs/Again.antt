@@ -1,16 +1,17 @@
 -- What is written is read again.
-use Rattle.std.proofs.Common.{◌≡◌, ℕ, ℤ, ◌^◌, ◌<◌, false, ltb, leb, List, ◌++◌, length, Some, Ok, refl, ap, ◌∙◌, append_assoc, arith}
+use Rattle.std.proofs.Common.{◌≡◌, ℕ, ℤ, ◌^◌, ◌<◌, true, false, ltb, leb, List, ◌++◌, length, Some, Ok, Err, refl, ap, ◌∙◌, append_assoc, arith}
 use Rattle.std.specs.Int.{Width, w32, to_le_bytes, cast_signed, cast_unsigned}
 use Rattle.std.specs.Prelude.{FitsSigned}
 use Rattle.std.proofs.lemmas.Int.{to_z-of_z}
 use Rattle.std.specs.Str.{IsUtf8}
-use Rattle.std.proofs.lemmas.Bool.{le-ltb, lt-leb}
+use Rattle.std.proofs.lemmas.Bool.{le-ltb, lt-leb, lt-ltb}
 use Rattle.std.proofs.lemmas.List.{take_at, drop_at, length-append}
 use Rattle.std.proofs.lemmas.Nat.{from_le_bytes-to_le_bytes_4}
 use Rattle.std.proofs.lemmas.Str.{is_utf8-from_IsUtf8}
 use Rattle.ua_binary.specs.Reading.{IsReadAgain}
 use Rattle.ua_binary.specs.Numbers.{bytes_reading, octets_reading, number_reading, number_encoding}
-use Rattle.ua_binary.specs.Texts.{text_reading, text_encoding, byte_string_reading, byte_string_encoding}
+use Rattle.ua_binary.specs.Texts.{text_reading, text_encoding, byte_string_reading, byte_string_encoding, ClaimsTooMany}
+use Rattle.ua_binary.specs.declared.fault.TakeFault.TheVariants.{Short}
 
 pub number32_again : (n : ℕ) (x : List ℕ) → n < 2 ^ 32 → number_reading w32 (number_encoding w32 n ++ x) ≡ Ok (n, x)
 unfolding number_reading number_encoding
@@ -28,19 +29,24 @@ pub octets_again : (n : ℕ) (bytes x : List ℕ) → length bytes ≡ n → oct
 unfolding octets_reading
 octets_again n bytes x e = bytes_again n bytes x e
 
-pub text_again : (bytes : List ℕ) → length bytes < 2 ^ 31 → IsUtf8 bytes → IsReadAgain text_reading text_encoding (Some bytes)
-unfolding text_reading byte_string_encoding
-text_again bytes short utf8 x =
-    let n = length bytes in
-    let small : leb (2 ^ 31) n ≡ false = lt-leb _ _ short in
-    ap text_reading (append_assoc (number_encoding w32 n) bytes x) ∙ rw (number32_again n (bytes ++ x) (omega arith), small, bytes_again n bytes x refl, is_utf8-from_IsUtf8 bytes utf8) refl
-
 pub byte_string_again : (bytes : List ℕ) → length bytes < 2 ^ 31 → IsReadAgain byte_string_reading byte_string_encoding (Some bytes)
 unfolding byte_string_reading byte_string_encoding
 byte_string_again bytes short x =
     let n = length bytes in
     let small : leb (2 ^ 31) n ≡ false = lt-leb _ _ short in
     ap byte_string_reading (append_assoc (number_encoding w32 n) bytes x) ∙ rw (number32_again n (bytes ++ x) (omega arith), small, bytes_again n bytes x refl) refl
+
+pub text_again : (bytes : List ℕ) → IsReadAgain byte_string_reading byte_string_encoding (Some bytes) → IsUtf8 bytes → IsReadAgain text_reading text_encoding (Some bytes)
+unfolding text_reading
+text_again bytes again utf8 x = rw (again x, is_utf8-from_IsUtf8 bytes utf8) refl
+
+-- a length above the bytes left is Short
+pub overclaim_is_short : (bytes : List ℕ) → ClaimsTooMany bytes → byte_string_reading bytes ≡ Err Short
+unfolding byte_string_reading
+overclaim_is_short bytes claim =
+    let small : leb (2 ^ 31) claim.count ≡ false = lt-leb _ _ claim.not_null in
+    let few : ltb (length claim.rest) claim.count ≡ true = lt-ltb _ _ claim.above in
+    rw (claim.read, small, few) refl
 
 pub cast_back : (w : Width) (z : ℤ) → FitsSigned w z → cast_signed w (cast_unsigned w z) ≡ z
 cast_back w z fits = to_z-of_z w z fits

@@ -7,19 +7,22 @@ use Rattle.ua_binary.specs.declared.fault.TakeFault.TheVariants.{Utf8}
 use Rattle.ua_binary.specs.Reading.{Reading, ◌>>=◌, done, refuse}
 use Rattle.ua_binary.specs.Numbers.{bytes_reading, number_reading, number_encoding}
 
-unfoldable pub text_reading : Reading (Option (List ℕ))
-text_reading = do
-  n ← number_reading w32
-  if nat_le (2 ^ 31) n then done None else (do
-    text ← bytes_reading n
-    if is_utf8 text then done (Some text) else refuse Utf8)
-
 unfoldable pub byte_string_reading : Reading (Option (List ℕ))
 byte_string_reading = do
   n ← number_reading w32
   if nat_le (2 ^ 31) n then done None else (do
     bytes ← bytes_reading n
     done (Some bytes))
+
+abbrev pub utf8_or_null : Option (List ℕ) → Reading (Option (List ℕ))
+utf8_or_null None = done None
+utf8_or_null (Some text) = if is_utf8 text then done (Some text) else refuse Utf8
+
+-- a byte string that is UTF-8
+unfoldable pub text_reading : Reading (Option (List ℕ))
+text_reading = do
+  bytes ← byte_string_reading
+  utf8_or_null bytes
 
 unfoldable pub byte_string_encoding : Option (List ℕ) → List ℕ
 byte_string_encoding None = number_encoding w32 0xffff_ffff

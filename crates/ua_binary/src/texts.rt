@@ -1,6 +1,9 @@
 //! Texts and byte strings.
 
-ghost use Rattle.std.specs.Prelude.{◌≡◌};
+ghost use Rattle.std.specs.Prelude.{◌≡◌, ◌≢◌, ◌<◌, ◌^◌, ◌++◌, length, option_map, Ok, Err, IfOk, IfErr, IfSome, OnOk, OnErr};
+ghost use Rattle.std.specs.Option.{ForSome};
+ghost use Rattle.ua_binary.specs.declared.fault.TakeFault.TheVariants.{Memory};
+ghost use Rattle.ua_binary.specs.Reading.{Extends, IsReadAgain};
 ghost use Rattle.ua_binary.specs.Texts.{text_reading, byte_string_reading, text_encoding, byte_string_encoding, ClaimsTooMany};
 
 use crate::cursor::Cursor;
@@ -12,7 +15,40 @@ use ua_types::{ByteString, Text};
 /// The length that is written for null: -1 as an Int32.
 pub(crate) const NULL: u32 = 0xffff_ffff;
 
-#[tactic(auto, using(crate::proofs::Utf8Tests::not_utf8, crate::proofs::Utf8Tests::is_text, crate::proofs::Again::text_again), unfolding(crate::specs::Texts::text_reading, crate::specs::Texts::byte_string_encoding))]
+// The bytes of a text or byte string where they stand, or None for null.
+#[tactic(auto, unfolding(crate::specs::Texts::byte_string_reading))]
+fn lend_sized<'a>(cursor: &mut Cursor<'a>) -> Result<Option<&'a [u8]>, TakeFault>
+    ensures ok { IfOk result (λ bytes. byte_string_reading cursor.old ≡ Ok (option_map (λ b. b.now) bytes, cursor.new)) }
+    ensures err { IfErr result (λ e. byte_string_reading cursor.old ≡ Err e) }
+    ensures no_memory { IfErr result (λ e. e ≢ Memory) }
+    ensures short { IfOk result (λ bytes. IfSome bytes (λ b. length b.now < 2 ^ 31)) }
+{
+    let len = cursor.number()?;
+    if len >= 1 << 31 {
+        return Ok(None);
+    }
+    Ok(Some(cursor.lend(len as usize)?))
+}
+
+// Writes bytes behind their length, or the length of null.
+#[tactic(auto, using(crate::proofs::Extending::extends_more, crate::proofs::Again::byte_string_again), unfolding(crate::specs::Texts::byte_string_encoding, crate::specs::Texts::byte_string_reading))]
+fn append_sized(bytes: Option<&[u8]>, out: &mut Vec<u8>) -> Result<(), AllocError>
+    requires { ForSome bytes (λ b. length b.now < 2 ^ 31) }
+    ensures ok { OnOk result (out.new.items ≡ out.old.items ++ byte_string_encoding (option_map (λ b. b.now) bytes.entry)) }
+    ensures err { OnErr result (Extends out.old.items out.new.items) }
+    ensures again { OnOk result (IsReadAgain byte_string_reading byte_string_encoding (option_map (λ b. b.now) bytes.entry)) }
+    ensures some { OnOk result (0 < length (byte_string_encoding (option_map (λ b. b.now) bytes.entry))) }
+{
+    match bytes {
+        None => NULL.append(out),
+        Some(bytes) => {
+            (bytes.len() as u32).append(out)?;
+            out.extend_from_slice(bytes)
+        }
+    }
+}
+
+#[tactic(auto, using(crate::proofs::Utf8Tests::not_utf8, crate::proofs::Utf8Tests::is_text, crate::proofs::Again::text_again, crate::proofs::Again::overclaim_is_short), unfolding(crate::specs::Texts::text_reading))]
 impl Wire for Text {
     ghost reading = { text_reading };
 
@@ -21,11 +57,9 @@ impl Wire for Text {
     ghost overclaims = { ClaimsTooMany };
 
     fn parse(alloc: Global, cursor: &mut Cursor<'_>) -> Result<Text, TakeFault> {
-        let len = cursor.number()?;
-        if len >= 1 << 31 {
+        let Some(bytes) = lend_sized(cursor)? else {
             return Ok(Text::null());
-        }
-        let bytes = cursor.lend(len as usize)?;
+        };
         match str::from_utf8(bytes) {
             Ok(text) => Ok(Text::from_str(alloc, text)?),
             Err(_) => Err(TakeFault::Utf8),
@@ -34,16 +68,13 @@ impl Wire for Text {
 
     fn append(&self, out: &mut Vec<u8>) -> Result<(), AllocError> {
         match self.as_str() {
-            None => NULL.append(out),
-            Some(text) => {
-                (text.len() as u32).append(out)?;
-                out.extend_from_slice(text.as_bytes())
-            }
+            None => append_sized(None, out),
+            Some(text) => append_sized(Some(text.as_bytes()), out),
         }
     }
 }
 
-#[tactic(auto, using(crate::proofs::Again::byte_string_again), unfolding(crate::specs::Texts::byte_string_reading, crate::specs::Texts::byte_string_encoding))]
+#[tactic(auto, using(crate::proofs::Again::overclaim_is_short))]
 impl Wire for ByteString {
     ghost reading = { byte_string_reading };
 
@@ -52,21 +83,13 @@ impl Wire for ByteString {
     ghost overclaims = { ClaimsTooMany };
 
     fn parse(alloc: Global, cursor: &mut Cursor<'_>) -> Result<ByteString, TakeFault> {
-        let len = cursor.number()?;
-        if len >= 1 << 31 {
-            return Ok(ByteString::null());
+        match lend_sized(cursor)? {
+            None => Ok(ByteString::null()),
+            Some(bytes) => Ok(ByteString::from_slice(alloc, bytes)?),
         }
-        let bytes = cursor.lend(len as usize)?;
-        Ok(ByteString::from_slice(alloc, bytes)?)
     }
 
     fn append(&self, out: &mut Vec<u8>) -> Result<(), AllocError> {
-        match self.as_slice() {
-            None => NULL.append(out),
-            Some(bytes) => {
-                (bytes.len() as u32).append(out)?;
-                out.extend_from_slice(bytes)
-            }
-        }
+        append_sized(self.as_slice(), out)
     }
 }

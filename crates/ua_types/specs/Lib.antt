@@ -1,3 +1,5 @@
 pub mod NullableOrder
 pub mod NodeIds
+pub mod NodeIdOrder
 pub mod Configuration
+pub mod Answers

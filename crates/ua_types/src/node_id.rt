@@ -75,7 +75,7 @@ impl Copyable for NodeId {
     }
 }
 
-/// The id of a node that may be of another server (ExpandedNodeId, IEC 62541-4, 7.16).
+/// The id of a node that may be of another server (ExpandedNodeId, IEC 62541-4).
 #[derive(Debug, Drop, PartialEq, Eq, PartialOrd, Ord)]
 pub struct ExpandedNodeId {
     pub node_id: NodeId,

@@ -1,6 +1,6 @@
 //! Status codes.
 
-/// The outcome of an operation (StatusCode, IEC 62541-4, 7.38). 0 is good; the two highest bits are
+/// The outcome of an operation (StatusCode, IEC 62541-4). 0 is good; the two highest bits are
 /// 10 where it is bad.
 ///
 /// The constants are the codes that this server sends (IEC 62541-6, Annex A).

@@ -2,8 +2,80 @@ use super::*;
 use std::test::*;
 
 #[test]
-fn null_texts_differ_from_empty_ones(rt: HostRuntime) -> Result<(), Fail> {
+fn codes_are_those_of_the_standard(rt: HostRuntime) {
+    for (status, code) in [
+        (Status::GOOD, 0x0000_0000u32),
+        (Status::GOOD_NO_DATA, 0x00A5_0000),
+        (Status::BAD_DECODING_ERROR, 0x8007_0000),
+        (Status::BAD_SECURE_CHANNEL_ID_INVALID, 0x8022_0000),
+        (Status::BAD_NODE_ID_UNKNOWN, 0x8034_0000),
+        (Status::BAD_TYPE_MISMATCH, 0x8074_0000),
+        (Status::BAD_TCP_MESSAGE_TYPE_INVALID, 0x807E_0000),
+        (Status::BAD_RESPONSE_TOO_LARGE, 0x80B9_0000),
+        (Status::BAD_TOO_MANY_MONITORED_ITEMS, 0x80DB_0000),
+    ] {
+        assert_eq!(rt; status.0, code);
+    }
+}
+
+#[test]
+fn null_comes_first(rt: HostRuntime) -> Result<(), Fail> {
     let alloc = rt.alloc();
-    assert!(rt; Text::null() < Text::from_str(alloc, "")?);
+    let empty = Text::from_str(alloc, "")?;
+    assert!(rt; Text::null().is_null() && !empty.is_null());
+    assert!(rt; Text::null() < empty);
+    assert!(rt; empty < Text::new(String::from_str(alloc, "a")?));
+    assert!(rt; ByteString::null() < ByteString::from_slice(alloc, &[])?);
+    assert!(rt; NodeId::null().is_null() && !NodeId::numeric(1, 0).is_null());
+    assert!(rt; NodeId::numeric(0, 85) < NodeId::numeric(1, 2));
+    Ok(())
+}
+
+#[test]
+fn copies_are_equal(rt: HostRuntime) -> Result<(), Fail> {
+    let alloc = rt.alloc();
+    let object = ExtensionObject {
+        type_id: NodeId {
+            namespace: 2,
+            identifier: Identifier::String(Text::from_str(alloc, "Line")?),
+        },
+        body: ExtensionObjectBody::Binary(ByteString::from_slice(alloc, &[1, 2])?),
+    };
+    assert!(rt; object.copy(alloc)? == object);
+    let mut texts = Vec::new(alloc);
+    texts.push(Text::null())?;
+    texts.push(Text::from_str(alloc, "en")?)?;
+    let list = Array::new(texts);
+    let copy = list.copy(alloc)?;
+    assert!(rt; !copy.is_null());
+    assert_eq!(rt; copy.as_slice().map(|texts| texts.len()), Some(2));
+    assert!(rt; copy.into_vec() == list.into_vec());
+    Ok(())
+}
+
+#[test]
+fn the_standard_configuration(rt: HostRuntime) -> Result<(), Fail> {
+    let alloc = rt.alloc();
+    let config = Config::standard(alloc)?.copy(alloc)?;
+    assert_eq!(rt; config.uri.as_str(), Some("urn:uaserver"));
+    assert_eq!(rt; config.url.as_str(), Some("opc.tcp://localhost:4840"));
+    assert_eq!(rt; config.receive_size, 65536);
+    assert_eq!(rt; config.session_time, 600_000_000);
+    Ok(())
+}
+
+#[test]
+fn refusals_in_words(rt: HostRuntime) -> Result<(), Fail> {
+    let alloc = rt.alloc();
+    for (refusal, words) in [
+        (
+            Refusal::Service(Status::BAD_TIMEOUT),
+            "refused with status 0x800a0000",
+        ),
+        (Refusal::Memory, "out of memory"),
+        (Refusal::Exhausted, "out of serial numbers"),
+    ] {
+        assert_eq!(rt; format!(in alloc; "{refusal}")?.as_str(), words);
+    }
     Ok(())
 }

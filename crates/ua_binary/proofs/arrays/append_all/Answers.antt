@@ -15,7 +15,7 @@ loop-item-preserved g c =
     let so_far = c.loop-item.invariant in
     let more : take (i + 1) xs ≡ take i xs ++ x ∷ [] = take_more xs i x c.loop-item-test.true ∙ ap (λ y. take i xs ++ y ∷ []) (sym c.item-item.is) in
     record {
-      written = c.in_ok-append.ensures.ok ∙ ap (λ (o : List ℕ). o ++ encoding x) so_far.written ∙ rw more (flat_map_more encoding c.args.out.now.items (take i xs) x);
+      written = ◌∙◌ {A = List ℕ} c.in_ok-append.ensures.ok (◌∙◌ {A = List ℕ} (ap (λ (o : List ℕ). o ++ encoding x) so_far.written) (rw more (flat_map_more encoding c.args.out.now.items (take i xs) x)));
       some = rw (more, flat_map-append) (omega (arith, so_far.some, c.in_ok-append.ensures.some, length-append (flat_map encoding (take i xs)) (encoding x ++ []), length-append (encoding x) []));
       again = All-more (IsReadAgain g.T.Wire.reading encoding) xs i x c.loop-item-test.true so_far.again (rw (← c.item-item.is) c.in_ok-append.ensures.again);
     }

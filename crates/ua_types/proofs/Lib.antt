@@ -1,0 +1,3 @@
+pub mod Choices
+pub mod NumberMaps
+pub mod SameIds
