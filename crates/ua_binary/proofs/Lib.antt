@@ -3,3 +3,4 @@ pub mod Again
 pub mod Elements
 pub mod Extending
 pub mod Flags
+pub mod Fields

@@ -1,9 +1,10 @@
 //! A place in bytes.
 
-ghost use Rattle.std.specs.Prelude.{◌≡◌, ℕ, List, length, IfOk, IfErr, OnErr, Ok, Err};
+ghost use Rattle.std.specs.Prelude.{◌≡◌, ◌≢◌, ◌<◌, ◌^◌, ℕ, List, length, option_map, IfOk, IfErr, OnErr, IfSome, Ok, Err};
 ghost use Rattle.std.specs.Int.{w32};
-ghost use Rattle.ua_binary.specs.declared.fault.TakeFault.TheVariants.{Short};
+ghost use Rattle.ua_binary.specs.declared.fault.TakeFault.TheVariants.{Short, Memory};
 ghost use Rattle.ua_binary.specs.Numbers.{bytes_reading, byte_reading, number_reading};
+ghost use Rattle.ua_binary.specs.Texts.{byte_string_reading, text_reading};
 
 use crate::fault::TakeFault;
 use std::marker::Model;
@@ -55,8 +56,8 @@ impl<'a> Cursor<'a> {
         Ok(front)
     }
 
-    // The next byte, or Short, where the cursor stands where it stood.
-    pub(crate) fn byte(&mut self) -> Result<u8, TakeFault>
+    /// The next byte. The fault is [`TakeFault::Short`], and the cursor then stands where it stood.
+    pub fn byte(&mut self) -> Result<u8, TakeFault>
         ensures ok { IfOk result (λ byte. byte_reading self.old ≡ Ok (byte, self.new)) }
         ensures err { IfErr result (λ e. byte_reading self.old ≡ Err e) }
         ensures stays { OnErr result (self.new ≡ self.old) }
@@ -71,9 +72,10 @@ impl<'a> Cursor<'a> {
         }
     }
 
-    // The next four bytes as a number, or Short, where the cursor stands where it stood.
+    /// The next four bytes as a number (UInt32). The fault is [`TakeFault::Short`], and the cursor then
+    /// stands where it stood.
     #[tactic(auto, unfolding(crate::specs::Numbers::number_reading))]
-    pub(crate) fn number(&mut self) -> Result<u32, TakeFault>
+    pub fn number(&mut self) -> Result<u32, TakeFault>
         ensures ok { IfOk result (λ n. number_reading w32 self.old ≡ Ok (n, self.new)) }
         ensures err { IfErr result (λ e. number_reading w32 self.old ≡ Err e) }
         ensures stays { OnErr result (self.new ≡ self.old) }
@@ -81,5 +83,52 @@ impl<'a> Cursor<'a> {
     {
         let b = self.lend(4)?;
         Ok(u32::from_le_bytes([b[0], b[1], b[2], b[3]]))
+    }
+
+    /// The bytes of the byte string that stands here, or None where it is null.
+    ///
+    /// The fault is [`TakeFault::Short`], also for a length above the number of bytes left, and the
+    /// cursor then stands where it stood.
+    #[tactic(auto, unfolding(crate::specs::Texts::byte_string_reading))]
+    pub fn byte_string(&mut self) -> Result<Option<&'a [u8]>, TakeFault>
+        ensures ok { IfOk result (λ bytes. byte_string_reading self.old ≡ Ok (option_map (λ b. b.now) bytes, self.new)) }
+        ensures err { IfErr result (λ e. byte_string_reading self.old ≡ Err e) }
+        ensures stays { OnErr result (self.new ≡ self.old) }
+        ensures fault { IfErr result (λ e. e ≡ Short) }
+        ensures short { IfOk result (λ bytes. IfSome bytes (λ b. length b.now < 2 ^ 31)) }
+    {
+        let mut at = Cursor::new(self.rest);
+        let len = at.number()?;
+        let bytes = if len < 1 << 31 {
+            Some(at.lend(len as usize)?)
+        } else {
+            None
+        };
+        *self = at;
+        Ok(bytes)
+    }
+
+    /// The characters of the text that stands here, or None where it is null.
+    ///
+    /// The fault is [`TakeFault::Short`], or [`TakeFault::Utf8`] where the bytes aren't UTF-8, and the
+    /// cursor then stands where it stood.
+    #[tactic(auto, using(crate::proofs::Utf8Tests::not_utf8, crate::proofs::Utf8Tests::is_text), unfolding(crate::specs::Texts::text_reading))]
+    pub fn text(&mut self) -> Result<Option<&'a str>, TakeFault>
+        ensures ok { IfOk result (λ text. text_reading self.old ≡ Ok (option_map (λ t. t.now) text, self.new)) }
+        ensures err { IfErr result (λ e. text_reading self.old ≡ Err e) }
+        ensures stays { OnErr result (self.new ≡ self.old) }
+        ensures no_memory { IfErr result (λ e. e ≢ Memory) }
+        ensures short { IfOk result (λ text. IfSome text (λ t. length t.now < 2 ^ 31)) }
+    {
+        let mut at = Cursor::new(self.rest);
+        let text = match at.byte_string()? {
+            None => None,
+            Some(bytes) => match str::from_utf8(bytes) {
+                Ok(text) => Some(text),
+                Err(_) => return Err(TakeFault::Utf8),
+            },
+        };
+        *self = at;
+        Ok(text)
     }
 }

@@ -15,21 +15,6 @@ use ua_types::{ByteString, Text};
 /// The length that is written for null: -1 as an Int32.
 pub(crate) const NULL: u32 = 0xffff_ffff;
 
-// The bytes of a text or byte string where they stand, or None for null.
-#[tactic(auto, unfolding(crate::specs::Texts::byte_string_reading))]
-fn lend_sized<'a>(cursor: &mut Cursor<'a>) -> Result<Option<&'a [u8]>, TakeFault>
-    ensures ok { IfOk result (λ bytes. byte_string_reading cursor.old ≡ Ok (option_map (λ b. b.now) bytes, cursor.new)) }
-    ensures err { IfErr result (λ e. byte_string_reading cursor.old ≡ Err e) }
-    ensures no_memory { IfErr result (λ e. e ≢ Memory) }
-    ensures short { IfOk result (λ bytes. IfSome bytes (λ b. length b.now < 2 ^ 31)) }
-{
-    let len = cursor.number()?;
-    if len >= 1 << 31 {
-        return Ok(None);
-    }
-    Ok(Some(cursor.lend(len as usize)?))
-}
-
 // Writes bytes behind their length, or the length of null.
 #[tactic(auto, using(crate::proofs::Extending::extends_more, crate::proofs::Again::byte_string_again), unfolding(crate::specs::Texts::byte_string_encoding, crate::specs::Texts::byte_string_reading))]
 fn append_sized(bytes: Option<&[u8]>, out: &mut Vec<u8>) -> Result<(), AllocError>
@@ -48,7 +33,7 @@ fn append_sized(bytes: Option<&[u8]>, out: &mut Vec<u8>) -> Result<(), AllocErro
     }
 }
 
-#[tactic(auto, using(crate::proofs::Utf8Tests::not_utf8, crate::proofs::Utf8Tests::is_text, crate::proofs::Again::text_again, crate::proofs::Again::overclaim_is_short), unfolding(crate::specs::Texts::text_reading))]
+#[tactic(auto, using(crate::proofs::Again::text_again, crate::proofs::Again::overclaim_is_short), unfolding(crate::specs::Texts::text_reading))]
 impl Wire for Text {
     ghost reading = { text_reading };
 
@@ -57,12 +42,9 @@ impl Wire for Text {
     ghost overclaims = { ClaimsTooMany };
 
     fn parse(alloc: Global, cursor: &mut Cursor<'_>) -> Result<Text, TakeFault> {
-        let Some(bytes) = lend_sized(cursor)? else {
-            return Ok(Text::null());
-        };
-        match str::from_utf8(bytes) {
-            Ok(text) => Ok(Text::from_str(alloc, text)?),
-            Err(_) => Err(TakeFault::Utf8),
+        match cursor.text()? {
+            None => Ok(Text::null()),
+            Some(text) => Ok(Text::from_str(alloc, text)?),
         }
     }
 
@@ -83,7 +65,7 @@ impl Wire for ByteString {
     ghost overclaims = { ClaimsTooMany };
 
     fn parse(alloc: Global, cursor: &mut Cursor<'_>) -> Result<ByteString, TakeFault> {
-        match lend_sized(cursor)? {
+        match cursor.byte_string()? {
             None => Ok(ByteString::null()),
             Some(bytes) => Ok(ByteString::from_slice(alloc, bytes)?),
         }

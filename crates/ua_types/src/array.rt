@@ -10,7 +10,7 @@ use std::marker::Model;
 /// A list of fewer than 2^31 elements, or null (arrays, IEC 62541-6, 5.2.5).
 ///
 /// Null differs from the empty list.
-#[derive(Debug, Drop)]
+#[derive(Debug)]
 pub struct Array<T> {
     inside: Option<Vec<T>>,
 }
@@ -64,7 +64,15 @@ impl<T> Array<T> {
         ensures items { option_map (λ v. v.items) result ≡ self }
         ensures short { IfSome result (λ v. vec_len v < 2 ^ 31) }
     {
-        self.inside
+        let Array { inside } = self;
+        inside
+    }
+}
+
+// Written out, so that a proof sees a drop as one call and not as its cases.
+impl<T: Drop> Drop for Array<T> {
+    fn drop(self) {
+        let Array { inside: _ } = self;
     }
 }
 

@@ -18,7 +18,7 @@ use std::marker::Model;
 /// Fewer than 2^31 bytes, or null (ByteString, IEC 62541-6, 5.2.2.7).
 ///
 /// Null differs from the empty byte string, and comes first in the order.
-#[derive(Debug, Drop)]
+#[derive(Debug)]
 pub struct ByteString {
     inside: Option<Vec<u8>>,
 }
@@ -80,7 +80,15 @@ impl ByteString {
         ensures bytes { option_map (λ v. v.items) result ≡ self }
         ensures short { IfSome result (λ v. vec_len v < 2 ^ 31) }
     {
-        self.inside
+        let ByteString { inside } = self;
+        inside
+    }
+}
+
+// Written out, so that a proof sees a drop as one call and not as its cases.
+impl Drop for ByteString {
+    fn drop(self) {
+        let ByteString { inside: _ } = self;
     }
 }
 

@@ -9,12 +9,24 @@ use crate::text::Text;
 use std::alloc::{AllocError, Global};
 
 /// The part of an id that is unique within its namespace (IEC 62541-3, 8.2.4).
-#[derive(Debug, Drop, PartialEq, Eq, PartialOrd, Ord)]
+#[derive(Debug, PartialEq, Eq, PartialOrd, Ord)]
 pub enum Identifier {
     Numeric(u32),
     String(Text),
     Guid(Guid),
     Opaque(ByteString),
+}
+
+// Written out, so that a proof sees a drop as one call and not as its cases.
+impl Drop for Identifier {
+    fn drop(self) {
+        match self {
+            Identifier::Numeric(_) => {}
+            Identifier::String(_) => {}
+            Identifier::Guid(_) => {}
+            Identifier::Opaque(_) => {}
+        }
+    }
 }
 
 impl Copyable for Identifier {
