@@ -41,7 +41,6 @@ pub use moment::Moment;
 pub use node_id::{ExpandedNodeId, Identifier, NodeId};
 pub use qualified_name::QualifiedName;
 pub use refusal::Refusal;
-/// Want of memory: a growth was refused.
 pub use status::Status;
 pub use std::alloc::AllocError as Memory;
 pub use text::Text;

@@ -1,0 +1,6 @@
+pub mod FramesLemmas
+pub mod FeedingLemmas
+pub mod PiecesLemmas
+pub mod EncodedLemmas
+pub mod TapLemmas
+pub mod DecodedLemmas

@@ -1,0 +1,8 @@
+pub mod Header
+pub mod Frames
+pub mod Feeding
+pub mod Encoding
+pub mod Pieces
+pub mod Tapped
+pub mod Hellos
+pub mod Agreements

@@ -1,0 +1,57 @@
+//! The body of a Hello.
+
+ghost use Rattle.ua_tcp.specs.Hellos.{hello_reading, hello_encoding};
+
+use std::alloc::{AllocError, Global};
+use ua_binary::{Cursor, TakeFault, Wire};
+use ua_types::Text;
+
+/// What a client says of itself in its first frame (IEC 62541-6, "Hello Message").
+#[derive(Debug, Drop)]
+pub struct Hello {
+    /// The latest version of the protocol that the client knows. Any is good.
+    pub protocol_version: u32,
+
+    /// The largest frame that the client can receive, in bytes.
+    pub receive_size: u32,
+
+    /// The largest frame that the client will send, in bytes.
+    pub send_size: u32,
+
+    /// The largest answer that the client takes, in bytes of its body, or 0 for no limit.
+    pub max_message_size: u32,
+
+    /// The most chunks of an answer that the client takes, or 0 for no limit.
+    pub max_chunk_count: u32,
+
+    /// The URL of the endpoint that the client wants.
+    pub endpoint_url: Text,
+}
+
+#[tactic(auto, using(ua_binary::proofs::Fields::fields6), unfolding(crate::specs::Hellos::hello_reading, crate::specs::Hellos::hello_encoding))]
+impl Wire for Hello {
+    ghost reading = { hello_reading };
+
+    ghost encoding = { hello_encoding };
+
+    fn parse(alloc: Global, cursor: &mut Cursor<'_>) -> Result<Hello, TakeFault> {
+        Ok(Hello {
+            protocol_version: u32::parse(alloc, cursor)?,
+            receive_size: u32::parse(alloc, cursor)?,
+            send_size: u32::parse(alloc, cursor)?,
+            max_message_size: u32::parse(alloc, cursor)?,
+            max_chunk_count: u32::parse(alloc, cursor)?,
+            endpoint_url: Text::parse(alloc, cursor)?,
+        })
+    }
+
+    fn append(&self, out: &mut Vec<u8>) -> Result<(), AllocError> {
+        self.protocol_version.append(out)?;
+        self.receive_size.append(out)?;
+        self.send_size.append(out)?;
+        self.max_message_size.append(out)?;
+        self.max_chunk_count.append(out)?;
+        self.endpoint_url.append(out)?;
+        Ok(())
+    }
+}

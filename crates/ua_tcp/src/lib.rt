@@ -1,0 +1,34 @@
+//! Frames of an OPC UA byte stream, and the messages that open and end a connection (IEC 62541-6,
+//! "OPC UA Connection Protocol").
+//!
+//! A server over TCP receives bytes in pieces of any size. [`Framer`] is fed the pieces and gives the
+//! [`Frame`]s that are whole by then, and at the first header that is no good a [`FrameFault`]. Where
+//! the stream is cut makes no difference: [`laws::any_cut`] states it. The first frame is a Hello:
+//! [`hello`] takes or refuses it, [`ack`] and [`err`] make the answers, and what was settled is
+//! [`Agreed`]. Streams are read and written through a [`Tap`], which counts the calls that failed.
+//!
+//! Here is no clock, no socket and no connection: bytes come in as slices and go out as values. What
+//! stands in the body of an OPN, MSG or CLO frame is not looked at.
+//!
+//! Read [`Framer`] and [`Frame`] first. `specs/` defines what the frames of a stream are (`Header`,
+//! `Frames`, `Feeding`), how a frame is written (`Encoding`), what is agreed (`Agreements`), and what
+//! a server of any kind does with the pieces of a stream (`Pieces`).
+#![tactic(auto)]
+
+mod frame;
+mod framer;
+mod handshake;
+mod hello_message;
+pub mod laws;
+mod limits;
+mod tap;
+
+pub use frame::{ChunkType, Frame, FrameFault, MessageType};
+pub use framer::{Fed, Framer, Frames};
+pub use handshake::{Agreed, ack, err, hello};
+pub use hello_message::Hello;
+pub use limits::Limits;
+pub use tap::{Tap, put_bytes};
+
+#[cfg(test)]
+mod tests;
