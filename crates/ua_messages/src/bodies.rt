@@ -1,0 +1,102 @@
+//! Bodies: the id of a message's encoding, and then the message.
+
+ghost use Rattle.std.specs.Prelude.{◌≡◌, ◌≢◌, Ok, Err, IfOk, IfErr, OnOk, IsOk};
+ghost use Rattle.std.specs.Int.{w16};
+ghost use Rattle.ua_binary.specs.declared.fault.TakeFault.TheVariants.{Memory};
+ghost use Rattle.ua_binary.specs.Numbers.{number_reading};
+ghost use Rattle.ua_binary.specs.Guids.{guid_reading};
+ghost use Rattle.ua_binary.specs.NodeIds.{after_form_reading};
+ghost use Rattle.ua_types.specs.Answers.{Gives};
+ghost use Rattle.ua_messages.specs.Bodies.{only_value, standard_number, message_id_of, message_of, body_encoding};
+
+use std::alloc::{AllocError, Global};
+use ua_binary::{Cursor, TakeFault, Wire};
+use ua_types::NodeId;
+
+#[tactic(auto, unfolding(ua_binary::specs::Numbers::number_reading))]
+fn short_number(cursor: &mut Cursor<'_>) -> Result<u16, TakeFault>
+    ensures ok { IfOk result (λ n. number_reading w16 cursor.old ≡ Ok (n, cursor.new)) }
+    ensures err { IfErr result (λ e. number_reading w16 cursor.old ≡ Err e) }
+{
+    let b = cursor.lend(2)?;
+    Ok(u16::from_le_bytes([b[0], b[1]]))
+}
+
+// Looks at a Guid and keeps nothing of it.
+#[tactic(auto, unfolding(ua_binary::specs::Guids::guid_reading, ua_binary::specs::Numbers::octets_reading))]
+fn pass_guid(cursor: &mut Cursor<'_>) -> Result<(), TakeFault>
+    ensures ok { OnOk result (IsOk (guid_reading cursor.old)) }
+    ensures err { IfErr result (λ e. guid_reading cursor.old ≡ Err e) }
+{
+    cursor.number()?;
+    short_number(cursor)?;
+    short_number(cursor)?;
+    cursor.lend(8)?;
+    Ok(())
+}
+
+/// The number of the id that a body begins with (one of `type_ids`), or 0 where the id is of another
+/// namespace or isn't a number.
+///
+/// It takes no memory.
+#[tactic(auto, unfolding(crate::specs::Bodies::message_id_of, ua_binary::specs::NodeIds::node_id_reading, ua_binary::specs::NodeIds::after_form_reading))]
+pub fn message_id(body: &[u8]) -> Result<u32, TakeFault>
+    ensures ok { IfOk result (λ n. message_id_of body.now ≡ Ok n) }
+    ensures err { IfErr result (λ e. message_id_of body.now ≡ Err e) }
+{
+    let mut cursor = Cursor::new(body);
+    match cursor.byte()? {
+        0 => Ok(cursor.byte()? as u32),
+        1 => {
+            let namespace = cursor.byte()?;
+            let number = short_number(&mut cursor)?;
+            Ok(if namespace == 0 { number as u32 } else { 0 })
+        }
+        2 => {
+            let namespace = short_number(&mut cursor)?;
+            let number = cursor.number()?;
+            Ok(if namespace == 0 { number } else { 0 })
+        }
+        3 => {
+            short_number(&mut cursor)?;
+            cursor.text()?;
+            Ok(0)
+        }
+        4 => {
+            short_number(&mut cursor)?;
+            pass_guid(&mut cursor)?;
+            Ok(0)
+        }
+        5 => {
+            short_number(&mut cursor)?;
+            cursor.byte_string()?;
+            Ok(0)
+        }
+        _ => Err(TakeFault::Form),
+    }
+}
+
+/// The message of a body: its fields after the id, whatever the id is.
+///
+/// Bytes after the last field are ignored. So the header of any request can be read by itself.
+#[tactic(auto, unfolding(crate::specs::Bodies::message_of))]
+pub fn message<T: Wire>(alloc: Global, body: &[u8]) -> Result<T, TakeFault>
+    ensures { Gives Memory result (message_of T.reading body.now) }
+{
+    let mut cursor = Cursor::new(body);
+    NodeId::parse(alloc, &mut cursor)?;
+    T::parse(alloc, &mut cursor)
+}
+
+/// The body of a message: the id with this number in namespace 0, and then the fields.
+#[tactic(auto, using(crate::proofs::BodiesAgain::message_again, crate::proofs::BodiesAgain::id_again))]
+pub fn body<T: Wire>(alloc: Global, type_id: u32, message: &T) -> Result<Vec<u8>, AllocError>
+    ensures ok { IfOk result (λ bytes. bytes.items ≡ body_encoding T.encoding type_id message.now) }
+    ensures again { IfOk result (λ bytes. message_of T.reading bytes.items ≡ Ok message.now) }
+    ensures id { IfOk result (λ bytes. message_id_of bytes.items ≡ Ok type_id) }
+{
+    let mut out = Vec::new(alloc);
+    NodeId::numeric(0, type_id).append(&mut out)?;
+    message.append(&mut out)?;
+    Ok(out)
+}

@@ -1,0 +1,72 @@
+//! The service GetEndpoints.
+
+ghost use Rattle.ua_messages.specs.GetEndpoints.{get_endpoints_request_reading, get_endpoints_request_encoding, get_endpoints_response_reading, get_endpoints_response_encoding};
+
+use crate::descriptions::EndpointDescription;
+use crate::headers::{RequestHeader, ResponseHeader};
+use std::alloc::{AllocError, Global};
+use ua_binary::{Cursor, TakeFault, Wire};
+use ua_types::{Array, Text};
+
+/// Asks for the endpoints of a server (GetEndpoints, IEC 62541-4, section 5, Discovery Service Set).
+#[derive(Debug, Drop)]
+pub struct GetEndpointsRequest {
+    pub request_header: RequestHeader,
+    /// The URL by which the client reached the server.
+    pub endpoint_url: Text,
+    /// The languages in which the client likes to have texts, the best first.
+    pub locale_ids: Array<Text>,
+    /// The transports of which endpoints are wanted, all where there are none.
+    pub profile_uris: Array<Text>,
+}
+
+#[tactic(auto, using(ua_binary::proofs::Fields::fields4), unfolding(crate::specs::GetEndpoints::get_endpoints_request_reading, crate::specs::GetEndpoints::get_endpoints_request_encoding))]
+impl Wire for GetEndpointsRequest {
+    ghost reading = { get_endpoints_request_reading };
+
+    ghost encoding = { get_endpoints_request_encoding };
+
+    fn parse(alloc: Global, cursor: &mut Cursor<'_>) -> Result<GetEndpointsRequest, TakeFault> {
+        Ok(GetEndpointsRequest {
+            request_header: RequestHeader::parse(alloc, cursor)?,
+            endpoint_url: Text::parse(alloc, cursor)?,
+            locale_ids: Array::<Text>::parse(alloc, cursor)?,
+            profile_uris: Array::<Text>::parse(alloc, cursor)?,
+        })
+    }
+
+    fn append(&self, out: &mut Vec<u8>) -> Result<(), AllocError> {
+        self.request_header.append(out)?;
+        self.endpoint_url.append(out)?;
+        self.locale_ids.append(out)?;
+        self.profile_uris.append(out)?;
+        Ok(())
+    }
+}
+
+/// The endpoints of a server: the response to [`GetEndpointsRequest`].
+#[derive(Debug, Drop)]
+pub struct GetEndpointsResponse {
+    pub response_header: ResponseHeader,
+    pub endpoints: Array<EndpointDescription>,
+}
+
+#[tactic(auto, using(ua_binary::proofs::Fields::fields2), unfolding(crate::specs::GetEndpoints::get_endpoints_response_reading, crate::specs::GetEndpoints::get_endpoints_response_encoding))]
+impl Wire for GetEndpointsResponse {
+    ghost reading = { get_endpoints_response_reading };
+
+    ghost encoding = { get_endpoints_response_encoding };
+
+    fn parse(alloc: Global, cursor: &mut Cursor<'_>) -> Result<GetEndpointsResponse, TakeFault> {
+        Ok(GetEndpointsResponse {
+            response_header: ResponseHeader::parse(alloc, cursor)?,
+            endpoints: Array::<EndpointDescription>::parse(alloc, cursor)?,
+        })
+    }
+
+    fn append(&self, out: &mut Vec<u8>) -> Result<(), AllocError> {
+        self.response_header.append(out)?;
+        self.endpoints.append(out)?;
+        Ok(())
+    }
+}

@@ -1,0 +1,122 @@
+//! What requests and responses begin with.
+
+ghost use Rattle.std.specs.Prelude.{◌≡◌};
+ghost use Rattle.ua_messages.specs.Headers.{request_header_reading, request_header_encoding, response_header_reading, response_header_encoding, plain_header};
+
+use crate::diagnostics::DiagnosticInfo;
+use std::alloc::{AllocError, Global};
+use ua_binary::{Cursor, TakeFault, Wire};
+use ua_types::{Array, ExtensionObject, ExtensionObjectBody, Moment, NodeId, Status, Text};
+
+/// What each request begins with (RequestHeader, IEC 62541-4, section 7).
+#[derive(Debug, Drop)]
+pub struct RequestHeader {
+    /// The secret id of the session, or null where there is none.
+    pub authentication_token: NodeId,
+    /// When the client sent the request.
+    pub timestamp: Moment,
+    /// The number by which the client knows the request. The response repeats it.
+    pub request_handle: u32,
+    /// Which diagnostic infos the client asks for. This server has none.
+    pub return_diagnostics: u32,
+    /// The client's name of the request in its audit log.
+    pub audit_entry_id: Text,
+    /// How long the client waits for the response, in milliseconds; 0 is no end.
+    pub timeout_hint: u32,
+    /// Reserved. Any is read and none has a meaning.
+    pub additional_header: ExtensionObject,
+}
+
+#[tactic(auto, using(ua_binary::proofs::Fields::fields7), unfolding(crate::specs::Headers::request_header_reading, crate::specs::Headers::request_header_encoding))]
+impl Wire for RequestHeader {
+    ghost reading = { request_header_reading };
+
+    ghost encoding = { request_header_encoding };
+
+    fn parse(alloc: Global, cursor: &mut Cursor<'_>) -> Result<RequestHeader, TakeFault> {
+        Ok(RequestHeader {
+            authentication_token: NodeId::parse(alloc, cursor)?,
+            timestamp: Moment::parse(alloc, cursor)?,
+            request_handle: u32::parse(alloc, cursor)?,
+            return_diagnostics: u32::parse(alloc, cursor)?,
+            audit_entry_id: Text::parse(alloc, cursor)?,
+            timeout_hint: u32::parse(alloc, cursor)?,
+            additional_header: ExtensionObject::parse(alloc, cursor)?,
+        })
+    }
+
+    fn append(&self, out: &mut Vec<u8>) -> Result<(), AllocError> {
+        self.authentication_token.append(out)?;
+        self.timestamp.append(out)?;
+        self.request_handle.append(out)?;
+        self.return_diagnostics.append(out)?;
+        self.audit_entry_id.append(out)?;
+        self.timeout_hint.append(out)?;
+        self.additional_header.append(out)?;
+        Ok(())
+    }
+}
+
+/// What each response begins with (ResponseHeader, IEC 62541-4, section 7).
+#[derive(Debug, Drop)]
+pub struct ResponseHeader {
+    /// When the server sent the response.
+    pub timestamp: Moment,
+    /// The request's number in its own header.
+    pub request_handle: u32,
+    /// The outcome of the call as a whole.
+    pub service_result: Status,
+    pub service_diagnostics: DiagnosticInfo,
+    /// The texts that diagnostic infos refer to, null where there are none.
+    pub string_table: Array<Text>,
+    /// Reserved. Any is read and none has a meaning.
+    pub additional_header: ExtensionObject,
+}
+
+impl ResponseHeader {
+    /// A header with nothing beside the outcome: no diagnostic info, no texts, and a null additional
+    /// header.
+    pub fn new(request_handle: u32, service_result: Status, timestamp: Moment) -> ResponseHeader
+        ensures { result ≡ plain_header request_handle service_result timestamp }
+    {
+        ResponseHeader {
+            timestamp,
+            request_handle,
+            service_result,
+            service_diagnostics: DiagnosticInfo,
+            string_table: Array::null(),
+            additional_header: ExtensionObject {
+                type_id: NodeId::null(),
+                body: ExtensionObjectBody::Absent,
+            },
+        }
+    }
+}
+
+#[tactic(auto, using(ua_binary::proofs::Fields::fields6), unfolding(crate::specs::Headers::response_header_reading, crate::specs::Headers::response_header_encoding))]
+impl Wire for ResponseHeader {
+    ghost reading = { response_header_reading };
+
+    ghost encoding = { response_header_encoding };
+
+    fn parse(alloc: Global, cursor: &mut Cursor<'_>) -> Result<ResponseHeader, TakeFault> {
+        Ok(ResponseHeader {
+            timestamp: Moment::parse(alloc, cursor)?,
+            request_handle: u32::parse(alloc, cursor)?,
+            service_result: Status::parse(alloc, cursor)?,
+            service_diagnostics: DiagnosticInfo::parse(alloc, cursor)?,
+            string_table: Array::<Text>::parse(alloc, cursor)?,
+            additional_header: ExtensionObject::parse(alloc, cursor)?,
+        })
+    }
+
+    fn append(&self, out: &mut Vec<u8>) -> Result<(), AllocError> {
+        self.timestamp.append(out)?;
+        self.request_handle.append(out)?;
+        self.service_result.append(out)?;
+        self.service_diagnostics.append(out)?;
+        self.string_table.append(out)?;
+        self.additional_header.append(out)?;
+        Ok(())
+    }
+}

@@ -1,0 +1,41 @@
+//! The messages of OPC UA (IEC 62541-4): headers, faults, GetEndpoints, and opening and closing a
+//! secure channel; and the bodies in which all messages travel.
+//!
+//! A message is a struct of the standard's fields, in the standard's order, and is
+//! [`ua_binary::Wire`]: its *reading* and its *encoding* in `specs/` are that list of fields, and the
+//! trait says that what is written is read again. A *body* is the id of a message's encoding, and then
+//! the message. [`message_id`] tells which message a body holds, [`message`] reads it, [`body`] writes
+//! one, and [`fault`] writes the answer to a request that failed.
+//!
+//! Nothing here decides anything: no field is judged beyond its form, no session is looked up, and no
+//! clock is read. Frames and chunks are other crates' work.
+//!
+//! Read [`RequestHeader`] and [`ResponseHeader`] first, then [`GetEndpointsRequest`] for a whole
+//! message. The numbers of all encodings that the server knows are in [`type_ids`].
+#![tactic(auto)]
+
+mod bodies;
+mod descriptions;
+mod diagnostics;
+mod enumerations;
+mod get_endpoints;
+mod headers;
+mod secure_channels;
+mod service_faults;
+pub mod type_ids;
+
+pub use bodies::{body, message, message_id};
+pub use descriptions::{ApplicationDescription, EndpointDescription, UserTokenPolicy};
+pub use diagnostics::{DiagnosticInfo, DiagnosticInfos};
+pub use enumerations::{
+    ApplicationType, MessageSecurityMode, SecurityTokenRequestType, UserTokenType,
+};
+pub use get_endpoints::{GetEndpointsRequest, GetEndpointsResponse};
+pub use headers::{RequestHeader, ResponseHeader};
+pub use secure_channels::{
+    CloseSecureChannelRequest, OpenSecureChannelRequest, OpenSecureChannelResponse,
+};
+pub use service_faults::{ServiceFault, fault};
+
+#[cfg(test)]
+mod tests;

@@ -1,0 +1,102 @@
+//! The numbers, in namespace 0, of the ids of binary encodings (IEC 62541-6, Annex A). A body begins
+//! with the id of its message, and an ExtensionObject with that of its structure.
+
+pub const ANONYMOUS_IDENTITY_TOKEN: u32 = 321;
+
+pub const SERVICE_FAULT: u32 = 397;
+
+pub const GET_ENDPOINTS_REQUEST: u32 = 428;
+
+pub const GET_ENDPOINTS_RESPONSE: u32 = 431;
+
+pub const OPEN_SECURE_CHANNEL_REQUEST: u32 = 446;
+
+pub const OPEN_SECURE_CHANNEL_RESPONSE: u32 = 449;
+
+pub const CLOSE_SECURE_CHANNEL_REQUEST: u32 = 452;
+
+pub const CREATE_SESSION_REQUEST: u32 = 461;
+
+pub const CREATE_SESSION_RESPONSE: u32 = 464;
+
+pub const ACTIVATE_SESSION_REQUEST: u32 = 467;
+
+pub const ACTIVATE_SESSION_RESPONSE: u32 = 470;
+
+pub const CLOSE_SESSION_REQUEST: u32 = 473;
+
+pub const CLOSE_SESSION_RESPONSE: u32 = 476;
+
+pub const BROWSE_REQUEST: u32 = 527;
+
+pub const BROWSE_RESPONSE: u32 = 530;
+
+pub const BROWSE_NEXT_REQUEST: u32 = 533;
+
+pub const BROWSE_NEXT_RESPONSE: u32 = 536;
+
+pub const READ_REQUEST: u32 = 631;
+
+pub const READ_RESPONSE: u32 = 634;
+
+pub const READ_RAW_MODIFIED_DETAILS: u32 = 649;
+
+pub const HISTORY_DATA: u32 = 658;
+
+pub const HISTORY_READ_REQUEST: u32 = 664;
+
+pub const HISTORY_READ_RESPONSE: u32 = 667;
+
+pub const WRITE_REQUEST: u32 = 673;
+
+pub const WRITE_RESPONSE: u32 = 676;
+
+pub const DATA_CHANGE_FILTER: u32 = 724;
+
+pub const CREATE_MONITORED_ITEMS_REQUEST: u32 = 751;
+
+pub const CREATE_MONITORED_ITEMS_RESPONSE: u32 = 754;
+
+pub const MODIFY_MONITORED_ITEMS_REQUEST: u32 = 763;
+
+pub const MODIFY_MONITORED_ITEMS_RESPONSE: u32 = 766;
+
+pub const SET_MONITORING_MODE_REQUEST: u32 = 769;
+
+pub const SET_MONITORING_MODE_RESPONSE: u32 = 772;
+
+pub const SET_TRIGGERING_REQUEST: u32 = 775;
+
+pub const SET_TRIGGERING_RESPONSE: u32 = 778;
+
+pub const DELETE_MONITORED_ITEMS_REQUEST: u32 = 781;
+
+pub const DELETE_MONITORED_ITEMS_RESPONSE: u32 = 784;
+
+pub const CREATE_SUBSCRIPTION_REQUEST: u32 = 787;
+
+pub const CREATE_SUBSCRIPTION_RESPONSE: u32 = 790;
+
+pub const MODIFY_SUBSCRIPTION_REQUEST: u32 = 793;
+
+pub const MODIFY_SUBSCRIPTION_RESPONSE: u32 = 796;
+
+pub const SET_PUBLISHING_MODE_REQUEST: u32 = 799;
+
+pub const SET_PUBLISHING_MODE_RESPONSE: u32 = 802;
+
+pub const DATA_CHANGE_NOTIFICATION: u32 = 811;
+
+pub const STATUS_CHANGE_NOTIFICATION: u32 = 820;
+
+pub const PUBLISH_REQUEST: u32 = 826;
+
+pub const PUBLISH_RESPONSE: u32 = 829;
+
+pub const REPUBLISH_REQUEST: u32 = 832;
+
+pub const REPUBLISH_RESPONSE: u32 = 835;
+
+pub const DELETE_SUBSCRIPTIONS_REQUEST: u32 = 847;
+
+pub const DELETE_SUBSCRIPTIONS_RESPONSE: u32 = 850;
