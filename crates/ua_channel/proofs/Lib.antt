@@ -1,0 +1,5 @@
+pub mod HeaderLemmas
+pub mod CuttingLemmas
+pub mod JoiningLemmas
+pub mod ReadAgainLemmas
+pub mod LimitLemmas

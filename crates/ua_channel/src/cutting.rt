@@ -1,0 +1,177 @@
+//! Answers cut into chunks.
+
+ghost use Rattle.std.specs.Prelude.{◌≡◌, ◌<◌, ◌≤◌, ◌+◌, ◌^◌, ℕ, length, false, IfOk};
+ghost use Rattle.ua_tcp.specs.Encoding.{letter_of, frame_encoding};
+ghost use Rattle.ua_channel.specs.Cutting.{chunk_encoding, cut_of, is_too_large as is_too_large_lem, exceeds as exceeds_lem, opening_frame, opening_header_by, is_opening_too_large as is_opening_too_large_lem};
+
+use crate::headers::{ChunkHeader, FRAME_HEADER_SIZE, OPENING_FRAME_HEADER_SIZE, OpeningHeader};
+use crate::openings::SECURITY_POLICY_NONE;
+use crate::sequence_numbers::sequence_number_after;
+use bytes::Bytes;
+use std::alloc::{AllocError, Global};
+use std::marker::Model;
+use ua_binary::Wire;
+use ua_tcp::{Agreed, ChunkType};
+use ua_types::{ByteString, Text};
+
+/// The chunks of an answer, each a frame to be sent, in their order. Contracts see their list.
+#[derive(Debug, Drop)]
+pub struct Chunks {
+    items: Vec<Bytes>,
+}
+
+impl Model for Chunks {
+    ghost use Rattle.std.specs.Prelude.{ℕ, List};
+
+    ghost Value = { List (List ℕ) };
+
+    ghost view = { λ c. c.items.items };
+}
+
+impl Chunks {
+    /// These frames.
+    pub fn new(frames: Vec<Bytes>) -> Chunks
+        ensures { result ≡ frames.items }
+    {
+        Chunks { items: frames }
+    }
+
+    pub fn as_slice(&self) -> &[Bytes]
+        ensures { result.now ≡ self.now }
+    {
+        self.items.as_slice()
+    }
+
+    /// The frames themselves. Takes no memory.
+    pub fn into_vec(self) -> Vec<Bytes>
+        ensures { result.items ≡ self }
+    {
+        self.items
+    }
+}
+
+// How many bytes of a body a chunk holds.
+pub fn room(agreed: &Agreed) -> usize
+    ensures value { result + 24 ≡ agreed.now.send_size }
+    ensures some { 0 < result }
+    ensures small { result + 24 < 2 ^ 32 }
+{
+    (agreed.send_size - FRAME_HEADER_SIZE) as usize
+}
+
+// Whether the client doesn't take a body of this length.
+pub fn is_too_large(agreed: &Agreed, len: usize) -> bool
+    ensures { result ≡ is_too_large_lem agreed.now len }
+{
+    let chunk_count = len.saturating_sub(1) / room(agreed) + 1;
+    exceeds(agreed.max_message_size, len) || exceeds(agreed.max_chunk_count, chunk_count)
+}
+
+// A limit of 0 is none.
+pub fn exceeds(limit: u32, n: usize) -> bool
+    ensures { result ≡ exceeds_lem limit n }
+{
+    limit != 0 && n > limit as usize
+}
+
+// The chunks of a body, and the sequence number of the last of them.
+pub fn cut(
+    alloc: Global,
+    first: ChunkHeader,
+    room: usize,
+    body: &[u8],
+) -> Result<(Chunks, u32), AllocError>
+    requires some { 0 < room }
+    requires small { room + 24 < 2 ^ 32 }
+    requires first { first.sequence_number ≤ 4294966272 }
+    ensures cut { IfOk result (λ cut. record { chunks = cut.0; sent = cut.1 } ≡ cut_of first room body.now) }
+    ensures last { IfOk result (λ cut. cut.1 ≤ 4294966272) }
+{
+    let mut chunks = Vec::new(alloc);
+    let mut header = first;
+    let mut rest = body;
+    while rest.len() > room {
+        let (part, behind) = rest.split_at(room);
+        chunks.push(chunk(alloc, &header, ChunkType::Intermediate, part)?)?;
+        header.sequence_number = sequence_number_after(header.sequence_number);
+        rest = behind;
+    }
+    chunks.push(chunk(alloc, &header, ChunkType::Final, rest)?)?;
+    Ok((Chunks::new(chunks), header.sequence_number))
+}
+
+fn letter(chunk_type: ChunkType) -> u8
+    ensures { result ≡ letter_of chunk_type }
+{
+    match chunk_type {
+        ChunkType::Intermediate => b'C',
+        ChunkType::Final => b'F',
+        ChunkType::Aborted => b'A',
+    }
+}
+
+// A MSG of this type with this part of the body.
+#[tactic(auto, using(crate::proofs::HeaderLemmas::encoding_length))]
+fn chunk(
+    alloc: Global,
+    header: &ChunkHeader,
+    chunk_type: ChunkType,
+    part: &[u8],
+) -> Result<Bytes, AllocError>
+    requires { length part.now + 24 < 2 ^ 32 }
+    ensures { IfOk result (λ chunk. chunk ≡ chunk_encoding header.now chunk_type part.now) }
+{
+    let size = FRAME_HEADER_SIZE as usize + part.len();
+    let mut frame = Vec::with_capacity(alloc, size)?;
+    frame.extend_from_slice(b"MSG")?;
+    frame.push(letter(chunk_type))?;
+    frame.extend_from_slice(&(size as u32).to_le_bytes())?;
+    header.append(&mut frame)?;
+    frame.extend_from_slice(part)?;
+    Ok(Bytes::from_vec(frame)?)
+}
+
+// Whether the client doesn't take this body in one OPN, or the agreed send size doesn't hold it.
+#[tactic(auto, using(crate::proofs::HeaderLemmas::opening_length))]
+pub fn is_opening_too_large(agreed: &Agreed, body: &[u8]) -> bool
+    ensures large { (channel_id sequence_number request_id : ℕ) → result ≡ is_opening_too_large_lem agreed.now
+        (opening_frame (opening_header_by channel_id sequence_number request_id) body.now) (length body.now) }
+    ensures fits { result ≡ false → length body.now + 79 ≤ agreed.now.send_size }
+    ensures small { agreed.now.send_size < 2 ^ 32 }
+{
+    exceeds(agreed.max_message_size, body.len())
+        || body
+            .len()
+            .saturating_add(OPENING_FRAME_HEADER_SIZE as usize)
+            > agreed.send_size as usize
+}
+
+// The OPN with this body.
+#[tactic(auto, using(crate::proofs::HeaderLemmas::opening_length))]
+pub fn opening_chunk(
+    alloc: Global,
+    channel_id: u32,
+    sequence_number: u32,
+    request_id: u32,
+    body: &[u8],
+) -> Result<Bytes, AllocError>
+    requires { length body.now + 79 < 2 ^ 32 }
+    ensures { IfOk result (λ chunk. chunk ≡ frame_encoding
+        (opening_frame (opening_header_by channel_id sequence_number request_id) body.now)) }
+{
+    let header = OpeningHeader {
+        channel_id,
+        security_policy_uri: Text::from_str(alloc, SECURITY_POLICY_NONE)?,
+        sender_certificate: ByteString::null(),
+        receiver_certificate_thumbprint: ByteString::null(),
+        sequence_number,
+        request_id,
+    };
+    let size = OPENING_FRAME_HEADER_SIZE as usize + body.len();
+    let mut frame = Vec::with_capacity(alloc, size)?;
+    frame.extend_from_slice(b"OPNF")?;
+    frame.extend_from_slice(&(size as u32).to_le_bytes())?;
+    header.append(&mut frame)?;
+    frame.extend_from_slice(body)?;
+    Ok(Bytes::from_vec(frame)?)
+}

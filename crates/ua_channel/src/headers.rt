@@ -1,0 +1,110 @@
+//! What stands before a chunk's part of the message.
+
+ghost use Rattle.ua_channel.specs.Headers.{chunk_header_reading, chunk_header_encoding, opening_header_reading, opening_header_encoding};
+
+use std::alloc::{AllocError, Global};
+use ua_binary::{Cursor, TakeFault, Wire};
+use ua_types::{ByteString, Text};
+
+/// How many bytes a [`ChunkHeader`] has.
+pub const HEADER_SIZE: usize = 16;
+
+/// How many bytes stand before the part of the message in a MSG frame, the first eight of each frame
+/// counted too.
+pub const FRAME_HEADER_SIZE: u32 = 24;
+
+/// How many bytes stand before the body in an OPN frame that is sent: the first eight of each frame,
+/// three numbers, the policy's URI of 47 bytes behind its length, and two nulls.
+pub const OPENING_FRAME_HEADER_SIZE: u32 = 79;
+
+/// What stands between the first eight bytes of a MSG or CLO frame and its part of the message:
+/// the symmetric security header and the sequence header of IEC 62541-6, "MessageChunk structure".
+#[derive(Clone, Copy, Debug, PartialEq, Eq)]
+pub struct ChunkHeader {
+    /// The number of the secure channel.
+    pub channel_id: u32,
+
+    /// The number of the token under which the chunk is sent.
+    pub token_id: u32,
+
+    /// The number of the chunk, counted over all that one side sends by the channel.
+    pub sequence_number: u32,
+
+    /// The number of the request, which all chunks of it and of its answer have.
+    pub request_id: u32,
+}
+
+#[tactic(auto, using(ua_binary::proofs::Fields::fields4), unfolding(crate::specs::Headers::chunk_header_reading, crate::specs::Headers::chunk_header_encoding))]
+impl Wire for ChunkHeader {
+    ghost reading = { chunk_header_reading };
+
+    ghost encoding = { chunk_header_encoding };
+
+    fn parse(alloc: Global, cursor: &mut Cursor<'_>) -> Result<ChunkHeader, TakeFault> {
+        Ok(ChunkHeader {
+            channel_id: u32::parse(alloc, cursor)?,
+            token_id: u32::parse(alloc, cursor)?,
+            sequence_number: u32::parse(alloc, cursor)?,
+            request_id: u32::parse(alloc, cursor)?,
+        })
+    }
+
+    fn append(&self, out: &mut Vec<u8>) -> Result<(), AllocError> {
+        self.channel_id.append(out)?;
+        self.token_id.append(out)?;
+        self.sequence_number.append(out)?;
+        self.request_id.append(out)?;
+        Ok(())
+    }
+}
+
+/// What stands between the first eight bytes of an OPN frame and its part of the message: the
+/// asymmetric security header and the sequence header of IEC 62541-6, "MessageChunk structure".
+#[derive(Debug, Drop)]
+pub struct OpeningHeader {
+    /// The number of the secure channel, 0 where there is none yet.
+    pub channel_id: u32,
+
+    /// By which algorithms messages are signed and encrypted.
+    pub security_policy_uri: Text,
+
+    /// The sender's certificate, null where messages aren't signed.
+    pub sender_certificate: ByteString,
+
+    /// Which of the receiver's certificates the message is encrypted for, null where it isn't.
+    pub receiver_certificate_thumbprint: ByteString,
+
+    /// The number of the chunk, counted over all that one side sends by the channel.
+    pub sequence_number: u32,
+
+    /// The number of the request, which its answer has too.
+    pub request_id: u32,
+}
+
+#[tactic(auto, using(ua_binary::proofs::Fields::fields6), unfolding(crate::specs::Headers::opening_header_reading, crate::specs::Headers::opening_header_encoding))]
+impl Wire for OpeningHeader {
+    ghost reading = { opening_header_reading };
+
+    ghost encoding = { opening_header_encoding };
+
+    fn parse(alloc: Global, cursor: &mut Cursor<'_>) -> Result<OpeningHeader, TakeFault> {
+        Ok(OpeningHeader {
+            channel_id: u32::parse(alloc, cursor)?,
+            security_policy_uri: Text::parse(alloc, cursor)?,
+            sender_certificate: ByteString::parse(alloc, cursor)?,
+            receiver_certificate_thumbprint: ByteString::parse(alloc, cursor)?,
+            sequence_number: u32::parse(alloc, cursor)?,
+            request_id: u32::parse(alloc, cursor)?,
+        })
+    }
+
+    fn append(&self, out: &mut Vec<u8>) -> Result<(), AllocError> {
+        self.channel_id.append(out)?;
+        self.security_policy_uri.append(out)?;
+        self.sender_certificate.append(out)?;
+        self.receiver_certificate_thumbprint.append(out)?;
+        self.sequence_number.append(out)?;
+        self.request_id.append(out)?;
+        Ok(())
+    }
+}

@@ -1,0 +1,50 @@
+//! What holds of every channel and every answer.
+
+ghost use Rattle.std.specs.Prelude.{◌≡◌, ◌<◌, ◌≤◌, ◌^◌, ◌+◌, ℕ, List, [], ◌∷◌, length, Some, Ok, Err};
+ghost use Rattle.std.specs.List.{concat};
+ghost use Rattle.ua_types.specs.Answers.{step};
+ghost use Rattle.ua_types.specs.declared.status.Status.{Status};
+ghost use Rattle.ua_types.specs.declared.refusal.Refusal.TheVariants.{Service};
+ghost use Rattle.ua_tcp.specs.Frames.{frames, Rest};
+ghost use Rattle.ua_tcp.specs.declared.frame.Frame.{Frame};
+ghost use Rattle.ua_channel.specs.Headers.{IsWritable};
+ghost use Rattle.ua_channel.specs.ChannelStates.{ChannelState};
+ghost use Rattle.ua_channel.specs.Messages.{AreWithinLimits};
+ghost use Rattle.ua_channel.specs.Acceptance.{take_of};
+ghost use Rattle.ua_channel.specs.Chunks.{joins, requests, answers, come, AreAccepted};
+ghost use Rattle.ua_channel.specs.Cutting.{send_of, header_of, room_of, chunk_count_of};
+
+/// The requests that a channel gives are those that the chunks join to, where it refuses none.
+pub fn gives_what_chunks_join_to()
+    ensures { (s : ChannelState) (chunks : List Frame) → AreAccepted s chunks →
+        requests (answers s chunks) ≡ joins (come s.unfinished) chunks }
+{}
+
+/// Once a frame was refused, every later one is refused with the same status.
+pub fn refuses_for_good()
+    ensures { (s : ChannelState) (status : Status) (frame : Frame) → s.refused ≡ Some status →
+        take_of s frame ≡ step (Err (Service status)) s }
+{}
+
+/// An unfinished message is always within the server's limits.
+pub fn keeps_within_limits()
+    ensures { (s : ChannelState) (frame : Frame) → AreWithinLimits s.agreed.limits s.unfinished →
+        AreWithinLimits s.agreed.limits (take_of s frame).state.unfinished }
+{}
+
+/// An answer has as many chunks as its body has parts of 24 bytes less than the send size, and one
+/// where it has none.
+pub fn chunk_count_is_exact()
+    ensures { (s : ChannelState) (request_id : ℕ) (body : List ℕ) (chunks : List (List ℕ)) → 24 < s.agreed.send_size →
+        (send_of s request_id body).answer ≡ Ok chunks → length chunks ≡ chunk_count_of (room_of s.agreed) (length body) }
+{}
+
+/// The stream of an answer's chunks is read as frames within the send size, which join to the one
+/// message of that request.
+pub fn is_read_again()
+    ensures { (s : ChannelState) (request_id : ℕ) (body : List ℕ) (chunks : List (List ℕ)) → 24 < s.agreed.send_size →
+        s.agreed.send_size < 2 ^ 32 → IsWritable (header_of s request_id) →
+        (send_of s request_id body).answer ≡ Ok chunks →
+        let read = frames s.agreed.send_size (concat chunks) in
+        (read.end ≡ Rest []) × (joins [] read.frames ≡ (request_id, body) ∷ []) }
+{}

@@ -1,0 +1,80 @@
+//! Requests to open a channel or to renew its token.
+
+ghost use Rattle.std.specs.Prelude.{◌≡◌};
+ghost use Rattle.ua_types.specs.Answers.{Gives};
+ghost use Rattle.ua_types.specs.declared.refusal.Refusal.TheVariants as refusal;
+ghost use Rattle.ua_channel.specs.Openings.{is_policy_none as is_policy_none_lem, opening_request_of, renewal_of};
+
+use std::alloc::Global;
+use ua_binary::TakeFault;
+use ua_messages::{
+    MessageSecurityMode, OpenSecureChannelRequest, SecurityTokenRequestType, message, message_id,
+    type_ids,
+};
+use ua_types::{Refusal, Status, Text};
+
+// The security policy of a channel whose messages are neither signed nor encrypted.
+pub const SECURITY_POLICY_NONE: &str = "http://opcfoundation.org/UA/SecurityPolicy#None";
+
+pub fn is_policy_none(uri: &Text) -> bool
+    ensures { result ≡ is_policy_none_lem uri.now }
+{
+    match uri.as_str() {
+        Some(uri) => uri == SECURITY_POLICY_NONE,
+        None => false,
+    }
+}
+
+/// What of an OpenSecureChannelRequest the channel needs.
+#[derive(Clone, Copy)]
+pub struct OpeningRequest {
+    /// The handle in the request's header.
+    pub handle: u32,
+    pub request_type: SecurityTokenRequestType,
+    pub security_mode: MessageSecurityMode,
+}
+
+// The request that the body of an OPN is.
+pub fn opening_request(alloc: Global, body: &[u8]) -> Result<OpeningRequest, Refusal>
+    ensures { Gives refusal.Memory result (opening_request_of body.now) }
+{
+    match message_id(body) {
+        Ok(type_ids::OPEN_SECURE_CHANNEL_REQUEST) => {}
+        _ => return Err(Refusal::Service(Status::BAD_DECODING_ERROR)),
+    }
+    let request: OpenSecureChannelRequest = match message(alloc, body) {
+        Ok(request) => request,
+        Err(TakeFault::Memory) => return Err(Refusal::Memory),
+        Err(_) => return Err(Refusal::Service(Status::BAD_DECODING_ERROR)),
+    };
+    Ok(OpeningRequest {
+        handle: request.request_header.request_handle,
+        request_type: request.request_type,
+        security_mode: request.security_mode,
+    })
+}
+
+// Whether a request that came with this channel number renews the token of the open channel.
+pub fn renewal(
+    channel_id: Option<u32>,
+    number: u32,
+    request: &OpeningRequest,
+) -> Result<bool, Refusal>
+    ensures { result ≡ renewal_of channel_id number request.now }
+{
+    let renew = match request.request_type {
+        SecurityTokenRequestType::ISSUE => false,
+        SecurityTokenRequestType::RENEW => true,
+        _ => return Err(Refusal::Service(Status::BAD_DECODING_ERROR)),
+    };
+    if request.security_mode != MessageSecurityMode::NONE {
+        return Err(Refusal::Service(Status::BAD_SECURITY_MODE_REJECTED));
+    }
+    if !renew && channel_id.is_some() {
+        return Err(Refusal::Service(Status::BAD_SECURE_CHANNEL_ID_INVALID));
+    }
+    if renew && channel_id != Some(number) {
+        return Err(Refusal::Service(Status::BAD_TCP_SECURE_CHANNEL_UNKNOWN));
+    }
+    Ok(renew)
+}
