@@ -17,7 +17,7 @@ fn three_spellings_of_node_id_85(rt: HostRuntime) -> Result<(), Fail> {
     ] {
         let mut cursor = Cursor::new(bytes);
         let id = NodeId::take(alloc, &mut cursor)?;
-        assert!(rt; matches!(id.identifier, Identifier::Numeric(85)));
+        assert!(rt; matches!(&id.identifier, Identifier::Numeric(85)));
         assert!(rt; cursor.rest().is_empty());
         let mut out = Vec::new(alloc);
         id.put(&mut out)?;
@@ -134,15 +134,15 @@ fn each_type_both_ways(rt: HostRuntime) -> Result<(), Fail> {
 fn ids_and_structures_both_ways(rt: HostRuntime) -> Result<(), Fail> {
     let alloc = rt.alloc();
     let text = both_ways::<_, NodeId>(&rt, alloc, &[3, 2, 0, 1, 0, 0, 0, b'a'])?;
-    assert!(rt; matches!(text.identifier, Identifier::String(_)));
+    assert!(rt; matches!(&text.identifier, Identifier::String(_)));
     let guid = both_ways::<_, NodeId>(
         &rt,
         alloc,
         &[4, 2, 0, 1, 0, 0, 0, 2, 0, 3, 0, 4, 5, 6, 7, 8, 9, 10, 11],
     )?;
-    assert!(rt; matches!(guid.identifier, Identifier::Guid(_)));
+    assert!(rt; matches!(&guid.identifier, Identifier::Guid(_)));
     let opaque = both_ways::<_, NodeId>(&rt, alloc, &[5, 2, 0, 1, 0, 0, 0, 9])?;
-    assert!(rt; matches!(opaque.identifier, Identifier::Opaque(_)));
+    assert!(rt; matches!(&opaque.identifier, Identifier::Opaque(_)));
     let expanded = both_ways::<_, ExpandedNodeId>(
         &rt,
         alloc,
@@ -151,7 +151,7 @@ fn ids_and_structures_both_ways(rt: HostRuntime) -> Result<(), Fail> {
     assert_eq!(rt; expanded.server_index, 3);
     assert_eq!(rt; expanded.namespace_uri.as_str(), Some("u"));
     let object = both_ways::<_, ExtensionObject>(&rt, alloc, &[1, 0, 0x41, 1, 1, 1, 0, 0, 0, 9])?;
-    assert!(rt; matches!(object.body, ExtensionObjectBody::Binary(_)));
+    assert!(rt; matches!(&object.body, ExtensionObjectBody::Binary(_)));
     let absent = both_ways::<_, ExtensionObject>(&rt, alloc, &[0, 0, 0])?;
     assert!(rt; absent.type_id.is_null());
     Ok(())
