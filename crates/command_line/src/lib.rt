@@ -1,0 +1,22 @@
+//! The command line of the program `uaserver`.
+//!
+//! [`parse`] reads the words after the program's name. It answers a [`Command`], which says what is
+//! asked for, or a [`Stop`], which says what to print instead and why. It reads and writes nothing
+//! itself.
+//!
+//! To add a command, give [`Command`] a variant, `with_commands` in `src/program.rt` a subcommand, and
+//! `command_of` in `src/parsing.rt` the step from its matches to the variant. `specs/Words.antt` says
+//! the same of the words, in `program` and `word_of`.
+#![tactic(auto)]
+
+mod command;
+mod parsing;
+mod program;
+mod stop;
+
+pub use command::Command;
+pub use parsing::parse;
+pub use stop::Stop;
+
+#[cfg(test)]
+mod tests;
