@@ -95,6 +95,13 @@ impl Channel {
         }
     }
 
+    /// The channel's number, once it is open.
+    pub fn number(&self) -> Option<u32>
+        ensures { result ≡ self.now.channel_id }
+    {
+        self.channel_id
+    }
+
     /// Takes a frame that the client sent, and says what it asks of the server.
     ///
     /// A frame of type `ERR` closes the channel and isn't judged. Any other is refused with the
