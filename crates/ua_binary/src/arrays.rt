@@ -27,36 +27,36 @@ fn elements<T: Wire>(
 {
     let mut items = Vec::with_capacity(alloc, count.min(ROOM))?;
     for _ in 0..count {
-        let item = T::parse(alloc, cursor)?;
+        let item = T::decode(alloc, cursor)?;
         items.push(item)?;
     }
     Ok(items)
 }
 
 #[tactic(auto, using(crate::proofs::Extending::extends_more))]
-fn append_all<T: Wire>(items: &[T], out: &mut Vec<u8>) -> Result<(), AllocError>
+fn encode_all<T: Wire>(items: &[T], out: &mut Vec<u8>) -> Result<(), AllocError>
     ensures ok { OnOk result (out.new.items ≡ out.old.items ++ flat_map T.encoding items.now) }
     ensures err { OnErr result (Extends out.old.items out.new.items) }
     ensures again { OnOk result (All (IsReadAgain T.reading T.encoding) items.now) }
     ensures some { OnOk result (length items.now ≤ length (flat_map T.encoding items.now)) }
 {
     for item in items {
-        item.append(out)?;
+        item.encode(out)?;
     }
     Ok(())
 }
 
 // Writes a list that isn't null.
 #[tactic(auto, using(crate::proofs::Elements::array_again, crate::proofs::Extending::extends_more), unfolding(crate::specs::Arrays::array_encoding))]
-fn append_slice<T: Wire>(items: &[T], out: &mut Vec<u8>) -> Result<(), AllocError>
+fn encode_slice<T: Wire>(items: &[T], out: &mut Vec<u8>) -> Result<(), AllocError>
     requires { length items.now < 2 ^ 31 }
     ensures ok { OnOk result (out.new.items ≡ out.old.items ++ array_encoding T.encoding (Some items.now)) }
     ensures err { OnErr result (Extends out.old.items out.new.items) }
     ensures again { OnOk result (IsReadAgain (array_reading T.reading) (array_encoding T.encoding) (Some items.now)) }
     ensures some { OnOk result (0 < length (array_encoding T.encoding (Some items.now))) }
 {
-    (items.len() as u32).append(out)?;
-    append_all(items, out)?;
+    (items.len() as u32).encode(out)?;
+    encode_all(items, out)?;
     Ok(())
 }
 
@@ -68,7 +68,7 @@ impl<T: Wire> Wire for Array<T> {
 
     ghost overclaims = { ClaimsTooMany };
 
-    fn parse(alloc: Global, cursor: &mut Cursor<'_>) -> Result<Array<T>, TakeFault> {
+    fn decode(alloc: Global, cursor: &mut Cursor<'_>) -> Result<Array<T>, TakeFault> {
         let len = cursor.number()?;
         if len >= 1 << 31 {
             return Ok(Array::null());
@@ -80,10 +80,10 @@ impl<T: Wire> Wire for Array<T> {
         Ok(Array::new(elements(alloc, len, cursor)?))
     }
 
-    fn append(&self, out: &mut Vec<u8>) -> Result<(), AllocError> {
+    fn encode(&self, out: &mut Vec<u8>) -> Result<(), AllocError> {
         match self.as_slice() {
-            None => NULL.append(out),
-            Some(items) => append_slice(items, out),
+            None => NULL.encode(out),
+            Some(items) => encode_slice(items, out),
         }
     }
 }

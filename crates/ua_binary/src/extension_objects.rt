@@ -11,7 +11,7 @@ use std::alloc::{AllocError, Global};
 use ua_types::{ByteString, ExtensionObject, ExtensionObjectBody, NodeId};
 
 // Reads a body of this form.
-fn parse_body(
+fn decode_body(
     alloc: Global,
     form: u8,
     cursor: &mut Cursor<'_>,
@@ -20,8 +20,8 @@ fn parse_body(
 {
     match form {
         0 => Ok(ExtensionObjectBody::Absent),
-        1 => Ok(ExtensionObjectBody::Binary(ByteString::parse(alloc, cursor)?)),
-        2 => Ok(ExtensionObjectBody::Xml(ByteString::parse(alloc, cursor)?)),
+        1 => Ok(ExtensionObjectBody::Binary(ByteString::decode(alloc, cursor)?)),
+        2 => Ok(ExtensionObjectBody::Xml(ByteString::decode(alloc, cursor)?)),
         _ => Err(TakeFault::Form),
     }
 }
@@ -32,24 +32,24 @@ impl Wire for ExtensionObject {
 
     ghost encoding = { extension_object_encoding };
 
-    fn parse(alloc: Global, cursor: &mut Cursor<'_>) -> Result<ExtensionObject, TakeFault> {
-        let type_id = NodeId::parse(alloc, cursor)?;
-        let form = u8::parse(alloc, cursor)?;
-        let body = parse_body(alloc, form, cursor)?;
+    fn decode(alloc: Global, cursor: &mut Cursor<'_>) -> Result<ExtensionObject, TakeFault> {
+        let type_id = NodeId::decode(alloc, cursor)?;
+        let form = u8::decode(alloc, cursor)?;
+        let body = decode_body(alloc, form, cursor)?;
         Ok(ExtensionObject { type_id, body })
     }
 
-    fn append(&self, out: &mut Vec<u8>) -> Result<(), AllocError> {
-        self.type_id.append(out)?;
+    fn encode(&self, out: &mut Vec<u8>) -> Result<(), AllocError> {
+        self.type_id.encode(out)?;
         match &self.body {
-            ExtensionObjectBody::Absent => 0u8.append(out),
+            ExtensionObjectBody::Absent => 0u8.encode(out),
             ExtensionObjectBody::Binary(bytes) => {
-                1u8.append(out)?;
-                bytes.append(out)
+                1u8.encode(out)?;
+                bytes.encode(out)
             }
             ExtensionObjectBody::Xml(bytes) => {
-                2u8.append(out)?;
-                bytes.append(out)
+                2u8.encode(out)?;
+                bytes.encode(out)
             }
         }
     }

@@ -14,19 +14,19 @@ impl Wire for Guid {
 
     ghost encoding = { guid_encoding };
 
-    fn parse(alloc: Global, cursor: &mut Cursor<'_>) -> Result<Guid, TakeFault> {
+    fn decode(alloc: Global, cursor: &mut Cursor<'_>) -> Result<Guid, TakeFault> {
         Ok(Guid {
-            data1: u32::parse(alloc, cursor)?,
-            data2: u16::parse(alloc, cursor)?,
-            data3: u16::parse(alloc, cursor)?,
-            data4: <[u8; 8]>::parse(alloc, cursor)?,
+            data1: u32::decode(alloc, cursor)?,
+            data2: u16::decode(alloc, cursor)?,
+            data3: u16::decode(alloc, cursor)?,
+            data4: <[u8; 8]>::decode(alloc, cursor)?,
         })
     }
 
-    fn append(&self, out: &mut Vec<u8>) -> Result<(), AllocError> {
-        self.data1.append(out)?;
-        self.data2.append(out)?;
-        self.data3.append(out)?;
-        self.data4.append(out)
+    fn encode(&self, out: &mut Vec<u8>) -> Result<(), AllocError> {
+        self.data1.encode(out)?;
+        self.data2.encode(out)?;
+        self.data3.encode(out)?;
+        self.data4.encode(out)
     }
 }

@@ -12,7 +12,7 @@ use ua_types::{ByteString, Guid, Identifier, NodeId, Text};
 
 // Reads what follows a first byte of this form.
 #[tactic(auto, unfolding(crate::specs::NodeIds::after_form_reading))]
-pub(crate) fn parse_form(
+pub(crate) fn decode_form(
     alloc: Global,
     form: u8,
     cursor: &mut Cursor<'_>,
@@ -21,38 +21,38 @@ pub(crate) fn parse_form(
 {
     match form {
         0 => {
-            let number = u8::parse(alloc, cursor)?;
+            let number = u8::decode(alloc, cursor)?;
             Ok(NodeId::numeric(0, number as u32))
         }
         1 => {
-            let namespace = u8::parse(alloc, cursor)?;
-            let number = u16::parse(alloc, cursor)?;
+            let namespace = u8::decode(alloc, cursor)?;
+            let number = u16::decode(alloc, cursor)?;
             Ok(NodeId::numeric(namespace as u16, number as u32))
         }
         2 => {
-            let namespace = u16::parse(alloc, cursor)?;
-            let number = u32::parse(alloc, cursor)?;
+            let namespace = u16::decode(alloc, cursor)?;
+            let number = u32::decode(alloc, cursor)?;
             Ok(NodeId::numeric(namespace, number))
         }
         3 => {
-            let namespace = u16::parse(alloc, cursor)?;
-            let text = Text::parse(alloc, cursor)?;
+            let namespace = u16::decode(alloc, cursor)?;
+            let text = Text::decode(alloc, cursor)?;
             Ok(NodeId {
                 namespace,
                 identifier: Identifier::String(text),
             })
         }
         4 => {
-            let namespace = u16::parse(alloc, cursor)?;
-            let guid = Guid::parse(alloc, cursor)?;
+            let namespace = u16::decode(alloc, cursor)?;
+            let guid = Guid::decode(alloc, cursor)?;
             Ok(NodeId {
                 namespace,
                 identifier: Identifier::Guid(guid),
             })
         }
         5 => {
-            let namespace = u16::parse(alloc, cursor)?;
-            let bytes = ByteString::parse(alloc, cursor)?;
+            let namespace = u16::decode(alloc, cursor)?;
+            let bytes = ByteString::decode(alloc, cursor)?;
             Ok(NodeId {
                 namespace,
                 identifier: Identifier::Opaque(bytes),
@@ -85,7 +85,7 @@ pub(crate) fn form(id: &NodeId) -> u8
 
 // Writes what follows the first byte.
 #[tactic(auto, using(crate::proofs::Extending::extends_more), unfolding(crate::specs::NodeIds::after_form_reading))]
-pub(crate) fn append_form(id: &NodeId, out: &mut Vec<u8>) -> Result<(), AllocError>
+pub(crate) fn encode_form(id: &NodeId, out: &mut Vec<u8>) -> Result<(), AllocError>
     ensures ok { OnOk result (out.new.items ≡ out.old.items ++ after_form_encoding id.now.namespace id.now.identifier) }
     ensures err { OnErr result (Extends out.old.items out.new.items) }
     ensures again { OnOk result ((x : List ℕ) → after_form_reading (form_of id.now.namespace id.now.identifier) (after_form_encoding id.now.namespace id.now.identifier ++ x) ≡ Ok (id.now, x)) }
@@ -93,26 +93,26 @@ pub(crate) fn append_form(id: &NodeId, out: &mut Vec<u8>) -> Result<(), AllocErr
     match &id.identifier {
         Identifier::Numeric(number) => {
             if id.namespace == 0 && *number < 1 << 8 {
-                (*number as u8).append(out)
+                (*number as u8).encode(out)
             } else if id.namespace < 1 << 8 && *number < 1 << 16 {
-                (id.namespace as u8).append(out)?;
-                (*number as u16).append(out)
+                (id.namespace as u8).encode(out)?;
+                (*number as u16).encode(out)
             } else {
-                id.namespace.append(out)?;
-                number.append(out)
+                id.namespace.encode(out)?;
+                number.encode(out)
             }
         }
         Identifier::String(text) => {
-            id.namespace.append(out)?;
-            text.append(out)
+            id.namespace.encode(out)?;
+            text.encode(out)
         }
         Identifier::Guid(guid) => {
-            id.namespace.append(out)?;
-            guid.append(out)
+            id.namespace.encode(out)?;
+            guid.encode(out)
         }
         Identifier::Opaque(bytes) => {
-            id.namespace.append(out)?;
-            bytes.append(out)
+            id.namespace.encode(out)?;
+            bytes.encode(out)
         }
     }
 }
@@ -123,13 +123,13 @@ impl Wire for NodeId {
 
     ghost encoding = { node_id_encoding };
 
-    fn parse(alloc: Global, cursor: &mut Cursor<'_>) -> Result<NodeId, TakeFault> {
-        let form = u8::parse(alloc, cursor)?;
-        parse_form(alloc, form, cursor)
+    fn decode(alloc: Global, cursor: &mut Cursor<'_>) -> Result<NodeId, TakeFault> {
+        let form = u8::decode(alloc, cursor)?;
+        decode_form(alloc, form, cursor)
     }
 
-    fn append(&self, out: &mut Vec<u8>) -> Result<(), AllocError> {
-        form(self).append(out)?;
-        append_form(self, out)
+    fn encode(&self, out: &mut Vec<u8>) -> Result<(), AllocError> {
+        form(self).encode(out)?;
+        encode_form(self, out)
     }
 }

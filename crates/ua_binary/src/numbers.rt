@@ -14,11 +14,11 @@ impl Wire for u8 {
 
     ghost encoding = { byte_encoding };
 
-    fn parse(_alloc: Global, cursor: &mut Cursor<'_>) -> Result<u8, TakeFault> {
+    fn decode(_alloc: Global, cursor: &mut Cursor<'_>) -> Result<u8, TakeFault> {
         cursor.byte()
     }
 
-    fn append(&self, out: &mut Vec<u8>) -> Result<(), AllocError> {
+    fn encode(&self, out: &mut Vec<u8>) -> Result<(), AllocError> {
         out.push(*self)?;
         Ok(())
     }
@@ -30,12 +30,12 @@ impl Wire for bool {
 
     ghost encoding = { boolean_encoding };
 
-    fn parse(_alloc: Global, cursor: &mut Cursor<'_>) -> Result<bool, TakeFault> {
+    fn decode(_alloc: Global, cursor: &mut Cursor<'_>) -> Result<bool, TakeFault> {
         let byte = cursor.byte()?;
         Ok(byte != 0)
     }
 
-    fn append(&self, out: &mut Vec<u8>) -> Result<(), AllocError> {
+    fn encode(&self, out: &mut Vec<u8>) -> Result<(), AllocError> {
         out.push(if *self { 1 } else { 0 })?;
         Ok(())
     }
@@ -47,12 +47,12 @@ impl Wire for u16 {
 
     ghost encoding = { number_encoding w16 };
 
-    fn parse(_alloc: Global, cursor: &mut Cursor<'_>) -> Result<u16, TakeFault> {
+    fn decode(_alloc: Global, cursor: &mut Cursor<'_>) -> Result<u16, TakeFault> {
         let b = cursor.lend(2)?;
         Ok(u16::from_le_bytes([b[0], b[1]]))
     }
 
-    fn append(&self, out: &mut Vec<u8>) -> Result<(), AllocError> {
+    fn encode(&self, out: &mut Vec<u8>) -> Result<(), AllocError> {
         out.extend_from_slice(&self.to_le_bytes())?;
         Ok(())
     }
@@ -64,11 +64,11 @@ impl Wire for u32 {
 
     ghost encoding = { number_encoding w32 };
 
-    fn parse(_alloc: Global, cursor: &mut Cursor<'_>) -> Result<u32, TakeFault> {
+    fn decode(_alloc: Global, cursor: &mut Cursor<'_>) -> Result<u32, TakeFault> {
         cursor.number()
     }
 
-    fn append(&self, out: &mut Vec<u8>) -> Result<(), AllocError> {
+    fn encode(&self, out: &mut Vec<u8>) -> Result<(), AllocError> {
         out.extend_from_slice(&self.to_le_bytes())?;
         Ok(())
     }
@@ -80,12 +80,12 @@ impl Wire for u64 {
 
     ghost encoding = { number_encoding w64 };
 
-    fn parse(_alloc: Global, cursor: &mut Cursor<'_>) -> Result<u64, TakeFault> {
+    fn decode(_alloc: Global, cursor: &mut Cursor<'_>) -> Result<u64, TakeFault> {
         let b = cursor.lend(8)?;
         Ok(u64::from_le_bytes([b[0], b[1], b[2], b[3], b[4], b[5], b[6], b[7]]))
     }
 
-    fn append(&self, out: &mut Vec<u8>) -> Result<(), AllocError> {
+    fn encode(&self, out: &mut Vec<u8>) -> Result<(), AllocError> {
         out.extend_from_slice(&self.to_le_bytes())?;
         Ok(())
     }
@@ -97,13 +97,13 @@ impl Wire for i32 {
 
     ghost encoding = { signed_encoding w32 };
 
-    fn parse(alloc: Global, cursor: &mut Cursor<'_>) -> Result<i32, TakeFault> {
-        let number = u32::parse(alloc, cursor)?;
+    fn decode(alloc: Global, cursor: &mut Cursor<'_>) -> Result<i32, TakeFault> {
+        let number = u32::decode(alloc, cursor)?;
         Ok(number.cast_signed())
     }
 
-    fn append(&self, out: &mut Vec<u8>) -> Result<(), AllocError> {
-        self.cast_unsigned().append(out)
+    fn encode(&self, out: &mut Vec<u8>) -> Result<(), AllocError> {
+        self.cast_unsigned().encode(out)
     }
 }
 
@@ -113,13 +113,13 @@ impl Wire for i64 {
 
     ghost encoding = { signed_encoding w64 };
 
-    fn parse(alloc: Global, cursor: &mut Cursor<'_>) -> Result<i64, TakeFault> {
-        let number = u64::parse(alloc, cursor)?;
+    fn decode(alloc: Global, cursor: &mut Cursor<'_>) -> Result<i64, TakeFault> {
+        let number = u64::decode(alloc, cursor)?;
         Ok(number.cast_signed())
     }
 
-    fn append(&self, out: &mut Vec<u8>) -> Result<(), AllocError> {
-        self.cast_unsigned().append(out)
+    fn encode(&self, out: &mut Vec<u8>) -> Result<(), AllocError> {
+        self.cast_unsigned().encode(out)
     }
 }
 
@@ -129,12 +129,12 @@ impl Wire for [u8; 8] {
 
     ghost encoding = { octets_encoding };
 
-    fn parse(_alloc: Global, cursor: &mut Cursor<'_>) -> Result<[u8; 8], TakeFault> {
+    fn decode(_alloc: Global, cursor: &mut Cursor<'_>) -> Result<[u8; 8], TakeFault> {
         let b = cursor.lend(8)?;
         Ok([b[0], b[1], b[2], b[3], b[4], b[5], b[6], b[7]])
     }
 
-    fn append(&self, out: &mut Vec<u8>) -> Result<(), AllocError> {
+    fn encode(&self, out: &mut Vec<u8>) -> Result<(), AllocError> {
         out.extend_from_slice(self)
     }
 }

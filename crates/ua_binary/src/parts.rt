@@ -24,7 +24,7 @@ pub(crate) fn text_where_set(
     if bit == 0 {
         Ok(Text::null())
     } else {
-        Text::parse(alloc, cursor)
+        Text::decode(alloc, cursor)
     }
 }
 
@@ -39,13 +39,13 @@ pub(crate) fn number_where_set(
     if bit == 0 {
         Ok(0)
     } else {
-        u32::parse(alloc, cursor)
+        u32::decode(alloc, cursor)
     }
 }
 
 // Writes a text unless it is null.
 #[tactic(auto, using(crate::proofs::Extending::extends_more))]
-pub(crate) fn append_unless_null(text: &Text, out: &mut Vec<u8>) -> Result<(), AllocError>
+pub(crate) fn encode_unless_null(text: &Text, out: &mut Vec<u8>) -> Result<(), AllocError>
     ensures ok { OnOk result (out.new.items ≡ out.old.items ++ text_unless_null text.now) }
     ensures err { OnErr result (Extends out.old.items out.new.items) }
     ensures again { OnOk result (IfSome text.now (λ _. (x : List ℕ) → text_reading (text_unless_null text.now ++ x) ≡ Ok (text.now, x))) }
@@ -53,5 +53,5 @@ pub(crate) fn append_unless_null(text: &Text, out: &mut Vec<u8>) -> Result<(), A
     if text.is_null() {
         return Ok(());
     }
-    text.append(out)
+    text.encode(out)
 }

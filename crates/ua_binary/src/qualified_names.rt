@@ -14,15 +14,15 @@ impl Wire for QualifiedName {
 
     ghost encoding = { qualified_name_encoding };
 
-    fn parse(alloc: Global, cursor: &mut Cursor<'_>) -> Result<QualifiedName, TakeFault> {
+    fn decode(alloc: Global, cursor: &mut Cursor<'_>) -> Result<QualifiedName, TakeFault> {
         Ok(QualifiedName {
-            namespace: u16::parse(alloc, cursor)?,
-            name: Text::parse(alloc, cursor)?,
+            namespace: u16::decode(alloc, cursor)?,
+            name: Text::decode(alloc, cursor)?,
         })
     }
 
-    fn append(&self, out: &mut Vec<u8>) -> Result<(), AllocError> {
-        self.namespace.append(out)?;
-        self.name.append(out)
+    fn encode(&self, out: &mut Vec<u8>) -> Result<(), AllocError> {
+        self.namespace.encode(out)?;
+        self.name.encode(out)
     }
 }

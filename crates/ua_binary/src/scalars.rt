@@ -14,12 +14,12 @@ impl Wire for Moment {
 
     ghost encoding = { moment_encoding };
 
-    fn parse(alloc: Global, cursor: &mut Cursor<'_>) -> Result<Moment, TakeFault> {
-        Ok(Moment(i64::parse(alloc, cursor)?))
+    fn decode(alloc: Global, cursor: &mut Cursor<'_>) -> Result<Moment, TakeFault> {
+        Ok(Moment(i64::decode(alloc, cursor)?))
     }
 
-    fn append(&self, out: &mut Vec<u8>) -> Result<(), AllocError> {
-        self.0.append(out)
+    fn encode(&self, out: &mut Vec<u8>) -> Result<(), AllocError> {
+        self.0.encode(out)
     }
 }
 
@@ -29,12 +29,12 @@ impl Wire for Status {
 
     ghost encoding = { status_encoding };
 
-    fn parse(alloc: Global, cursor: &mut Cursor<'_>) -> Result<Status, TakeFault> {
-        Ok(Status(u32::parse(alloc, cursor)?))
+    fn decode(alloc: Global, cursor: &mut Cursor<'_>) -> Result<Status, TakeFault> {
+        Ok(Status(u32::decode(alloc, cursor)?))
     }
 
-    fn append(&self, out: &mut Vec<u8>) -> Result<(), AllocError> {
-        self.0.append(out)
+    fn encode(&self, out: &mut Vec<u8>) -> Result<(), AllocError> {
+        self.0.encode(out)
     }
 }
 
@@ -44,11 +44,11 @@ impl Wire for Duration {
 
     ghost encoding = { duration_encoding };
 
-    fn parse(alloc: Global, cursor: &mut Cursor<'_>) -> Result<Duration, TakeFault> {
-        Ok(Duration(<[u8; 8]>::parse(alloc, cursor)?))
+    fn decode(alloc: Global, cursor: &mut Cursor<'_>) -> Result<Duration, TakeFault> {
+        Ok(Duration(<[u8; 8]>::decode(alloc, cursor)?))
     }
 
-    fn append(&self, out: &mut Vec<u8>) -> Result<(), AllocError> {
-        self.0.append(out)
+    fn encode(&self, out: &mut Vec<u8>) -> Result<(), AllocError> {
+        self.0.encode(out)
     }
 }

@@ -17,7 +17,7 @@ pub(crate) const NULL: u32 = 0xffff_ffff;
 
 // Writes bytes behind their length, or the length of null.
 #[tactic(auto, using(crate::proofs::Extending::extends_more, crate::proofs::Again::byte_string_again), unfolding(crate::specs::Texts::byte_string_encoding, crate::specs::Texts::byte_string_reading))]
-fn append_sized(bytes: Option<&[u8]>, out: &mut Vec<u8>) -> Result<(), AllocError>
+fn encode_sized(bytes: Option<&[u8]>, out: &mut Vec<u8>) -> Result<(), AllocError>
     requires { ForSome bytes (λ b. length b.now < 2 ^ 31) }
     ensures ok { OnOk result (out.new.items ≡ out.old.items ++ byte_string_encoding (option_map (λ b. b.now) bytes.entry)) }
     ensures err { OnErr result (Extends out.old.items out.new.items) }
@@ -25,9 +25,9 @@ fn append_sized(bytes: Option<&[u8]>, out: &mut Vec<u8>) -> Result<(), AllocErro
     ensures some { OnOk result (0 < length (byte_string_encoding (option_map (λ b. b.now) bytes.entry))) }
 {
     match bytes {
-        None => NULL.append(out),
+        None => NULL.encode(out),
         Some(bytes) => {
-            (bytes.len() as u32).append(out)?;
+            (bytes.len() as u32).encode(out)?;
             out.extend_from_slice(bytes)
         }
     }
@@ -41,17 +41,17 @@ impl Wire for Text {
 
     ghost overclaims = { ClaimsTooMany };
 
-    fn parse(alloc: Global, cursor: &mut Cursor<'_>) -> Result<Text, TakeFault> {
+    fn decode(alloc: Global, cursor: &mut Cursor<'_>) -> Result<Text, TakeFault> {
         match cursor.text()? {
             None => Ok(Text::null()),
             Some(text) => Ok(Text::from_str(alloc, text)?),
         }
     }
 
-    fn append(&self, out: &mut Vec<u8>) -> Result<(), AllocError> {
+    fn encode(&self, out: &mut Vec<u8>) -> Result<(), AllocError> {
         match self.as_str() {
-            None => append_sized(None, out),
-            Some(text) => append_sized(Some(text.as_bytes()), out),
+            None => encode_sized(None, out),
+            Some(text) => encode_sized(Some(text.as_bytes()), out),
         }
     }
 }
@@ -64,14 +64,14 @@ impl Wire for ByteString {
 
     ghost overclaims = { ClaimsTooMany };
 
-    fn parse(alloc: Global, cursor: &mut Cursor<'_>) -> Result<ByteString, TakeFault> {
+    fn decode(alloc: Global, cursor: &mut Cursor<'_>) -> Result<ByteString, TakeFault> {
         match cursor.byte_string()? {
             None => Ok(ByteString::null()),
             Some(bytes) => Ok(ByteString::from_slice(alloc, bytes)?),
         }
     }
 
-    fn append(&self, out: &mut Vec<u8>) -> Result<(), AllocError> {
-        append_sized(self.as_slice(), out)
+    fn encode(&self, out: &mut Vec<u8>) -> Result<(), AllocError> {
+        encode_sized(self.as_slice(), out)
     }
 }

@@ -11,7 +11,7 @@ use std::alloc::{AllocError, Global};
 /// A type of the binary encoding (IEC 62541-6, 5.2).
 ///
 /// Callers use [`Wire::take`] and [`Wire::put`], which at an `Err` leave the cursor and the output
-/// as they were. Implementors write `parse` and `append`, plain chains of `?` over the fields.
+/// as they were. Implementors write `decode` and `encode`, plain chains of `?` over the fields.
 pub trait Wire: Drop {
     /// What bytes begin with: a value and the bytes after it, or the first fault.
     ghost reading: { Reading Self };
@@ -23,12 +23,12 @@ pub trait Wire: Drop {
     ghost overclaims: { List ℕ → Type 0 } = { λ _. ⊥ };
 
     /// Reads the fields in order. At an `Err` the cursor stands where the fault is.
-    fn parse(alloc: Global, cursor: &mut Cursor<'_>) -> Result<Self, TakeFault>
+    fn decode(alloc: Global, cursor: &mut Cursor<'_>) -> Result<Self, TakeFault>
         ensures reads { Reads result cursor.new (reading cursor.old) }
         ensures claim { overclaims cursor.old → result ≢ Err Memory };
 
     /// Writes the fields in order. At an `Err` some of them are written.
-    fn append(&self, out: &mut Vec<u8>) -> Result<(), AllocError>
+    fn encode(&self, out: &mut Vec<u8>) -> Result<(), AllocError>
         ensures ok { OnOk result (out.new.items ≡ out.old.items ++ encoding self.now) }
         ensures err { OnErr result (Extends out.old.items out.new.items) }
         ensures again { OnOk result (IsReadAgain reading encoding self.now) }
@@ -44,7 +44,7 @@ pub trait Wire: Drop {
         ensures err { OnErr result (cursor.new ≡ cursor.old) }
     {
         let mut at = Cursor::new(cursor.rest());
-        let value = Self::parse(alloc, &mut at)?;
+        let value = Self::decode(alloc, &mut at)?;
         *cursor = at;
         Ok(value)
     }
@@ -56,7 +56,7 @@ pub trait Wire: Drop {
         ensures again { OnOk result (IsReadAgain reading encoding self.now) }
     {
         let start = out.len();
-        let outcome = self.append(out);
+        let outcome = self.encode(out);
         if outcome.is_err() {
             out.truncate(start);
         }

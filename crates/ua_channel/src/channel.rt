@@ -180,7 +180,7 @@ impl Channel {
         ensures { Takes refusal.Memory result self.old self.new (opening_taken self.old frame.now.body) }
     {
         let mut cursor = Cursor::new(frame.body.as_slice());
-        let header = match OpeningHeader::parse(alloc, &mut cursor) {
+        let header = match OpeningHeader::decode(alloc, &mut cursor) {
             Ok(header) => header,
             Err(TakeFault::Memory) => return Err(Refusal::Memory),
             Err(_) => return Err(Refusal::Service(Status::BAD_DECODING_ERROR)),
@@ -234,7 +234,7 @@ impl Channel {
         ensures long { IfOk result (λ _. 16 ≤ length frame.now.body) }
     {
         let mut cursor = Cursor::new(frame.body.as_slice());
-        let header = match ChunkHeader::parse(alloc, &mut cursor) {
+        let header = match ChunkHeader::decode(alloc, &mut cursor) {
             Ok(header) => header,
             Err(TakeFault::Memory) => return Err(Refusal::Memory),
             Err(_) => return Err(Refusal::Service(Status::BAD_DECODING_ERROR)),

@@ -126,7 +126,7 @@ fn chunk(
     frame.extend_from_slice(b"MSG")?;
     frame.push(letter(chunk_type))?;
     frame.extend_from_slice(&(size as u32).to_le_bytes())?;
-    header.append(&mut frame)?;
+    header.encode(&mut frame)?;
     frame.extend_from_slice(part)?;
     Ok(Bytes::from_vec(frame)?)
 }
@@ -171,7 +171,7 @@ pub fn opening_chunk(
     let mut frame = Vec::with_capacity(alloc, size)?;
     frame.extend_from_slice(b"OPNF")?;
     frame.extend_from_slice(&(size as u32).to_le_bytes())?;
-    header.append(&mut frame)?;
+    header.encode(&mut frame)?;
     frame.extend_from_slice(body)?;
     Ok(Bytes::from_vec(frame)?)
 }

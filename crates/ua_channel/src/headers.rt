@@ -40,20 +40,20 @@ impl Wire for ChunkHeader {
 
     ghost encoding = { chunk_header_encoding };
 
-    fn parse(alloc: Global, cursor: &mut Cursor<'_>) -> Result<ChunkHeader, TakeFault> {
+    fn decode(alloc: Global, cursor: &mut Cursor<'_>) -> Result<ChunkHeader, TakeFault> {
         Ok(ChunkHeader {
-            channel_id: u32::parse(alloc, cursor)?,
-            token_id: u32::parse(alloc, cursor)?,
-            sequence_number: u32::parse(alloc, cursor)?,
-            request_id: u32::parse(alloc, cursor)?,
+            channel_id: u32::decode(alloc, cursor)?,
+            token_id: u32::decode(alloc, cursor)?,
+            sequence_number: u32::decode(alloc, cursor)?,
+            request_id: u32::decode(alloc, cursor)?,
         })
     }
 
-    fn append(&self, out: &mut Vec<u8>) -> Result<(), AllocError> {
-        self.channel_id.append(out)?;
-        self.token_id.append(out)?;
-        self.sequence_number.append(out)?;
-        self.request_id.append(out)?;
+    fn encode(&self, out: &mut Vec<u8>) -> Result<(), AllocError> {
+        self.channel_id.encode(out)?;
+        self.token_id.encode(out)?;
+        self.sequence_number.encode(out)?;
+        self.request_id.encode(out)?;
         Ok(())
     }
 }
@@ -87,24 +87,24 @@ impl Wire for OpeningHeader {
 
     ghost encoding = { opening_header_encoding };
 
-    fn parse(alloc: Global, cursor: &mut Cursor<'_>) -> Result<OpeningHeader, TakeFault> {
+    fn decode(alloc: Global, cursor: &mut Cursor<'_>) -> Result<OpeningHeader, TakeFault> {
         Ok(OpeningHeader {
-            channel_id: u32::parse(alloc, cursor)?,
-            security_policy_uri: Text::parse(alloc, cursor)?,
-            sender_certificate: ByteString::parse(alloc, cursor)?,
-            receiver_certificate_thumbprint: ByteString::parse(alloc, cursor)?,
-            sequence_number: u32::parse(alloc, cursor)?,
-            request_id: u32::parse(alloc, cursor)?,
+            channel_id: u32::decode(alloc, cursor)?,
+            security_policy_uri: Text::decode(alloc, cursor)?,
+            sender_certificate: ByteString::decode(alloc, cursor)?,
+            receiver_certificate_thumbprint: ByteString::decode(alloc, cursor)?,
+            sequence_number: u32::decode(alloc, cursor)?,
+            request_id: u32::decode(alloc, cursor)?,
         })
     }
 
-    fn append(&self, out: &mut Vec<u8>) -> Result<(), AllocError> {
-        self.channel_id.append(out)?;
-        self.security_policy_uri.append(out)?;
-        self.sender_certificate.append(out)?;
-        self.receiver_certificate_thumbprint.append(out)?;
-        self.sequence_number.append(out)?;
-        self.request_id.append(out)?;
+    fn encode(&self, out: &mut Vec<u8>) -> Result<(), AllocError> {
+        self.channel_id.encode(out)?;
+        self.security_policy_uri.encode(out)?;
+        self.sender_certificate.encode(out)?;
+        self.receiver_certificate_thumbprint.encode(out)?;
+        self.sequence_number.encode(out)?;
+        self.request_id.encode(out)?;
         Ok(())
     }
 }

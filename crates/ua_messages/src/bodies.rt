@@ -84,8 +84,8 @@ pub fn message<T: Wire>(alloc: Global, body: &[u8]) -> Result<T, TakeFault>
     ensures { Gives Memory result (message_of T.reading body.now) }
 {
     let mut cursor = Cursor::new(body);
-    NodeId::parse(alloc, &mut cursor)?;
-    T::parse(alloc, &mut cursor)
+    NodeId::decode(alloc, &mut cursor)?;
+    T::decode(alloc, &mut cursor)
 }
 
 /// The body of a message: the id with this number in namespace 0, and then the fields.
@@ -96,7 +96,7 @@ pub fn body<T: Wire>(alloc: Global, type_id: u32, message: &T) -> Result<Vec<u8>
     ensures id { IfOk result (λ bytes. message_id_of bytes.items ≡ Ok type_id) }
 {
     let mut out = Vec::new(alloc);
-    NodeId::numeric(0, type_id).append(&mut out)?;
-    message.append(&mut out)?;
+    NodeId::numeric(0, type_id).encode(&mut out)?;
+    message.encode(&mut out)?;
     Ok(out)
 }

@@ -30,26 +30,26 @@ impl Wire for ApplicationDescription {
 
     ghost encoding = { application_description_encoding };
 
-    fn parse(alloc: Global, cursor: &mut Cursor<'_>) -> Result<ApplicationDescription, TakeFault> {
+    fn decode(alloc: Global, cursor: &mut Cursor<'_>) -> Result<ApplicationDescription, TakeFault> {
         Ok(ApplicationDescription {
-            application_uri: Text::parse(alloc, cursor)?,
-            product_uri: Text::parse(alloc, cursor)?,
-            application_name: LocalizedText::parse(alloc, cursor)?,
-            application_type: ApplicationType::parse(alloc, cursor)?,
-            gateway_server_uri: Text::parse(alloc, cursor)?,
-            discovery_profile_uri: Text::parse(alloc, cursor)?,
-            discovery_urls: Array::<Text>::parse(alloc, cursor)?,
+            application_uri: Text::decode(alloc, cursor)?,
+            product_uri: Text::decode(alloc, cursor)?,
+            application_name: LocalizedText::decode(alloc, cursor)?,
+            application_type: ApplicationType::decode(alloc, cursor)?,
+            gateway_server_uri: Text::decode(alloc, cursor)?,
+            discovery_profile_uri: Text::decode(alloc, cursor)?,
+            discovery_urls: Array::<Text>::decode(alloc, cursor)?,
         })
     }
 
-    fn append(&self, out: &mut Vec<u8>) -> Result<(), AllocError> {
-        self.application_uri.append(out)?;
-        self.product_uri.append(out)?;
-        self.application_name.append(out)?;
-        self.application_type.append(out)?;
-        self.gateway_server_uri.append(out)?;
-        self.discovery_profile_uri.append(out)?;
-        self.discovery_urls.append(out)?;
+    fn encode(&self, out: &mut Vec<u8>) -> Result<(), AllocError> {
+        self.application_uri.encode(out)?;
+        self.product_uri.encode(out)?;
+        self.application_name.encode(out)?;
+        self.application_type.encode(out)?;
+        self.gateway_server_uri.encode(out)?;
+        self.discovery_profile_uri.encode(out)?;
+        self.discovery_urls.encode(out)?;
         Ok(())
     }
 }
@@ -74,22 +74,22 @@ impl Wire for UserTokenPolicy {
 
     ghost encoding = { user_token_policy_encoding };
 
-    fn parse(alloc: Global, cursor: &mut Cursor<'_>) -> Result<UserTokenPolicy, TakeFault> {
+    fn decode(alloc: Global, cursor: &mut Cursor<'_>) -> Result<UserTokenPolicy, TakeFault> {
         Ok(UserTokenPolicy {
-            policy_id: Text::parse(alloc, cursor)?,
-            token_type: UserTokenType::parse(alloc, cursor)?,
-            issued_token_type: Text::parse(alloc, cursor)?,
-            issuer_endpoint_url: Text::parse(alloc, cursor)?,
-            security_policy_uri: Text::parse(alloc, cursor)?,
+            policy_id: Text::decode(alloc, cursor)?,
+            token_type: UserTokenType::decode(alloc, cursor)?,
+            issued_token_type: Text::decode(alloc, cursor)?,
+            issuer_endpoint_url: Text::decode(alloc, cursor)?,
+            security_policy_uri: Text::decode(alloc, cursor)?,
         })
     }
 
-    fn append(&self, out: &mut Vec<u8>) -> Result<(), AllocError> {
-        self.policy_id.append(out)?;
-        self.token_type.append(out)?;
-        self.issued_token_type.append(out)?;
-        self.issuer_endpoint_url.append(out)?;
-        self.security_policy_uri.append(out)?;
+    fn encode(&self, out: &mut Vec<u8>) -> Result<(), AllocError> {
+        self.policy_id.encode(out)?;
+        self.token_type.encode(out)?;
+        self.issued_token_type.encode(out)?;
+        self.issuer_endpoint_url.encode(out)?;
+        self.security_policy_uri.encode(out)?;
         Ok(())
     }
 }
@@ -119,28 +119,28 @@ impl Wire for EndpointDescription {
 
     ghost encoding = { endpoint_description_encoding };
 
-    fn parse(alloc: Global, cursor: &mut Cursor<'_>) -> Result<EndpointDescription, TakeFault> {
+    fn decode(alloc: Global, cursor: &mut Cursor<'_>) -> Result<EndpointDescription, TakeFault> {
         Ok(EndpointDescription {
-            endpoint_url: Text::parse(alloc, cursor)?,
-            server: ApplicationDescription::parse(alloc, cursor)?,
-            server_certificate: ByteString::parse(alloc, cursor)?,
-            security_mode: MessageSecurityMode::parse(alloc, cursor)?,
-            security_policy_uri: Text::parse(alloc, cursor)?,
-            user_identity_tokens: Array::<UserTokenPolicy>::parse(alloc, cursor)?,
-            transport_profile_uri: Text::parse(alloc, cursor)?,
-            security_level: u8::parse(alloc, cursor)?,
+            endpoint_url: Text::decode(alloc, cursor)?,
+            server: ApplicationDescription::decode(alloc, cursor)?,
+            server_certificate: ByteString::decode(alloc, cursor)?,
+            security_mode: MessageSecurityMode::decode(alloc, cursor)?,
+            security_policy_uri: Text::decode(alloc, cursor)?,
+            user_identity_tokens: Array::<UserTokenPolicy>::decode(alloc, cursor)?,
+            transport_profile_uri: Text::decode(alloc, cursor)?,
+            security_level: u8::decode(alloc, cursor)?,
         })
     }
 
-    fn append(&self, out: &mut Vec<u8>) -> Result<(), AllocError> {
-        self.endpoint_url.append(out)?;
-        self.server.append(out)?;
-        self.server_certificate.append(out)?;
-        self.security_mode.append(out)?;
-        self.security_policy_uri.append(out)?;
-        self.user_identity_tokens.append(out)?;
-        self.transport_profile_uri.append(out)?;
-        self.security_level.append(out)?;
+    fn encode(&self, out: &mut Vec<u8>) -> Result<(), AllocError> {
+        self.endpoint_url.encode(out)?;
+        self.server.encode(out)?;
+        self.server_certificate.encode(out)?;
+        self.security_mode.encode(out)?;
+        self.security_policy_uri.encode(out)?;
+        self.user_identity_tokens.encode(out)?;
+        self.transport_profile_uri.encode(out)?;
+        self.security_level.encode(out)?;
         Ok(())
     }
 }

@@ -19,15 +19,15 @@ impl Wire for DiagnosticInfo {
 
     ghost encoding = { diagnostic_info_encoding };
 
-    fn parse(_alloc: Global, cursor: &mut Cursor<'_>) -> Result<DiagnosticInfo, TakeFault> {
+    fn decode(_alloc: Global, cursor: &mut Cursor<'_>) -> Result<DiagnosticInfo, TakeFault> {
         match cursor.byte()? {
             0 => Ok(DiagnosticInfo),
             _ => Err(TakeFault::Form),
         }
     }
 
-    fn append(&self, out: &mut Vec<u8>) -> Result<(), AllocError> {
-        0u8.append(out)
+    fn encode(&self, out: &mut Vec<u8>) -> Result<(), AllocError> {
+        0u8.encode(out)
     }
 }
 
@@ -49,7 +49,7 @@ impl Wire for DiagnosticInfos {
 
     ghost overclaims = { ClaimsTooMany };
 
-    fn parse(_alloc: Global, cursor: &mut Cursor<'_>) -> Result<DiagnosticInfos, TakeFault> {
+    fn decode(_alloc: Global, cursor: &mut Cursor<'_>) -> Result<DiagnosticInfos, TakeFault> {
         let len = cursor.number()?;
         if len == 0 || len >= 1 << 31 {
             Ok(DiagnosticInfos)
@@ -60,7 +60,7 @@ impl Wire for DiagnosticInfos {
         }
     }
 
-    fn append(&self, out: &mut Vec<u8>) -> Result<(), AllocError> {
-        NULL.append(out)
+    fn encode(&self, out: &mut Vec<u8>) -> Result<(), AllocError> {
+        NULL.encode(out)
     }
 }

@@ -26,12 +26,12 @@ impl Wire for ApplicationType {
 
     ghost encoding = { application_type_encoding };
 
-    fn parse(alloc: Global, cursor: &mut Cursor<'_>) -> Result<ApplicationType, TakeFault> {
-        Ok(ApplicationType(i32::parse(alloc, cursor)?))
+    fn decode(alloc: Global, cursor: &mut Cursor<'_>) -> Result<ApplicationType, TakeFault> {
+        Ok(ApplicationType(i32::decode(alloc, cursor)?))
     }
 
-    fn append(&self, out: &mut Vec<u8>) -> Result<(), AllocError> {
-        self.0.append(out)
+    fn encode(&self, out: &mut Vec<u8>) -> Result<(), AllocError> {
+        self.0.encode(out)
     }
 }
 
@@ -54,12 +54,12 @@ impl Wire for MessageSecurityMode {
 
     ghost encoding = { message_security_mode_encoding };
 
-    fn parse(alloc: Global, cursor: &mut Cursor<'_>) -> Result<MessageSecurityMode, TakeFault> {
-        Ok(MessageSecurityMode(i32::parse(alloc, cursor)?))
+    fn decode(alloc: Global, cursor: &mut Cursor<'_>) -> Result<MessageSecurityMode, TakeFault> {
+        Ok(MessageSecurityMode(i32::decode(alloc, cursor)?))
     }
 
-    fn append(&self, out: &mut Vec<u8>) -> Result<(), AllocError> {
-        self.0.append(out)
+    fn encode(&self, out: &mut Vec<u8>) -> Result<(), AllocError> {
+        self.0.encode(out)
     }
 }
 
@@ -84,12 +84,12 @@ impl Wire for UserTokenType {
 
     ghost encoding = { user_token_type_encoding };
 
-    fn parse(alloc: Global, cursor: &mut Cursor<'_>) -> Result<UserTokenType, TakeFault> {
-        Ok(UserTokenType(i32::parse(alloc, cursor)?))
+    fn decode(alloc: Global, cursor: &mut Cursor<'_>) -> Result<UserTokenType, TakeFault> {
+        Ok(UserTokenType(i32::decode(alloc, cursor)?))
     }
 
-    fn append(&self, out: &mut Vec<u8>) -> Result<(), AllocError> {
-        self.0.append(out)
+    fn encode(&self, out: &mut Vec<u8>) -> Result<(), AllocError> {
+        self.0.encode(out)
     }
 }
 
@@ -112,14 +112,14 @@ impl Wire for SecurityTokenRequestType {
 
     ghost encoding = { security_token_request_type_encoding };
 
-    fn parse(
+    fn decode(
         alloc: Global,
         cursor: &mut Cursor<'_>,
     ) -> Result<SecurityTokenRequestType, TakeFault> {
-        Ok(SecurityTokenRequestType(i32::parse(alloc, cursor)?))
+        Ok(SecurityTokenRequestType(i32::decode(alloc, cursor)?))
     }
 
-    fn append(&self, out: &mut Vec<u8>) -> Result<(), AllocError> {
-        self.0.append(out)
+    fn encode(&self, out: &mut Vec<u8>) -> Result<(), AllocError> {
+        self.0.encode(out)
     }
 }

@@ -26,20 +26,20 @@ impl Wire for GetEndpointsRequest {
 
     ghost encoding = { get_endpoints_request_encoding };
 
-    fn parse(alloc: Global, cursor: &mut Cursor<'_>) -> Result<GetEndpointsRequest, TakeFault> {
+    fn decode(alloc: Global, cursor: &mut Cursor<'_>) -> Result<GetEndpointsRequest, TakeFault> {
         Ok(GetEndpointsRequest {
-            request_header: RequestHeader::parse(alloc, cursor)?,
-            endpoint_url: Text::parse(alloc, cursor)?,
-            locale_ids: Array::<Text>::parse(alloc, cursor)?,
-            profile_uris: Array::<Text>::parse(alloc, cursor)?,
+            request_header: RequestHeader::decode(alloc, cursor)?,
+            endpoint_url: Text::decode(alloc, cursor)?,
+            locale_ids: Array::<Text>::decode(alloc, cursor)?,
+            profile_uris: Array::<Text>::decode(alloc, cursor)?,
         })
     }
 
-    fn append(&self, out: &mut Vec<u8>) -> Result<(), AllocError> {
-        self.request_header.append(out)?;
-        self.endpoint_url.append(out)?;
-        self.locale_ids.append(out)?;
-        self.profile_uris.append(out)?;
+    fn encode(&self, out: &mut Vec<u8>) -> Result<(), AllocError> {
+        self.request_header.encode(out)?;
+        self.endpoint_url.encode(out)?;
+        self.locale_ids.encode(out)?;
+        self.profile_uris.encode(out)?;
         Ok(())
     }
 }
@@ -57,16 +57,16 @@ impl Wire for GetEndpointsResponse {
 
     ghost encoding = { get_endpoints_response_encoding };
 
-    fn parse(alloc: Global, cursor: &mut Cursor<'_>) -> Result<GetEndpointsResponse, TakeFault> {
+    fn decode(alloc: Global, cursor: &mut Cursor<'_>) -> Result<GetEndpointsResponse, TakeFault> {
         Ok(GetEndpointsResponse {
-            response_header: ResponseHeader::parse(alloc, cursor)?,
-            endpoints: Array::<EndpointDescription>::parse(alloc, cursor)?,
+            response_header: ResponseHeader::decode(alloc, cursor)?,
+            endpoints: Array::<EndpointDescription>::decode(alloc, cursor)?,
         })
     }
 
-    fn append(&self, out: &mut Vec<u8>) -> Result<(), AllocError> {
-        self.response_header.append(out)?;
-        self.endpoints.append(out)?;
+    fn encode(&self, out: &mut Vec<u8>) -> Result<(), AllocError> {
+        self.response_header.encode(out)?;
+        self.endpoints.encode(out)?;
         Ok(())
     }
 }

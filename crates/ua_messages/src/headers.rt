@@ -33,26 +33,26 @@ impl Wire for RequestHeader {
 
     ghost encoding = { request_header_encoding };
 
-    fn parse(alloc: Global, cursor: &mut Cursor<'_>) -> Result<RequestHeader, TakeFault> {
+    fn decode(alloc: Global, cursor: &mut Cursor<'_>) -> Result<RequestHeader, TakeFault> {
         Ok(RequestHeader {
-            authentication_token: NodeId::parse(alloc, cursor)?,
-            timestamp: Moment::parse(alloc, cursor)?,
-            request_handle: u32::parse(alloc, cursor)?,
-            return_diagnostics: u32::parse(alloc, cursor)?,
-            audit_entry_id: Text::parse(alloc, cursor)?,
-            timeout_hint: u32::parse(alloc, cursor)?,
-            additional_header: ExtensionObject::parse(alloc, cursor)?,
+            authentication_token: NodeId::decode(alloc, cursor)?,
+            timestamp: Moment::decode(alloc, cursor)?,
+            request_handle: u32::decode(alloc, cursor)?,
+            return_diagnostics: u32::decode(alloc, cursor)?,
+            audit_entry_id: Text::decode(alloc, cursor)?,
+            timeout_hint: u32::decode(alloc, cursor)?,
+            additional_header: ExtensionObject::decode(alloc, cursor)?,
         })
     }
 
-    fn append(&self, out: &mut Vec<u8>) -> Result<(), AllocError> {
-        self.authentication_token.append(out)?;
-        self.timestamp.append(out)?;
-        self.request_handle.append(out)?;
-        self.return_diagnostics.append(out)?;
-        self.audit_entry_id.append(out)?;
-        self.timeout_hint.append(out)?;
-        self.additional_header.append(out)?;
+    fn encode(&self, out: &mut Vec<u8>) -> Result<(), AllocError> {
+        self.authentication_token.encode(out)?;
+        self.timestamp.encode(out)?;
+        self.request_handle.encode(out)?;
+        self.return_diagnostics.encode(out)?;
+        self.audit_entry_id.encode(out)?;
+        self.timeout_hint.encode(out)?;
+        self.additional_header.encode(out)?;
         Ok(())
     }
 }
@@ -99,24 +99,24 @@ impl Wire for ResponseHeader {
 
     ghost encoding = { response_header_encoding };
 
-    fn parse(alloc: Global, cursor: &mut Cursor<'_>) -> Result<ResponseHeader, TakeFault> {
+    fn decode(alloc: Global, cursor: &mut Cursor<'_>) -> Result<ResponseHeader, TakeFault> {
         Ok(ResponseHeader {
-            timestamp: Moment::parse(alloc, cursor)?,
-            request_handle: u32::parse(alloc, cursor)?,
-            service_result: Status::parse(alloc, cursor)?,
-            service_diagnostics: DiagnosticInfo::parse(alloc, cursor)?,
-            string_table: Array::<Text>::parse(alloc, cursor)?,
-            additional_header: ExtensionObject::parse(alloc, cursor)?,
+            timestamp: Moment::decode(alloc, cursor)?,
+            request_handle: u32::decode(alloc, cursor)?,
+            service_result: Status::decode(alloc, cursor)?,
+            service_diagnostics: DiagnosticInfo::decode(alloc, cursor)?,
+            string_table: Array::<Text>::decode(alloc, cursor)?,
+            additional_header: ExtensionObject::decode(alloc, cursor)?,
         })
     }
 
-    fn append(&self, out: &mut Vec<u8>) -> Result<(), AllocError> {
-        self.timestamp.append(out)?;
-        self.request_handle.append(out)?;
-        self.service_result.append(out)?;
-        self.service_diagnostics.append(out)?;
-        self.string_table.append(out)?;
-        self.additional_header.append(out)?;
+    fn encode(&self, out: &mut Vec<u8>) -> Result<(), AllocError> {
+        self.timestamp.encode(out)?;
+        self.request_handle.encode(out)?;
+        self.service_result.encode(out)?;
+        self.service_diagnostics.encode(out)?;
+        self.string_table.encode(out)?;
+        self.additional_header.encode(out)?;
         Ok(())
     }
 }

@@ -29,27 +29,27 @@ impl Wire for OpenSecureChannelRequest {
 
     ghost encoding = { open_secure_channel_request_encoding };
 
-    fn parse(
+    fn decode(
         alloc: Global,
         cursor: &mut Cursor<'_>,
     ) -> Result<OpenSecureChannelRequest, TakeFault> {
         Ok(OpenSecureChannelRequest {
-            request_header: RequestHeader::parse(alloc, cursor)?,
-            client_protocol_version: u32::parse(alloc, cursor)?,
-            request_type: SecurityTokenRequestType::parse(alloc, cursor)?,
-            security_mode: MessageSecurityMode::parse(alloc, cursor)?,
-            client_nonce: ByteString::parse(alloc, cursor)?,
-            requested_lifetime: u32::parse(alloc, cursor)?,
+            request_header: RequestHeader::decode(alloc, cursor)?,
+            client_protocol_version: u32::decode(alloc, cursor)?,
+            request_type: SecurityTokenRequestType::decode(alloc, cursor)?,
+            security_mode: MessageSecurityMode::decode(alloc, cursor)?,
+            client_nonce: ByteString::decode(alloc, cursor)?,
+            requested_lifetime: u32::decode(alloc, cursor)?,
         })
     }
 
-    fn append(&self, out: &mut Vec<u8>) -> Result<(), AllocError> {
-        self.request_header.append(out)?;
-        self.client_protocol_version.append(out)?;
-        self.request_type.append(out)?;
-        self.security_mode.append(out)?;
-        self.client_nonce.append(out)?;
-        self.requested_lifetime.append(out)?;
+    fn encode(&self, out: &mut Vec<u8>) -> Result<(), AllocError> {
+        self.request_header.encode(out)?;
+        self.client_protocol_version.encode(out)?;
+        self.request_type.encode(out)?;
+        self.security_mode.encode(out)?;
+        self.client_nonce.encode(out)?;
+        self.requested_lifetime.encode(out)?;
         Ok(())
     }
 }
@@ -80,29 +80,29 @@ impl Wire for OpenSecureChannelResponse {
 
     ghost encoding = { open_secure_channel_response_encoding };
 
-    fn parse(
+    fn decode(
         alloc: Global,
         cursor: &mut Cursor<'_>,
     ) -> Result<OpenSecureChannelResponse, TakeFault> {
         Ok(OpenSecureChannelResponse {
-            response_header: ResponseHeader::parse(alloc, cursor)?,
-            server_protocol_version: u32::parse(alloc, cursor)?,
-            channel_id: u32::parse(alloc, cursor)?,
-            token_id: u32::parse(alloc, cursor)?,
-            created_at: Moment::parse(alloc, cursor)?,
-            revised_lifetime: u32::parse(alloc, cursor)?,
-            server_nonce: ByteString::parse(alloc, cursor)?,
+            response_header: ResponseHeader::decode(alloc, cursor)?,
+            server_protocol_version: u32::decode(alloc, cursor)?,
+            channel_id: u32::decode(alloc, cursor)?,
+            token_id: u32::decode(alloc, cursor)?,
+            created_at: Moment::decode(alloc, cursor)?,
+            revised_lifetime: u32::decode(alloc, cursor)?,
+            server_nonce: ByteString::decode(alloc, cursor)?,
         })
     }
 
-    fn append(&self, out: &mut Vec<u8>) -> Result<(), AllocError> {
-        self.response_header.append(out)?;
-        self.server_protocol_version.append(out)?;
-        self.channel_id.append(out)?;
-        self.token_id.append(out)?;
-        self.created_at.append(out)?;
-        self.revised_lifetime.append(out)?;
-        self.server_nonce.append(out)?;
+    fn encode(&self, out: &mut Vec<u8>) -> Result<(), AllocError> {
+        self.response_header.encode(out)?;
+        self.server_protocol_version.encode(out)?;
+        self.channel_id.encode(out)?;
+        self.token_id.encode(out)?;
+        self.created_at.encode(out)?;
+        self.revised_lifetime.encode(out)?;
+        self.server_nonce.encode(out)?;
         Ok(())
     }
 }
@@ -120,17 +120,17 @@ impl Wire for CloseSecureChannelRequest {
 
     ghost encoding = { close_secure_channel_request_encoding };
 
-    fn parse(
+    fn decode(
         alloc: Global,
         cursor: &mut Cursor<'_>,
     ) -> Result<CloseSecureChannelRequest, TakeFault> {
         Ok(CloseSecureChannelRequest {
-            request_header: RequestHeader::parse(alloc, cursor)?,
+            request_header: RequestHeader::decode(alloc, cursor)?,
         })
     }
 
-    fn append(&self, out: &mut Vec<u8>) -> Result<(), AllocError> {
-        self.request_header.append(out)?;
+    fn encode(&self, out: &mut Vec<u8>) -> Result<(), AllocError> {
+        self.request_header.encode(out)?;
         Ok(())
     }
 }

@@ -22,14 +22,14 @@ impl Wire for ServiceFault {
 
     ghost encoding = { service_fault_encoding };
 
-    fn parse(alloc: Global, cursor: &mut Cursor<'_>) -> Result<ServiceFault, TakeFault> {
+    fn decode(alloc: Global, cursor: &mut Cursor<'_>) -> Result<ServiceFault, TakeFault> {
         Ok(ServiceFault {
-            response_header: ResponseHeader::parse(alloc, cursor)?,
+            response_header: ResponseHeader::decode(alloc, cursor)?,
         })
     }
 
-    fn append(&self, out: &mut Vec<u8>) -> Result<(), AllocError> {
-        self.response_header.append(out)?;
+    fn encode(&self, out: &mut Vec<u8>) -> Result<(), AllocError> {
+        self.response_header.encode(out)?;
         Ok(())
     }
 }

@@ -34,24 +34,24 @@ impl Wire for Hello {
 
     ghost encoding = { hello_encoding };
 
-    fn parse(alloc: Global, cursor: &mut Cursor<'_>) -> Result<Hello, TakeFault> {
+    fn decode(alloc: Global, cursor: &mut Cursor<'_>) -> Result<Hello, TakeFault> {
         Ok(Hello {
-            protocol_version: u32::parse(alloc, cursor)?,
-            receive_size: u32::parse(alloc, cursor)?,
-            send_size: u32::parse(alloc, cursor)?,
-            max_message_size: u32::parse(alloc, cursor)?,
-            max_chunk_count: u32::parse(alloc, cursor)?,
-            endpoint_url: Text::parse(alloc, cursor)?,
+            protocol_version: u32::decode(alloc, cursor)?,
+            receive_size: u32::decode(alloc, cursor)?,
+            send_size: u32::decode(alloc, cursor)?,
+            max_message_size: u32::decode(alloc, cursor)?,
+            max_chunk_count: u32::decode(alloc, cursor)?,
+            endpoint_url: Text::decode(alloc, cursor)?,
         })
     }
 
-    fn append(&self, out: &mut Vec<u8>) -> Result<(), AllocError> {
-        self.protocol_version.append(out)?;
-        self.receive_size.append(out)?;
-        self.send_size.append(out)?;
-        self.max_message_size.append(out)?;
-        self.max_chunk_count.append(out)?;
-        self.endpoint_url.append(out)?;
+    fn encode(&self, out: &mut Vec<u8>) -> Result<(), AllocError> {
+        self.protocol_version.encode(out)?;
+        self.receive_size.encode(out)?;
+        self.send_size.encode(out)?;
+        self.max_message_size.encode(out)?;
+        self.max_chunk_count.encode(out)?;
+        self.endpoint_url.encode(out)?;
         Ok(())
     }
 }

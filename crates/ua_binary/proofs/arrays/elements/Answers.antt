@@ -14,7 +14,7 @@ pub loop-preserved : goal.loop-preserved
 loop-preserved g c =
     let reading = g.T.Wire.reading in
     record {
-      read = rw c.in_ok-push.ensures.items (goes_on reading c.loop.items.items c.args.count c.loop.counter c.loop.cursor c.in_ok-item.item c.parse.new.cursor (elements_reading reading c.args.count c.args.cursor.now) c.loop-test.true c.in_ok-item.ensures.reads c.loop.invariant.read);
+      read = rw c.in_ok-push.ensures.items (goes_on reading c.loop.items.items c.args.count c.loop.counter c.loop.cursor c.in_ok-item.item c.decode.new.cursor (elements_reading reading c.args.count c.args.cursor.now) c.loop-test.true c.in_ok-item.ensures.reads c.loop.invariant.read);
       len = omega (arith, c.in_ok-push.ensures.len, c.loop.invariant.len);
     }
 

@@ -1,7 +1,7 @@
 use Rattle.std.proofs.Common.{◌≡◌, ◌++◌, All, take, length, ◌≤◌}
 use Rattle.std.specs.List.{flat_map}
 use Rattle.ua_binary.specs.Reading.{IsReadAgain}
-use Rattle.ua_binary.proofs.arrays.append_all.Given as goal
+use Rattle.ua_binary.proofs.arrays.encode_all.Given as goal
 
 -- the items so far are written, and each of them is read again
 abbrev pub invariant-loop-item : goal.invariant-loop-item

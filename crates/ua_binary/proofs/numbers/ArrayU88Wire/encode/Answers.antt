@@ -2,7 +2,7 @@ use Rattle.std.proofs.Common.{rules, arith}
 use Rattle.ua_binary.specs.Reading.{IsReadAgain}
 use Rattle.ua_binary.specs.Numbers.{octets_reading, octets_encoding}
 use Rattle.ua_binary.proofs.Again.{octets_again}
-use Rattle.ua_binary.proofs.numbers.ArrayU88Wire.append.Goals as goal
+use Rattle.ua_binary.proofs.numbers.ArrayU88Wire.encode.Goals as goal
 
 pub returns-clause-again : goal.returns-clause-again
 returns-clause-again c =
