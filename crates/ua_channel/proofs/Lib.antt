@@ -3,3 +3,4 @@ pub mod CuttingLemmas
 pub mod JoiningLemmas
 pub mod ReadAgainLemmas
 pub mod LimitLemmas
+pub mod FittingLemmas

@@ -1,10 +1,11 @@
 //! What holds of every channel and every answer.
 
-ghost use Rattle.std.specs.Prelude.{◌≡◌, ◌<◌, ◌≤◌, ◌^◌, ◌+◌, ℕ, List, [], ◌∷◌, length, Some, Ok, Err};
+ghost use Rattle.std.specs.Prelude.{◌≡◌, ◌<◌, ◌≤◌, ◌^◌, ◌+◌, ℕ, List, [], ◌∷◌, length, Some, Ok, Err, IsOk};
 ghost use Rattle.std.specs.List.{concat};
 ghost use Rattle.ua_types.specs.Answers.{step};
 ghost use Rattle.ua_types.specs.declared.status.Status.{Status};
 ghost use Rattle.ua_types.specs.declared.refusal.Refusal.TheVariants.{Service};
+ghost use Rattle.ua_tcp.specs.Agreements.{IsAgreement};
 ghost use Rattle.ua_tcp.specs.Frames.{frames, Rest};
 ghost use Rattle.ua_tcp.specs.declared.frame.Frame.{Frame};
 ghost use Rattle.ua_channel.specs.Headers.{IsWritable};
@@ -12,7 +13,7 @@ ghost use Rattle.ua_channel.specs.ChannelStates.{ChannelState};
 ghost use Rattle.ua_channel.specs.Messages.{AreWithinLimits};
 ghost use Rattle.ua_channel.specs.Acceptance.{take_of};
 ghost use Rattle.ua_channel.specs.Chunks.{joins, requests, answers, come, AreAccepted};
-ghost use Rattle.ua_channel.specs.Cutting.{send_of, header_of, room_of, chunk_count_of};
+ghost use Rattle.ua_channel.specs.Cutting.{send_of, send_opening_of, header_of, room_of, chunk_count_of};
 
 /// The requests that a channel gives are those that the chunks join to, where it refuses none.
 pub fn gives_what_chunks_join_to()
@@ -47,4 +48,16 @@ pub fn is_read_again()
         (send_of s request_id body).answer ≡ Ok chunks →
         let read = frames s.agreed.send_size (concat chunks) in
         (read.end ≡ Rest []) × (joins [] read.frames ≡ (request_id, body) ∷ []) }
+{}
+
+/// An answer of at most 1000 bytes is never too large, whatever was agreed.
+pub fn small_answers_fit()
+    ensures { (s : ChannelState) (request_id : ℕ) (body : List ℕ) → IsAgreement s.agreed → length body ≤ 1000 →
+        IsOk (send_of s request_id body).answer }
+{}
+
+/// An answer of at most 945 bytes to an OPN is never too large, whatever was agreed.
+pub fn small_openings_fit()
+    ensures { (s : ChannelState) (request_id : ℕ) (body : List ℕ) → IsAgreement s.agreed → length body ≤ 945 →
+        IsOk (send_opening_of s request_id body).answer }
 {}

@@ -29,6 +29,7 @@ mod taken;
 pub use channel::Channel;
 pub use cutting::Chunks;
 pub use headers::{ChunkHeader, OpeningHeader};
+pub use openings::SECURITY_POLICY_NONE;
 pub use send_fault::SendFault;
 pub use taken::Taken;
 

@@ -5,3 +5,4 @@ pub mod Answering
 pub mod Handling
 pub mod Stepping
 pub mod WorldCodes
+pub mod Apart

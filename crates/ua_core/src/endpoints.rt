@@ -5,14 +5,12 @@ ghost use Rattle.std.specs.List.{list_any};
 ghost use Rattle.ua_core.specs.Endpoints.{anonymous_policy as anonymous_policy_lem, application_of, endpoint_of, is_transport as is_transport_lem, is_unwanted as is_unwanted_lem, endpoints_for, endpoints_response as endpoints_response_lem};
 
 use std::alloc::{AllocError, Global};
+use ua_channel::SECURITY_POLICY_NONE;
 use ua_messages::{
     ApplicationDescription, ApplicationType, EndpointDescription, GetEndpointsResponse,
     MessageSecurityMode, ResponseHeader, UserTokenPolicy, UserTokenType,
 };
 use ua_types::{Array, ByteString, Config, Copyable, LocalizedText, Moment, Status, Text};
-
-/// The one security policy: nothing is signed or encrypted.
-const SECURITY_POLICY: &str = "http://opcfoundation.org/UA/SecurityPolicy#None";
 
 /// The one transport and encoding.
 const TRANSPORT_PROFILE: &str = "http://opcfoundation.org/UA-Profile/Transport/uatcp-uasc-uabinary";
@@ -62,7 +60,7 @@ fn endpoint(alloc: Global, config: &Config) -> Result<EndpointDescription, Alloc
         server: application(alloc, config)?,
         server_certificate: ByteString::null(),
         security_mode: MessageSecurityMode::NONE,
-        security_policy_uri: Text::from_str(alloc, SECURITY_POLICY)?,
+        security_policy_uri: Text::from_str(alloc, SECURITY_POLICY_NONE)?,
         user_identity_tokens: Array::new(policies),
         transport_profile_uri: Text::from_str(alloc, TRANSPORT_PROFILE)?,
         security_level: 0,

@@ -13,7 +13,8 @@ use Rattle.std.proofs.Math.Seq.{drop-cons}
 use Rattle.ua_tcp.specs.Header.{judgement_of, judgement_at, header_of, header_from, message_type_of, chunk_type_of, may_come_in}
 use Rattle.ua_tcp.specs.Encoding.{letters_of, letter_of, frame_encoding, IsFrame, Splits}
 use Rattle.ua_tcp.specs.Frames.{Framed, frames, with_front, frame_of}
-use Rattle.ua_tcp.proofs.FramesLemmas.{chosen, frames_judged, whole_size}
+use Rattle.ua_types.proofs.Choices.{chosen}
+use Rattle.ua_tcp.proofs.FramesLemmas.{frames_judged, whole_size}
 use Rattle.ua_tcp.proofs.FeedingLemmas.{header_of-size}
 use Rattle.ua_tcp.specs.declared.frame.Frame.{Frame}
 use Rattle.ua_tcp.specs.declared.frame.FrameFault.{FrameFault}

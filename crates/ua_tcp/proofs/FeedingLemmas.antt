@@ -13,7 +13,8 @@ use Rattle.ua_tcp.specs.declared.frame.Header.{Header}
 use Rattle.ua_tcp.specs.declared.frame.MessageType.{MessageType}
 use Rattle.ua_tcp.specs.declared.frame.ChunkType.{ChunkType}
 use Rattle.ua_tcp.specs.declared.frame.Judgement.TheVariants.{Incomplete, Whole}
-use Rattle.ua_tcp.proofs.FramesLemmas.{chosen, frames-append, frames_judged, rest_incomplete}
+use Rattle.ua_types.proofs.Choices.{chosen}
+use Rattle.ua_tcp.proofs.FramesLemmas.{frames-append, frames_judged, rest_incomplete}
 
 header_from-size : (limit size : ℕ) (message_type : Option MessageType) (chunk_type : Option ChunkType) (h : Header) → header_from limit size message_type chunk_type ≡ Ok h → h.size ≤ limit
 header_from-size limit size None chunk_type h e = absurd cc

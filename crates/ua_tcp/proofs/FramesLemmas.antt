@@ -1,9 +1,10 @@
 -- Laws of the frames of a stream.
-use Rattle.std.proofs.Common.{◌≡◌, ℕ, zero, suc, ◌≤◌, Bool, true, false, cond, List, [], ◌∷◌, ◌++◌, length, take, drop, Option, Some, None, Result, Ok, Err, refl, sym, ◌∙◌, ap, subst, arith, append_assoc, append-nil, ◌⊎◌, inl, inr}
+use Rattle.std.proofs.Common.{◌≡◌, ℕ, zero, suc, ◌≤◌, Bool, true, false, cond, List, [], ◌∷◌, ◌++◌, length, take, drop, Option, Some, None, Result, Ok, Err, refl, sym, ◌∙◌, ap, subst, arith, append_assoc, append-nil, inl, inr}
 use Rattle.std.specs.Prelude.{nat_lt, ◌||◌, slice_index}
 use Rattle.std.specs.Int.{w32, from_le_bytes}
 use Rattle.std.proofs.lemmas.List.{take-append-le, drop-append-le, length-append, length-drop}
 use Rattle.std.proofs.lemmas.Bool.Decides.{nat_tests}
+use Rattle.ua_types.proofs.Choices.{chosen}
 use Rattle.ua_tcp.specs.Header.{judgement_of, header_of, judgement_at, header_from, message_type_of, chunk_type_of, may_come_in}
 use Rattle.ua_tcp.specs.Frames.{End, Rest, Framed, frame_of, with_front, frames_by, framed_within, frames, frames_then}
 use Rattle.ua_tcp.specs.declared.frame.MessageType.{MessageType}
@@ -13,11 +14,6 @@ use Rattle.ua_tcp.specs.declared.frame.FrameFault.{FrameFault}
 use Rattle.ua_tcp.specs.declared.frame.Header.{Header}
 use Rattle.ua_tcp.specs.declared.frame.Judgement.{Judgement}
 use Rattle.ua_tcp.specs.declared.frame.Judgement.TheVariants.{Incomplete, Faulty, Whole}
-
--- a choice that gave z took the branch that gives z
-pub chosen : {A : Type 0} (b : Bool) (x y z : A) → cond b x y ≡ z → ((b ≡ true) × (x ≡ z)) ⊎ ((b ≡ false) × (y ≡ z))
-chosen true x y z e = inl (refl, e)
-chosen false x y z e = inr (refl, e)
 
 not_first : {A : Type 0} (b : Bool) (x y : A) → (cond b x y ≡ x → ⊥) → b ≡ false
 not_first true x y k = absurd (k refl)

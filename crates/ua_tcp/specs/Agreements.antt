@@ -1,6 +1,6 @@
 -- What a client's Hello and the server's limits come to (IEC 62541-6, "Hello Message", "Acknowledge
 -- Message" and "Error Message").
-use Rattle.std.specs.Prelude.{ℕ, Bool, true, false, ◌||◌, ◌&&◌, nat_lt, min, List, ◌++◌, length, Option, Some, None, Result, Ok, Err, if◌then◌else◌}
+use Rattle.std.specs.Prelude.{ℕ, ◌<◌, ◌≤◌, Bool, true, false, ◌||◌, ◌&&◌, nat_lt, min, List, ◌++◌, length, Option, Some, None, Result, Ok, Err, if◌then◌else◌}
 use Rattle.std.specs.Int.{w32, to_le_bytes}
 use Rattle.ua_types.specs.Configuration.{Configuration, IsWithin}
 use Rattle.ua_types.specs.declared.status.Status.{Status}
@@ -44,6 +44,12 @@ pub record Agreement : Type 0 where
   pub max_message_size : ℕ
   pub max_chunk_count : ℕ
   pub limits : Limitation
+
+-- what holds of every agreement. 0 in the largest message means no limit, and no smaller limit than 1024 is agreed on
+pub record IsAgreement (agreed : Agreement) : Type 0 where
+  pub receive_size : IsWithin 1024 1048576 agreed.receive_size
+  pub send_size : IsWithin 1024 1048576 agreed.send_size
+  pub max_message_size : 0 < agreed.max_message_size → 1024 ≤ agreed.max_message_size
 
 -- in each direction the lesser of what the sender says and what the receiver says
 abbrev pub agreement_of : Limitation → Hello → Agreement

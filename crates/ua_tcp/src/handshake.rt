@@ -30,7 +30,8 @@ const ERROR_SIZE: u32 = 16;
 
 /// What holds on a connection once its Hello was taken.
 ///
-/// The two sizes are those of the Acknowledge. They always lie between 1024 and 1048576.
+/// The two sizes are those of the Acknowledge. They always lie between 1024 and 1048576, and the
+/// client's largest answer, where it has one, is never below 1024.
 #[derive(Clone, Copy, Debug, PartialEq, Eq)]
 pub struct Agreed {
     /// The largest frame that the client may send, in bytes: 1024 to 1048576.
@@ -39,7 +40,8 @@ pub struct Agreed {
     /// The largest frame that the server may send, in bytes: 1024 to 1048576.
     pub send_size: u32,
 
-    /// The largest answer that the client takes, in bytes of its body, or 0 for no limit.
+    /// The largest answer that the client takes, in bytes of its body: 1024 at least, or 0 for no
+    /// limit.
     pub max_message_size: u32,
 
     /// The most chunks of an answer that the client takes, or 0 for no limit.
@@ -50,8 +52,7 @@ pub struct Agreed {
 }
 
 impl Model for Agreed {
-    ghost use Rattle.ua_types.specs.Configuration.{IsWithin};
-    ghost use Rattle.ua_tcp.specs.Agreements.{Agreement};
+    ghost use Rattle.ua_tcp.specs.Agreements.{Agreement, IsAgreement};
 
     ghost Value = { Agreement };
 
@@ -63,7 +64,7 @@ impl Model for Agreed {
       limits = a.limits;
     } };
 
-    ghost invariant = { λ a. IsWithin 1024 1048576 a.receive_size × IsWithin 1024 1048576 a.send_size };
+    ghost invariant = { λ a. IsAgreement (view a) };
 
     ghost inverse = { λ a. record {
       receive_size = a.receive_size;
