@@ -1,13 +1,13 @@
 -- Lemmas on what a pump has written and read so far.
-use lib.Seq.{take-add, take-append-add, take-append-le, drop-cons}
+use lib.Seq.{take-append-add, take-append-le, drop-cons}
 use Rattle.std.proofs.lemmas.List.Concat.{flat_map-append}
 use Rattle.ua_core.specs.Stepping.{joined, sent_bytes}
 use Rattle.ua_core.specs.declared.out.Out.{Out}
 use Rattle.std.proofs.lemmas.Bool.Decides.{nat_tests}
 use Rattle.ua_tcp.specs.Tapped.{counted}
-use Rattle.std.proofs.Common.{Bool, true, false, suc, ◌∷◌, get_or, length-append, take-append-drop, ◌≢◌, length-drop, ◌≡◌, ℕ, ◌+◌, ◌-◌, ◌^◌, ◌<◌, ◌≤◌, ◌⊎◌, ◌*◌, inl, inr, List, [], ◌++◌, length, take, drop, Option, Some, None, arith, sym, ap, ◌∙◌, refl, subst}
-use Rattle.std.specs.Io.KnownBytes.{Appends, Keeps}
-use Rattle.std.proofs.KnownBytes.{Appends-nil, Appends-trans, Appends-kept}
+use Rattle.std.proofs.Common.{Bool, true, false, suc, ◌∷◌, get_or, length-append, take-append-drop, ◌≡◌, ℕ, ◌+◌, ◌^◌, ◌<◌, ◌≤◌, ◌*◌, inl, inr, List, ◌++◌, length, take, drop, Option, arith, sym, ap, ◌∙◌}
+use Rattle.std.specs.Io.KnownBytes.{Appends}
+use Rattle.std.proofs.KnownBytes.{Appends-trans}
 use Rattle.ua_tcp.specs.Tapped.{Rose}
 
 pub Rose-then : (a b c : ℕ) → Rose a b → b ≤ c → Rose a c

@@ -1,14 +1,14 @@
 -- One run of a pump after another.
-use Rattle.std.proofs.Common.{◌≡◌, ◌≢◌, ℕ, ◌+◌, ◌-◌, ◌^◌, ◌<◌, ◌≤◌, ◌⊎◌, ◌||◌, inl, inr, List, [], ◌∷◌, ◌++◌, length, map, All, Option, Some, None, Bool, true, false, cond, arith, sym, ap, ◌∙◌, refl, subst, append_assoc, append-nil, length-append, nat_eq, eq-eqb, not, Result, Ok, Err, IfErr, MatchResult}
+use Rattle.std.proofs.Common.{◌≡◌, ◌≢◌, ℕ, ◌+◌, ◌^◌, ◌<◌, ◌≤◌, ◌||◌, inl, inr, List, [], ◌∷◌, ◌++◌, length, All, Option, Some, None, Bool, true, false, arith, sym, ap, ◌∙◌, refl, subst, append_assoc, append-nil, length-append, not, Result, Ok, Err, IfErr, MatchResult}
 use Rattle.std.specs.Io.KnownBytes.{Appends, Consumes, Keeps, IsAtEnd}
-use Rattle.std.specs.List.{concat, list_any, flat_map}
+use Rattle.std.specs.List.{concat, list_any}
 use Rattle.std.proofs.KnownBytes.{Consumes-nil, Consumes-trans, Consumes-kept, Appends-nil, Appends-trans, Appends-kept}
 use Rattle.std.proofs.lemmas.List.{map-append}
 use Rattle.std.proofs.lemmas.List.Elements.{All-append, All-cons}
 use Rattle.std.proofs.lemmas.List.Concat.{flat_map-append}
 use Rattle.std.proofs.lemmas.List.Folds.{list_any-append}
 use Rattle.ua_types.specs.Answers as answers
-use Rattle.ua_core.specs.Stepping.{Running, running, run_after, then_run, run_of, step_on, TakesOrHalts, joined, sent_bytes, closes, is_close}
+use Rattle.ua_core.specs.Stepping.{running, run_after, then_run, run_of, step_on, TakesOrHalts, joined, sent_bytes, closes, is_close}
 use Rattle.ua_core.specs.declared.event.Event.{Event}
 use Rattle.ua_core.specs.declared.event.Event.TheVariants.{Bytes}
 use Rattle.ua_core.specs.declared.out.Step as core_step
@@ -16,12 +16,11 @@ use Rattle.ua_core.specs.declared.out.StepFault.{StepFault}
 use Rattle.ua_core.specs.declared.out.StepFault.TheVariants.{KnownConnection, UnknownConnection, Memory, Halted, Exhausted}
 use Rattle.ua_core.proofs.RunLemmas.{one_more}
 use Rattle.std.specs.Bool.{MatchBool}
-use Rattle.ua_core.specs.declared.out.Out.{Out}
 use Rattle.ua_tcp.specs.Tapped.{Rose}
 use Rattle.pump.specs.declared.PumpFault.{PumpFault}
 use Rattle.pump.specs.declared.PumpFault.TheVariants.{Read, Write, Step, Turns}
 use Rattle.pump.specs.Pumped.{State, events, outs_of, outs_to, sends_to, counting, IsPiece, IsPrefix, Scene, Moved, Fed, Tried, Goes, Done, Stopped, Faulted, Answered}
-use Rattle.pump.proofs.PumpLemmas.{Rose-then, Rose-after}
+use Rattle.pump.proofs.PumpLemmas.{Rose-after}
 
 pub concat-append : (xs ys : List (List ℕ)) → concat (xs ++ ys) ≡ concat xs ++ concat ys
 concat-append [] ys = refl

@@ -219,6 +219,3 @@ impl Pump {
         Err(PumpFault::Turns)
     }
 }
-
-#[cfg(test)]
-mod tests;

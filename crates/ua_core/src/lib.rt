@@ -32,6 +32,3 @@ mod world;
 pub use event::Event;
 pub use out::{Out, Outs, Ran, Step, StepFault, Steps};
 pub use server::Server;
-
-#[cfg(test)]
-mod tests;

@@ -1,5 +1,4 @@
-use Rattle.std.proofs.Common.{◌≡◌, ◌∙◌, ◌≤◌, length, sym, ap, rules, subst, ◌<◌, take, List, ℕ, arith}
-use Rattle.std.specs.Io.KnownBytes.{Appends}
+use Rattle.std.proofs.Common.{◌≡◌, ◌∙◌, sym, ap, arith}
 use Rattle.ua_core.specs.Stepping.{sent_bytes}
 use Rattle.pump.proofs.PumpLemmas.{part_put}
 use Rattle.pump.proofs.put_outs.Goals as goal

@@ -1,5 +1,4 @@
-use Rattle.std.proofs.Common.{◌≡◌, ◌≤◌, ◌*◌, ◌^◌, take, length}
-use Rattle.std.specs.Io.KnownBytes.{Appends}
+use Rattle.std.proofs.Common.{take}
 use Rattle.ua_core.specs.Stepping.{joined}
 use Rattle.pump.proofs.PumpLemmas.{AllPut}
 use Rattle.pump.proofs.put_outs.Given as goal

@@ -1,4 +1,4 @@
-use Rattle.std.proofs.Common.{◌≡◌, ◌<◌, ◌^◌, arith, refl, ap, Err}
+use Rattle.std.proofs.Common.{arith, refl, ap, Err}
 use Rattle.pump.proofs.RunLemmas.{Goes-none, Goes-more, Goes-done, Goes-stopped}
 use Rattle.pump.proofs.Pump.run.Goals as goal
 

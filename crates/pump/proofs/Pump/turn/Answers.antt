@@ -1,7 +1,5 @@
-use Rattle.std.proofs.Common.{true, false, ◌≡◌, ◌+◌, ◌<◌, ◌≤◌, ◌^◌, List, [], take, drop, length, sym, arith, refl, rules, ap, Err, Ok, ◌∙◌, subst}
-use Rattle.ua_tcp.specs.Tapped.{Rose, counted}
-use Rattle.ua_core.specs.Stepping.{TakesOrHalts, step_on}
-use Rattle.std.proofs.KnownBytes.{Keeps-refl, Appends-nil, Consumes-nil}
+use Rattle.std.proofs.Common.{true, false, ◌≡◌, ◌<◌, ◌≤◌, [], length, arith, refl, ap, ◌∙◌}
+use Rattle.std.proofs.KnownBytes.{Keeps-refl, Consumes-nil}
 use Rattle.pump.proofs.PumpLemmas.{counted-le, counted-Rose}
 use Rattle.pump.proofs.RunLemmas.{Stopped-memory, Moved-read, Done-end, Goes-again, Stopped-read, Stopped-step, Fed-none, Consumes-empty, turned, refused}
 use Rattle.pump.proofs.Pump.turn.Goals as goal
