@@ -1,5 +1,5 @@
 -- Ids that compare alike are the same.
-use Rattle.std.proofs.Common.{◌≡◌, Bool, true, ◌==◌, ◌&&◌, Option, Some, None, List, ℕ, refl, ap, rules}
+use Rattle.std.proofs.Common.{◌≡◌, true, ◌==◌, ◌&&◌, Option, Some, None, List, ℕ, refl, ap, rules}
 use Rattle.std.specs.Option.{option_eq}
 use Rattle.std.specs.Cmp.Lexicographic.{pointwise}
 use Rattle.std.proofs.lemmas.Bool.{and_parts, false≢true, eqb-true}

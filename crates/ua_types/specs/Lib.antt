@@ -3,3 +3,4 @@ pub mod NodeIds
 pub mod NodeIdOrder
 pub mod Configuration
 pub mod Answers
+pub mod IdTexts

@@ -15,8 +15,56 @@ pub trait Copyable: Drop {
         ensures { IfOk result (λ copy. copy ≡ self.now) };
 }
 
+impl Copyable for bool {
+    fn copy(&self, _alloc: Global) -> Result<bool, AllocError> {
+        Ok(*self)
+    }
+}
+
+impl Copyable for u8 {
+    fn copy(&self, _alloc: Global) -> Result<u8, AllocError> {
+        Ok(*self)
+    }
+}
+
+impl Copyable for u16 {
+    fn copy(&self, _alloc: Global) -> Result<u16, AllocError> {
+        Ok(*self)
+    }
+}
+
 impl Copyable for u32 {
     fn copy(&self, _alloc: Global) -> Result<u32, AllocError> {
+        Ok(*self)
+    }
+}
+
+impl Copyable for u64 {
+    fn copy(&self, _alloc: Global) -> Result<u64, AllocError> {
+        Ok(*self)
+    }
+}
+
+impl Copyable for i8 {
+    fn copy(&self, _alloc: Global) -> Result<i8, AllocError> {
+        Ok(*self)
+    }
+}
+
+impl Copyable for i16 {
+    fn copy(&self, _alloc: Global) -> Result<i16, AllocError> {
+        Ok(*self)
+    }
+}
+
+impl Copyable for i32 {
+    fn copy(&self, _alloc: Global) -> Result<i32, AllocError> {
+        Ok(*self)
+    }
+}
+
+impl Copyable for i64 {
+    fn copy(&self, _alloc: Global) -> Result<i64, AllocError> {
         Ok(*self)
     }
 }

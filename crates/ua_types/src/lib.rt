@@ -6,6 +6,7 @@
 //!
 //! - `Text`, `ByteString` and `Array` are optional lists, where null is `None` and differs from empty;
 //! - `NodeId`, `ExtensionObject` and the other structures are the records of their fields;
+//! - the text of a node id is read by a grammar and written in one way ([`NodeId::parse`], [`write_id`]);
 //! - `Config` is a record whose numbers always lie in their ranges (`IsConfigured`).
 //!
 //! Memory is always taken from an allocator that is passed in, and a refusal is answered as
@@ -21,6 +22,7 @@ mod copyable;
 mod duration;
 mod extension_object;
 mod guid;
+mod id_texts;
 mod localized_text;
 mod moment;
 mod node_id;
@@ -36,6 +38,7 @@ pub use copyable::Copyable;
 pub use duration::Duration;
 pub use extension_object::{ExtensionObject, ExtensionObjectBody};
 pub use guid::Guid;
+pub use id_texts::{IdFault, write_id};
 pub use localized_text::LocalizedText;
 pub use moment::Moment;
 pub use node_id::{ExpandedNodeId, Identifier, NodeId};

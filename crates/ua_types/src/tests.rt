@@ -65,7 +65,7 @@ fn the_standard_configuration(rt: HostRuntime) -> Result<(), Fail> {
 }
 
 #[test]
-fn refusals_in_words(rt: HostRuntime) -> Result<(), Fail> {
+fn refusals_and_faults_in_words(rt: HostRuntime) -> Result<(), Fail> {
     let alloc = rt.alloc();
     for (refusal, words) in [
         (
@@ -76,6 +76,82 @@ fn refusals_in_words(rt: HostRuntime) -> Result<(), Fail> {
         (Refusal::Exhausted, "out of serial numbers"),
     ] {
         assert_eq!(rt; format!(in alloc; "{refusal}")?.as_str(), words);
+    }
+    for (fault, words) in [
+        (IdFault::Prefix, "no identifier where one should begin"),
+        (IdFault::Number, "not a number that fits"),
+        (IdFault::Guid, "not a Guid"),
+        (IdFault::Bytes, "not the bytes of an identifier"),
+        (IdFault::Memory, "out of memory"),
+    ] {
+        assert_eq!(rt; format!(in alloc; "{fault}")?.as_str(), words);
+    }
+    Ok(())
+}
+
+#[test]
+fn id_texts_are_read_and_written(rt: HostRuntime) -> Result<(), Fail> {
+    let alloc = rt.alloc();
+    let opaque = NodeId {
+        namespace: 1,
+        identifier: Identifier::Opaque(ByteString::from_slice(alloc, &[0x0a, 0xff])?),
+    };
+    assert!(rt; NodeId::parse(alloc, "ns=1;b=0aff")? == opaque);
+    let empty = NodeId {
+        namespace: 0,
+        identifier: Identifier::String(Text::from_str(alloc, "")?),
+    };
+    assert!(rt; NodeId::parse(alloc, "s=")? == empty);
+    // The Guid of the standard's own example (IEC 62541-6, 5.2.2.6).
+    let guid = NodeId {
+        namespace: 2,
+        identifier: Identifier::Guid(Guid {
+            data1: 0x7296_2b91,
+            data2: 0xfa75,
+            data3: 0x4ae6,
+            data4: [0x8d, 0x28, 0xb4, 0x04, 0xdc, 0x7d, 0xaf, 0x63],
+        }),
+    };
+    assert!(rt; NodeId::parse(alloc, "ns=2;g=72962B91-FA75-4AE6-8D28-B404DC7DAF63")? == guid);
+    for (text, written) in [
+        ("ns=1;b=0aff", "ns=1;b=0aff"),
+        ("b=0AFF", "b=0aff"),
+        ("ns=0;i=4294967295", "i=4294967295"),
+        ("ns=65535;i=085", "ns=65535;i=85"),
+        ("ns=3;s=ns=4;i=1", "ns=3;s=ns=4;i=1"),
+        (
+            "g=72962B91-FA75-4AE6-8D28-B404DC7DAF63",
+            "g=72962b91-fa75-4ae6-8d28-b404dc7daf63",
+        ),
+    ] {
+        let id = NodeId::parse(alloc, text)?;
+        assert_eq!(rt; write_id(alloc, &id)?.as_str(), written);
+    }
+    let null = NodeId {
+        namespace: 0,
+        identifier: Identifier::Opaque(ByteString::null()),
+    };
+    assert_eq!(rt; write_id(alloc, &null)?.as_str(), "b=");
+    Ok(())
+}
+
+#[test]
+fn the_leftmost_fault_of_an_id_text(rt: HostRuntime) -> Result<(), Fail> {
+    let alloc = rt.alloc();
+    for (text, fault) in [
+        ("", IdFault::Prefix),
+        ("x=5", IdFault::Prefix),
+        ("ns=5", IdFault::Prefix),
+        ("ns=5x;i=1", IdFault::Number),
+        ("ns=65536;i=1", IdFault::Number),
+        ("ns=65536;x=1", IdFault::Number),
+        ("i=", IdFault::Number),
+        ("i=+1", IdFault::Number),
+        ("i=4294967296", IdFault::Number),
+        ("g=1", IdFault::Guid),
+        ("b=0", IdFault::Bytes),
+    ] {
+        assert!(rt; NodeId::parse(alloc, text).err() == Some(fault));
     }
     Ok(())
 }

@@ -1,0 +1,229 @@
+//! The texts of node ids: `i=85`, `ns=2;s=Line`, `ns=1;b=0aff`.
+
+ghost use Rattle.std.specs.Prelude.{◌≡◌, ◌^◌, ◌<◌, ◌≤◌, IfOk, ◌++◌, codes, OnOk, IfSome, string_bytes, Ok};
+ghost use Rattle.std.specs.Char.{is_ascii_digit};
+ghost use Rattle.std.specs.List.{list_all};
+ghost use Rattle.std.specs.Option.{option_copied};
+ghost use Rattle.hex.specs.Hex.{decode_of, encode_lower, IsBytes};
+ghost use Rattle.ua_types.specs.Answers.{Gives};
+ghost use Rattle.ua_types.specs.declared.id_texts.IdFault.TheVariants.{Memory};
+ghost use Rattle.ua_types.specs.IdTexts.{behind, number_of, opaque_of, identifier_of, id_of, guid_bytes, guid_of, namespace_text, identifier_text, id_text, IsNamed, IsReadable};
+
+use crate::byte_string::ByteString;
+use crate::guid::Guid;
+use crate::node_id::{Identifier, NodeId};
+use crate::text::Text;
+use std::alloc::{AllocError, Global};
+use thiserror::Error;
+use uuid::Uuid;
+
+/// What is wrong with the text of a node id: the leftmost fault.
+#[derive(Clone, Copy, Debug, PartialEq, Eq, Error)]
+pub enum IdFault {
+    /// No identifier begins where one should: `i=`, `s=`, `g=` or `b=`.
+    #[error("no identifier where one should begin")]
+    Prefix,
+    /// What follows `ns=` or `i=` isn't decimal digits, at least one, of a number that fits.
+    #[error("not a number that fits")]
+    Number,
+    /// What follows `g=` isn't a Guid.
+    #[error("not a Guid")]
+    Guid,
+    /// What follows `b=` isn't pairs of hex digits, or what follows `s=` or `b=` has 2^31 bytes
+    /// or more.
+    #[error("not the bytes of an identifier")]
+    Bytes,
+    /// A growth was refused. Nothing is said of the text.
+    #[error("out of memory")]
+    Memory,
+}
+
+impl From<AllocError> for IdFault {
+    ghost from_gives = { λ _ e. e ≡ Memory };
+
+    fn from(_e: AllocError) -> IdFault {
+        IdFault::Memory
+    }
+}
+
+// What follows a front, where the text has it.
+fn behind<'a>(text: &'a str, front: &str) -> Option<&'a str>
+    ensures { option_copied result ≡ behind front.now text.entry.now }
+{
+    text.strip_prefix(front)
+}
+
+// One or more decimal digits of a number below the limit.
+fn number(digits: &str, limit: u64) -> Option<u64>
+    ensures value { result ≡ number_of limit digits.now }
+    ensures below { IfSome result (λ n. n < limit) }
+{
+    if !all_digits(digits) {
+        return None;
+    }
+    let Ok(number) = digits.parse::<u64>() else {
+        return None;
+    };
+    if number < limit { Some(number) } else { None }
+}
+
+fn all_digits(text: &str) -> bool
+    ensures { result ≡ list_all is_ascii_digit text.now }
+{
+    text.as_bytes().iter().all(|b| b.is_ascii_digit())
+}
+
+// The bytes that hex digits stand for.
+fn opaque(alloc: Global, text: &str) -> Result<Identifier, IdFault>
+    ensures { Gives Memory result (opaque_of (decode_of text.now)) }
+{
+    match hex::decode(alloc, text) {
+        Ok(bytes) => {
+            if bytes.len() < 1 << 31 {
+                Ok(Identifier::Opaque(ByteString::new(bytes)))
+            } else {
+                Err(IdFault::Bytes)
+            }
+        }
+        Err(hex::FromHexError::OutOfMemory) => Err(IdFault::Memory),
+        Err(_) => Err(IdFault::Bytes),
+    }
+}
+
+// The Guid whose text has these bytes, and the other way round.
+fn guid_of(uuid: &Uuid) -> Guid
+    ensures { result ≡ guid_of uuid.now }
+{
+    let (data1, data2, data3, data4) = uuid.as_fields();
+    Guid {
+        data1,
+        data2,
+        data3,
+        data4,
+    }
+}
+
+fn uuid_of(guid: &Guid) -> Uuid
+    ensures bytes { result ≡ guid_bytes guid.now }
+    ensures again { guid_of result ≡ guid.now }
+{
+    Uuid::from_fields(guid.data1, guid.data2, guid.data3, &guid.data4)
+}
+
+#[tactic(auto, unfolding(crate::specs::IdTexts::identifier_of))]
+fn identifier(alloc: Global, text: &str) -> Result<Identifier, IdFault>
+    ensures { Gives Memory result (identifier_of text.now) }
+{
+    if let Some(digits) = behind(text, "i=") {
+        return match number(digits, 1 << 32) {
+            Some(number) => Ok(Identifier::Numeric(number as u32)),
+            None => Err(IdFault::Number),
+        };
+    }
+    if let Some(rest) = behind(text, "s=") {
+        if rest.len() >= 1 << 31 {
+            return Err(IdFault::Bytes);
+        }
+        return Ok(Identifier::String(Text::from_str(alloc, rest)?));
+    }
+    if let Some(rest) = behind(text, "g=") {
+        return match Uuid::try_parse(rest) {
+            Ok(uuid) => Ok(Identifier::Guid(guid_of(&uuid))),
+            Err(_) => Err(IdFault::Guid),
+        };
+    }
+    if let Some(rest) = behind(text, "b=") {
+        return opaque(alloc, rest);
+    }
+    Err(IdFault::Prefix)
+}
+
+impl NodeId {
+    /// The id that a text says: `ns=n;` where the namespace isn't 0, then `i=` and decimal digits,
+    /// `s=` and the text, `g=` and a Guid, or `b=` and hex digits.
+    ///
+    /// The leftmost fault is answered; `Memory` only where a growth was refused.
+    #[tactic(auto, unfolding(crate::specs::IdTexts::id_of, crate::specs::IdTexts::spaced))]
+    pub fn parse(alloc: Global, text: &str) -> Result<NodeId, IdFault>
+        ensures { Gives Memory result (id_of text.now) }
+    {
+        let Some(rest) = behind(text, "ns=") else {
+            let identifier = identifier(alloc, text)?;
+            return Ok(NodeId {
+                namespace: 0,
+                identifier,
+            });
+        };
+        let (digits, rest) = match rest.split_once(';') {
+            Some(parts) => parts,
+            None => (rest, ""),
+        };
+        let Some(namespace) = number(digits, 1 << 16) else {
+            return Err(IdFault::Number);
+        };
+        let identifier = identifier(alloc, rest)?;
+        Ok(NodeId {
+            namespace: namespace as u16,
+            identifier,
+        })
+    }
+}
+
+// The namespace's part of the text.
+fn namespace_text(alloc: Global, namespace: u16) -> Result<String, AllocError>
+    ensures { IfOk result (λ t. string_bytes t ≡ namespace_text namespace) }
+{
+    if namespace == 0 {
+        return Ok(String::new(alloc));
+    }
+    format!(in alloc; "ns={namespace};")
+}
+
+// The text of an identifier that is bytes.
+fn opaque_text(alloc: Global, bytes: &[u8]) -> Result<String, AllocError>
+    ensures text { IfOk result (λ t. string_bytes t ≡ codes "b=" ++ encode_lower bytes.now) }
+    ensures bytes { IsBytes bytes.now }
+{
+    let digits = hex::encode(alloc, bytes)?;
+    format!(in alloc; "b={digits}")
+}
+
+// The identifier's part of the text.
+fn identifier_text(alloc: Global, identifier: &Identifier) -> Result<String, AllocError>
+    ensures text { IfOk result (λ t. string_bytes t ≡ identifier_text identifier.now) }
+    ensures readable { OnOk result (IsReadable identifier.now) }
+{
+    match identifier {
+        Identifier::Numeric(number) => {
+            let number: u32 = *number;
+            format!(in alloc; "i={number}")
+        }
+        Identifier::String(text) => match text.as_str() {
+            None => String::from_str(alloc, "s="),
+            Some(text) => format!(in alloc; "s={text}"),
+        },
+        Identifier::Guid(guid) => {
+            let mut buffer = Uuid::encode_buffer();
+            let text: &str = uuid_of(guid).hyphenated().encode_lower(&mut buffer);
+            format!(in alloc; "g={text}")
+        }
+        Identifier::Opaque(bytes) => match bytes.as_slice() {
+            None => String::from_str(alloc, "b="),
+            Some(bytes) => opaque_text(alloc, bytes),
+        },
+    }
+}
+
+/// The text of an id, as [`NodeId::parse`] reads it: `ns=0;` is left out, hex digits and a
+/// hyphenated Guid are in lower case, and a null identifier is written as an empty one.
+#[tactic(auto, using(crate::proofs::IdTexts::id_again))]
+pub fn write_id(alloc: Global, id: &NodeId) -> Result<String, AllocError>
+    ensures text { IfOk result (λ t. string_bytes t ≡ id_text id.now) }
+    // What is written is read as the id, unless its identifier is null.
+    ensures again { IfOk result (λ t. IsNamed id.now.identifier → id_of (string_bytes t) ≡ Ok id.now) }
+{
+    let mut text = namespace_text(alloc, id.namespace)?;
+    let identifier = identifier_text(alloc, &id.identifier)?;
+    text.push_str(identifier.as_str())?;
+    Ok(text)
+}
