@@ -1,11 +1,13 @@
 -- Elements are read one by one.
-use Rattle.std.proofs.Common.{◌≡◌, ℕ, suc, ◌+◌, ◌-◌, ◌<◌, ◌≤◌, List, [], ◌∷◌, ◌++◌, Result, Ok, Err, refl, sym, ap, ◌∙◌, append_assoc, arith, length, All, ◌^◌, Some, ltb, leb, false}
-use Rattle.std.proofs.lemmas.Bool.{le-ltb, lt-leb}
+use Rattle.std.proofs.Common.{◌≡◌, ℕ, suc, ◌+◌, ◌-◌, ◌<◌, ◌≤◌, List, [], ◌∷◌, ◌++◌, Result, Ok, Err, refl, sym, ap, ◌∙◌, append_assoc, arith, length, All, ◌^◌, Some, ltb, leb, true, false}
+use Rattle.std.proofs.lemmas.Bool.{le-ltb, lt-leb, lt-ltb}
 use Rattle.std.proofs.lemmas.List.{length-append}
 use Rattle.std.specs.Int.{w32}
 use Rattle.ua_binary.proofs.Again.{number32_again}
 use Rattle.std.proofs.lemmas.List.{append-nil}
 use Rattle.ua_binary.specs.declared.fault.TakeFault.{TakeFault}
+use Rattle.ua_binary.specs.declared.fault.TakeFault.TheVariants.{Length}
+use Rattle.ua_binary.specs.Texts.{ClaimsTooMany}
 use Rattle.ua_binary.specs.Reading.{go_on, IsReadAgain}
 use Rattle.ua_binary.specs.Numbers.{number_encoding}
 use Rattle.ua_binary.specs.Arrays.{elements_reading, array_reading, array_encoding}
@@ -68,3 +70,11 @@ array_again reading encoding items short some each x =
     let enough : ltb (length (body ++ x)) n ≡ false = le-ltb _ _ (omega (arith, length-append body x, some)) in
     let small : leb (2 ^ 31) n ≡ false = lt-leb _ _ short in
     ap (array_reading reading) (append_assoc (number_encoding w32 n) body x) ∙ rw (number32_again n (body ++ x) (omega arith), small, enough, elements_again reading encoding items x each) refl
+
+-- a length above the bytes left is Length
+pub overclaim_is_length : {A : Type 0} (reading : List ℕ → Result (A × List ℕ) TakeFault) (bytes : List ℕ) → ClaimsTooMany bytes → array_reading reading bytes ≡ Err Length
+unfolding array_reading
+overclaim_is_length reading bytes claim =
+    let small : leb (2 ^ 31) claim.count ≡ false = lt-leb _ _ claim.not_null in
+    let few : ltb (length claim.rest) claim.count ≡ true = lt-ltb _ _ claim.above in
+    rw (claim.read, small, few) refl

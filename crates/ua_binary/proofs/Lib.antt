@@ -4,3 +4,6 @@ pub mod Elements
 pub mod Extending
 pub mod Flags
 pub mod Fields
+pub mod TypeBytes
+pub mod Masks
+pub mod Counts

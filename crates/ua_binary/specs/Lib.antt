@@ -10,3 +10,6 @@ pub mod ExpandedNodeIds
 pub mod QualifiedNames
 pub mod LocalizedTexts
 pub mod ExtensionObjects
+pub mod Floats
+pub mod Variants
+pub mod DataValues

@@ -1,6 +1,6 @@
 -- Numbers and truth values (IEC 62541-6, 5.2.2.1 and 5.2.2.2), and bytes as they stand.
 use Rattle.std.specs.Prelude.{ℕ, ℤ, Bool, not, List, [], ◌∷◌, length, take, drop, Ok, Err, nat_lt, ◌==◌, if◌then◌else◌}
-use Rattle.std.specs.Int.{Width, byte_len, from_le_bytes, to_le_bytes, cast_signed, cast_unsigned}
+use Rattle.std.specs.Int.{Width, w8, byte_len, from_le_bytes, to_le_bytes, cast_signed, cast_unsigned}
 use Rattle.ua_binary.specs.declared.fault.TakeFault.TheVariants.{Short}
 use Rattle.ua_binary.specs.Reading.{Reading, ◌>>=◌, done}
 
@@ -39,6 +39,15 @@ byte_reading (b ∷ rest) = Ok (b, rest)
 
 abbrev pub byte_encoding : ℕ → List ℕ
 byte_encoding b = b ∷ []
+
+-- a byte with a sign
+unfoldable pub sbyte_reading : Reading ℤ
+sbyte_reading = do
+  b ← byte_reading
+  done (cast_signed w8 b)
+
+unfoldable pub sbyte_encoding : ℤ → List ℕ
+sbyte_encoding z = byte_encoding (cast_unsigned w8 z)
 
 -- 0 is false, and any other byte is true
 unfoldable pub boolean_reading : Reading Bool

@@ -48,7 +48,7 @@ fn encode_all<T: Wire>(items: &[T], out: &mut Vec<u8>) -> Result<(), AllocError>
 
 // Writes a list that isn't null.
 #[tactic(auto, using(crate::proofs::Elements::array_again, crate::proofs::Extending::extends_more), unfolding(crate::specs::Arrays::array_encoding))]
-fn encode_slice<T: Wire>(items: &[T], out: &mut Vec<u8>) -> Result<(), AllocError>
+pub(crate) fn encode_slice<T: Wire>(items: &[T], out: &mut Vec<u8>) -> Result<(), AllocError>
     requires { length items.now < 2 ^ 31 }
     ensures ok { OnOk result (out.new.items ≡ out.old.items ++ array_encoding T.encoding (Some items.now)) }
     ensures err { OnErr result (Extends out.old.items out.new.items) }

@@ -4,7 +4,7 @@ ghost use Rattle.ua_binary.specs.ExpandedNodeIds.{expanded_node_id_reading, expa
 
 use crate::cursor::Cursor;
 use crate::fault::TakeFault;
-use crate::node_ids::{encode_form, form, decode_form};
+use crate::node_ids::{decode_form, encode_form, form};
 use crate::parts::{encode_unless_null, number_where_set, text_where_set};
 use crate::wire::Wire;
 use std::alloc::{AllocError, Global};

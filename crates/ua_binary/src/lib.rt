@@ -10,17 +10,21 @@
 //! - what was put is read again, whatever follows it;
 //! - a claim of more bytes or elements than are left takes no memory.
 //!
-//! Nothing here knows messages, frames or sockets. Lists have one impl for every element type.
+//! Nothing here knows messages, frames or sockets. Lists have one impl for every element type, and
+//! `variants` is the one place where a type is picked by its number.
 //!
 //! Read [`Wire`] first, then `numbers` for the smallest impls and `node_ids` for one with forms.
 #![tactic(auto)]
 
 mod arrays;
 mod cursor;
+mod data_values;
 mod expanded_node_ids;
 mod extension_objects;
 mod fault;
+mod floats;
 mod guids;
+pub mod laws;
 mod localized_texts;
 mod node_ids;
 mod numbers;
@@ -28,6 +32,7 @@ mod parts;
 mod qualified_names;
 mod scalars;
 mod texts;
+mod variants;
 mod wire;
 
 pub use cursor::Cursor;

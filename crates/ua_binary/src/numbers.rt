@@ -2,7 +2,7 @@
 
 ghost use Rattle.std.specs.Prelude.{◌≡◌};
 ghost use Rattle.std.specs.Int.{w16, w32, w64};
-ghost use Rattle.ua_binary.specs.Numbers.{number_reading, signed_reading, byte_reading, boolean_reading, number_encoding, signed_encoding, byte_encoding, boolean_encoding, octets_reading, octets_encoding};
+ghost use Rattle.ua_binary.specs.Numbers.{number_reading, signed_reading, byte_reading, sbyte_reading, boolean_reading, number_encoding, signed_encoding, byte_encoding, sbyte_encoding, boolean_encoding, octets_reading, octets_encoding};
 
 use crate::cursor::Cursor;
 use crate::fault::TakeFault;
@@ -91,6 +91,38 @@ impl Wire for u64 {
     }
 }
 
+#[tactic(auto, using(crate::proofs::Again::cast_back), unfolding(crate::specs::Numbers::sbyte_reading, crate::specs::Numbers::sbyte_encoding))]
+impl Wire for i8 {
+    ghost reading = { sbyte_reading };
+
+    ghost encoding = { sbyte_encoding };
+
+    fn decode(_alloc: Global, cursor: &mut Cursor<'_>) -> Result<i8, TakeFault> {
+        let byte = cursor.byte()?;
+        Ok(byte.cast_signed())
+    }
+
+    fn encode(&self, out: &mut Vec<u8>) -> Result<(), AllocError> {
+        self.cast_unsigned().encode(out)
+    }
+}
+
+#[tactic(auto, using(crate::proofs::Again::cast_back), unfolding(crate::specs::Numbers::signed_reading, crate::specs::Numbers::signed_encoding))]
+impl Wire for i16 {
+    ghost reading = { signed_reading w16 };
+
+    ghost encoding = { signed_encoding w16 };
+
+    fn decode(alloc: Global, cursor: &mut Cursor<'_>) -> Result<i16, TakeFault> {
+        let number = u16::decode(alloc, cursor)?;
+        Ok(number.cast_signed())
+    }
+
+    fn encode(&self, out: &mut Vec<u8>) -> Result<(), AllocError> {
+        self.cast_unsigned().encode(out)
+    }
+}
+
 #[tactic(auto, using(crate::proofs::Again::cast_back), unfolding(crate::specs::Numbers::signed_reading, crate::specs::Numbers::signed_encoding))]
 impl Wire for i32 {
     ghost reading = { signed_reading w32 };
@@ -120,6 +152,22 @@ impl Wire for i64 {
 
     fn encode(&self, out: &mut Vec<u8>) -> Result<(), AllocError> {
         self.cast_unsigned().encode(out)
+    }
+}
+
+#[tactic(auto, unfolding(crate::specs::Numbers::octets_reading))]
+impl Wire for [u8; 4] {
+    ghost reading = { octets_reading 4 };
+
+    ghost encoding = { octets_encoding };
+
+    fn decode(_alloc: Global, cursor: &mut Cursor<'_>) -> Result<[u8; 4], TakeFault> {
+        let b = cursor.lend(4)?;
+        Ok([b[0], b[1], b[2], b[3]])
+    }
+
+    fn encode(&self, out: &mut Vec<u8>) -> Result<(), AllocError> {
+        out.extend_from_slice(self)
     }
 }
 

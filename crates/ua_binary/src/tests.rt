@@ -6,6 +6,7 @@ use ua_types::{
     Array, ByteString, Duration, ExpandedNodeId, ExtensionObject, ExtensionObjectBody, Guid,
     Identifier, LocalizedText, Moment, NodeId, QualifiedName, Status, Text,
 };
+use ua_values::{Content, DataValue, Double, Float, Matrix, Variant, has_shape};
 
 #[test]
 fn three_spellings_of_node_id_85(rt: HostRuntime) -> Result<(), Fail> {
@@ -80,6 +81,16 @@ fn each_type_both_ways(rt: HostRuntime) -> Result<(), Fail> {
     let alloc = rt.alloc();
     assert_eq!(rt; both_ways::<_, u8>(&rt, alloc, &[7])?, 7);
     assert!(rt; both_ways::<_, bool>(&rt, alloc, &[1])?);
+    assert_eq!(rt; both_ways::<_, i8>(&rt, alloc, &[0xfe])?, -2);
+    assert_eq!(rt; both_ways::<_, i16>(&rt, alloc, &[0xfe, 0xff])?, -2);
+    assert_eq!(rt;
+        both_ways::<_, Float>(&rt, alloc, &[0, 0, 0x80, 0x3f])?,
+        Float([0, 0, 0x80, 0x3f])
+    );
+    assert_eq!(rt;
+        both_ways::<_, Double>(&rt, alloc, &[0, 0, 0, 0, 0, 0, 0xf0, 0x3f])?,
+        Double([0, 0, 0, 0, 0, 0, 0xf0, 0x3f])
+    );
     assert_eq!(rt; both_ways::<_, u16>(&rt, alloc, &[0x34, 0x12])?, 0x1234);
     assert_eq!(rt;
         both_ways::<_, u32>(&rt, alloc, &[0x78, 0x56, 0x34, 0x12])?,
@@ -154,5 +165,193 @@ fn ids_and_structures_both_ways(rt: HostRuntime) -> Result<(), Fail> {
     assert!(rt; matches!(&object.body, ExtensionObjectBody::Binary(_)));
     let absent = both_ways::<_, ExtensionObject>(&rt, alloc, &[0, 0, 0])?;
     assert!(rt; absent.type_id.is_null());
+    Ok(())
+}
+
+// One value of each type, 0 to 22, laid out by hand from the standard's tables.
+#[test]
+fn a_variant_of_each_type_both_ways(rt: HostRuntime) -> Result<(), Fail> {
+    let alloc = rt.alloc();
+    for (number, bytes) in [
+        (0u8, [0x00u8].as_slice()),
+        (1, [0x01, 1].as_slice()),
+        (2, [0x02, 0xfe].as_slice()),
+        (3, [0x03, 7].as_slice()),
+        (4, [0x04, 0xfe, 0xff].as_slice()),
+        (5, [0x05, 0xff, 0xff].as_slice()),
+        (6, [0x06, 0xfe, 0xff, 0xff, 0xff].as_slice()),
+        (7, [0x07, 0x78, 0x56, 0x34, 0x12].as_slice()),
+        (
+            8,
+            [0x08, 0xff, 0xff, 0xff, 0xff, 0xff, 0xff, 0xff, 0xff].as_slice(),
+        ),
+        (9, [0x09, 2, 0, 0, 0, 0, 0, 0, 1].as_slice()),
+        (10, [0x0a, 0, 0, 0x80, 0x3f].as_slice()),
+        (11, [0x0b, 0, 0, 0, 0, 0, 0, 0xf0, 0x3f].as_slice()),
+        (12, [0x0c, 1, 0, 0, 0, b'a'].as_slice()),
+        (13, [0x0d, 100, 0, 0, 0, 0, 0, 0, 0].as_slice()),
+        (
+            14,
+            [0x0e, 1, 0, 0, 0, 2, 0, 3, 0, 4, 5, 6, 7, 8, 9, 10, 11].as_slice(),
+        ),
+        (15, [0x0f, 0xff, 0xff, 0xff, 0xff].as_slice()),
+        (16, [0x10, 1, 0, 0, 0, 0xff].as_slice()),
+        (17, [0x11, 0, 0x55].as_slice()),
+        (18, [0x12, 0x40, 0x55, 1, 0, 0, 0].as_slice()),
+        (19, [0x13, 0, 0, 7, 0x80].as_slice()),
+        (20, [0x14, 1, 0, 1, 0, 0, 0, b'a'].as_slice()),
+        (21, [0x15, 2, 1, 0, 0, 0, b'a'].as_slice()),
+        (22, [0x16, 0, 0x55, 1, 1, 0, 0, 0, 9].as_slice()),
+    ] {
+        let value = both_ways::<_, Variant>(&rt, alloc, bytes)?;
+        assert_eq!(rt; value.type_number(), number);
+    }
+    Ok(())
+}
+
+#[test]
+fn lists_and_matrices_both_ways(rt: HostRuntime) -> Result<(), Fail> {
+    let alloc = rt.alloc();
+    let list = both_ways::<_, Variant>(&rt, alloc, &[0x86, 2, 0, 0, 0, 20, 0, 0, 0, 30, 0, 0, 0])?;
+    let elements = Vec::from_slice(alloc, &[20i32, 30])?;
+    assert!(rt; list == Variant::Int32(Content::Array(Array::new(elements))));
+    let null = both_ways::<_, Variant>(&rt, alloc, &[0x86, 0xff, 0xff, 0xff, 0xff])?;
+    assert!(rt; null == Variant::Int32(Content::Array(Array::null())));
+    let square = both_ways::<_, Variant>(
+        &rt,
+        alloc,
+        &[
+            0xc3, 4, 0, 0, 0, 1, 2, 3, 4, 2, 0, 0, 0, 2, 0, 0, 0, 2, 0, 0, 0,
+        ],
+    )?;
+    assert!(rt; has_shape(&[2, 2], 4) && !has_shape(&[2, 3], 4));
+    let elements = Vec::from_slice(alloc, &[1u8, 2, 3, 4])?;
+    let dimensions = Vec::from_slice(alloc, &[2u32, 2])?;
+    assert!(rt; square == Variant::Byte(Content::Matrix(Matrix::new(elements, dimensions))));
+    // with an empty list of dimensions, and then with a null one, which is read as empty
+    let one = [0xc3, 1, 0, 0, 0, 9, 0, 0, 0, 0];
+    let value = both_ways::<_, Variant>(&rt, alloc, &one)?;
+    let mut cursor = Cursor::new(&[0xc3, 1, 0, 0, 0, 9, 0xff, 0xff, 0xff, 0xff]);
+    assert!(rt; Variant::take(alloc, &mut cursor)? == value);
+    Ok(())
+}
+
+#[test]
+fn variants_that_are_refused(rt: HostRuntime) -> Result<(), Fail> {
+    let alloc = rt.alloc();
+    for (bytes, fault) in [
+        // types that aren't served, whatever their flags
+        ([0x18u8].as_slice(), TakeFault::Kind),
+        ([0x17].as_slice(), TakeFault::Kind),
+        ([0x7f].as_slice(), TakeFault::Kind),
+        ([0x98, 0xff, 0xff, 0xff, 0x7f].as_slice(), TakeFault::Kind),
+        // flags that make no sense
+        ([0x40].as_slice(), TakeFault::Form),
+        ([0x80].as_slice(), TakeFault::Form),
+        ([0x41, 1].as_slice(), TakeFault::Form),
+        // no elements, and the product of no dimensions is 1
+        ([0xc1, 0, 0, 0, 0, 0, 0, 0, 0].as_slice(), TakeFault::Form),
+        // a negative dimension
+        (
+            [0xc1, 0, 0, 0, 0, 1, 0, 0, 0, 0xff, 0xff, 0xff, 0xff].as_slice(),
+            TakeFault::Form,
+        ),
+        // a null list with dimensions, once they are all read
+        (
+            [0xc1, 0xff, 0xff, 0xff, 0xff, 1, 0, 0, 0, 1, 0, 0, 0].as_slice(),
+            TakeFault::Form,
+        ),
+        ([0xc1, 0xff, 0xff, 0xff, 0xff].as_slice(), TakeFault::Short),
+    ] {
+        let mut cursor = Cursor::new(bytes);
+        assert_eq!(rt; Variant::take(alloc, &mut cursor).err(), Some(fault));
+        assert_eq!(rt; cursor.rest().len(), bytes.len());
+    }
+    Ok(())
+}
+
+// 2147483647 where nothing is left.
+#[test]
+fn the_greatest_length_that_nothing_backs(rt: HostRuntime) -> Result<(), Fail> {
+    let alloc = rt.alloc();
+    let claim = [0xff, 0xff, 0xff, 0x7f];
+    let mut cursor = Cursor::new(&claim);
+    assert_eq!(rt;
+        Text::take(alloc, &mut cursor).err(),
+        Some(TakeFault::Short)
+    );
+    assert_eq!(rt;
+        ByteString::take(alloc, &mut cursor).err(),
+        Some(TakeFault::Short)
+    );
+    assert_eq!(rt;
+        Array::<Text>::take(alloc, &mut cursor).err(),
+        Some(TakeFault::Length)
+    );
+    let mut body = Cursor::new(&[0, 0x55, 1, 0xff, 0xff, 0xff, 0x7f]);
+    assert_eq!(rt;
+        ExtensionObject::take(alloc, &mut body).err(),
+        Some(TakeFault::Short)
+    );
+    for (bytes, fault) in [
+        // an XmlElement
+        (
+            [0x10u8, 0xff, 0xff, 0xff, 0x7f].as_slice(),
+            TakeFault::Short,
+        ),
+        // a list of Booleans, and the dimensions of one
+        ([0x81, 0xff, 0xff, 0xff, 0x7f].as_slice(), TakeFault::Length),
+        (
+            [0xc1, 0, 0, 0, 0, 0xff, 0xff, 0xff, 0x7f].as_slice(),
+            TakeFault::Length,
+        ),
+    ] {
+        let mut cursor = Cursor::new(bytes);
+        assert_eq!(rt; Variant::take(alloc, &mut cursor).err(), Some(fault));
+    }
+    Ok(())
+}
+
+#[test]
+fn data_values(rt: HostRuntime) -> Result<(), Fail> {
+    let alloc = rt.alloc();
+    let timed = [0x05, 0x05, 0xff, 0xff, 100, 0, 0, 0, 0, 0, 0, 0];
+    let value = both_ways::<_, DataValue>(&rt, alloc, &timed)?;
+    let expected = DataValue {
+        value: Some(Variant::UInt16(Content::Scalar(65535))),
+        status: Status::GOOD,
+        source_time: Some(Moment(100)),
+        server_time: None,
+    };
+    assert!(rt; value == expected);
+    // a good status that is written out, picoseconds of the source, and bits without a meaning
+    let mut cursor = Cursor::new(&[
+        0xd7, 0x05, 0xff, 0xff, 0, 0, 0, 0, 100, 0, 0, 0, 0, 0, 0, 0, 9, 0,
+    ]);
+    assert!(rt; DataValue::take(alloc, &mut cursor)? == expected);
+    assert!(rt; cursor.rest().is_empty());
+    // all the parts, in their order
+    let mut cursor = Cursor::new(&[
+        0x3f, 0x01, 1, 0, 0, 7, 0x80, 1, 0, 0, 0, 0, 0, 0, 0, 3, 0, 2, 0, 0, 0, 0, 0, 0, 0, 4, 0,
+    ]);
+    let full = DataValue::take(alloc, &mut cursor)?;
+    let parts = DataValue {
+        value: Some(Variant::Boolean(Content::Scalar(true))),
+        status: Status::BAD_DECODING_ERROR,
+        source_time: Some(Moment(1)),
+        server_time: Some(Moment(2)),
+    };
+    assert!(rt; full == parts);
+    let mut out = Vec::new(alloc);
+    full.put(&mut out)?;
+    assert_eq!(rt;
+        out.as_slice(),
+        [
+            0x0fu8, 0x01, 1, 0, 0, 7, 0x80, 1, 0, 0, 0, 0, 0, 0, 0, 2, 0, 0, 0, 0, 0, 0, 0
+        ]
+        .as_slice()
+    );
+    let empty = both_ways::<_, DataValue>(&rt, alloc, &[0])?;
+    assert!(rt; empty.value.is_none());
     Ok(())
 }

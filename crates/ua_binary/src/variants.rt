@@ -1,0 +1,183 @@
+//! Values of any type.
+
+ghost use Rattle.std.specs.Prelude.{◌≡◌, ◌≢◌, ◌<◌, ◌≤◌, ◌++◌, ℕ, List, Ok, Err, OnOk, OnErr};
+ghost use Rattle.ua_binary.specs.declared.fault.TakeFault.TheVariants.{Memory};
+ghost use Rattle.ua_binary.specs.Reading.{Reads, Extends};
+ghost use Rattle.ua_binary.specs.Texts.{ClaimsTooMany};
+ghost use Rattle.ua_binary.specs.Variants.{in_dimensions, or_empty, content_reading, typed_reading, variant_reading, ClaimsTooManyElements, flags_of, content_encoding, typed_encoding, variant_encoding};
+
+use crate::arrays::encode_slice;
+use crate::cursor::Cursor;
+use crate::fault::TakeFault;
+use crate::wire::Wire;
+use std::alloc::{AllocError, Global};
+use ua_types::Array;
+use ua_values::{Content, Matrix, Variant, has_shape};
+
+// A list in dimensions that were read after it.
+fn with_dimensions<T: Drop>(
+    alloc: Global,
+    elements: Array<T>,
+    dimensions: Array<u32>,
+) -> Result<Content<T>, TakeFault>
+    ensures { (rest : List ℕ) → Reads result rest (in_dimensions elements (or_empty dimensions) rest) }
+{
+    let Some(elements) = elements.into_vec() else {
+        return Err(TakeFault::Form);
+    };
+    let dimensions = match dimensions.into_vec() {
+        Some(dimensions) => dimensions,
+        None => Vec::new(alloc),
+    };
+    if !has_shape(&dimensions, elements.len()) {
+        return Err(TakeFault::Form);
+    }
+    Ok(Content::Matrix(Matrix::new(elements, dimensions)))
+}
+
+// Reads what follows these flags.
+#[tactic(auto, using(crate::proofs::Elements::overclaim_is_length), unfolding(crate::specs::Variants::content_reading))]
+fn decode_content<T: Wire>(
+    alloc: Global,
+    flags: u8,
+    cursor: &mut Cursor<'_>,
+) -> Result<Content<T>, TakeFault>
+    ensures reads { Reads result cursor.new (content_reading T.reading flags cursor.old) }
+    ensures claim { 2 ≤ flags → ClaimsTooMany cursor.old → result ≢ Err Memory }
+{
+    match flags {
+        0 => {
+            let value = T::decode(alloc, cursor)?;
+            Ok(Content::Scalar(value))
+        }
+        2 => {
+            let elements = Array::<T>::decode(alloc, cursor)?;
+            Ok(Content::Array(elements))
+        }
+        3 => {
+            let elements = Array::<T>::decode(alloc, cursor)?;
+            let dimensions = Array::<u32>::decode(alloc, cursor)?;
+            with_dimensions(alloc, elements, dimensions)
+        }
+        _ => Err(TakeFault::Form),
+    }
+}
+
+// Reads what follows a first byte with this number and these flags.
+#[tactic(auto, unfolding(crate::specs::Variants::typed_reading))]
+fn decode_typed(
+    alloc: Global,
+    number: u8,
+    flags: u8,
+    cursor: &mut Cursor<'_>,
+) -> Result<Variant, TakeFault>
+    ensures reads { Reads result cursor.new (typed_reading number flags cursor.old) }
+    ensures claim { 2 ≤ flags → ClaimsTooMany cursor.old → result ≢ Err Memory }
+{
+    match number {
+        0 => {
+            if flags == 0 {
+                Ok(Variant::Null)
+            } else {
+                Err(TakeFault::Form)
+            }
+        }
+        1 => Ok(Variant::Boolean(decode_content(alloc, flags, cursor)?)),
+        2 => Ok(Variant::SByte(decode_content(alloc, flags, cursor)?)),
+        3 => Ok(Variant::Byte(decode_content(alloc, flags, cursor)?)),
+        4 => Ok(Variant::Int16(decode_content(alloc, flags, cursor)?)),
+        5 => Ok(Variant::UInt16(decode_content(alloc, flags, cursor)?)),
+        6 => Ok(Variant::Int32(decode_content(alloc, flags, cursor)?)),
+        7 => Ok(Variant::UInt32(decode_content(alloc, flags, cursor)?)),
+        8 => Ok(Variant::Int64(decode_content(alloc, flags, cursor)?)),
+        9 => Ok(Variant::UInt64(decode_content(alloc, flags, cursor)?)),
+        10 => Ok(Variant::Float(decode_content(alloc, flags, cursor)?)),
+        11 => Ok(Variant::Double(decode_content(alloc, flags, cursor)?)),
+        12 => Ok(Variant::String(decode_content(alloc, flags, cursor)?)),
+        13 => Ok(Variant::DateTime(decode_content(alloc, flags, cursor)?)),
+        14 => Ok(Variant::Guid(decode_content(alloc, flags, cursor)?)),
+        15 => Ok(Variant::ByteString(decode_content(alloc, flags, cursor)?)),
+        16 => Ok(Variant::XmlElement(decode_content(alloc, flags, cursor)?)),
+        17 => Ok(Variant::NodeId(decode_content(alloc, flags, cursor)?)),
+        18 => Ok(Variant::ExpandedNodeId(decode_content(alloc, flags, cursor)?)),
+        19 => Ok(Variant::StatusCode(decode_content(alloc, flags, cursor)?)),
+        20 => Ok(Variant::QualifiedName(decode_content(alloc, flags, cursor)?)),
+        21 => Ok(Variant::LocalizedText(decode_content(alloc, flags, cursor)?)),
+        22 => Ok(Variant::ExtensionObject(decode_content(alloc, flags, cursor)?)),
+        _ => Err(TakeFault::Kind),
+    }
+}
+
+// Writes the first byte and what it announces.
+#[tactic(auto, using(crate::proofs::Extending::extends_more), unfolding(crate::specs::Variants::content_reading, crate::specs::Variants::content_encoding))]
+fn encode_typed<T: Wire>(
+    number: u8,
+    content: &Content<T>,
+    out: &mut Vec<u8>,
+) -> Result<(), AllocError>
+    requires { number < 64 }
+    ensures ok { OnOk result (out.new.items ≡ out.old.items ++ typed_encoding number T.encoding content.now) }
+    ensures err { OnErr result (Extends out.old.items out.new.items) }
+    ensures again { OnOk result ((x : List ℕ) → content_reading T.reading (flags_of content.now) (content_encoding T.encoding content.now ++ x) ≡ Ok (content.now, x)) }
+{
+    match content {
+        Content::Scalar(value) => {
+            number.encode(out)?;
+            value.encode(out)?;
+            Ok(())
+        }
+        Content::Array(elements) => {
+            (number + 128).encode(out)?;
+            elements.encode(out)?;
+            Ok(())
+        }
+        Content::Matrix(matrix) => {
+            (number + 192).encode(out)?;
+            encode_slice(matrix.elements(), out)?;
+            encode_slice(matrix.dimensions(), out)?;
+            Ok(())
+        }
+    }
+}
+
+#[tactic(auto, using(crate::proofs::Extending::extends_more, crate::proofs::TypeBytes::announced_claim, crate::proofs::TypeBytes::number_is, crate::proofs::TypeBytes::flags_are), unfolding(crate::specs::Variants::typed_reading, crate::specs::Variants::variant_reading, crate::specs::Variants::variant_encoding))]
+impl Wire for Variant {
+    ghost reading = { variant_reading };
+
+    ghost encoding = { variant_encoding };
+
+    ghost overclaims = { ClaimsTooManyElements };
+
+    fn decode(alloc: Global, cursor: &mut Cursor<'_>) -> Result<Variant, TakeFault> {
+        let first = cursor.byte()?;
+        decode_typed(alloc, first % 64, first / 64, cursor)
+    }
+
+    fn encode(&self, out: &mut Vec<u8>) -> Result<(), AllocError> {
+        match self {
+            Variant::Null => 0u8.encode(out),
+            Variant::Boolean(content) => encode_typed(1, content, out),
+            Variant::SByte(content) => encode_typed(2, content, out),
+            Variant::Byte(content) => encode_typed(3, content, out),
+            Variant::Int16(content) => encode_typed(4, content, out),
+            Variant::UInt16(content) => encode_typed(5, content, out),
+            Variant::Int32(content) => encode_typed(6, content, out),
+            Variant::UInt32(content) => encode_typed(7, content, out),
+            Variant::Int64(content) => encode_typed(8, content, out),
+            Variant::UInt64(content) => encode_typed(9, content, out),
+            Variant::Float(content) => encode_typed(10, content, out),
+            Variant::Double(content) => encode_typed(11, content, out),
+            Variant::String(content) => encode_typed(12, content, out),
+            Variant::DateTime(content) => encode_typed(13, content, out),
+            Variant::Guid(content) => encode_typed(14, content, out),
+            Variant::ByteString(content) => encode_typed(15, content, out),
+            Variant::XmlElement(content) => encode_typed(16, content, out),
+            Variant::NodeId(content) => encode_typed(17, content, out),
+            Variant::ExpandedNodeId(content) => encode_typed(18, content, out),
+            Variant::StatusCode(content) => encode_typed(19, content, out),
+            Variant::QualifiedName(content) => encode_typed(20, content, out),
+            Variant::LocalizedText(content) => encode_typed(21, content, out),
+            Variant::ExtensionObject(content) => encode_typed(22, content, out),
+        }
+    }
+}

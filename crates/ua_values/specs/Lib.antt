@@ -1,0 +1,4 @@
+pub mod Shapes
+pub mod TypeNumbers
+pub mod MatrixOrders
+pub mod ContentOrders

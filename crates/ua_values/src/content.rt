@@ -1,0 +1,102 @@
+//! What a value holds: one value, a list, or a list with dimensions.
+
+ghost use Rattle.std.specs.Prelude.{◌≡◌, option_map, refl};
+ghost use Rattle.std.specs.Cmp.{partial_equiv_from_equiv, po};
+ghost use Rattle.std.specs.Ordering.{as_partial_cmp};
+ghost use Rattle.ua_values.specs.ContentOrders.{place_of, scalar_of, elements_of, dimensions_of, same_content, content_cmp, same_content_equiv, content_cmp_total, content_ties};
+
+use crate::matrix::Matrix;
+use std::alloc::{AllocError, Global};
+use std::cmp::Ordering;
+use ua_types::{Array, Copyable};
+
+/// What a value of one type holds.
+///
+/// In the order a scalar comes first, then the null list, lists, and lists with dimensions. Two of
+/// a kind go by their elements, and then by their dimensions.
+#[derive(Debug)]
+pub enum Content<T> {
+    Scalar(T),
+    /// A list without dimensions, which may be null.
+    Array(Array<T>),
+    /// A list with dimensions. With no dimensions it has one element, and still isn't a scalar.
+    Matrix(Matrix<T>),
+}
+
+impl<T> Content<T> {
+    // What contents are compared by: the place of the case, the scalar, the elements, the dimensions.
+    fn parts(&self) -> (u8, Option<&T>, &[T], &[u32])
+        ensures place { result.0 ≡ place_of self.now }
+        ensures scalar { option_map (λ x. x.now) result.1 ≡ scalar_of self.now }
+        ensures elements { result.2.now ≡ elements_of self.now }
+        ensures dimensions { result.3.now ≡ dimensions_of self.now }
+    {
+        match self {
+            Content::Scalar(value) => (0, Some(value), &[], &[]),
+            Content::Array(list) => match list.as_slice() {
+                None => (1, None, &[], &[]),
+                Some(elements) => (2, None, elements, &[]),
+            },
+            Content::Matrix(matrix) => (3, None, matrix.elements(), matrix.dimensions()),
+        }
+    }
+}
+
+// Written out, so that a proof sees a drop as one call and not as its cases.
+impl<T: Drop> Drop for Content<T> {
+    fn drop(self) {
+        match self {
+            Content::Scalar(_) => {}
+            Content::Array(_) => {}
+            Content::Matrix(_) => {}
+        }
+    }
+}
+
+impl<T: Copyable> Copyable for Content<T> {
+    fn copy(&self, alloc: Global) -> Result<Content<T>, AllocError> {
+        match self {
+            Content::Scalar(value) => Ok(Content::Scalar(value.copy(alloc)?)),
+            Content::Array(list) => Ok(Content::Array(list.copy(alloc)?)),
+            Content::Matrix(matrix) => Ok(Content::Matrix(matrix.copy(alloc)?)),
+        }
+    }
+}
+
+impl<T: Eq> PartialEq for Content<T> {
+    ghost eq = { same_content T.PartialEq.eq };
+
+    ghost laws = { partial_equiv_from_equiv (same_content_equiv T.Eq.laws) };
+
+    fn eq(&self, other: &Content<T>) -> bool {
+        self.parts() == other.parts()
+    }
+}
+
+impl<T: Eq> Eq for Content<T> {
+    ghost laws = { same_content_equiv T.Eq.laws };
+}
+
+impl<T: Ord> PartialOrd for Content<T> {
+    ghost partial_cmp = { as_partial_cmp (content_cmp T.cmp) };
+
+    ghost laws = { po (content_cmp_total T.total) (content_ties T.cmp T.matches_eq) };
+
+    fn partial_cmp(&self, other: &Content<T>) -> Option<Ordering> {
+        Some(self.cmp(other))
+    }
+}
+
+impl<T: Ord> Ord for Content<T> {
+    ghost cmp = { content_cmp T.cmp };
+
+    ghost total = { content_cmp_total T.total };
+
+    ghost matches_partial_cmp = { λ x y. refl };
+
+    ghost matches_eq = { content_ties T.cmp T.matches_eq };
+
+    fn cmp(&self, other: &Content<T>) -> Ordering {
+        self.parts().cmp(&other.parts())
+    }
+}

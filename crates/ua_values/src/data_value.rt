@@ -1,0 +1,47 @@
+//! Values with their status and times.
+
+use crate::variant::Variant;
+use std::alloc::{AllocError, Global};
+use ua_types::{Copyable, Moment, Status};
+
+/// A value with its status and times (DataValue, IEC 62541-6, 5.2.2.17).
+///
+/// In the order they go by value, then by status and times; what is absent comes first.
+#[derive(Debug, PartialEq, Eq, PartialOrd, Ord)]
+pub struct DataValue {
+    /// The value, where there is one.
+    pub value: Option<Variant>,
+    /// How good the value is. [`Status::GOOD`] where nothing is said.
+    pub status: Status,
+    /// When the source had the value.
+    pub source_time: Option<Moment>,
+    /// When the server learnt of it, or knew it to be still so.
+    pub server_time: Option<Moment>,
+}
+
+// Written out, so that a proof sees a drop as one call and not as its cases.
+impl Drop for DataValue {
+    fn drop(self) {
+        let DataValue {
+            value: _,
+            status: _,
+            source_time: _,
+            server_time: _,
+        } = self;
+    }
+}
+
+impl Copyable for DataValue {
+    fn copy(&self, alloc: Global) -> Result<DataValue, AllocError> {
+        let value = match &self.value {
+            None => None,
+            Some(value) => Some(value.copy(alloc)?),
+        };
+        Ok(DataValue {
+            value,
+            status: self.status,
+            source_time: self.source_time,
+            server_time: self.server_time,
+        })
+    }
+}

@@ -1,0 +1,27 @@
+//! Values of any type, with their status and times (IEC 62541-6, 5.2.2.16 and 5.2.2.17).
+//!
+//! [`Variant`] has a case for each of the 22 built-in types that the server carries, each with a
+//! [`Content`]: one value, a list, or a list with dimensions ([`Matrix`]). [`DataValue`] is a variant
+//! with its status and times. As in `ua_types`, everything is plain data: `ua_binary` reads and
+//! writes the bytes, and services give the values their meaning.
+//!
+//! What a contract sees: the cases and fields themselves; of a `Matrix` its elements and its
+//! dimensions, which always fit each other (`IsShaped`).
+//!
+//! Read [`Variant`] first.
+#![tactic(auto)]
+
+mod content;
+mod data_value;
+mod float;
+mod matrix;
+mod variant;
+
+pub use content::Content;
+pub use data_value::DataValue;
+pub use float::{Double, Float};
+pub use matrix::{Matrix, has_shape};
+pub use variant::Variant;
+
+#[cfg(test)]
+mod tests;

@@ -1,0 +1,144 @@
+//! Lists with dimensions.
+
+ghost use Rattle.std.specs.Prelude.{◌≡◌, ℕ, ◌<◌, ◌^◌, List, length, IfOk, refl};
+ghost use Rattle.std.specs.Cmp.{partial_equiv_from_equiv, po};
+ghost use Rattle.std.specs.Ordering.{as_partial_cmp};
+ghost use Rattle.std.specs.Vec.{vec_len};
+ghost use Rattle.ua_values.specs.MatrixOrders.{same_matrix, matrix_cmp, same_matrix_equiv, matrix_cmp_total, matrix_ties};
+ghost use Rattle.ua_values.specs.Shapes.{IsShaped, is_shape};
+
+use std::alloc::{AllocError, Global};
+use std::cmp::Ordering;
+use std::marker::Model;
+use ua_types::Copyable;
+
+/// Whether so many elements lie in these dimensions: each is below 2^31, and their product is the
+/// number of elements. The product of no dimensions is 1.
+pub fn has_shape(dimensions: &[u32], count: usize) -> bool
+    requires { count < 2 ^ 31 }
+    ensures { result ≡ is_shape dimensions.now count }
+{
+    let mut size = 1u64;
+    for dimension in dimensions {
+        if *dimension >= 1 << 31 {
+            return false;
+        }
+        size = size.saturating_mul(*dimension as u64);
+    }
+    size == count as u64
+}
+
+/// A list with dimensions (arrays of several dimensions, IEC 62541-6, 5.2.5).
+///
+/// The elements stand with the last dimension running fastest. There are fewer than 2^31 of them,
+/// and as many as the product of the dimensions, each of which is below 2^31. In the order the elements
+/// go first, then the dimensions.
+#[derive(Debug)]
+pub struct Matrix<T> {
+    elements: Vec<T>,
+    dimensions: Vec<u32>,
+}
+
+impl<T> Model for Matrix<T> {
+    ghost Value = { List T × List ℕ };
+
+    ghost view = { λ m. (m.elements.items, m.dimensions.items) };
+
+    ghost invariant = { λ m. IsShaped m.elements.items m.dimensions.items };
+}
+
+impl<T> Matrix<T> {
+    /// These elements in these dimensions. [`has_shape`] says whether they fit.
+    pub fn new(elements: Vec<T>, dimensions: Vec<u32>) -> Matrix<T>
+        requires { IsShaped elements.items dimensions.items }
+        ensures { result ≡ (elements.items, dimensions.items) }
+    {
+        Matrix {
+            elements,
+            dimensions,
+        }
+    }
+
+    /// The elements, with the last dimension running fastest.
+    pub fn elements(&self) -> &[T]
+        ensures elements { result.now ≡ self.now.0 }
+        ensures shaped { IsShaped self.now.0 self.now.1 }
+    {
+        self.elements.as_slice()
+    }
+
+    /// The dimensions, the slowest first.
+    pub fn dimensions(&self) -> &[u32]
+        ensures { result.now ≡ self.now.1 }
+    {
+        self.dimensions.as_slice()
+    }
+}
+
+// Written out, so that a proof sees a drop as one call and not as its cases.
+impl<T: Drop> Drop for Matrix<T> {
+    fn drop(self) {
+        let Matrix {
+            elements: _,
+            dimensions: _,
+        } = self;
+    }
+}
+
+// Copies of these elements, in order.
+fn copied<T: Copyable>(elements: &[T], alloc: Global) -> Result<Vec<T>, AllocError>
+    ensures items { IfOk result (λ copies. copies.items ≡ elements.now) }
+    ensures len { IfOk result (λ copies. vec_len copies ≡ length elements.now) }
+{
+    let mut copies = Vec::with_capacity(alloc, elements.len())?;
+    for element in elements {
+        copies.push(element.copy(alloc)?)?;
+    }
+    Ok(copies)
+}
+
+impl<T: Copyable> Copyable for Matrix<T> {
+    fn copy(&self, alloc: Global) -> Result<Matrix<T>, AllocError> {
+        let elements = copied(self.elements(), alloc)?;
+        let dimensions = Vec::from_slice(alloc, self.dimensions())?;
+        Ok(Matrix::new(elements, dimensions))
+    }
+}
+
+impl<T: Eq> PartialEq for Matrix<T> {
+    ghost eq = { same_matrix T.PartialEq.eq };
+
+    ghost laws = { partial_equiv_from_equiv (same_matrix_equiv T.Eq.laws) };
+
+    fn eq(&self, other: &Matrix<T>) -> bool {
+        self.elements == other.elements && self.dimensions == other.dimensions
+    }
+}
+
+impl<T: Eq> Eq for Matrix<T> {
+    ghost laws = { same_matrix_equiv T.Eq.laws };
+}
+
+impl<T: Ord> PartialOrd for Matrix<T> {
+    ghost partial_cmp = { as_partial_cmp (matrix_cmp T.cmp) };
+
+    ghost laws = { po (matrix_cmp_total T.total) (matrix_ties T.cmp T.matches_eq) };
+
+    fn partial_cmp(&self, other: &Matrix<T>) -> Option<Ordering> {
+        Some(self.cmp(other))
+    }
+}
+
+impl<T: Ord> Ord for Matrix<T> {
+    ghost cmp = { matrix_cmp T.cmp };
+
+    ghost total = { matrix_cmp_total T.total };
+
+    ghost matches_partial_cmp = { λ x y. refl };
+
+    ghost matches_eq = { matrix_ties T.cmp T.matches_eq };
+
+    fn cmp(&self, other: &Matrix<T>) -> Ordering {
+        (self.elements(), self.dimensions()).cmp(&(other.elements(), other.dimensions()))
+    }
+}

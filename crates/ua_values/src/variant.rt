@@ -1,0 +1,140 @@
+//! Values of any type.
+
+ghost use Rattle.std.specs.Prelude.{◌≡◌, ◌<◌};
+ghost use Rattle.ua_values.specs.TypeNumbers.{type_number};
+
+use crate::content::Content;
+use crate::float::{Double, Float};
+use std::alloc::{AllocError, Global};
+use ua_types::{
+    ByteString, Copyable, ExpandedNodeId, ExtensionObject, Guid, LocalizedText, Moment, NodeId,
+    QualifiedName, Status, Text,
+};
+
+/// A value of any built-in type (Variant, IEC 62541-6, 5.2.2.16), but for `DataValue`, `Variant` and
+/// `DiagnosticInfo`, which the server doesn't carry in one.
+///
+/// Variants go by the number of their type, and then by their content.
+#[derive(Debug, PartialEq, Eq, PartialOrd, Ord)]
+pub enum Variant {
+    /// No value.
+    Null,
+    Boolean(Content<bool>),
+    SByte(Content<i8>),
+    Byte(Content<u8>),
+    Int16(Content<i16>),
+    UInt16(Content<u16>),
+    Int32(Content<i32>),
+    UInt32(Content<u32>),
+    Int64(Content<i64>),
+    UInt64(Content<u64>),
+    Float(Content<Float>),
+    Double(Content<Double>),
+    String(Content<Text>),
+    DateTime(Content<Moment>),
+    Guid(Content<Guid>),
+    ByteString(Content<ByteString>),
+    /// An XML element, whose bytes nobody checks.
+    XmlElement(Content<ByteString>),
+    NodeId(Content<NodeId>),
+    ExpandedNodeId(Content<ExpandedNodeId>),
+    StatusCode(Content<Status>),
+    QualifiedName(Content<QualifiedName>),
+    LocalizedText(Content<LocalizedText>),
+    ExtensionObject(Content<ExtensionObject>),
+}
+
+impl Variant {
+    /// The number of its type (IEC 62541-6, 5.1.2), 1 to 22, and 0 for no value.
+    pub fn type_number(&self) -> u8
+        ensures number { result ≡ type_number self.now }
+        ensures served { result < 23 }
+    {
+        match self {
+            Variant::Null => 0,
+            Variant::Boolean(_) => 1,
+            Variant::SByte(_) => 2,
+            Variant::Byte(_) => 3,
+            Variant::Int16(_) => 4,
+            Variant::UInt16(_) => 5,
+            Variant::Int32(_) => 6,
+            Variant::UInt32(_) => 7,
+            Variant::Int64(_) => 8,
+            Variant::UInt64(_) => 9,
+            Variant::Float(_) => 10,
+            Variant::Double(_) => 11,
+            Variant::String(_) => 12,
+            Variant::DateTime(_) => 13,
+            Variant::Guid(_) => 14,
+            Variant::ByteString(_) => 15,
+            Variant::XmlElement(_) => 16,
+            Variant::NodeId(_) => 17,
+            Variant::ExpandedNodeId(_) => 18,
+            Variant::StatusCode(_) => 19,
+            Variant::QualifiedName(_) => 20,
+            Variant::LocalizedText(_) => 21,
+            Variant::ExtensionObject(_) => 22,
+        }
+    }
+}
+
+// Written out, so that a proof sees a drop as one call and not as its cases.
+impl Drop for Variant {
+    fn drop(self) {
+        match self {
+            Variant::Null => {}
+            Variant::Boolean(_) => {}
+            Variant::SByte(_) => {}
+            Variant::Byte(_) => {}
+            Variant::Int16(_) => {}
+            Variant::UInt16(_) => {}
+            Variant::Int32(_) => {}
+            Variant::UInt32(_) => {}
+            Variant::Int64(_) => {}
+            Variant::UInt64(_) => {}
+            Variant::Float(_) => {}
+            Variant::Double(_) => {}
+            Variant::String(_) => {}
+            Variant::DateTime(_) => {}
+            Variant::Guid(_) => {}
+            Variant::ByteString(_) => {}
+            Variant::XmlElement(_) => {}
+            Variant::NodeId(_) => {}
+            Variant::ExpandedNodeId(_) => {}
+            Variant::StatusCode(_) => {}
+            Variant::QualifiedName(_) => {}
+            Variant::LocalizedText(_) => {}
+            Variant::ExtensionObject(_) => {}
+        }
+    }
+}
+
+impl Copyable for Variant {
+    fn copy(&self, alloc: Global) -> Result<Variant, AllocError> {
+        match self {
+            Variant::Null => Ok(Variant::Null),
+            Variant::Boolean(content) => Ok(Variant::Boolean(content.copy(alloc)?)),
+            Variant::SByte(content) => Ok(Variant::SByte(content.copy(alloc)?)),
+            Variant::Byte(content) => Ok(Variant::Byte(content.copy(alloc)?)),
+            Variant::Int16(content) => Ok(Variant::Int16(content.copy(alloc)?)),
+            Variant::UInt16(content) => Ok(Variant::UInt16(content.copy(alloc)?)),
+            Variant::Int32(content) => Ok(Variant::Int32(content.copy(alloc)?)),
+            Variant::UInt32(content) => Ok(Variant::UInt32(content.copy(alloc)?)),
+            Variant::Int64(content) => Ok(Variant::Int64(content.copy(alloc)?)),
+            Variant::UInt64(content) => Ok(Variant::UInt64(content.copy(alloc)?)),
+            Variant::Float(content) => Ok(Variant::Float(content.copy(alloc)?)),
+            Variant::Double(content) => Ok(Variant::Double(content.copy(alloc)?)),
+            Variant::String(content) => Ok(Variant::String(content.copy(alloc)?)),
+            Variant::DateTime(content) => Ok(Variant::DateTime(content.copy(alloc)?)),
+            Variant::Guid(content) => Ok(Variant::Guid(content.copy(alloc)?)),
+            Variant::ByteString(content) => Ok(Variant::ByteString(content.copy(alloc)?)),
+            Variant::XmlElement(content) => Ok(Variant::XmlElement(content.copy(alloc)?)),
+            Variant::NodeId(content) => Ok(Variant::NodeId(content.copy(alloc)?)),
+            Variant::ExpandedNodeId(content) => Ok(Variant::ExpandedNodeId(content.copy(alloc)?)),
+            Variant::StatusCode(content) => Ok(Variant::StatusCode(content.copy(alloc)?)),
+            Variant::QualifiedName(content) => Ok(Variant::QualifiedName(content.copy(alloc)?)),
+            Variant::LocalizedText(content) => Ok(Variant::LocalizedText(content.copy(alloc)?)),
+            Variant::ExtensionObject(content) => Ok(Variant::ExtensionObject(content.copy(alloc)?)),
+        }
+    }
+}
