@@ -5,6 +5,7 @@ use Rattle.ua_messages.specs.declared.enumerations.ApplicationType.{ApplicationT
 use Rattle.ua_messages.specs.declared.enumerations.MessageSecurityMode.{MessageSecurityMode}
 use Rattle.ua_messages.specs.declared.enumerations.UserTokenType.{UserTokenType}
 use Rattle.ua_messages.specs.declared.enumerations.SecurityTokenRequestType.{SecurityTokenRequestType}
+use Rattle.ua_messages.specs.declared.enumerations.TimestampsToReturn.{TimestampsToReturn}
 use Rattle.ua_binary.specs.Reading.{Reading, ◌>>=◌, done}
 use Rattle.ua_binary.specs.Numbers.{signed_reading, signed_encoding}
 
@@ -39,3 +40,11 @@ security_token_request_type_reading = do
 
 unfoldable pub security_token_request_type_encoding : SecurityTokenRequestType → List ℕ
 security_token_request_type_encoding v = signed_encoding w32 v.0
+
+unfoldable pub timestamps_to_return_reading : Reading TimestampsToReturn
+timestamps_to_return_reading = do
+  n ← signed_reading w32
+  done (record { 0 = n })
+
+unfoldable pub timestamps_to_return_encoding : TimestampsToReturn → List ℕ
+timestamps_to_return_encoding v = signed_encoding w32 v.0

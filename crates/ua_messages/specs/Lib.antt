@@ -6,3 +6,4 @@ pub mod ServiceFaults
 pub mod Descriptions
 pub mod GetEndpoints
 pub mod SecureChannels
+pub mod ReadValueIds

@@ -1,7 +1,7 @@
 //! Enumerations of the standard. On the wire each is an Int32 of which any value is read, so each is
 //! a number with names for the values that have a meaning, and not an enum.
 
-ghost use Rattle.ua_messages.specs.Enumerations.{application_type_reading, application_type_encoding, message_security_mode_reading, message_security_mode_encoding, user_token_type_reading, user_token_type_encoding, security_token_request_type_reading, security_token_request_type_encoding};
+ghost use Rattle.ua_messages.specs.Enumerations.{application_type_reading, application_type_encoding, message_security_mode_reading, message_security_mode_encoding, user_token_type_reading, user_token_type_encoding, security_token_request_type_reading, security_token_request_type_encoding, timestamps_to_return_reading, timestamps_to_return_encoding};
 
 use std::alloc::{AllocError, Global};
 use ua_binary::{Cursor, TakeFault, Wire};
@@ -117,6 +117,37 @@ impl Wire for SecurityTokenRequestType {
         cursor: &mut Cursor<'_>,
     ) -> Result<SecurityTokenRequestType, TakeFault> {
         Ok(SecurityTokenRequestType(i32::decode(alloc, cursor)?))
+    }
+
+    fn encode(&self, out: &mut Vec<u8>) -> Result<(), AllocError> {
+        self.0.encode(out)
+    }
+}
+
+/// Which times a value is to have in an answer (TimestampsToReturn, IEC 62541-4, section 7).
+#[derive(Clone, Copy, Debug, PartialEq, Eq)]
+pub struct TimestampsToReturn(pub i32);
+
+impl TimestampsToReturn {
+    /// When the value came to be, as its source says.
+    pub const SOURCE: TimestampsToReturn = TimestampsToReturn(0);
+
+    /// When the server had the value.
+    pub const SERVER: TimestampsToReturn = TimestampsToReturn(1);
+
+    pub const BOTH: TimestampsToReturn = TimestampsToReturn(2);
+
+    pub const NEITHER: TimestampsToReturn = TimestampsToReturn(3);
+}
+
+#[tactic(auto, unfolding(crate::specs::Enumerations::timestamps_to_return_reading, crate::specs::Enumerations::timestamps_to_return_encoding))]
+impl Wire for TimestampsToReturn {
+    ghost reading = { timestamps_to_return_reading };
+
+    ghost encoding = { timestamps_to_return_encoding };
+
+    fn decode(alloc: Global, cursor: &mut Cursor<'_>) -> Result<TimestampsToReturn, TakeFault> {
+        Ok(TimestampsToReturn(i32::decode(alloc, cursor)?))
     }
 
     fn encode(&self, out: &mut Vec<u8>) -> Result<(), AllocError> {

@@ -1,5 +1,6 @@
 //! The messages of OPC UA (IEC 62541-4): headers, faults, GetEndpoints, and opening and closing a
-//! secure channel; and the bodies in which all messages travel.
+//! secure channel; what the messages of several services share ([`ReadValueId`],
+//! [`TimestampsToReturn`]); and the bodies in which all messages travel.
 //!
 //! A message is a struct of the standard's fields, in the standard's order, and is
 //! [`ua_binary::Wire`]: its *reading* and its *encoding* in `specs/` are that list of fields, and the
@@ -20,6 +21,7 @@ mod diagnostics;
 mod enumerations;
 mod get_endpoints;
 mod headers;
+mod read_value_ids;
 mod secure_channels;
 mod service_faults;
 pub mod type_ids;
@@ -28,10 +30,12 @@ pub use bodies::{body, message, message_id};
 pub use descriptions::{ApplicationDescription, EndpointDescription, UserTokenPolicy};
 pub use diagnostics::{DiagnosticInfo, DiagnosticInfos};
 pub use enumerations::{
-    ApplicationType, MessageSecurityMode, SecurityTokenRequestType, UserTokenType,
+    ApplicationType, MessageSecurityMode, SecurityTokenRequestType, TimestampsToReturn,
+    UserTokenType,
 };
 pub use get_endpoints::{GetEndpointsRequest, GetEndpointsResponse};
 pub use headers::{RequestHeader, ResponseHeader};
+pub use read_value_ids::ReadValueId;
 pub use secure_channels::{
     CloseSecureChannelRequest, OpenSecureChannelRequest, OpenSecureChannelResponse,
 };

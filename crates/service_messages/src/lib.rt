@@ -1,0 +1,38 @@
+//! The messages of sessions and of the address space (IEC 62541-4): creating, activating and closing
+//! a session, browsing, reading and writing, and the history of values (IEC 62541-11).
+//!
+//! One file a service, with its requests, its responses and the structures in them. Each is
+//! [`ua_binary::Wire`]: its *reading* and its *encoding* in `specs/` are the standard's list of fields,
+//! and the trait says that what is written is read again. A whole body is read and written by
+//! `ua_messages`, where the headers and the type ids are too.
+//!
+//! Nothing here decides anything: no field is judged beyond its form, and no session or node is
+//! looked up.
+//!
+//! Read [`ReadRequest`] first.
+#![tactic(auto)]
+
+mod browsing;
+mod history;
+mod reading;
+mod sessions;
+mod writing;
+
+pub use browsing::{
+    BrowseDescription, BrowseDirection, BrowseNextRequest, BrowseNextResponse, BrowseRequest,
+    BrowseResponse, BrowseResult, NodeClass, ReferenceDescription,
+};
+pub use history::{
+    HistoryData, HistoryReadRequest, HistoryReadResponse, HistoryReadResult, HistoryReadValueId,
+    ReadRawModifiedDetails,
+};
+pub use reading::{ReadRequest, ReadResponse};
+pub use sessions::{
+    ActivateSessionRequest, ActivateSessionResponse, AnonymousIdentityToken, CloseSessionRequest,
+    CloseSessionResponse, CreateSessionRequest, CreateSessionResponse, SignatureData,
+    SignedSoftwareCertificate,
+};
+pub use writing::{WriteRequest, WriteResponse, WriteValue};
+
+#[cfg(test)]
+mod tests;

@@ -1,0 +1,43 @@
+//! What is read of a node, by the service Read and by monitored items.
+
+ghost use Rattle.ua_messages.specs.ReadValueIds.{read_value_id_reading, read_value_id_encoding};
+
+use std::alloc::{AllocError, Global};
+use ua_binary::{Cursor, TakeFault, Wire};
+use ua_types::{NodeId, QualifiedName, Text};
+
+/// An attribute of a node, or a part of its value (ReadValueId, IEC 62541-4, section 7).
+#[derive(Debug, Drop)]
+pub struct ReadValueId {
+    pub node_id: NodeId,
+    /// The number of the attribute, as 13 for the value.
+    pub attribute_id: u32,
+    /// Which elements of a list are meant, all where it is null or empty.
+    pub index_range: Text,
+    /// How a structure in the value is to be encoded, null for the usual way.
+    pub data_encoding: QualifiedName,
+}
+
+#[tactic(auto, using(ua_binary::proofs::Fields::fields4), unfolding(crate::specs::ReadValueIds::read_value_id_reading, crate::specs::ReadValueIds::read_value_id_encoding))]
+impl Wire for ReadValueId {
+    ghost reading = { read_value_id_reading };
+
+    ghost encoding = { read_value_id_encoding };
+
+    fn decode(alloc: Global, cursor: &mut Cursor<'_>) -> Result<ReadValueId, TakeFault> {
+        Ok(ReadValueId {
+            node_id: NodeId::decode(alloc, cursor)?,
+            attribute_id: u32::decode(alloc, cursor)?,
+            index_range: Text::decode(alloc, cursor)?,
+            data_encoding: QualifiedName::decode(alloc, cursor)?,
+        })
+    }
+
+    fn encode(&self, out: &mut Vec<u8>) -> Result<(), AllocError> {
+        self.node_id.encode(out)?;
+        self.attribute_id.encode(out)?;
+        self.index_range.encode(out)?;
+        self.data_encoding.encode(out)?;
+        Ok(())
+    }
+}
