@@ -1,0 +1,5 @@
+pub mod Enumerations
+pub mod MonitoringParameters
+pub mod MonitoredItems
+pub mod Subscriptions
+pub mod Publishing

@@ -1,0 +1,39 @@
+//! The messages of monitored items and subscriptions (IEC 62541-4, section 5): creating, changing and
+//! deleting them, Publish and Republish, and the notifications that these bring.
+//!
+//! Each structure is the standard's fields in the standard's order and is [`ua_binary::Wire`], as in
+//! `ua_messages`, whose `message` and `body` read and write all of these too. A filter and a
+//! notification travel inside an ExtensionObject, whose body is such a structure.
+//!
+//! Nothing here decides anything: no number is revised, no item is looked up, and no queue is kept.
+//!
+//! Read [`MonitoringParameters`] and [`NotificationMessage`] first.
+#![tactic(auto)]
+
+mod enumerations;
+mod monitored_items;
+mod monitoring_parameters;
+mod publishing;
+mod subscriptions;
+
+pub use enumerations::{DataChangeTrigger, MonitoringMode};
+pub use monitored_items::{
+    CreateMonitoredItemsRequest, CreateMonitoredItemsResponse, DeleteMonitoredItemsRequest,
+    DeleteMonitoredItemsResponse, ModifyMonitoredItemsRequest, ModifyMonitoredItemsResponse,
+    MonitoredItemCreateRequest, MonitoredItemCreateResult, MonitoredItemModifyRequest,
+    MonitoredItemModifyResult, SetMonitoringModeRequest, SetMonitoringModeResponse,
+};
+pub use monitoring_parameters::{DataChangeFilter, MonitoringParameters};
+pub use publishing::{
+    DataChangeNotification, MonitoredItemNotification, NotificationMessage, PublishRequest,
+    PublishResponse, RepublishRequest, RepublishResponse, StatusChangeNotification,
+    SubscriptionAcknowledgement,
+};
+pub use subscriptions::{
+    CreateSubscriptionRequest, CreateSubscriptionResponse, DeleteSubscriptionsRequest,
+    DeleteSubscriptionsResponse, ModifySubscriptionRequest, ModifySubscriptionResponse,
+    SetPublishingModeRequest, SetPublishingModeResponse,
+};
+
+#[cfg(test)]
+mod tests;
