@@ -3,7 +3,7 @@
 use crate::commands;
 use crate::status::Status;
 use crate::tests::messages::{
-    ACKNOWLEDGE, ENDPOINTS_ANSWER_SIZE, HELLO, chunk, close, fault, get_endpoints, opening,
+    ACKNOWLEDGE, ENDPOINTS_ANSWER_SIZE, HELLO, chunk, close, fault, get_endpoints, joined, opening,
     opening_answer, part_of_get_endpoints,
 };
 use std::alloc::Global;
@@ -23,16 +23,12 @@ fn piped(rt: &impl Abort, alloc: Global, input: &[u8]) -> Result<Vec<u8>, Fail> 
 /// What it writes behind the Acknowledge and the answer to the opening, for what comes behind the Hello
 /// and the opening.
 fn talked(rt: &impl Abort, alloc: Global, messages: &[&[u8]]) -> Result<Vec<u8>, Fail> {
-    let mut input = Vec::new(alloc);
-    input.extend_from_slice(HELLO)?;
-    input.extend_from_slice(opening(alloc, 0, 1, false)?.as_slice())?;
-    for message in messages {
-        input.extend_from_slice(message)?;
-    }
+    let greeting = opening(alloc, 0, 1, false)?;
+    let rest = joined(alloc, messages)?;
+    let input = joined(alloc, &[HELLO, greeting.as_slice(), rest.as_slice()])?;
     let output = piped(rt, alloc, input.as_slice())?;
-    let mut front = Vec::new(alloc);
-    front.extend_from_slice(ACKNOWLEDGE)?;
-    front.extend_from_slice(opening_answer(alloc, 1, 1)?.as_slice())?;
+    let opened = opening_answer(alloc, 1, 1)?;
+    let front = joined(alloc, &[ACKNOWLEDGE, opened.as_slice()])?;
     match output.as_slice().strip_prefix(front.as_slice()) {
         Some(rest) => Ok(Vec::from_slice(alloc, rest)?),
         None => Err(Fail::new("not acknowledged or not opened")),
@@ -42,17 +38,14 @@ fn talked(rt: &impl Abort, alloc: Global, messages: &[&[u8]]) -> Result<Vec<u8>,
 #[test]
 fn first_frame_refused(rt: HostRuntime) -> Result<(), Fail> {
     let alloc = rt.alloc();
-    let mut input = Vec::new(alloc);
-    input.extend_from_slice(b"MSGF\x08\0\0\0")?;
-    input.extend_from_slice(HELLO)?;
+    let input = joined(alloc, &[b"MSGF\x08\0\0\0".as_slice(), HELLO])?;
     assert_eq!(rt;
         piped(&rt, alloc, input.as_slice())?.as_slice(),
         b"ERRF\x10\0\0\0\0\0\x7e\x80\xff\xff\xff\xff".as_slice()
     );
     // A receive buffer of 1000 bytes.
-    input.clear();
-    input.extend_from_slice(b"HELF\x38\0\0\0\0\0\0\0\xe8\x03\0\0")?;
-    input.extend_from_slice(&HELLO[16..])?;
+    let front = b"HELF\x38\0\0\0\0\0\0\0\xe8\x03\0\0";
+    let input = joined(alloc, &[front.as_slice(), &HELLO[16..]])?;
     assert_eq!(rt;
         piped(&rt, alloc, input.as_slice())?.as_slice(),
         b"ERRF\x10\0\0\0\0\0\x81\x80\xff\xff\xff\xff".as_slice()
@@ -187,11 +180,19 @@ fn renewed_token(rt: HostRuntime) -> Result<(), Fail> {
             late.as_slice(),
         ],
     )?;
-    let mut expected = Vec::new(alloc);
-    expected.extend_from_slice(opening_answer(alloc, 2, 2)?.as_slice())?;
-    expected.extend_from_slice(fault(alloc, 1, 3, 2, 0x0b)?.as_slice())?;
-    expected.extend_from_slice(fault(alloc, 2, 4, 2, 0x0b)?.as_slice())?;
-    expected.extend_from_slice(b"ERRF\x10\0\0\0\0\0\x87\x80\xff\xff\xff\xff")?;
+    let renewed = opening_answer(alloc, 2, 2)?;
+    let first = fault(alloc, 1, 3, 2, 0x0b)?;
+    let second = fault(alloc, 2, 4, 2, 0x0b)?;
+    let refused = b"ERRF\x10\0\0\0\0\0\x87\x80\xff\xff\xff\xff";
+    let expected = joined(
+        alloc,
+        &[
+            renewed.as_slice(),
+            first.as_slice(),
+            second.as_slice(),
+            refused.as_slice(),
+        ],
+    )?;
     assert_eq!(rt; answer.as_slice(), expected.as_slice());
     Ok(())
 }

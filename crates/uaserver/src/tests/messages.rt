@@ -21,6 +21,15 @@ const ENDPOINTS_BODY: &[u8] =
 /// How long the answer to it is, in one chunk.
 pub const ENDPOINTS_ANSWER_SIZE: usize = 323;
 
+/// These bytes, one behind the other.
+pub fn joined(alloc: Global, parts: &[&[u8]]) -> Result<Vec<u8>, AllocError> {
+    let mut out = Vec::new(alloc);
+    for part in parts {
+        out.extend_from_slice(part)?;
+    }
+    Ok(out)
+}
+
 /// OpenSecureChannel of the mode None, an Issue or a Renew, for an hour: the request 1 with the handle 1.
 pub fn opening(
     alloc: Global,
@@ -28,17 +37,20 @@ pub fn opening(
     sequence_number: u32,
     renew: bool,
 ) -> Result<Vec<u8>, AllocError> {
-    let mut out = Vec::new(alloc);
-    out.extend_from_slice(b"OPNF\x84\0\0\0")?;
-    out.extend_from_slice(&channel.to_le_bytes())?;
-    out.extend_from_slice(POLICY)?;
-    out.extend_from_slice(&sequence_number.to_le_bytes())?;
-    out.extend_from_slice(
-        b"\x01\0\0\0\x01\0\xbe\x01\0\0\0\0\0\0\0\0\0\0\x01\0\0\0\0\0\0\0\xff\xff\xff\xff\0\0\0\0\0\0\0\0\0\0\0",
-    )?;
-    out.extend_from_slice(&(renew as u32).to_le_bytes())?;
-    out.extend_from_slice(b"\x01\0\0\0\xff\xff\xff\xff\x80\xee\x36\0")?;
-    Ok(out)
+    let header =
+        b"\x01\0\0\0\x01\0\xbe\x01\0\0\0\0\0\0\0\0\0\0\x01\0\0\0\0\0\0\0\xff\xff\xff\xff\0\0\0\0\0\0\0\0\0\0\0";
+    joined(
+        alloc,
+        &[
+            b"OPNF\x84\0\0\0".as_slice(),
+            channel.to_le_bytes().as_slice(),
+            POLICY,
+            sequence_number.to_le_bytes().as_slice(),
+            header.as_slice(),
+            (renew as u32).to_le_bytes().as_slice(),
+            b"\x01\0\0\0\xff\xff\xff\xff\x80\xee\x36\0".as_slice(),
+        ],
+    )
 }
 
 /// The answer to an opening of the channel 1: the token, and an hour.
@@ -47,17 +59,20 @@ pub fn opening_answer(
     sequence_number: u32,
     token: u8,
 ) -> Result<Vec<u8>, AllocError> {
-    let mut out = Vec::new(alloc);
-    out.extend_from_slice(b"OPNF\x87\0\0\0\x01\0\0\0")?;
-    out.extend_from_slice(POLICY)?;
-    out.extend_from_slice(&sequence_number.to_le_bytes())?;
-    out.extend_from_slice(
-        b"\x01\0\0\0\x01\0\xc1\x01\0\0\0\0\0\0\0\0\x01\0\0\0\0\0\0\0\0\xff\xff\xff\xff\0\0\0",
-    )?;
-    out.extend_from_slice(b"\0\0\0\0\x01\0\0\0")?;
-    out.extend_from_slice(&[token, 0, 0, 0])?;
-    out.extend_from_slice(b"\0\0\0\0\0\0\0\0\x80\xee\x36\0\xff\xff\xff\xff")?;
-    Ok(out)
+    let header =
+        b"\x01\0\0\0\x01\0\xc1\x01\0\0\0\0\0\0\0\0\x01\0\0\0\0\0\0\0\0\xff\xff\xff\xff\0\0\0";
+    joined(
+        alloc,
+        &[
+            b"OPNF\x87\0\0\0\x01\0\0\0".as_slice(),
+            POLICY,
+            sequence_number.to_le_bytes().as_slice(),
+            header.as_slice(),
+            b"\0\0\0\0\x01\0\0\0".as_slice(),
+            &[token, 0, 0, 0],
+            b"\0\0\0\0\0\0\0\0\x80\xee\x36\0\xff\xff\xff\xff".as_slice(),
+        ],
+    )
 }
 
 /// A chunk of the channel 1: its three letters and its type, and then what the headers hold.
@@ -69,15 +84,18 @@ pub fn chunk(
     request: u32,
     part: &[u8],
 ) -> Result<Vec<u8>, AllocError> {
-    let mut out = Vec::new(alloc);
-    out.extend_from_slice(letters)?;
     let size = u32::try_from(part.len()).unwrap_or(0).saturating_add(24);
-    out.extend_from_slice(&size.to_le_bytes())?;
-    out.extend_from_slice(&[1, 0, 0, 0, token, 0, 0, 0])?;
-    out.extend_from_slice(&sequence_number.to_le_bytes())?;
-    out.extend_from_slice(&request.to_le_bytes())?;
-    out.extend_from_slice(part)?;
-    Ok(out)
+    joined(
+        alloc,
+        &[
+            letters.as_slice(),
+            size.to_le_bytes().as_slice(),
+            &[1, 0, 0, 0, token, 0, 0, 0],
+            sequence_number.to_le_bytes().as_slice(),
+            request.to_le_bytes().as_slice(),
+            part,
+        ],
+    )
 }
 
 /// A fault of the request 2, in one chunk.
@@ -88,10 +106,10 @@ pub fn fault(
     handle: u8,
     status: u8,
 ) -> Result<Vec<u8>, AllocError> {
-    let mut part = Vec::new(alloc);
-    part.extend_from_slice(b"\x01\0\x8d\x01\0\0\0\0\0\0\0\0")?;
-    part.extend_from_slice(&[handle, 0, 0, 0, 0, 0, status, 0x80])?;
-    part.extend_from_slice(b"\0\xff\xff\xff\xff\0\0\0")?;
+    let part = [
+        0x01, 0, 0x8d, 0x01, 0, 0, 0, 0, 0, 0, 0, 0, handle, 0, 0, 0, 0, 0, status, 0x80, 0, 0xff,
+        0xff, 0xff, 0xff, 0, 0, 0,
+    ];
     chunk(alloc, b"MSGF", token, sequence_number, 2, part.as_slice())
 }
 
