@@ -1,12 +1,9 @@
 -- What is wrong with some words, computed: `parse` answers a command only where nothing is.
-use Rattle.std.proofs.Common.{◌≡◌, [], ◌∷◌, refl, codes}
-use Rattle.clap.specs.declared.error.kind.ErrorKind.TheVariants.{DisplayHelp, DisplayHelpOnMissingArgumentOrSubcommand, InvalidSubcommand, UnknownArgument}
+use Rattle.std.proofs.Common.{◌≡◌, [], ◌∷◌, Some, refl, codes}
+use Rattle.clap.specs.Words.{Text}
+use Rattle.clap.specs.declared.error.kind.ErrorKind.TheVariants.{DisplayHelp, DisplayHelpOnMissingArgumentOrSubcommand, InvalidSubcommand, MissingRequiredArgument, UnknownArgument}
 use Rattle.clap.proofs.OnLiterals.{clap_on_literals}
-use Rattle.command_line.specs.Words.{faults}
-
-pub faults-pipe : faults (codes "pipe" ∷ []) ≡ []
-unfolding clap_on_literals
-faults-pipe = refl
+use Rattle.command_line.specs.Words.{asked, faults}
 
 -- `--` says that only values follow, and none does
 pub faults-pipe_and_no_values : faults (codes "pipe" ∷ codes "--" ∷ []) ≡ []
@@ -34,7 +31,7 @@ pub faults-unknown : faults (codes "frob" ∷ []) ≡ UnknownArgument ∷ Invali
 unfolding clap_on_literals
 faults-unknown = refl
 
-pub faults-word_too_many : faults (codes "pipe" ∷ codes "x" ∷ []) ≡ UnknownArgument ∷ []
+pub faults-word_too_many : faults (codes "check" ∷ codes "x" ∷ codes "y" ∷ []) ≡ UnknownArgument ∷ []
 unfolding clap_on_literals
 faults-word_too_many = refl
 
@@ -42,6 +39,20 @@ pub faults-unknown_option : faults (codes "pipe" ∷ codes "--port" ∷ codes "1
 unfolding clap_on_literals
 faults-unknown_option = refl
 
-pub faults-command_to_come : faults (codes "check" ∷ codes "x" ∷ []) ≡ UnknownArgument ∷ InvalidSubcommand ∷ []
+pub faults-no_nodes : faults (codes "check" ∷ []) ≡ MissingRequiredArgument ∷ []
 unfolding clap_on_literals
-faults-command_to_come = refl
+faults-no_nodes = refl
+
+-- after `--` each word is a value, whatever it begins with
+pub faults-after_hyphens : (nodes : Text) → faults (codes "check" ∷ codes "--" ∷ nodes ∷ []) ≡ []
+unfolding clap_on_literals
+faults-after_hyphens nodes = refl
+
+pub asked-after_hyphens : (nodes : Text) → asked (codes "check" ∷ codes "--" ∷ nodes ∷ []) ≡ Some (codes "check", Some nodes)
+unfolding clap_on_literals
+asked-after_hyphens nodes = refl
+
+-- elsewhere a word that begins with one is an option
+pub faults-hyphen : faults (codes "check" ∷ codes "-1.toml" ∷ []) ≡ UnknownArgument ∷ []
+unfolding clap_on_literals
+faults-hyphen = refl

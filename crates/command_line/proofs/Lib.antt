@@ -1,2 +1,3 @@
+pub mod PlainWord
 pub mod ProgramLemmas
 pub mod Examples

@@ -1,13 +1,20 @@
 -- What the facts of a parse say of the program.
-use Rattle.std.proofs.Common.{rules, ◌≡◌, ◌⊎◌, ◌∙◌, true, List, ℕ, [], ◌∷◌, Some, None, inl, inr, refl, ap, subst, codes, option_map}
-use Rattle.clap.specs.Words.{App, HasMatchesOf, IsAmong, is_simple, is_simple_and_free, subcommand_name_of, subcommand_of, subcommand_rows, subcommand_rows_of, takes}
+use Rattle.std.proofs.Common.{rules, arith, ◌≡◌, ◌⊎◌, ◌∙◌, true, List, ℕ, [], ◌∷◌, map, Option, Some, None, Result, Ok, Err, IfOk, IfErr, inl, inr, refl, sym, ap, ap₂, subst, codes, option_map}
+use Rattle.std.specs.Prelude.{slice_index, unwrap_or}
+use Rattle.std.proofs.lemmas.Option.{none-some}
+use Rattle.std.specs.Borrow.{Bor}
+use Rattle.clap.specs.Words.{App, HasMatchesOf, IsAmong, Row, Text, first_value, found_of, is_simple, is_simple_and_free, rows_of, subcommand_name_of, subcommand_rows, subcommand_rows_of}
 use Rattle.clap.specs.declared.error.kind.ErrorKind.{ErrorKind}
-use Rattle.clap.specs.declared.error.kind.ErrorKind.TheVariants.{InvalidSubcommand, OutOfMemory}
+use Rattle.clap.specs.declared.error.kind.ErrorKind.TheVariants.{DisplayHelp, InvalidSubcommand, OutOfMemory}
 use Rattle.clap.specs.declared.parser.matches.ArgMatches.{ArgMatches}
 use Rattle.clap.specs.declared.parser.matches.ArgMatches.TheViews.{out-ArgMatches, out-SubCommand}
 use Rattle.std.specs.Box.{box_value}
+use Rattle.clap.proofs.WalkLemmas.{first_value-rows}
 use Rattle.clap.proofs.OnLiterals.{clap_on_literals}
-use Rattle.command_line.specs.Words.{IsNoCommand, IsStopOf, StopsBy, command_word, faults, program}
+use Rattle.command_line.specs.Words.{Answers, Asked, AsksFor, IsNoCommand, IsPlainWord, IsStopOf, StopsBy, asked, asked_of, faults, program, words_of}
+use Rattle.command_line.proofs.PlainWord.{asked-check, asked-pipe_nodes, faults-check, faults-pipe_nodes}
+use Rattle.command_line.specs.declared.command.Command.{Command}
+use Rattle.command_line.specs.declared.command.Command.TheVariants.{Pipe, Check}
 use Rattle.command_line.specs.declared.stop.Stop.{Stop}
 use Rattle.command_line.specs.declared.stop.Stop.TheVariants.{Help, Usage, Memory}
 
@@ -19,22 +26,49 @@ pub program-is_free : is_simple_and_free program ≡ true
 unfolding clap_on_literals
 program-is_free = refl
 
-pub program-takes_pipe : takes program (codes "pipe" ∷ []) ≡ true
+-- the words that are a command of the program, computed
+pub faults-pipe : faults (codes "pipe" ∷ []) ≡ []
 unfolding clap_on_literals
-program-takes_pipe = refl
+faults-pipe = refl
 
-pub command_word-pipe : command_word (codes "pipe" ∷ []) ≡ Some (codes "pipe")
+pub asked-pipe : asked (codes "pipe" ∷ []) ≡ Some (codes "pipe", None)
 unfolding clap_on_literals
-command_word-pipe = refl
+asked-pipe = refl
 
--- the name that the matches have is the word of the words
-pub name-command_word : (a : App) (words : List (List ℕ)) (m : ArgMatches) → a ≡ program → HasMatchesOf a words m
-    → subcommand_name_of m ≡ command_word words
-name-command_word a words m is matches =
-    let rows : subcommand_rows_of m ≡ subcommand_of program words = (subst (λ p. HasMatchesOf p words m) is matches program-is_simple).1 in
-    let named : subcommand_name_of m ≡ option_map (λ p. p.0) (subcommand_rows_of m) =
+-- the subcommand that the matches have is the one of the words
+pub asked-rows : (a : App) (words : List Text) (m : ArgMatches) → a ≡ program → HasMatchesOf a words m
+    → asked_of (subcommand_rows_of m) ≡ asked words
+asked-rows a words m is matches = ap asked_of ((subst (λ p. HasMatchesOf p words m) is matches program-is_simple).1)
+
+-- the rows of a subcommand, by its name and its rows
+pub rows_met : (m : ArgMatches) (name : Text) (rows : List Row) → Some name ≡ subcommand_name_of m
+    → Some rows ≡ option_map (λ p. p.1) (subcommand_rows_of m) → subcommand_rows_of m ≡ Some (name, rows)
+rows_met m name rows named has =
+    let same : subcommand_name_of m ≡ option_map (λ p. p.0) (subcommand_rows_of m) =
     elim ((out-ArgMatches m).subcommand) as (λ o. option_map (λ b. (out-SubCommand (box_value b)).name.now) o ≡ option_map (λ p. p.0) (subcommand_rows o)) [ None ↦ refl | Some b ↦ refl ] in
-    named ∙ ap (option_map (λ p. p.0)) rows
+    go (subcommand_rows_of m) (named ∙ same) has
+  where
+    go : (o : Option (Text × List Row)) → Some name ≡ option_map (λ p. p.0) o → Some rows ≡ option_map (λ p. p.1) o → o ≡ Some (name, rows)
+    go None n r = absurd (search rules)
+    go (Some p) n r = ap Some (ap₂ (λ (x : Text) (y : List Row). (x, y)) (ap (λ (o : Option Text). unwrap_or o name) (sym n)) (ap (λ (o : Option (List Row)). unwrap_or o rows) (sym r)))
+
+-- what was read of the matches is what they have
+pub asked_met : (m : ArgMatches) (name : Bor Text) (given : Bor ArgMatches) (nodes : Option (Bor Text)) → Some name.now ≡ subcommand_name_of m
+    → Some (rows_of (found_of given.now)) ≡ option_map (λ p. p.1) (subcommand_rows_of m)
+    → option_map (λ n. n.now) nodes ≡ first_value (found_of given.now) (codes "NODES")
+    → asked_of (subcommand_rows_of m) ≡ Some (name.now, option_map (λ n. n.now) nodes)
+asked_met m name given nodes named has is =
+    ap asked_of (rows_met m name.now (rows_of (found_of given.now)) named has)
+    ∙ ap (λ n. Some (name.now, n)) (sym (is ∙ first_value-rows (found_of given.now) (codes "NODES")))
+
+-- `check` without NODES is no command
+pub no_nodes : (a : Option Asked) → a ≡ Some (codes "check", None) → IsNoCommand a
+no_nodes a is (Pipe nodes) named =
+    let first : ◌≡◌ {A = ℕ} 99 112 = ap (λ (o : Option Asked). slice_index (unwrap_or o ([], None)).0 0) (sym is ∙ named) in
+    absurd (omega (arith, first))
+no_nodes a is (Check nodes) named =
+    let given : None ≡ Some nodes.now = ap (λ (o : Option Asked). (unwrap_or o ([], None)).1) (sym is ∙ named) in
+    absurd (none-some nodes.now given)
 
 -- an error of a kind that may come stops by it
 pub stops_by : (words : List (List ℕ)) (k : ErrorKind) (s : Stop) → (k ≡ OutOfMemory) ⊎ IsAmong k (faults words)
@@ -45,15 +79,43 @@ stops_by words k (Usage text) (inl e) is = absurd (is.1 e)
 stops_by words k (Usage text) (inr among) is = inl (k, among, is.0)
 stops_by words k Memory h is = tt
 
--- of memory alone nothing but `Memory` is made
-pub stops_for_memory : (k : ErrorKind) (s : Stop) → k ≡ OutOfMemory → IsStopOf k s → s ≡ Memory
-stops_for_memory k (Help text) e is = absurd (search rules)
-stops_for_memory k (Usage text) e is = absurd (is.1 e)
-stops_for_memory k Memory e is = refl
-
 -- words that name no command stop by it
 pub stops_by_name : (words : List (List ℕ)) (k : ErrorKind) (s : Stop) → k ≡ InvalidSubcommand → faults words ≡ []
-    → IsNoCommand (command_word words) → IsStopOf k s → StopsBy words s
+    → IsNoCommand (asked words) → IsStopOf k s → StopsBy words s
 stops_by_name words k (Help text) e right none is = absurd (search rules)
 stops_by_name words k (Usage text) e right none is = inr (right, none)
 stops_by_name words k Memory e right none is = tt
+
+-- where nothing is wrong and a command is named, it comes or memory ran out
+pub comes : (words : List Text) (c : Command) (r : Result Command Stop) → IfOk r (AsksFor words) → IfErr r (StopsBy words)
+    → faults words ≡ [] → asked words ≡ Some (words_of c) → Answers (words_of c) r
+comes words c (Ok d) ok err right named = ap (λ (o : Option Asked). unwrap_or o (words_of d)) (sym ok.1 ∙ named)
+comes words c (Err (Help text)) ok err right named = absurd (subst (IsAmong DisplayHelp) right err)
+comes words c (Err (Usage text)) ok (inl (k, among, other)) right named = absurd (subst (IsAmong k) right among)
+comes words c (Err (Usage text)) ok (inr (none_wrong, none)) right named = absurd (none c named)
+comes words c (Err Memory) ok err right named = refl
+
+-- words have their references
+pub second_word : (ws : List (Bor Text)) (x y : Text) → map (λ w. w.now) ws ≡ x ∷ y ∷ [] → (b : Bor Text) × (b.now ≡ y)
+second_word [] x y is = absurd (search rules)
+second_word (v ∷ []) x y is = absurd (search rules)
+second_word (v ∷ w ∷ ws) x y is = (w, cc)
+
+-- so it is for `pipe`, `pipe NODES` and `check NODES`
+module _ (ws : List (Bor Text)) (r : Result Command Stop) (ok : IfOk r (AsksFor (map (λ w. w.now) ws))) (err : IfErr r (StopsBy (map (λ w. w.now) ws))) where
+  pub pipe_comes : map (λ w. w.now) ws ≡ codes "pipe" ∷ [] → Answers (codes "pipe", None) r
+  pipe_comes is = comes (map (λ w. w.now) ws) (Pipe None) r ok err (ap faults is ∙ faults-pipe) (ap asked is ∙ asked-pipe)
+
+  pub pipe_nodes_comes : (nodes : Text) → IsPlainWord nodes → map (λ w. w.now) ws ≡ codes "pipe" ∷ nodes ∷ [] → Answers (codes "pipe", Some nodes) r
+  pipe_nodes_comes nodes plain is =
+      let b = second_word ws (codes "pipe") nodes is in
+      subst (λ n. Answers (codes "pipe", Some n) r) b.1
+      (comes (map (λ w. w.now) ws) (Pipe (Some b.0)) r ok err (ap faults is ∙ faults-pipe_nodes nodes plain)
+      (ap asked is ∙ (asked-pipe_nodes nodes plain ∙ ap (λ n. Some (codes "pipe", Some n)) (sym b.1))))
+
+  pub check_comes : (nodes : Text) → IsPlainWord nodes → map (λ w. w.now) ws ≡ codes "check" ∷ nodes ∷ [] → Answers (codes "check", Some nodes) r
+  check_comes nodes plain is =
+      let b = second_word ws (codes "check") nodes is in
+      subst (λ n. Answers (codes "check", Some n) r) b.1
+      (comes (map (λ w. w.now) ws) (Check b.0) r ok err (ap faults is ∙ faults-check nodes plain)
+      (ap asked is ∙ (asked-check nodes plain ∙ ap (λ n. Some (codes "check", Some n)) (sym b.1))))

@@ -1,8 +1,12 @@
 //! What can be asked for.
 
-/// What `uaserver` is asked to do.
+/// What `uaserver` is asked to do. NODES is the path of a node file, as it stands in the words.
 #[derive(Clone, Copy, Debug, PartialEq, Eq)]
-pub enum Command {
-    /// `uaserver pipe`: one connection over standard input and output.
-    Pipe,
+pub enum Command<'a> {
+    /// `uaserver pipe [NODES]`: one connection over standard input and output, with the
+    /// configuration of the node file, or with the standard one where the words name no file.
+    Pipe { nodes: Option<&'a str> },
+
+    /// `uaserver check NODES`: the number of nodes and references of the node file.
+    Check { nodes: &'a str },
 }

@@ -6,7 +6,7 @@
 //!
 //! To add a command, give [`Command`] a variant, `with_commands` in `src/program.rt` a subcommand, and
 //! `command_of` in `src/parsing.rt` the step from its matches to the variant. `specs/Words.antt` says
-//! the same of the words, in `program` and `word_of`.
+//! the same of the words, in `program` and `words_of`.
 #![tactic(auto)]
 
 mod command;

@@ -1,8 +1,8 @@
 //! From words to a command.
 
-ghost use Rattle.std.specs.Prelude.{◌≡◌, ◌⊎◌, ◌∷◌, [], Ok, Err, Some, IfOk, IfErr, IfSome, IsNone, codes, map};
-ghost use Rattle.clap.specs.Words.{kind_of, subcommand_name_of};
-ghost use Rattle.command_line.specs.Words.{AsksFor, IsNoCommand, IsStopOf, StopsBy, word_of};
+ghost use Rattle.std.specs.Prelude.{◌≡◌, ◌∷◌, ℕ, List, [], Some, None, IfOk, IfErr, IfSome, IsNone, codes, map};
+ghost use Rattle.clap.specs.Words.{kind_of, subcommand_rows_of};
+ghost use Rattle.command_line.specs.Words.{Answers, AsksFor, IsNoCommand, IsPlainWord, IsStopOf, StopsBy, asked_of, words_of};
 
 use crate::program::uaserver;
 use crate::{Command, Stop};
@@ -12,13 +12,29 @@ use std::alloc::Global;
 
 /// Reads the words after the program's name.
 ///
-/// A command comes where nothing is wrong with the words and they name it, [`Stop::Help`] where they
-/// may ask for help, and [`Stop::Usage`] where something else may be wrong with them: `faults` of
-/// `specs/Words.antt` is what may be wrong, computed from the words. What a text says is shown by
-/// tests alone, and the contract does not rule out a [`Stop::Memory`] with no growth refused.
-pub fn parse(alloc: Global, words: &[&str]) -> Result<Command, Stop>
+/// A command comes where nothing is wrong with the words and they name it and its NODES, [`Stop::Help`]
+/// where they may ask for help, and [`Stop::Usage`] where something else may be wrong with them:
+/// `faults` of `specs/Words.antt` is what may be wrong, and `asked` what they name, each computed from
+/// the words. So `pipe`, `pipe NODES` and `check NODES` are commands for each NODES that does not begin
+/// with a hyphen; one that does may follow a `--`. What a text says is shown by tests alone, and the
+/// contract does not rule out a [`Stop::Memory`] with no growth refused.
+pub fn parse<'a>(alloc: Global, words: &'a [&'a str]) -> Result<Command<'a>, Stop>
+    ensures ok { IfOk result (AsksFor (map (λ w. w.now) words.now)) }
+    ensures err { IfErr result (StopsBy (map (λ w. w.now) words.now)) }
     ensures pipe { map (λ w. w.now) words.now ≡ codes "pipe" ∷ []
-        → (result ≡ Ok Command.Pipe) ⊎ (result ≡ Err Stop.Memory) }
+        → Answers (codes "pipe", None) result }
+    ensures pipe_nodes { (nodes : List ℕ) → IsPlainWord nodes
+        → map (λ w. w.now) words.now ≡ codes "pipe" ∷ nodes ∷ []
+        → Answers (codes "pipe", Some nodes) result }
+    ensures check { (nodes : List ℕ) → IsPlainWord nodes
+        → map (λ w. w.now) words.now ≡ codes "check" ∷ nodes ∷ []
+        → Answers (codes "check", Some nodes) result }
+{
+    answer(alloc, words)
+}
+
+// `parse`, without what it says of words that are written out.
+fn answer<'a>(alloc: Global, words: &'a [&'a str]) -> Result<Command<'a>, Stop>
     ensures ok { IfOk result (AsksFor (map (λ w. w.now) words.now)) }
     ensures err { IfErr result (StopsBy (map (λ w. w.now) words.now)) }
 {
@@ -36,12 +52,15 @@ pub fn parse(alloc: Global, words: &[&str]) -> Result<Command, Stop>
 }
 
 // The command whose subcommand was used.
-fn command_of(matches: &ArgMatches<'_>) -> Option<Command>
-    ensures some { IfSome result (λ c. subcommand_name_of matches.now ≡ Some (word_of c)) }
-    ensures none { IsNone result → IsNoCommand (subcommand_name_of matches.now) }
+fn command_of<'a>(matches: &ArgMatches<'a>) -> Option<Command<'a>>
+    ensures some { IfSome result (λ c. asked_of (subcommand_rows_of matches.now) ≡ Some (words_of c)) }
+    ensures none { IsNone result → IsNoCommand (asked_of (subcommand_rows_of matches.now)) }
 {
-    match matches.subcommand_name() {
-        Some("pipe") => Some(Command::Pipe),
+    let (name, given) = matches.subcommand()?;
+    let nodes = given.get_str("NODES");
+    match name {
+        "pipe" => Some(Command::Pipe { nodes }),
+        "check" => Some(Command::Check { nodes: nodes? }),
         _ => None,
     }
 }

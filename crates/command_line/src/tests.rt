@@ -6,8 +6,9 @@ const HELP: &str = "An OPC UA server
 Usage: uaserver <COMMAND>
 
 Commands:
-  pipe  Serves one connection on standard input and standard output
-  help  Print this message or the help of the given subcommand(s)
+  pipe   Serves one connection on standard input and standard output
+  check  Counts the nodes and references of a node file
+  help   Print this message or the help of the given subcommand(s)
 
 Options:
   -h, --help  Print help
@@ -15,7 +16,21 @@ Options:
 
 const PIPE_HELP: &str = "Serves one connection on standard input and standard output
 
-Usage: uaserver pipe
+Usage: uaserver pipe [NODES]
+
+Arguments:
+  [NODES]  a node file (TOML)
+
+Options:
+  -h, --help  Print help
+";
+
+const CHECK_HELP: &str = "Counts the nodes and references of a node file
+
+Usage: uaserver check <NODES>
+
+Arguments:
+  <NODES>  a node file (TOML)
 
 Options:
   -h, --help  Print help
@@ -45,7 +60,22 @@ fn is_misuse(alloc: Global, words: &[&str]) -> bool {
 
 #[test]
 fn pipe(rt: HostRuntime) {
-    assert!(rt; matches!(parse(rt.alloc(), &["pipe"]), Ok(Command::Pipe)));
+    let standard = parse(rt.alloc(), &["pipe"]).ok();
+    assert!(rt; standard == Some(Command::Pipe { nodes: None }));
+    let line = parse(rt.alloc(), &["pipe", "line.toml"]).ok();
+    assert!(rt;
+        line == Some(Command::Pipe {
+            nodes: Some("line.toml")
+        })
+    );
+}
+
+#[test]
+fn check(rt: HostRuntime) {
+    let line = parse(rt.alloc(), &["check", "line.toml"]).ok();
+    assert!(rt; line == Some(Command::Check { nodes: "line.toml" }));
+    let hyphen = parse(rt.alloc(), &["check", "--", "-1.toml"]).ok();
+    assert!(rt; hyphen == Some(Command::Check { nodes: "-1.toml" }));
 }
 
 #[test]
@@ -66,6 +96,8 @@ fn help_of_a_command(rt: HostRuntime) {
     assert!(rt; word.as_str() == PIPE_HELP, "{word}");
     let long = help(alloc, &["pipe", "--help"]).expect(&rt, "pipe --help");
     assert!(rt; long.as_str() == PIPE_HELP, "{long}");
+    let check = help(alloc, &["check", "--help"]).expect(&rt, "check --help");
+    assert!(rt; check.as_str() == CHECK_HELP, "{check}");
 }
 
 #[test]
@@ -88,10 +120,23 @@ For more information, try '--help'.
 
 #[test]
 fn a_word_too_many(rt: HostRuntime) {
-    let text = usage(rt.alloc(), &["pipe", "x"]).expect(&rt, "pipe x");
-    let expected = "error: unexpected argument 'x' found
+    let text = usage(rt.alloc(), &["pipe", "x", "y"]).expect(&rt, "pipe x y");
+    let expected = "error: unexpected argument 'y' found
 
-Usage: uaserver pipe
+Usage: uaserver pipe [NODES]
+
+For more information, try '--help'.
+";
+    assert!(rt; text.as_str() == expected, "{text}");
+}
+
+#[test]
+fn a_word_too_few(rt: HostRuntime) {
+    let text = usage(rt.alloc(), &["check"]).expect(&rt, "check");
+    let expected = "error: the following required arguments were not provided:
+  <NODES>
+
+Usage: uaserver check <NODES>
 
 For more information, try '--help'.
 ";
@@ -102,8 +147,9 @@ For more information, try '--help'.
 fn misuse(rt: HostRuntime) {
     let alloc = rt.alloc();
     assert!(rt; is_misuse(alloc, &["pipe", "--port", "1"]));
-    assert!(rt; is_misuse(alloc, &["pipe", "pipe"]));
-    assert!(rt; is_misuse(alloc, &["check", "x"]));
+    assert!(rt; is_misuse(alloc, &["pipe", "-1.toml"]));
+    assert!(rt; is_misuse(alloc, &["check", "a", "b"]));
+    assert!(rt; is_misuse(alloc, &["check", "--port", "1"]));
     assert!(rt; is_misuse(alloc, &["asm", "x"]));
     assert!(rt; is_misuse(alloc, &["run", "x", "y"]));
     assert!(rt; is_misuse(alloc, &["trace", "x", "y"]));
