@@ -1,0 +1,123 @@
+-- The nodes and references that every server has. Their ids and names are the standard's
+-- (IEC 62541-3 and -5); which of them there are is this project's choice.
+use Rattle.std.specs.Prelude.{ℕ, pos, List, [], ◌∷◌, ◌++◌, map, Option, Some, None, codes, false, unwrap_or}
+use Rattle.ua_types.specs.Configuration.{Configuration}
+use Rattle.ua_types.specs.NodeIds.{numeric_id}
+use Rattle.ua_types.specs.declared.moment.Moment.{Moment}
+use Rattle.ua_values.specs.declared.content.Content.TheVariants as content
+use Rattle.ua_values.specs.declared.data_value.DataValue.{DataValue}
+use Rattle.ua_values.specs.declared.variant.Variant.{Variant}
+use Rattle.ua_values.specs.declared.variant.Variant.TheVariants as variants
+use Rattle.ua_space.specs.declared.node.Node.{Node}
+use Rattle.ua_space.specs.declared.node.NodeDetails.{NodeDetails}
+use Rattle.ua_space.specs.declared.node.NodeDetails.TheVariants as details
+use Rattle.ua_space.specs.declared.node.ValueRank.{ValueRank}
+use Rattle.ua_space.specs.declared.node.ValueRank.TheVariants as ranks
+use Rattle.ua_space.specs.declared.triple.Triple.{Triple}
+use Rattle.ua_space.specs.declared.triple.Part.TheVariants.{File}
+
+-- ---- nodes
+
+-- a node of namespace 0 that is displayed by its name
+abbrev pub standard_node : ℕ → List ℕ → NodeDetails → Node
+standard_node number name details = record {
+  id = numeric_id 0 number;
+  browse_name = record { namespace = 0; name = Some name };
+  display_name = record { locale = None; text = Some name };
+  description = record { locale = None; text = None };
+  details = details;
+}
+
+-- a value that is good since the start
+abbrev pub value_since : Moment → Variant → DataValue
+value_since start value =
+    record { value = Some value; status = record { 0 = 0 }; source_time = Some start; server_time = Some start }
+
+-- a variable that may be read, and whose history isn't kept
+abbrev pub readable : ℕ → ValueRank → DataValue → NodeDetails
+readable data_type value_rank value =
+    details.Variable (record { data_type = data_type; value_rank = value_rank; value = value; access = 1; historizing = false })
+
+-- the namespaces of OPC UA, of the application, and of the configuration
+abbrev pub namespaces : Configuration → List (Option (List ℕ))
+namespaces c = Some (codes "http://opcfoundation.org/UA/") ∷ c.uri ∷ unwrap_or c.namespaces []
+
+abbrev pub text_list : List (Option (List ℕ)) → Variant
+text_list texts = variants.String (content.Array (Some texts))
+
+abbrev pub server_array : Configuration → NodeDetails
+server_array c = readable 12 ranks.List (value_since c.start (text_list (c.uri ∷ [])))
+
+abbrev pub namespace_array : Configuration → NodeDetails
+namespace_array c = readable 12 ranks.List (value_since c.start (text_list (namespaces c)))
+
+abbrev pub state : Configuration → NodeDetails
+state c = readable 6 ranks.Scalar (value_since c.start (variants.Int32 (content.Scalar (pos 0))))
+
+-- types that aren't abstract: of objects, of variables with a text, and of references that are asymmetric and
+-- have no inverse name
+abbrev pub object_type : NodeDetails
+object_type = details.ObjectType false
+
+abbrev pub text_type : NodeDetails
+text_type = details.VariableType 12 ranks.Scalar false
+
+abbrev pub reference_type : NodeDetails
+reference_type = details.ReferenceType false false (record { locale = None; text = None })
+
+abbrev pub base_objects : List Node
+base_objects =
+    standard_node 84 (codes "Root") details.Object
+    ∷ standard_node 85 (codes "Objects") details.Object
+    ∷ standard_node 86 (codes "Types") details.Object
+    ∷ standard_node 87 (codes "Views") details.Object
+    ∷ standard_node 2253 (codes "Server") details.Object
+    ∷ []
+
+abbrev pub base_variables : Configuration → List Node
+base_variables c =
+    standard_node 2254 (codes "ServerArray") (server_array c)
+    ∷ standard_node 2255 (codes "NamespaceArray") (namespace_array c)
+    ∷ standard_node 2259 (codes "State") (state c)
+    ∷ []
+
+abbrev pub base_object_types : List Node
+base_object_types = standard_node 58 (codes "BaseObjectType") object_type ∷ standard_node 61 (codes "FolderType") object_type ∷ []
+
+abbrev pub base_variable_types : List Node
+base_variable_types = standard_node 63 (codes "BaseDataVariableType") text_type ∷ standard_node 68 (codes "PropertyType") text_type ∷ []
+
+abbrev pub base_reference_types : List Node
+base_reference_types =
+    standard_node 31 (codes "References") reference_type
+    ∷ standard_node 32 (codes "NonHierarchicalReferences") reference_type
+    ∷ standard_node 33 (codes "HierarchicalReferences") reference_type
+    ∷ standard_node 34 (codes "HasChild") reference_type
+    ∷ standard_node 35 (codes "Organizes") reference_type
+    ∷ standard_node 44 (codes "Aggregates") reference_type
+    ∷ standard_node 45 (codes "HasSubtype") reference_type
+    ∷ standard_node 46 (codes "HasProperty") reference_type
+    ∷ standard_node 47 (codes "HasComponent") reference_type
+    ∷ standard_node 40 (codes "HasTypeDefinition") reference_type
+    ∷ []
+
+unfoldable pub base_nodes : Configuration → List Node
+base_nodes c = base_objects ++ base_variables c ++ base_object_types ++ base_variable_types ++ base_reference_types
+
+-- ---- references
+
+-- a reference of the base: its type, its source and its target
+abbrev pub base_triple : ℕ × ℕ × ℕ → Triple
+base_triple e = record { source = numeric_id 0 e.1; reference_type = numeric_id 0 e.0; target = numeric_id 0 e.2; part = File }
+
+-- 35 Organizes, 46 HasProperty, 47 HasComponent, 45 HasSubtype, 40 HasTypeDefinition
+unfoldable pub base_triples : List Triple
+base_triples = map base_triple
+    ((35, 84, 85) ∷ (35, 84, 86) ∷ (35, 84, 87) ∷ (35, 85, 2253)
+    ∷ (46, 2253, 2254) ∷ (46, 2253, 2255) ∷ (47, 2253, 2259)
+    ∷ (35, 86, 58) ∷ (35, 86, 63) ∷ (35, 86, 68) ∷ (35, 86, 31)
+    ∷ (45, 58, 61) ∷ (45, 31, 32) ∷ (45, 31, 33) ∷ (45, 33, 34) ∷ (45, 33, 35)
+    ∷ (45, 34, 44) ∷ (45, 34, 45) ∷ (45, 44, 46) ∷ (45, 44, 47) ∷ (45, 32, 40)
+    ∷ (40, 84, 61) ∷ (40, 85, 61) ∷ (40, 86, 61) ∷ (40, 87, 61)
+    ∷ (40, 2253, 58) ∷ (40, 2254, 68) ∷ (40, 2255, 68) ∷ (40, 2259, 63)
+    ∷ [])

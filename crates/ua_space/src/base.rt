@@ -1,0 +1,298 @@
+//! The base set: the nodes and references that every server has.
+
+ghost use Rattle.std.specs.Prelude.{◌≡◌, ◌<◌, ◌^◌, ◌++◌, ◌∷◌, [], length, map, IfOk, OnOk, vec_len};
+ghost use Rattle.std.specs.List.{All};
+ghost use Rattle.ua_space.specs.BaseNodes.{standard_node, value_since, readable, reference_type, server_array, namespaces, namespace_array, state, base_nodes, base_triple, base_triples, base_objects, base_variables, base_object_types, base_variable_types, base_reference_types};
+ghost use Rattle.ua_values.specs.declared.content.Content.TheVariants as content;
+ghost use Rattle.ua_values.specs.declared.variant.Variant.TheVariants as variants;
+
+use crate::node::{Node, NodeDetails, ValueRank, Variable};
+use crate::triple::{Part, Triple};
+use std::alloc::{AllocError, Global};
+use ua_types::{
+    Array, Config, Copyable, LocalizedText, Moment, NodeId, QualifiedName, Status, Text,
+};
+use ua_values::{Content, DataValue, Variant};
+
+// A node of namespace 0 that is displayed by its name.
+fn standard_node(
+    alloc: Global,
+    number: u32,
+    name: &str,
+    details: NodeDetails,
+) -> Result<Node, AllocError>
+    requires { length name.now < 2 ^ 31 }
+    ensures { IfOk result (λ node. node ≡ standard_node number name.now details) }
+{
+    Ok(Node {
+        id: NodeId::numeric(0, number),
+        browse_name: QualifiedName {
+            namespace: 0,
+            name: Text::from_str(alloc, name)?,
+        },
+        display_name: LocalizedText {
+            locale: Text::null(),
+            text: Text::from_str(alloc, name)?,
+        },
+        description: LocalizedText {
+            locale: Text::null(),
+            text: Text::null(),
+        },
+        details,
+    })
+}
+
+// Appends one such node for each number and name.
+fn add_all(
+    alloc: Global,
+    nodes: &mut Vec<Node>,
+    names: &[(u32, &str)],
+    details: &NodeDetails,
+) -> Result<(), AllocError>
+    requires { All (λ e. length e.1.now < 2 ^ 31) names.now }
+    ensures { OnOk result (nodes.new.items
+        ≡ nodes.old.items ++ map (λ e. standard_node e.0 e.1.now details.now) names.now) }
+{
+    for (number, name) in names {
+        nodes.push(standard_node(alloc, *number, name, details.copy(alloc)?)?)?;
+    }
+    Ok(())
+}
+
+// A variable that may be read, with a value that is good since the start.
+fn readable(data_type: u8, value_rank: ValueRank, start: Moment, value: Variant) -> NodeDetails
+    ensures { result ≡ readable data_type value_rank (value_since start value) }
+{
+    NodeDetails::Variable(Variable {
+        data_type,
+        value_rank,
+        value: DataValue {
+            value: Some(value),
+            status: Status(0),
+            source_time: Some(start),
+            server_time: Some(start),
+        },
+        access: 1,
+        historizing: false,
+    })
+}
+
+// References of the base from their types, sources and targets, and room for more.
+fn triples_of(
+    alloc: Global,
+    table: &[(u32, u32, u32)],
+    more: usize,
+) -> Result<Vec<Triple>, AllocError>
+    requires table { length table.now < 100 }
+    requires more { more < 400000 }
+    ensures items { IfOk result (λ triples. triples.items ≡ map base_triple table.now) }
+    ensures len { IfOk result (λ triples. vec_len triples ≡ length table.now) }
+{
+    let mut triples = Vec::with_capacity(alloc, table.len() + more)?;
+    for (reference_type, source, target) in table {
+        triples.push(Triple {
+            source: NodeId::numeric(0, *source),
+            reference_type: NodeId::numeric(0, *reference_type),
+            target: NodeId::numeric(0, *target),
+            part: Part::File,
+        })?;
+    }
+    Ok(triples)
+}
+
+const TRIPLES: [(u32, u32, u32); 29] = [
+    (35, 84, 85),
+    (35, 84, 86),
+    (35, 84, 87),
+    (35, 85, 2253),
+    (46, 2253, 2254),
+    (46, 2253, 2255),
+    (47, 2253, 2259),
+    (35, 86, 58),
+    (35, 86, 63),
+    (35, 86, 68),
+    (35, 86, 31),
+    (45, 58, 61),
+    (45, 31, 32),
+    (45, 31, 33),
+    (45, 33, 34),
+    (45, 33, 35),
+    (45, 34, 44),
+    (45, 34, 45),
+    (45, 44, 46),
+    (45, 44, 47),
+    (45, 32, 40),
+    (40, 84, 61),
+    (40, 85, 61),
+    (40, 86, 61),
+    (40, 87, 61),
+    (40, 2253, 58),
+    (40, 2254, 68),
+    (40, 2255, 68),
+    (40, 2259, 63),
+];
+
+/// The base references, and room for more.
+#[tactic(auto, unfolding(crate::specs::BaseNodes::base_triples))]
+pub(crate) fn base_triples(alloc: Global, more: usize) -> Result<Vec<Triple>, AllocError>
+    requires { more < 400000 }
+    ensures items { IfOk result (λ triples. triples.items ≡ base_triples) }
+    ensures len { IfOk result (λ triples. vec_len triples ≡ 29) }
+{
+    triples_of(alloc, &TRIPLES, more)
+}
+
+// Appends copies of these texts.
+fn add_copies(alloc: Global, texts: &mut Vec<Text>, more: &[Text]) -> Result<(), AllocError>
+    ensures { OnOk result (texts.new.items ≡ texts.old.items ++ more.now) }
+{
+    for text in more {
+        texts.push(text.copy(alloc)?)?;
+    }
+    Ok(())
+}
+
+fn add_objects(alloc: Global, nodes: &mut Vec<Node>) -> Result<(), AllocError>
+    ensures { OnOk result (nodes.new.items ≡ nodes.old.items ++ base_objects) }
+{
+    let names = [
+        (84, "Root"),
+        (85, "Objects"),
+        (86, "Types"),
+        (87, "Views"),
+        (2253, "Server"),
+    ];
+    add_all(alloc, nodes, &names, &NodeDetails::Object)
+}
+
+// Types that aren't abstract: of objects, of variables with a text, and of references that are
+// asymmetric and have no inverse name.
+fn reference_type() -> NodeDetails
+    ensures { result ≡ reference_type }
+{
+    NodeDetails::ReferenceType {
+        is_abstract: false,
+        symmetric: false,
+        inverse_name: LocalizedText {
+            locale: Text::null(),
+            text: Text::null(),
+        },
+    }
+}
+
+fn add_object_types(alloc: Global, nodes: &mut Vec<Node>) -> Result<(), AllocError>
+    ensures { OnOk result (nodes.new.items ≡ nodes.old.items ++ base_object_types) }
+{
+    let names = [(58, "BaseObjectType"), (61, "FolderType")];
+    let details = NodeDetails::ObjectType { is_abstract: false };
+    add_all(alloc, nodes, &names, &details)
+}
+
+fn add_variable_types(alloc: Global, nodes: &mut Vec<Node>) -> Result<(), AllocError>
+    ensures { OnOk result (nodes.new.items ≡ nodes.old.items ++ base_variable_types) }
+{
+    let names = [(63, "BaseDataVariableType"), (68, "PropertyType")];
+    let details = NodeDetails::VariableType {
+        data_type: 12,
+        value_rank: ValueRank::Scalar,
+        is_abstract: false,
+    };
+    add_all(alloc, nodes, &names, &details)
+}
+
+fn add_reference_types(alloc: Global, nodes: &mut Vec<Node>) -> Result<(), AllocError>
+    ensures { OnOk result (nodes.new.items ≡ nodes.old.items ++ base_reference_types) }
+{
+    let names = [
+        (31, "References"),
+        (32, "NonHierarchicalReferences"),
+        (33, "HierarchicalReferences"),
+        (34, "HasChild"),
+        (35, "Organizes"),
+        (44, "Aggregates"),
+        (45, "HasSubtype"),
+        (46, "HasProperty"),
+        (47, "HasComponent"),
+        (40, "HasTypeDefinition"),
+    ];
+    let details = reference_type();
+    add_all(alloc, nodes, &names, &details)
+}
+
+fn list(texts: Vec<Text>) -> Variant
+    requires { vec_len texts < 2 ^ 31 }
+    ensures { result ≡ variants.String (content.Array (Some texts.items)) }
+{
+    Variant::String(Content::Array(Array::new(texts)))
+}
+
+fn server_array(alloc: Global, config: &Config) -> Result<NodeDetails, AllocError>
+    ensures { IfOk result (λ details. details ≡ server_array config.now) }
+{
+    let mut texts = Vec::new(alloc);
+    texts.push(config.uri.copy(alloc)?)?;
+    Ok(readable(12, ValueRank::List, config.start, list(texts)))
+}
+
+fn namespaces(alloc: Global, config: &Config) -> Result<Vec<Text>, AllocError>
+    ensures items { IfOk result (λ texts. texts.items ≡ namespaces config.now) }
+    ensures len { IfOk result (λ texts. vec_len texts < 2 ^ 31) }
+{
+    let mut texts = Vec::new(alloc);
+    texts.push(Text::from_str(alloc, "http://opcfoundation.org/UA/")?)?;
+    texts.push(config.uri.copy(alloc)?)?;
+    if let Some(more) = config.namespaces.as_slice() {
+        add_copies(alloc, &mut texts, more)?;
+    }
+    Ok(texts)
+}
+
+fn namespace_array(alloc: Global, config: &Config) -> Result<NodeDetails, AllocError>
+    ensures { IfOk result (λ details. details ≡ namespace_array config.now) }
+{
+    let texts = namespaces(alloc, config)?;
+    Ok(readable(12, ValueRank::List, config.start, list(texts)))
+}
+
+fn state(config: &Config) -> NodeDetails
+    ensures { result ≡ state config.now }
+{
+    readable(
+        6,
+        ValueRank::Scalar,
+        config.start,
+        Variant::Int32(Content::Scalar(0)),
+    )
+}
+
+fn add_variables(alloc: Global, nodes: &mut Vec<Node>, config: &Config) -> Result<(), AllocError>
+    ensures { OnOk result (nodes.new.items ≡ nodes.old.items ++ base_variables config.now) }
+{
+    let servers = standard_node(alloc, 2254, "ServerArray", server_array(alloc, config)?)?;
+    let spaces = standard_node(
+        alloc,
+        2255,
+        "NamespaceArray",
+        namespace_array(alloc, config)?,
+    )?;
+    let state = standard_node(alloc, 2259, "State", state(config))?;
+    nodes.push(servers)?;
+    nodes.push(spaces)?;
+    nodes.push(state)?;
+    Ok(())
+}
+
+/// The base nodes.
+#[tactic(auto, unfolding(crate::specs::BaseNodes::base_nodes))]
+pub(crate) fn base_nodes(alloc: Global, config: &Config) -> Result<Vec<Node>, AllocError>
+    ensures items { IfOk result (λ nodes. nodes.items ≡ base_nodes config.now) }
+    ensures len { IfOk result (λ nodes. vec_len nodes ≡ 22) }
+{
+    let mut nodes = Vec::with_capacity(alloc, 22)?;
+    add_objects(alloc, &mut nodes)?;
+    add_variables(alloc, &mut nodes, config)?;
+    add_object_types(alloc, &mut nodes)?;
+    add_variable_types(alloc, &mut nodes)?;
+    add_reference_types(alloc, &mut nodes)?;
+    Ok(nodes)
+}

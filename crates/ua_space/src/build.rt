@@ -1,0 +1,140 @@
+//! A space out of nodes and references, or the first thing that is wrong with them.
+
+ghost use Rattle.std.specs.Prelude.{◌≡◌, ◌<◌, ◌^◌, ◌+◌, ◌++◌, [], vec_len, IfOk, IfErr};
+ghost use Rattle.ua_space.specs.BaseNodes.{base_triples};
+ghost use Rattle.ua_space.specs.Build.{Makes, named, all_named, fits, linked};
+ghost use Rattle.ua_space.specs.declared.fault.SpaceFault.TheVariants.{Memory};
+
+use crate::base::{base_nodes, base_triples};
+use crate::fault::SpaceFault;
+use crate::index::{Key, index_by};
+use crate::loops::no_loop;
+use crate::node::{Node, NodeDetails};
+use crate::space::Space;
+use crate::triple::{Part, Triple};
+use std::alloc::Global;
+use std::collections::{BTreeMap, BTreeSet};
+use ua_types::{Config, Copyable, NodeId};
+
+/// The most nodes of a space, the base set's 22 included.
+const MAX_NODES: usize = 100_000;
+/// The most references of a space, the base set's 29 included.
+const MAX_TRIPLES: usize = 400_000;
+
+// Each node under its id. The nodes count from `first`.
+fn named(
+    alloc: Global,
+    known: BTreeMap<NodeId, Node>,
+    first: u64,
+    nodes: Vec<Node>,
+) -> Result<BTreeMap<NodeId, Node>, SpaceFault>
+    requires { first + vec_len nodes < 2 ^ 64 }
+    ensures { Makes (λ m. m.entries) result (named first known.entries nodes.items) }
+{
+    let mut known = known;
+    let mut number = first;
+    for node in nodes {
+        if known.contains_key(&node.id) {
+            return Err(SpaceFault::Duplicate(Part::Node(number)));
+        }
+        let id = node.id.copy(alloc)?;
+        known.insert(id, node)?;
+        number += 1;
+    }
+    Ok(known)
+}
+
+// Both ends are nodes, and the type is a ReferenceType node.
+fn fits(nodes: &BTreeMap<NodeId, Node>, triple: &Triple) -> bool
+    ensures { result ≡ fits nodes.now.entries triple.now }
+{
+    nodes.contains_key(&triple.source)
+        && nodes.contains_key(&triple.target)
+        && match nodes.get(&triple.reference_type) {
+            None => false,
+            Some(node) => matches!(&node.details, NodeDetails::ReferenceType { .. }),
+        }
+}
+
+// Each reference fits, and none is given twice.
+fn linked(
+    alloc: Global,
+    nodes: &BTreeMap<NodeId, Node>,
+    triples: &[Triple],
+) -> Result<(), SpaceFault>
+    ensures { Makes (λ x. x) result (linked nodes.now.entries [] triples.now) }
+{
+    let mut seen = BTreeSet::new(alloc);
+    for triple in triples {
+        if !fits(nodes, triple) {
+            return Err(SpaceFault::DanglingReference(triple.part));
+        }
+        if !seen.insert(triple)? {
+            return Err(SpaceFault::Duplicate(triple.part));
+        }
+    }
+    Ok(())
+}
+
+// The base references, and then the given ones.
+fn with_base(alloc: Global, triples: Vec<Triple>) -> Result<Vec<Triple>, SpaceFault>
+    requires { vec_len triples < 400000 }
+    ensures all { IfOk result (λ all. all.items ≡ base_triples ++ triples.items) }
+    ensures len { IfOk result (λ all. vec_len all < 2 ^ 32) }
+    ensures fault { IfErr result (λ e. e ≡ Memory) }
+{
+    let mut triples = triples;
+    let mut all = base_triples(alloc, triples.len())?;
+    all.append(&mut triples)?;
+    Ok(all)
+}
+
+// The base nodes and then the given ones, under their ids.
+fn all_named(
+    alloc: Global,
+    config: &Config,
+    nodes: Vec<Node>,
+) -> Result<BTreeMap<NodeId, Node>, SpaceFault>
+    requires { vec_len nodes < 2 ^ 32 }
+    ensures { Makes (λ m. m.entries) result (all_named config.now nodes.items) }
+{
+    let base = base_nodes(alloc, config)?;
+    match named(alloc, BTreeMap::new(alloc), 0, base) {
+        Err(fault) => Err(fault),
+        Ok(known) => named(alloc, known, 1, nodes),
+    }
+}
+
+impl Space {
+    ghost use Rattle.ua_types.specs.Answers.{Gives};
+    ghost use Rattle.ua_space.specs.Build.{space_of};
+    ghost use Rattle.ua_space.specs.declared.fault.SpaceFault.TheVariants.{Memory};
+
+    /// The space of the base set, whose values the configuration gives, and of these nodes and
+    /// references, which come after it.
+    ///
+    /// The fault is [`SpaceFault::Limit`], or else the first of the nodes in order, which count from
+    /// 1, or else the first of the references in order, or else of the first reference on a loop of
+    /// HasSubtype references.
+    #[tactic(auto, unfolding(crate::specs::Build::space_of))]
+    pub fn build(
+        alloc: Global,
+        config: &Config,
+        nodes: Vec<Node>,
+        triples: Vec<Triple>,
+    ) -> Result<Space, SpaceFault>
+        ensures { Gives Memory result (space_of config.now nodes.items triples.items) }
+    {
+        if nodes.len() > MAX_NODES - 22 || triples.len() > MAX_TRIPLES - 29 {
+            return Err(SpaceFault::Limit);
+        }
+        let known = all_named(alloc, config, nodes)?;
+        let all = with_base(alloc, triples)?;
+        linked(alloc, &known, all.as_slice())?;
+        let supertypes = index_by(alloc, Key::Subtype, all.as_slice())?;
+        no_loop(alloc, all.as_slice(), &supertypes)?;
+        let by_source = index_by(alloc, Key::Source, all.as_slice())?;
+        let by_target = index_by(alloc, Key::Target, all.as_slice())?;
+        Ok(Space::new(known, all, by_source, by_target, supertypes))
+    }
+}

@@ -1,0 +1,90 @@
+//! Which references stand under which id, so that no look-up goes over all of them.
+
+ghost use Rattle.std.specs.Prelude.{◌≡◌, ◌<◌, ◌^◌, ◌++◌, ◌∷◌, [], cond, length, IfOk, OnOk, vec_len};
+ghost use Rattle.std.specs.Option.{option_copied};
+ghost use Rattle.ua_types.specs.NodeIdOrder.{same_id};
+ghost use Rattle.ua_types.specs.declared.node_id.NodeId.{NodeId};
+ghost use Rattle.ua_space.specs.Subtypes.{is_subtyping};
+ghost use Rattle.ua_space.specs.Indexes.{IsIndex, places_at, key_of, stands_under};
+
+use crate::triple::Triple;
+use std::alloc::{AllocError, Global};
+use std::collections::BTreeMap;
+use ua_types::{Copyable, NodeId};
+
+/// The places of references, under the id that they are looked up by.
+pub(crate) type Index = BTreeMap<NodeId, Vec<u32>>;
+
+/// What references are looked up by.
+#[derive(Clone, Copy)]
+pub(crate) enum Key {
+    Source,
+    Target,
+    /// The target, of HasSubtype references alone.
+    Subtype,
+}
+
+/// Whether it leads from a type to its subtype.
+pub(crate) fn is_subtyping(triple: &Triple) -> bool
+    ensures { result ≡ is_subtyping triple.now }
+{
+    triple.reference_type == NodeId::numeric(0, 45)
+}
+
+// The id under which a reference stands.
+fn key_of(key: Key, triple: &Triple) -> Option<&NodeId>
+    ensures { option_copied result ≡ key_of key triple.now }
+{
+    match key {
+        Key::Source => Some(&triple.source),
+        Key::Target => Some(&triple.target),
+        Key::Subtype => {
+            if is_subtyping(triple) {
+                Some(&triple.target)
+            } else {
+                None
+            }
+        }
+    }
+}
+
+// Adds a place under an id.
+fn add(alloc: Global, index: &mut Index, id: &NodeId, place: u32) -> Result<(), AllocError>
+    ensures { OnOk result ((q : NodeId) → places_at (λ v. v.items) q index.new.entries
+        ≡ cond (same_id id.now q) (places_at (λ v. v.items) q index.old.entries ++ place ∷ []) (places_at (λ v. v.items) q index.old.entries)) }
+{
+    match index.get_mut(id) {
+        Some(places) => places.push(place)?,
+        None => {
+            let mut places = Vec::new(alloc);
+            places.push(place)?;
+            index.insert(id.copy(alloc)?, places)?;
+        }
+    }
+    Ok(())
+}
+
+/// The index of these references.
+pub(crate) fn index_by(alloc: Global, key: Key, triples: &[Triple]) -> Result<Index, AllocError>
+    requires { length triples.now < 2 ^ 32 }
+    ensures { IfOk result (λ index. IsIndex (λ v. v.items) (stands_under key) triples.now index.entries) }
+{
+    let mut index = BTreeMap::new(alloc);
+    for (place, triple) in triples.iter().enumerate() {
+        match key_of(key, triple) {
+            Some(id) => add(alloc, &mut index, id, place as u32)?,
+            None => {}
+        }
+    }
+    Ok(index)
+}
+
+/// The places under an id.
+pub(crate) fn places_at<'a>(index: &'a Index, id: &NodeId) -> &'a [u32]
+    ensures { result.now ≡ places_at (λ v. v.items) id.now index.entry.now.entries }
+{
+    match index.get(id) {
+        None => &[],
+        Some(places) => places.as_slice(),
+    }
+}

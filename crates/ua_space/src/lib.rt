@@ -1,0 +1,33 @@
+//! The address space (IEC 62541-3): nodes, the references between them, and the base set that every
+//! server has.
+//!
+//! A [`Space`] is built once, by [`Space::build`], from the nodes and references of a node file. The
+//! base set stands before them. From then on only values change ([`Space::set_value`]). There are
+//! no views, methods or events here, and no services: those of Browse, Read and Write stand above.
+//!
+//! What a contract sees of a `Space`: its nodes under their ids, in the order of ids, and its
+//! references in declared order (`SpaceState`).
+//!
+//! Read [`Node`] and [`Triple`] first, and docs/NODES.md for the base set as a picture.
+#![tactic(auto)]
+
+mod base;
+mod build;
+mod fault;
+mod hints;
+mod index;
+mod loops;
+mod node;
+mod references;
+mod space;
+mod subtypes;
+mod triple;
+
+pub use fault::SpaceFault;
+pub use node::{Node, NodeClass, NodeDetails, ValueRank, Variable};
+pub use references::{References, TripleList};
+pub use space::Space;
+pub use triple::{Part, Triple};
+
+#[cfg(test)]
+mod tests;

@@ -1,0 +1,131 @@
+//! The first reference on a loop of HasSubtype references.
+
+ghost use Rattle.std.specs.Prelude.{◌≡◌, true, IsTrue};
+ghost use Rattle.std.specs.List.{list_all, find};
+ghost use Rattle.std.specs.Option.{option_copied};
+ghost use Rattle.ua_space.specs.Build.{Makes, no_loop};
+ghost use Rattle.ua_space.specs.Indexes.{IsIndex, stands_under};
+ghost use Rattle.ua_space.specs.declared.index.Key.TheVariants as keys;
+ghost use Rattle.ua_space.specs.Ranks.{rank_at, keeps_rank, raises_rank};
+ghost use Rattle.ua_space.specs.Subtypes.{is_subtype, leads_to, lies_on_loop};
+
+use crate::fault::SpaceFault;
+use crate::hints::Hints;
+use crate::index::{Index, is_subtyping};
+use crate::subtypes::reaches;
+use crate::triple::Triple;
+use std::alloc::Global;
+use ua_types::NodeId;
+
+// It is no HasSubtype reference, or leads to a number that isn't lower.
+fn keeps_rank(hints: &Hints, triple: &Triple) -> bool
+    ensures { result ≡ keeps_rank (rank_at hints.now.numbers.entries hints.now.ranks.items) triple.now }
+{
+    !is_subtyping(triple) || !(hints.rank(&triple.target) < hints.rank(&triple.source))
+}
+
+// Whether no reference leads to a lower number: then one that leads to a higher lies on no loop.
+fn is_sound(hints: &Hints, triples: &[Triple]) -> bool
+    ensures { result ≡ list_all (keeps_rank (rank_at hints.now.numbers.entries hints.now.ranks.items)) triples.now }
+{
+    triples.iter().all(|triple| keeps_rank(hints, triple))
+}
+
+fn raises_rank(hints: &Hints, triple: &Triple) -> bool
+    ensures { result ≡ raises_rank (rank_at hints.now.numbers.entries hints.now.ranks.items) triple.now }
+{
+    hints.rank(&triple.source) < hints.rank(&triple.target)
+}
+
+fn leads_to(lower: &NodeId, triple: &Triple) -> bool
+    ensures { result ≡ leads_to lower.now triple.now }
+{
+    is_subtyping(triple) && triple.target == *lower
+}
+
+// The references at these places lead from the one type up to the other.
+fn follows(triples: &[Triple], path: &[usize], lower: &NodeId, upper: &NodeId) -> bool
+    ensures { IsTrue result → is_subtype triples.now lower.now upper.now ≡ true }
+{
+    let mut reached = lower;
+    for place in path {
+        match triples.get(*place) {
+            None => return false,
+            Some(triple) => {
+                if !leads_to(reached, triple) {
+                    return false;
+                }
+                reached = &triple.source;
+            }
+        }
+    }
+    reached == upper
+}
+
+// The path is a quick way to see a loop; where it is none, each chain is tried.
+fn lies_on_loop(triples: &[Triple], supertypes: &Index, path: &[usize], triple: &Triple) -> bool
+    requires { IsIndex (λ v. v.items) (stands_under keys.Subtype) triples.now supertypes.now.entries }
+    ensures { result ≡ lies_on_loop triples.now triple.now }
+{
+    is_subtyping(triple)
+        && (follows(triples, path, &triple.source, &triple.target)
+            || reaches(
+                triples,
+                supertypes,
+                triples.len(),
+                &triple.source,
+                &triple.target,
+            ))
+}
+
+// The same, without a search where the numbers show that there is no loop.
+fn is_looped(
+    triples: &[Triple],
+    supertypes: &Index,
+    hints: &Hints,
+    sound: bool,
+    triple: &Triple,
+) -> bool
+    requires index { IsIndex (λ v. v.items) (stands_under keys.Subtype) triples.now supertypes.now.entries }
+    requires sound { sound ≡ list_all (keeps_rank (rank_at hints.now.numbers.entries hints.now.ranks.items)) triples.now }
+    ensures { result ≡ lies_on_loop triples.now triple.now }
+{
+    if sound && raises_rank(hints, triple) {
+        return false;
+    }
+    lies_on_loop(triples, supertypes, hints.path(), triple)
+}
+
+/// The first reference that lies on a loop. The hints make it quick, and can't make it wrong.
+pub(crate) fn first_on_loop<'a>(
+    triples: &'a [Triple],
+    supertypes: &Index,
+    hints: &Hints,
+) -> Option<&'a Triple>
+    requires { IsIndex (λ v. v.items) (stands_under keys.Subtype) triples.now supertypes.now.entries }
+    ensures { option_copied result ≡ find (lies_on_loop triples.entry.now) triples.entry.now }
+{
+    let sound = is_sound(hints, triples);
+    for triple in triples {
+        if is_looped(triples, supertypes, hints, sound, triple) {
+            return Some(triple);
+        }
+    }
+    None
+}
+
+/// No reference lies on a loop.
+pub(crate) fn no_loop(
+    alloc: Global,
+    triples: &[Triple],
+    supertypes: &Index,
+) -> Result<(), SpaceFault>
+    requires { IsIndex (λ v. v.items) (stands_under keys.Subtype) triples.now supertypes.now.entries }
+    ensures { Makes (λ x. x) result (no_loop (find (lies_on_loop triples.now) triples.now)) }
+{
+    let hints = Hints::new(alloc, triples)?;
+    match first_on_loop(triples, supertypes, &hints) {
+        None => Ok(()),
+        Some(triple) => Err(SpaceFault::SubtypeLoop(triple.part)),
+    }
+}
