@@ -1,0 +1,231 @@
+//! What a part of the file says at a key.
+
+ghost use Rattle.std.specs.Prelude.{◌≡◌, ◌≤◌, ◌≤ℤ◌, ◌<◌, ◌^◌, length, IfOk, IfSome, IsSome, option_map, if◌then◌else◌, Ok, Err, string_bytes};
+ghost use Rattle.std.specs.List.{list_all, list_any};
+ghost use Rattle.std.specs.Map.{keys_of};
+ghost use Rattle.std.specs.Str.{bytes_eq};
+ghost use Rattle.toml.specs.Data.{get_member, as_bool};
+ghost use Rattle.toml.specs.View.{table_view, view};
+ghost use Rattle.node_loader.specs.Answers.{Gives};
+ghost use Rattle.node_loader.specs.Keys.{of_kind, required_word, required_text, required_boolean, boolean_at, required_integer, unsigned_at, signed_at, all_keys, word_at, text_at, integer_at, number_at, text_or};
+
+use crate::fault::Cause;
+use std::alloc::Global;
+use toml::{Table, Value};
+use ua_types::Text;
+
+/// The value at a key.
+pub fn value_at<'a>(table: &'a Table, key: &str) -> Option<&'a Value>
+    ensures { option_map (λ v. view v.now) result ≡ get_member key.now (table_view table.now) }
+{
+    table.get(key)
+}
+
+/// The characters at a key, however many, if the part has it.
+pub fn word_at<'a>(table: &'a Table, key: &str) -> Result<Option<&'a str>, Cause>
+    ensures { Gives (option_map (λ t. t.now)) result (word_at key.now (table_view table.now)) }
+{
+    match value_at(table, key) {
+        None => Ok(None),
+        Some(value) => match value.as_str() {
+            Some(text) => Ok(Some(text)),
+            None => Err(Cause::WrongKind),
+        },
+    }
+}
+
+/// The text at a key, if the part has it: fewer than 2^31 bytes.
+#[tactic(auto, unfolding(crate::specs::Keys::text_at))]
+pub fn text_at<'a>(table: &'a Table, key: &str) -> Result<Option<&'a str>, Cause>
+    ensures given { Gives (option_map (λ t. t.now)) result (text_at key.now (table_view table.now)) }
+    ensures short { IfOk result (λ t. IfSome t (λ s. length s.now < 2 ^ 31)) }
+{
+    match word_at(table, key)? {
+        None => Ok(None),
+        Some(text) => {
+            if text.len() < 1 << 31 {
+                Ok(Some(text))
+            } else {
+                Err(Cause::OutOfRange)
+            }
+        }
+    }
+}
+
+/// The integer at a key, if the part has it.
+pub fn integer_at(table: &Table, key: &str) -> Result<Option<i64>, Cause>
+    ensures { Gives (λ n. n) result (integer_at key.now (table_view table.now)) }
+{
+    match value_at(table, key) {
+        None => Ok(None),
+        Some(value) => match value.as_integer() {
+            Some(number) => Ok(Some(number)),
+            None => Err(Cause::WrongKind),
+        },
+    }
+}
+
+/// The number at a key within its range, or the default.
+#[tactic(auto, unfolding(crate::specs::Keys::number_at))]
+pub fn number_at(table: &Table, key: &str, fallback: u64, low: u64, high: u64) -> Result<u64, Cause>
+    ensures given { Gives (λ n. n) result (number_at key.now fallback low high (table_view table.now)) }
+    ensures range { low ≤ fallback → fallback ≤ high → IfOk result (λ n. (low ≤ n) × (n ≤ high)) }
+{
+    let Some(number) = integer_at(table, key)? else {
+        return Ok(fallback);
+    };
+    if number < 0 {
+        return Err(Cause::OutOfRange);
+    }
+    let number = number as u64;
+    if low <= number && number <= high {
+        Ok(number)
+    } else {
+        Err(Cause::OutOfRange)
+    }
+}
+
+/// A copy of the text at a key, or of the default.
+#[tactic(auto, unfolding(crate::specs::Keys::text_or))]
+pub fn text_or(alloc: Global, table: &Table, key: &str, fallback: &str) -> Result<Text, Cause>
+    requires { length fallback.now < 2 ^ 31 }
+    ensures given { Gives (λ t. t) result (text_or key.now fallback.now (table_view table.now)) }
+    ensures there { IfOk result (λ t. IsSome t) }
+{
+    let text = text_at(table, key)?.unwrap_or(fallback);
+    Ok(Text::from_str(alloc, text)?)
+}
+
+// The key is one of these.
+fn is_one_of(keys: &[&str], key: &str) -> bool
+    ensures { result ≡ list_any (λ k. bytes_eq k.now key.now) keys.now }
+{
+    keys.iter().any(|known| *known == key)
+}
+
+// Each key of the part is one of these.
+fn all_known(keys: &[&str], table: &Table) -> bool
+    ensures { result ≡ list_all (λ key. list_any (λ k. bytes_eq k.now (string_bytes key)) keys.now) (keys_of table.now.entries) }
+{
+    table.keys().all(|key| is_one_of(keys, key.as_str()))
+}
+
+/// The part has no other keys than these.
+#[tactic(auto, using(crate::proofs::Tables::all_keys_are))]
+pub fn only(keys: &[&str], table: &Table) -> Result<(), Cause>
+    ensures { Gives (λ x. x) result (if all_keys (λ key. list_any (λ k. bytes_eq k.now key) keys.now) (table_view table.now) then Ok tt else Err Cause.UnknownKey) }
+{
+    if all_known(keys, table) {
+        Ok(())
+    } else {
+        Err(Cause::UnknownKey)
+    }
+}
+
+/// The characters at a key that the part must have.
+#[tactic(auto, unfolding(crate::specs::Keys::required_word))]
+pub fn required_word<'a>(table: &'a Table, key: &str) -> Result<&'a str, Cause>
+    ensures { Gives (λ t. t.now) result (required_word key.now (table_view table.now)) }
+{
+    match word_at(table, key)? {
+        Some(text) => Ok(text),
+        None => Err(Cause::MissingKey),
+    }
+}
+
+/// The text at a key that the part must have: fewer than 2^31 bytes.
+#[tactic(auto, unfolding(crate::specs::Keys::required_text))]
+pub fn required_text<'a>(table: &'a Table, key: &str) -> Result<&'a str, Cause>
+    ensures given { Gives (λ t. t.now) result (required_text key.now (table_view table.now)) }
+    ensures short { IfOk result (λ t. length t.now < 2 ^ 31) }
+{
+    match text_at(table, key)? {
+        Some(text) => Ok(text),
+        None => Err(Cause::MissingKey),
+    }
+}
+
+/// A copy of the text at a key, or null.
+pub fn text_or_null(alloc: Global, table: &Table, key: &str) -> Result<Text, Cause>
+    ensures { Gives (λ t. t) result (text_at key.now (table_view table.now)) }
+{
+    match text_at(table, key)? {
+        Some(text) => Ok(Text::from_str(alloc, text)?),
+        None => Ok(Text::null()),
+    }
+}
+
+// The truth value at a key, if the part has it.
+fn truth_at(table: &Table, key: &str) -> Result<Option<bool>, Cause>
+    ensures { Gives (λ b. b) result (of_kind as_bool (get_member key.now (table_view table.now))) }
+{
+    match value_at(table, key) {
+        None => Ok(None),
+        Some(value) => match value.as_bool() {
+            Some(truth) => Ok(Some(truth)),
+            None => Err(Cause::WrongKind),
+        },
+    }
+}
+
+/// The truth value at a key that the part must have.
+#[tactic(auto, unfolding(crate::specs::Keys::required_boolean))]
+pub fn required_boolean(table: &Table, key: &str) -> Result<bool, Cause>
+    ensures { Gives (λ b. b) result (required_boolean key.now (table_view table.now)) }
+{
+    match truth_at(table, key)? {
+        Some(truth) => Ok(truth),
+        None => Err(Cause::MissingKey),
+    }
+}
+
+/// The truth value at a key, or false.
+#[tactic(auto, unfolding(crate::specs::Keys::boolean_at))]
+pub fn boolean_at(table: &Table, key: &str) -> Result<bool, Cause>
+    ensures { Gives (λ b. b) result (boolean_at key.now (table_view table.now)) }
+{
+    Ok(truth_at(table, key)?.unwrap_or(false))
+}
+
+/// The integer at a key that the part must have.
+#[tactic(auto, unfolding(crate::specs::Keys::required_integer))]
+pub fn required_integer(table: &Table, key: &str) -> Result<i64, Cause>
+    ensures { Gives (λ n. n) result (required_integer key.now (table_view table.now)) }
+{
+    match integer_at(table, key)? {
+        Some(number) => Ok(number),
+        None => Err(Cause::MissingKey),
+    }
+}
+
+/// The number at a key that the part must have, up to the highest.
+#[tactic(auto, unfolding(crate::specs::Keys::unsigned_at))]
+pub fn unsigned_at(table: &Table, key: &str, high: u64) -> Result<u64, Cause>
+    ensures given { Gives (λ n. n) result (unsigned_at key.now high (table_view table.now)) }
+    ensures range { IfOk result (λ n. n ≤ high) }
+{
+    let number = required_integer(table, key)?;
+    if number < 0 {
+        return Err(Cause::OutOfRange);
+    }
+    let number = number as u64;
+    if number <= high {
+        Ok(number)
+    } else {
+        Err(Cause::OutOfRange)
+    }
+}
+
+/// The integer at a key that the part must have, within its range.
+#[tactic(auto, unfolding(crate::specs::Keys::signed_at))]
+pub fn signed_at(table: &Table, key: &str, low: i64, high: i64) -> Result<i64, Cause>
+    ensures given { Gives (λ n. n) result (signed_at key.now low high (table_view table.now)) }
+    ensures range { IfOk result (λ n. (low ≤ℤ n) × (n ≤ℤ high)) }
+{
+    let number = required_integer(table, key)?;
+    if low <= number && number <= high {
+        Ok(number)
+    } else {
+        Err(Cause::OutOfRange)
+    }
+}

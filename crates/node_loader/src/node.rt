@@ -1,0 +1,467 @@
+//! An entry of the list `node`: the node, and the references that come with it.
+
+ghost use Rattle.std.specs.Prelude.{◌≡◌, ◌≤◌, IfOk};
+ghost use Rattle.toml.specs.Data.{as_table};
+ghost use Rattle.toml.specs.View.{table_view, view};
+ghost use Rattle.node_loader.specs.Answers.{Gives};
+ghost use Rattle.node_loader.specs.Keys.{only};
+ghost use Rattle.node_loader.specs.Node.{class_of, keys_of, names_of, place_of, parent_triple, definition_triple, entry_from, value_since, type_at, variable_of, object_of, variable_node_of, object_type_of, variable_type_of, reference_type_of, data_type_of, kind_of, rest_of, node_of, entry_of};
+
+use crate::fault::Cause;
+use crate::ids::{id_at, id_if_any, id_or, standard_id};
+use crate::keys::{
+    boolean_at, number_at, only, required_text, required_word, text_or, text_or_null,
+};
+use crate::value::{ValueType, type_of, value_of};
+use std::alloc::{AllocError, Global};
+use toml::{Table, Value};
+use ua_space::{Node, NodeClass, NodeDetails, Part, Triple, ValueRank, Variable};
+use ua_types::{Copyable, LocalizedText, Moment, NodeId, QualifiedName, Status, Text};
+use ua_values::{DataValue, Variant};
+
+/// What the server's table says that nodes depend on.
+#[derive(Clone, Copy, Debug)]
+pub struct Setting {
+    /// The highest namespace that the server has.
+    pub highest: u16,
+    /// The moment that values have.
+    pub start: Moment,
+}
+
+// The class that a word names.
+#[tactic(auto, unfolding(crate::specs::Node::class_of))]
+fn class_of(word: &str) -> Result<NodeClass, Cause>
+    ensures { Gives (λ c. c) result (class_of word.now) }
+{
+    if word == "Object" {
+        return Ok(NodeClass::Object);
+    }
+    if word == "Variable" {
+        return Ok(NodeClass::Variable);
+    }
+    if word == "ObjectType" {
+        return Ok(NodeClass::ObjectType);
+    }
+    if word == "VariableType" {
+        return Ok(NodeClass::VariableType);
+    }
+    if word == "ReferenceType" {
+        return Ok(NodeClass::ReferenceType);
+    }
+    if word == "DataType" {
+        return Ok(NodeClass::DataType);
+    }
+    Err(Cause::OutOfRange)
+}
+
+// The part has no other keys than those of its class.
+fn known(class: NodeClass, table: &Table) -> Result<(), Cause>
+    ensures { Gives (λ x. x) result (only (keys_of class) (table_view table.now)) }
+{
+    match class {
+        NodeClass::Object => only(
+            &[
+                "id",
+                "class",
+                "name",
+                "name_ns",
+                "display",
+                "description",
+                "parent",
+                "via",
+                "definition",
+            ],
+            table,
+        ),
+        NodeClass::Variable => only(
+            &[
+                "id",
+                "class",
+                "name",
+                "name_ns",
+                "display",
+                "description",
+                "parent",
+                "via",
+                "definition",
+                "type",
+                "value",
+                "access",
+                "historizing",
+            ],
+            table,
+        ),
+        NodeClass::ObjectType => only(
+            &[
+                "id",
+                "class",
+                "name",
+                "name_ns",
+                "display",
+                "description",
+                "parent",
+                "via",
+                "abstract",
+            ],
+            table,
+        ),
+        NodeClass::VariableType => only(
+            &[
+                "id",
+                "class",
+                "name",
+                "name_ns",
+                "display",
+                "description",
+                "parent",
+                "via",
+                "type",
+                "abstract",
+            ],
+            table,
+        ),
+        NodeClass::ReferenceType => only(
+            &[
+                "id",
+                "class",
+                "name",
+                "name_ns",
+                "display",
+                "description",
+                "parent",
+                "via",
+                "abstract",
+                "symmetric",
+                "inverse",
+            ],
+            table,
+        ),
+        NodeClass::DataType => only(
+            &[
+                "id",
+                "class",
+                "name",
+                "name_ns",
+                "display",
+                "description",
+                "parent",
+                "via",
+                "abstract",
+            ],
+            table,
+        ),
+    }
+}
+
+// What a node is called.
+#[derive(Drop)]
+struct Names {
+    browse_name: QualifiedName,
+    display_name: LocalizedText,
+    description: LocalizedText,
+}
+
+#[tactic(auto, unfolding(crate::specs::Node::names_of))]
+fn names_in(alloc: Global, highest: u16, namespace: u16, table: &Table) -> Result<Names, Cause>
+    requires { namespace ≤ highest }
+    ensures { Gives (λ n. n) result (names_of highest namespace (table_view table.now)) }
+{
+    let name = required_text(table, "name")?;
+    let name_ns = number_at(table, "name_ns", namespace as u64, 0, highest as u64)?;
+    let display = text_or(alloc, table, "display", name)?;
+    let description = text_or_null(alloc, table, "description")?;
+    let name = Text::from_str(alloc, name)?;
+    Ok(Names {
+        browse_name: QualifiedName {
+            namespace: name_ns as u16,
+            name,
+        },
+        display_name: LocalizedText {
+            locale: Text::null(),
+            text: display,
+        },
+        description: LocalizedText {
+            locale: Text::null(),
+            text: description,
+        },
+    })
+}
+
+// Where a node hangs: its parent, if it has one, and the type of the reference from there.
+#[derive(Drop)]
+struct Place {
+    parent: Option<NodeId>,
+    via: NodeId,
+}
+
+#[tactic(auto, unfolding(crate::specs::Node::place_of))]
+fn place_in(alloc: Global, highest: u16, table: &Table) -> Result<Place, Cause>
+    ensures { Gives (λ p. p) result (place_of highest (table_view table.now)) }
+{
+    let parent = id_if_any(alloc, highest, table, "parent")?;
+    let via = id_or(alloc, highest, table, "via", 35)?;
+    Ok(Place { parent, via })
+}
+
+// The attributes of a class, and the type definition where the class has one.
+#[derive(Drop)]
+struct Kind {
+    details: NodeDetails,
+    definition: Option<NodeId>,
+}
+
+// A value that is good since the start.
+fn value_since(start: Moment, value: Variant) -> DataValue
+    ensures { result ≡ value_since start value }
+{
+    DataValue {
+        value: Some(value),
+        status: Status::GOOD,
+        source_time: Some(start),
+        server_time: Some(start),
+    }
+}
+
+#[tactic(auto, unfolding(crate::specs::Node::type_at))]
+fn type_at(table: &Table) -> Result<ValueType, Cause>
+    ensures { Gives (λ t. t) result (type_at (table_view table.now)) }
+{
+    let word = required_word(table, "type")?;
+    type_of(word)
+}
+
+#[tactic(auto, unfolding(crate::specs::Node::variable_of))]
+fn variable_in(alloc: Global, setting: &Setting, table: &Table) -> Result<Variable, Cause>
+    ensures { Gives (λ v. v) result (variable_of setting.now (table_view table.now)) }
+{
+    let value_type = type_at(table)?;
+    let value = value_of(alloc, value_type, setting.highest, table)?;
+    let access = number_at(table, "access", 1, 0, 15)?;
+    let historizing = boolean_at(table, "historizing")?;
+    Ok(Variable {
+        data_type: value_type.number(),
+        value_rank: ValueRank::Scalar,
+        value: value_since(setting.start, value),
+        access: access as u8,
+        historizing,
+    })
+}
+
+#[tactic(auto, unfolding(crate::specs::Node::object_of))]
+fn object_in(alloc: Global, setting: &Setting, table: &Table) -> Result<Kind, Cause>
+    ensures { Gives (λ k. k) result (object_of setting.now (table_view table.now)) }
+{
+    let definition = id_or(alloc, setting.highest, table, "definition", 58)?;
+    Ok(Kind {
+        details: NodeDetails::Object,
+        definition: Some(definition),
+    })
+}
+
+#[tactic(auto, unfolding(crate::specs::Node::variable_node_of))]
+fn variable_node_in(alloc: Global, setting: &Setting, table: &Table) -> Result<Kind, Cause>
+    ensures { Gives (λ k. k) result (variable_node_of setting.now (table_view table.now)) }
+{
+    let definition = id_or(alloc, setting.highest, table, "definition", 63)?;
+    let variable = variable_in(alloc, setting, table)?;
+    Ok(Kind {
+        details: NodeDetails::Variable(variable),
+        definition: Some(definition),
+    })
+}
+
+#[tactic(auto, unfolding(crate::specs::Node::object_type_of))]
+fn object_type_in(table: &Table) -> Result<Kind, Cause>
+    ensures { Gives (λ k. k) result (object_type_of (table_view table.now)) }
+{
+    let is_abstract = boolean_at(table, "abstract")?;
+    Ok(Kind {
+        details: NodeDetails::ObjectType { is_abstract },
+        definition: None,
+    })
+}
+
+#[tactic(auto, unfolding(crate::specs::Node::variable_type_of))]
+fn variable_type_in(table: &Table) -> Result<Kind, Cause>
+    ensures { Gives (λ k. k) result (variable_type_of (table_view table.now)) }
+{
+    let value_type = type_at(table)?;
+    let is_abstract = boolean_at(table, "abstract")?;
+    Ok(Kind {
+        details: NodeDetails::VariableType {
+            data_type: value_type.number(),
+            value_rank: ValueRank::Scalar,
+            is_abstract,
+        },
+        definition: None,
+    })
+}
+
+#[tactic(auto, unfolding(crate::specs::Node::reference_type_of))]
+fn reference_type_in(alloc: Global, table: &Table) -> Result<Kind, Cause>
+    ensures { Gives (λ k. k) result (reference_type_of (table_view table.now)) }
+{
+    let is_abstract = boolean_at(table, "abstract")?;
+    let symmetric = boolean_at(table, "symmetric")?;
+    let inverse = text_or_null(alloc, table, "inverse")?;
+    Ok(Kind {
+        details: NodeDetails::ReferenceType {
+            is_abstract,
+            symmetric,
+            inverse_name: LocalizedText {
+                locale: Text::null(),
+                text: inverse,
+            },
+        },
+        definition: None,
+    })
+}
+
+#[tactic(auto, unfolding(crate::specs::Node::data_type_of))]
+fn data_type_in(table: &Table) -> Result<Kind, Cause>
+    ensures { Gives (λ k. k) result (data_type_of (table_view table.now)) }
+{
+    let is_abstract = boolean_at(table, "abstract")?;
+    Ok(Kind {
+        details: NodeDetails::DataType { is_abstract },
+        definition: None,
+    })
+}
+
+// What the class has beside the names.
+fn kind_in(alloc: Global, class: NodeClass, setting: &Setting, table: &Table) -> Result<Kind, Cause>
+    ensures { Gives (λ k. k) result (kind_of class setting.now (table_view table.now)) }
+{
+    match class {
+        NodeClass::Object => object_in(alloc, setting, table),
+        NodeClass::Variable => variable_node_in(alloc, setting, table),
+        NodeClass::ObjectType => object_type_in(table),
+        NodeClass::VariableType => variable_type_in(table),
+        NodeClass::ReferenceType => reference_type_in(alloc, table),
+        NodeClass::DataType => data_type_in(table),
+    }
+}
+
+/// A node of the file, with the references that come with it.
+#[derive(Drop)]
+pub struct Entry {
+    pub node: Node,
+    /// The reference from the parent.
+    pub parent: Option<Triple>,
+    /// The reference to the type definition.
+    pub definition: Option<Triple>,
+}
+
+fn parent_triple(
+    alloc: Global,
+    part: Part,
+    place: Place,
+    id: &NodeId,
+) -> Result<Option<Triple>, AllocError>
+    ensures { IfOk result (λ t. t ≡ parent_triple part place id.now) }
+{
+    let Place { parent, via } = place;
+    match parent {
+        None => Ok(None),
+        Some(parent) => Ok(Some(Triple {
+            source: parent,
+            reference_type: via,
+            target: id.copy(alloc)?,
+            part,
+        })),
+    }
+}
+
+fn definition_triple(
+    alloc: Global,
+    part: Part,
+    definition: Option<NodeId>,
+    id: &NodeId,
+) -> Result<Option<Triple>, AllocError>
+    ensures { IfOk result (λ t. t ≡ definition_triple part definition id.now) }
+{
+    match definition {
+        None => Ok(None),
+        Some(definition) => Ok(Some(Triple {
+            source: id.copy(alloc)?,
+            reference_type: standard_id(40),
+            target: definition,
+            part,
+        })),
+    }
+}
+
+// The entry of what was read.
+fn entry_from(
+    alloc: Global,
+    part: Part,
+    id: NodeId,
+    names: Names,
+    place: Place,
+    kind: Kind,
+) -> Result<Entry, AllocError>
+    ensures { IfOk result (λ e. e ≡ entry_from part id names place kind) }
+{
+    let parent = parent_triple(alloc, part, place, &id)?;
+    let Kind {
+        details,
+        definition,
+    } = kind;
+    let definition = definition_triple(alloc, part, definition, &id)?;
+    let Names {
+        browse_name,
+        display_name,
+        description,
+    } = names;
+    Ok(Entry {
+        node: Node {
+            id,
+            browse_name,
+            display_name,
+            description,
+            details,
+        },
+        parent,
+        definition,
+    })
+}
+
+// What follows the id and the class: first the unknown keys, and then the other keys one by one.
+#[tactic(auto, unfolding(crate::specs::Node::rest_of))]
+fn rest_in(
+    alloc: Global,
+    setting: &Setting,
+    part: Part,
+    id: NodeId,
+    class: NodeClass,
+    table: &Table,
+) -> Result<Entry, Cause>
+    requires { id.namespace ≤ setting.now.highest }
+    ensures { Gives (λ e. e) result (rest_of setting.now part id class (table_view table.now)) }
+{
+    known(class, table)?;
+    let names = names_in(alloc, setting.highest, id.namespace, table)?;
+    let place = place_in(alloc, setting.highest, table)?;
+    let kind = kind_in(alloc, class, setting, table)?;
+    Ok(entry_from(alloc, part, id, names, place, kind)?)
+}
+
+// A node: its id and its class before the rest.
+#[tactic(auto, unfolding(crate::specs::Node::node_of))]
+fn node_in(alloc: Global, setting: &Setting, part: Part, table: &Table) -> Result<Entry, Cause>
+    ensures { Gives (λ e. e) result (node_of setting.now part (table_view table.now)) }
+{
+    let id = id_at(alloc, setting.highest, table, "id")?;
+    let class = class_of(required_word(table, "class")?)?;
+    rest_in(alloc, setting, part, id, class, table)
+}
+
+/// One entry of the list.
+pub fn entry_at(alloc: Global, setting: &Setting, part: Part, value: &Value) -> Result<Entry, Cause>
+    ensures { Gives (λ e. e) result (entry_of setting.now part (as_table (view value.now))) }
+{
+    match value.as_table() {
+        Some(table) => node_in(alloc, setting, part, table),
+        None => Err(Cause::WrongKind),
+    }
+}

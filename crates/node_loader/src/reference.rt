@@ -1,0 +1,40 @@
+//! An entry of the list `reference`.
+
+ghost use Rattle.std.specs.Prelude.{◌≡◌};
+ghost use Rattle.toml.specs.Data.{as_table};
+ghost use Rattle.toml.specs.View.{table_view, view};
+ghost use Rattle.node_loader.specs.Answers.{Gives};
+ghost use Rattle.node_loader.specs.Reference.{reference_of, listed_reference_of};
+
+use crate::fault::Cause;
+use crate::ids::id_at;
+use crate::keys::only;
+use std::alloc::Global;
+use toml::{Table, Value};
+use ua_space::{Part, Triple};
+
+#[tactic(auto, unfolding(crate::specs::Reference::reference_of))]
+fn reference_in(alloc: Global, highest: u16, part: Part, table: &Table) -> Result<Triple, Cause>
+    ensures { Gives (λ t. t) result (reference_of highest part (table_view table.now)) }
+{
+    only(&["from", "type", "to"], table)?;
+    let source = id_at(alloc, highest, table, "from")?;
+    let reference_type = id_at(alloc, highest, table, "type")?;
+    let target = id_at(alloc, highest, table, "to")?;
+    Ok(Triple {
+        source,
+        reference_type,
+        target,
+        part,
+    })
+}
+
+/// One entry of the list.
+pub fn reference(alloc: Global, highest: u16, part: Part, value: &Value) -> Result<Triple, Cause>
+    ensures { Gives (λ t. t) result (listed_reference_of highest part (as_table (view value.now))) }
+{
+    match value.as_table() {
+        Some(table) => reference_in(alloc, highest, part, table),
+        None => Err(Cause::WrongKind),
+    }
+}
