@@ -4,10 +4,14 @@ ghost use Rattle.std.specs.Prelude.{◌≡◌};
 
 use crate::status::Status;
 use command_line::{Command, Stop, parse};
+use node_loader::{Cause, Loaded, load};
 use pump::{Pump, PumpFault};
 use std::alloc::Global;
-use std::io::{Read, Write};
+use std::fs;
+use std::io::{ErrorKind, Read, Write};
+use std::rt::Files;
 use ua_core::{Event, Server, StepFault};
+use ua_space::{Space, SpaceFault};
 use ua_tcp::Tap;
 use ua_types::Config;
 
@@ -41,17 +45,81 @@ fn stream<E: Write>(errors: &mut E) -> Status
     Status::Stream
 }
 
-// Hands the input to a server of the standard configuration, as its only connection, and writes the
-// server's answers.
-fn pipe<I: Read + Drop, O: Write + Drop, E: Write>(
+// The text of the file at this path, or the status of why there is none.
+fn text_of<R: Files + AllocGlobal, E: Write>(
+    rt: &R,
+    path: &str,
+    errors: &mut E,
+) -> Result<String, Status> {
+    match fs::read_to_string(rt, path) {
+        Ok(text) => Ok(text),
+        Err(error) if error.kind() == ErrorKind::OutOfMemory => Err(no_memory(errors)),
+        Err(_) => {
+            let _ = writeln!(errors, "file {path}");
+            Err(Status::File)
+        }
+    }
+}
+
+// The configuration and the address space that the text of a node file means.
+fn nodes_in<E: Write>(
     alloc: Global,
+    text: &str,
+    errors: &mut E,
+) -> Result<(Config, Space), Status> {
+    let Loaded {
+        config,
+        nodes,
+        triples,
+    } = match load(alloc, text) {
+        Ok(loaded) => loaded,
+        Err(fault) if fault.cause == Cause::Memory => return Err(no_memory(errors)),
+        Err(fault) => {
+            let _ = writeln!(errors, "nodes: {fault}");
+            return Err(Status::Nodes);
+        }
+    };
+    match Space::build(alloc, &config, nodes, triples) {
+        Ok(space) => Ok((config, space)),
+        Err(SpaceFault::Memory) => Err(no_memory(errors)),
+        Err(fault) => {
+            let _ = writeln!(errors, "nodes: {fault}");
+            Err(Status::Nodes)
+        }
+    }
+}
+
+/// Counts the nodes and the references that the text of a node file means, those that every server has
+/// included.
+pub fn check<O: Write, E: Write>(
+    alloc: Global,
+    text: &str,
+    output: &mut O,
+    errors: &mut E,
+) -> Status {
+    let (_config, space) = match nodes_in(alloc, text, errors) {
+        Ok(found) => found,
+        Err(status) => return status,
+    };
+    let nodes = space.node_count();
+    let references = space.triple_count();
+    if writeln!(output, "{nodes} nodes, {references} references").is_err()
+        || output.flush().is_err()
+    {
+        return stream(errors);
+    }
+    Status::Done
+}
+
+/// Hands the input to a server of this configuration, as its only connection, and writes the server's
+/// answers.
+pub fn pipe<I: Read + Drop, O: Write + Drop, E: Write>(
+    alloc: Global,
+    config: Config,
     input: I,
     output: O,
     errors: &mut E,
 ) -> Status {
-    let Ok(config) = Config::standard(alloc) else {
-        return no_memory(errors);
-    };
     let mut server = Server::new(alloc, config);
     let opened = Event::Opened {
         conn: CONNECTION,
@@ -69,17 +137,59 @@ fn pipe<I: Read + Drop, O: Write + Drop, E: Write>(
     }
 }
 
+// `pipe`, with the configuration of the node file at this path where there is one.
+fn pipe_with<R: Files + AllocGlobal, I: Read + Drop, O: Write + Drop, E: Write>(
+    rt: &R,
+    nodes: Option<&str>,
+    input: I,
+    output: O,
+    errors: &mut E,
+) -> Status {
+    let alloc = rt.alloc();
+    let config = match nodes {
+        None => match Config::standard(alloc) {
+            Ok(config) => config,
+            Err(_) => return no_memory(errors),
+        },
+        Some(path) => {
+            let text = match text_of(rt, path, errors) {
+                Ok(text) => text,
+                Err(status) => return status,
+            };
+            match nodes_in(alloc, text.as_str(), errors) {
+                Ok((config, _space)) => config,
+                Err(status) => return status,
+            }
+        }
+    };
+    pipe(alloc, config, input, output, errors)
+}
+
+// `check` of the node file at this path.
+fn check_at<R: Files + AllocGlobal, O: Write, E: Write>(
+    rt: &R,
+    path: &str,
+    output: &mut O,
+    errors: &mut E,
+) -> Status {
+    match text_of(rt, path, errors) {
+        Ok(text) => check(rt.alloc(), text.as_str(), output, errors),
+        Err(status) => status,
+    }
+}
+
 /// Does what these words ask for: the words after the program's name. What is asked for goes to
 /// `output`, what went wrong to `errors`, each as a line; the answer is the exit status.
-pub fn run<I: Read + Drop, O: Write + Drop, E: Write>(
-    alloc: Global,
+pub fn run<R: Files + AllocGlobal, I: Read + Drop, O: Write + Drop, E: Write>(
+    rt: &R,
     words: &[&str],
     input: I,
     mut output: O,
     errors: &mut E,
 ) -> Status {
-    match parse(alloc, words) {
-        Ok(Command::Pipe) => pipe(alloc, input, output, errors),
+    match parse(rt.alloc(), words) {
+        Ok(Command::Pipe { nodes }) => pipe_with(rt, nodes, input, output, errors),
+        Ok(Command::Check { nodes }) => check_at(rt, nodes, &mut output, errors),
         Err(Stop::Help(text)) => {
             if write!(output, "{text}").is_err() || output.flush().is_err() {
                 return stream(errors);

@@ -1,8 +1,9 @@
 //! The program `uaserver`: an OPC UA server.
 //!
-//! `uaserver pipe` serves one connection over standard input and output. What a run does stands in
-//! [`commands::run`], over texts and streams, so that tests can drive it; `main` only hands it the
-//! words of the command line and the three standard streams, and ends with its status.
+//! `uaserver pipe` serves one connection over standard input and output, and `uaserver check` counts
+//! what a node file holds. What a run does stands in [`commands::run`], over words, files and streams,
+//! so that tests can drive it; `main` only hands it the words of the command line and the three
+//! standard streams, and ends with its status.
 #![tactic(auto)]
 
 mod commands;
@@ -28,7 +29,7 @@ fn main(rt: HostRuntime) -> ExitCode {
     // Words that aren't UTF-8 name no command.
     let Ok(args) = env::args(&rt) else {
         return ExitCode::from(
-            commands::run(alloc, &["\u{fffd}"], rt.stdin(), rt.stdout(), &mut errors) as u8,
+            commands::run(&rt, &["\u{fffd}"], rt.stdin(), rt.stdout(), &mut errors) as u8,
         );
     };
     let Ok(args) = args.collect::<Vec<String>>(alloc) else {
@@ -37,13 +38,7 @@ fn main(rt: HostRuntime) -> ExitCode {
     let Some(words) = words_after_name(alloc, args.as_slice()) else {
         return ExitCode::from(commands::no_memory(&mut errors) as u8);
     };
-    let status: Status = commands::run(
-        alloc,
-        words.as_slice(),
-        rt.stdin(),
-        rt.stdout(),
-        &mut errors,
-    );
+    let status: Status = commands::run(&rt, words.as_slice(), rt.stdin(), rt.stdout(), &mut errors);
     ExitCode::from(status as u8)
 }
 

@@ -7,6 +7,10 @@ pub enum Status {
     Done = 0,
     /// The command line is none of the program's.
     Usage = 2,
+    /// A file can't be read, or isn't UTF-8.
+    File = 3,
+    /// Something is wrong with a node file.
+    Nodes = 4,
     /// Memory ran out, or the server halted.
     Halted = 5,
     /// Standard input or output failed, or the input had no end.

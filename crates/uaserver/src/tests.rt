@@ -5,4 +5,5 @@ mod commands;
 mod conversations;
 mod events;
 mod messages;
+mod node_files;
 mod streams;

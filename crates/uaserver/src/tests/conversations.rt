@@ -9,12 +9,14 @@ use crate::tests::messages::{
 use std::alloc::Global;
 use std::process::Abort;
 use std::test::Fail;
+use ua_types::Config;
 
 /// What `uaserver pipe` writes for this input.
 fn piped(rt: &impl Abort, alloc: Global, input: &[u8]) -> Result<Vec<u8>, Fail> {
     let mut output = Vec::new(alloc);
     let mut errors = Vec::new(alloc);
-    let status = commands::run(alloc, &["pipe"], input, &mut output, &mut errors);
+    let config = Config::standard(alloc)?;
+    let status = commands::pipe(alloc, config, input, &mut output, &mut errors);
     assert_eq!(rt; status, Status::Done);
     assert!(rt; errors.is_empty());
     Ok(output)
