@@ -1,5 +1,5 @@
 -- A whole node file: its version, its three parts, and what they say together.
-use Rattle.std.specs.Prelude.{◌≡◌, ◌≢◌, ℕ, ◌+◌, ℤ, pos, negsuc, List, [], ◌∷◌, ◌++◌, ◌==◌, map, length, codes, Option, Some, None, unwrap_or, Result, Ok, Err, if◌then◌else◌}
+use Rattle.std.specs.Prelude.{◌≡◌, ◌≢◌, ℕ, ◌+◌, pos, List, [], ◌∷◌, ◌++◌, ◌==◌, map, length, codes, Option, Some, None, unwrap_or, Result, Ok, Err, if◌then◌else◌}
 use Rattle.std.specs.List.{flat_map}
 use Rattle.toml.specs.Data.{Data, integer, Items, no_items, Members, no_members, get_member, as_array, as_table}
 use Rattle.toml.specs.Parse.{parse_document}

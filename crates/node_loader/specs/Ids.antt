@@ -1,5 +1,5 @@
 -- Node ids in a file: a malformed text is BadId, and a namespace that the server doesn't have is OutOfRange.
-use Rattle.std.specs.Prelude.{◌≡◌, ℕ, List, nat_le, Option, Some, None, Result, Ok, Err, if◌then◌else◌}
+use Rattle.std.specs.Prelude.{ℕ, List, nat_le, Option, Some, None, Result, Ok, Err, if◌then◌else◌}
 use Rattle.toml.specs.Data.{Members}
 use Rattle.ua_types.specs.IdTexts.{id_of}
 use Rattle.ua_types.specs.NodeIds.{numeric_id}

@@ -1,5 +1,5 @@
 -- An entry of the list `node`: for each key its name, its default and its range.
-use Rattle.std.specs.Prelude.{◌≡◌, ℕ, List, [], ◌∷◌, ◌++◌, codes, Option, Some, None, option_map, Result, Ok, Err, if◌then◌else◌}
+use Rattle.std.specs.Prelude.{ℕ, List, [], ◌∷◌, ◌++◌, codes, Option, Some, None, option_map, Result, Ok, Err, if◌then◌else◌}
 use Rattle.std.specs.Str.{bytes_eq}
 use Rattle.toml.specs.Data.{Members}
 use Rattle.ua_types.specs.NodeIds.{numeric_id}
@@ -7,10 +7,8 @@ use Rattle.ua_types.specs.declared.moment.Moment.{Moment}
 use Rattle.ua_types.specs.declared.node_id.NodeId.{NodeId}
 use Rattle.ua_values.specs.declared.data_value.DataValue.{DataValue}
 use Rattle.ua_values.specs.declared.variant.Variant.{Variant}
-use Rattle.ua_space.specs.declared.node.Node.{Node}
 use Rattle.ua_space.specs.declared.node.NodeClass.{NodeClass}
 use Rattle.ua_space.specs.declared.node.NodeClass.TheVariants as classes
-use Rattle.ua_space.specs.declared.node.NodeDetails.{NodeDetails}
 use Rattle.ua_space.specs.declared.node.NodeDetails.TheVariants as details
 use Rattle.ua_space.specs.declared.node.ValueRank.TheVariants as ranks
 use Rattle.ua_space.specs.declared.node.Variable.{Variable}

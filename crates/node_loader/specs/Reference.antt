@@ -1,5 +1,5 @@
 -- An entry of the list `reference`: three ids, all required.
-use Rattle.std.specs.Prelude.{◌≡◌, ℕ, List, [], ◌∷◌, codes, Option, Some, None, Result, Ok, Err}
+use Rattle.std.specs.Prelude.{ℕ, [], ◌∷◌, codes, Option, Some, None, Result, Ok, Err}
 use Rattle.toml.specs.Data.{Members}
 use Rattle.ua_space.specs.declared.triple.Part.{Part}
 use Rattle.ua_space.specs.declared.triple.Triple.{Triple}

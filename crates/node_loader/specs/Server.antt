@@ -1,11 +1,10 @@
 -- The table `server`: for each key its name, its default and its range.
-use Rattle.std.specs.Prelude.{◌≡◌, ℕ, suc, pos, ◌^◌, ◌≤◌, List, [], ◌∷◌, Bool, true, ◌&&◌, map, codes, length, nat_le, nat_lt, Option, Some, None, is_some, IsSome, IfSome, Result, Ok, Err, if◌then◌else◌}
+use Rattle.std.specs.Prelude.{ℕ, suc, pos, ◌^◌, ◌≤◌, List, [], ◌∷◌, Bool, true, ◌&&◌, codes, length, nat_le, nat_lt, Option, Some, None, is_some, IsSome, IfSome, Result, Ok, Err, if◌then◌else◌}
 use Rattle.toml.specs.Data.{Data, Items, no_items, item, Members, get_member, as_str, as_array}
 use Rattle.hex.specs.Hex.{decode_sized}
 use Rattle.hex.specs.declared.error.FromHexError.{FromHexError}
 use Rattle.ua_types.specs.Configuration.{Configuration, IsWithin}
 use Rattle.ua_types.specs.declared.duration.Duration.{Duration}
-use Rattle.ua_types.specs.declared.moment.Moment.{Moment}
 use Rattle.node_loader.specs.Answers.{◌>>=◌, each}
 use Rattle.node_loader.specs.declared.fault.Cause.{Cause}
 use Rattle.node_loader.specs.declared.fault.Cause.TheVariants.{WrongKind, OutOfRange}
