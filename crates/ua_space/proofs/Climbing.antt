@@ -17,7 +17,7 @@ at_get [] k x e = absurd cc
 at_get (y ∷ xs) zero x e = (omega arith, cc)
 at_get (y ∷ xs) (suc k) x e = let r = at_get xs k x e in (omega (arith, r.0), r.1)
 
-pub none_past : {X : Type 0} (xs : List X) (k : ℕ) → None ≡ slice_get xs k → k < length xs → ⊥
+none_past : {X : Type 0} (xs : List X) (k : ℕ) → None ≡ slice_get xs k → k < length xs → ⊥
 none_past [] k e lt = omega arith
 none_past (y ∷ xs) zero e lt = cc
 none_past (y ∷ xs) (suc k) e lt = none_past xs k e (omega arith)
@@ -36,6 +36,10 @@ pub any_more : {X : Type 0} (p : X → Bool) (xs : List X) (k : ℕ) (x : X) →
 any_more p xs k x e fails so_far =
     let at = at_get xs k x e in
     rw (take_more xs k x at.0, ← at.1, list_any-append p (take k xs) (x ∷ []), so_far, fails) refl
+
+-- no place is past the end
+pub past_more : {X : Type 0} (p : X → Bool) (xs : List X) (k : ℕ) → None ≡ slice_get xs k → k < length xs → list_any p (take (k + 1) xs) ≡ false
+past_more p xs k e lt = absurd (none_past xs k e lt)
 
 pick_step : {X : Type 0} (q : X → Bool) (x : X) (ys : List X) (a r : Bool) → r ≡ list_any q ys → ((a && q x) || r) ≡ list_any q (cond a (x ∷ ys) ys)
 pick_step q x ys true r e = ap (λ b. q x || b) e

@@ -2,7 +2,7 @@ use Rattle.std.proofs.Common.{◌≡◌, ◌-◌, sym, ap, ◌∙◌, take, arit
 use Rattle.std.specs.List.{list_any}
 use Rattle.std.proofs.lemmas.List.{take_all}
 use Rattle.ua_space.specs.Subtypes.{reaches}
-use Rattle.ua_space.proofs.Climbing.{reach_here, reach_none, reach_above, any_at, any_more, none_past}
+use Rattle.ua_space.proofs.Climbing.{reach_here, reach_none, reach_above, any_at, any_more, past_more}
 use Rattle.ua_space.proofs.subtypes.+reaches.Goals as goal
 use Rattle.ua_space.proofs.subtypes.+reaches.Goals.{in-None, in-Some+else-reaches}
 
@@ -27,7 +27,7 @@ loop-place-preserved t c =
     let n = c.climb-left.result.0 in
     let upper = c.args.upper.now in
     elim c.match-get.branch [
-      | in-None w ↦ absurd (none_past c.above-list.result c.loop-place.place w.in-None.ensures (omega (arith, c.len-place-end.ensures, c.loop-place-test.true)))
+      | in-None w ↦ past_more (λ x. reaches ts (n - 1) x.source upper) c.above-list.result c.loop-place.place w.in-None.ensures (omega (arith, c.len-place-end.ensures, c.loop-place-test.true))
       | in-Some+else-reaches w ↦
           any_more (λ x. reaches ts (n - 1) x.source upper) c.above-list.result c.loop-place.place w.in-Some.triple.now w.in-Some.ensures (sym w.reaches.ensures ∙ w.if-reaches.false) c.loop-place.invariant
     ]
