@@ -1,6 +1,7 @@
 //! What the commands do, over texts and streams.
 
-ghost use Rattle.std.specs.Prelude.{◌≡◌};
+ghost use Rattle.std.specs.Prelude.{◌≡◌, ◌≢◌, IfOk, IsSome, Some, None, Err};
+ghost use Rattle.uaserver.specs.NodeFiles.{space_in};
 
 use crate::status::Status;
 use command_line::{Command, Stop, parse};
@@ -62,11 +63,11 @@ fn text_of<R: Files + AllocGlobal, E: Write>(
 }
 
 // The configuration and the address space that the text of a node file means.
-fn nodes_in<E: Write>(
-    alloc: Global,
-    text: &str,
-    errors: &mut E,
-) -> Result<(Config, Space), Status> {
+fn nodes_in<E: Write>(alloc: Global, text: &str, errors: &mut E) -> Result<(Config, Space), Status>
+    ensures space { IfOk result (λ made. space_in text.now ≡ Some made.1) }
+    ensures fault { result ≡ Err Status.Nodes → space_in text.now ≡ None }
+    ensures status { result ≢ Err Status.Done }
+{
     let Loaded {
         config,
         nodes,
@@ -90,13 +91,16 @@ fn nodes_in<E: Write>(
 }
 
 /// Counts the nodes and the references that the text of a node file means, those that every server has
-/// included.
+/// included. `Done` comes only where it means an address space, and `Nodes` only where it means none.
 pub fn check<O: Write, E: Write>(
     alloc: Global,
     text: &str,
     output: &mut O,
     errors: &mut E,
-) -> Status {
+) -> Status
+    ensures done { result ≡ Status.Done → IsSome (space_in text.now) }
+    ensures nodes { result ≡ Status.Nodes → space_in text.now ≡ None }
+{
     let (_config, space) = match nodes_in(alloc, text, errors) {
         Ok(found) => found,
         Err(status) => return status,
