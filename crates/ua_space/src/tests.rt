@@ -68,6 +68,37 @@ fn fault(
     }
 }
 
+fn objects(alloc: Global, count: u32) -> Result<Vec<Node>, Fail> {
+    let mut nodes = Vec::new(alloc);
+    for number in 0..count {
+        nodes.push(node(alloc, number, NodeDetails::Object)?)?;
+    }
+    Ok(nodes)
+}
+
+// The reference from Root to Objects, which the base set has, so many times.
+fn again(alloc: Global, count: u64) -> Result<Vec<Triple>, Fail> {
+    let mut triples = Vec::new(alloc);
+    for place in 0..count {
+        triples.push(triple(base(84), 35, base(85), place))?;
+    }
+    Ok(triples)
+}
+
+#[test]
+fn limits(rt: HostRuntime) -> Result<(), Fail> {
+    let alloc = rt.alloc();
+    let most = fault(alloc, objects(alloc, 99_978)?, Vec::new(alloc))?;
+    assert_eq!(rt; most, None);
+    let more = fault(alloc, objects(alloc, 99_979)?, Vec::new(alloc))?;
+    assert_eq!(rt; more, Some(SpaceFault::Limit));
+    let most = fault(alloc, Vec::new(alloc), again(alloc, 399_971)?)?;
+    assert_eq!(rt; most, Some(SpaceFault::Duplicate(Part::Reference(0))));
+    let more = fault(alloc, Vec::new(alloc), again(alloc, 399_972)?)?;
+    assert_eq!(rt; more, Some(SpaceFault::Limit));
+    Ok(())
+}
+
 #[test]
 fn base_alone(rt: HostRuntime) -> Result<(), Fail> {
     let alloc = rt.alloc();
