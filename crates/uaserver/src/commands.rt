@@ -1,7 +1,7 @@
 //! What the commands do, over texts and streams.
 
 ghost use Rattle.std.specs.Prelude.{◌≡◌, ◌≢◌, IfOk, IsSome, Some, None, Err};
-ghost use Rattle.uaserver.specs.NodeFiles.{space_in};
+ghost use Rattle.uaserver.specs.NodeFiles.{made_in};
 
 use crate::status::Status;
 use command_line::{Command, Stop, parse};
@@ -64,8 +64,8 @@ fn text_of<R: Files + AllocGlobal, E: Write>(
 
 // The configuration and the address space that the text of a node file means.
 fn nodes_in<E: Write>(alloc: Global, text: &str, errors: &mut E) -> Result<(Config, Space), Status>
-    ensures space { IfOk result (λ made. space_in text.now ≡ Some made.1) }
-    ensures fault { result ≡ Err Status.Nodes → space_in text.now ≡ None }
+    ensures made { IfOk result (λ made. made_in text.now ≡ Some (made.0, made.1)) }
+    ensures fault { result ≡ Err Status.Nodes → made_in text.now ≡ None }
     ensures status { result ≢ Err Status.Done }
 {
     let Loaded {
@@ -98,8 +98,8 @@ pub fn check<O: Write, E: Write>(
     output: &mut O,
     errors: &mut E,
 ) -> Status
-    ensures done { result ≡ Status.Done → IsSome (space_in text.now) }
-    ensures nodes { result ≡ Status.Nodes → space_in text.now ≡ None }
+    ensures done { result ≡ Status.Done → IsSome (made_in text.now) }
+    ensures nodes { result ≡ Status.Nodes → made_in text.now ≡ None }
 {
     let (_config, space) = match nodes_in(alloc, text, errors) {
         Ok(found) => found,

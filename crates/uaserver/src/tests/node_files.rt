@@ -1,4 +1,4 @@
-//! What `check` says of node files, and `pipe` of a configuration in one.
+//! What `check` says of node files, and both commands of a file that isn't there.
 
 use crate::commands;
 use crate::status::Status;
