@@ -1,0 +1,2 @@
+pub mod ItemQueue
+pub mod Fates
