@@ -7,9 +7,7 @@ use Rattle.service_messages.specs.declared.browsing.BrowseDescription.{BrowseDes
 use Rattle.service_messages.specs.declared.browsing.BrowseRequest.{BrowseRequest}
 use Rattle.service_messages.specs.declared.browsing.ReferenceDescription.{ReferenceDescription}
 use Rattle.service_messages.specs.declared.browsing.BrowseResult.{BrowseResult}
-use Rattle.service_messages.specs.declared.browsing.BrowseResponse.{BrowseResponse}
 use Rattle.service_messages.specs.declared.browsing.BrowseNextRequest.{BrowseNextRequest}
-use Rattle.service_messages.specs.declared.browsing.BrowseNextResponse.{BrowseNextResponse}
 use Rattle.ua_binary.specs.Reading.{Reading, ◌>>=◌, done}
 use Rattle.ua_binary.specs.Numbers.{boolean_reading, boolean_encoding, number_reading, number_encoding, signed_reading, signed_encoding}
 use Rattle.ua_binary.specs.Scalars.{moment_reading, moment_encoding, status_reading, status_encoding}
@@ -19,8 +17,7 @@ use Rattle.ua_binary.specs.NodeIds.{node_id_reading, node_id_encoding}
 use Rattle.ua_binary.specs.ExpandedNodeIds.{expanded_node_id_reading, expanded_node_id_encoding}
 use Rattle.ua_binary.specs.QualifiedNames.{qualified_name_reading, qualified_name_encoding}
 use Rattle.ua_binary.specs.LocalizedTexts.{localized_text_reading, localized_text_encoding}
-use Rattle.ua_messages.specs.Diagnostics.{diagnostic_infos_reading, diagnostic_infos_encoding}
-use Rattle.ua_messages.specs.Headers.{request_header_reading, request_header_encoding, response_header_reading, response_header_encoding}
+use Rattle.ua_messages.specs.Headers.{request_header_reading, request_header_encoding}
 
 unfoldable pub browse_direction_reading : Reading BrowseDirection
 browse_direction_reading = do
@@ -136,23 +133,6 @@ browse_result_encoding v =
     ++ byte_string_encoding v.continuation_point
     ++ array_encoding reference_description_encoding v.references
 
-unfoldable pub browse_response_reading : Reading BrowseResponse
-browse_response_reading = do
-  response_header ← response_header_reading
-  results ← array_reading browse_result_reading
-  diagnostic_infos ← diagnostic_infos_reading
-  done (record {
-    response_header = response_header;
-    results = results;
-    diagnostic_infos = diagnostic_infos;
-  })
-
-unfoldable pub browse_response_encoding : BrowseResponse → List ℕ
-browse_response_encoding v =
-    response_header_encoding v.response_header
-    ++ array_encoding browse_result_encoding v.results
-    ++ diagnostic_infos_encoding v.diagnostic_infos
-
 unfoldable pub browse_next_request_reading : Reading BrowseNextRequest
 browse_next_request_reading = do
   request_header ← request_header_reading
@@ -169,20 +149,3 @@ browse_next_request_encoding v =
     request_header_encoding v.request_header
     ++ boolean_encoding v.release_continuation_points
     ++ array_encoding byte_string_encoding v.continuation_points
-
-unfoldable pub browse_next_response_reading : Reading BrowseNextResponse
-browse_next_response_reading = do
-  response_header ← response_header_reading
-  results ← array_reading browse_result_reading
-  diagnostic_infos ← diagnostic_infos_reading
-  done (record {
-    response_header = response_header;
-    results = results;
-    diagnostic_infos = diagnostic_infos;
-  })
-
-unfoldable pub browse_next_response_encoding : BrowseNextResponse → List ℕ
-browse_next_response_encoding v =
-    response_header_encoding v.response_header
-    ++ array_encoding browse_result_encoding v.results
-    ++ diagnostic_infos_encoding v.diagnostic_infos

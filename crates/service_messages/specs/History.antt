@@ -7,7 +7,6 @@ use Rattle.service_messages.specs.declared.history.HistoryData.{HistoryData}
 use Rattle.service_messages.specs.declared.history.HistoryReadValueId.{HistoryReadValueId}
 use Rattle.service_messages.specs.declared.history.HistoryReadRequest.{HistoryReadRequest}
 use Rattle.service_messages.specs.declared.history.HistoryReadResult.{HistoryReadResult}
-use Rattle.service_messages.specs.declared.history.HistoryReadResponse.{HistoryReadResponse}
 use Rattle.ua_binary.specs.Reading.{Reading, ◌>>=◌, done}
 use Rattle.ua_binary.specs.Numbers.{boolean_reading, boolean_encoding, number_reading, number_encoding}
 use Rattle.ua_binary.specs.Scalars.{moment_reading, moment_encoding, status_reading, status_encoding}
@@ -17,9 +16,8 @@ use Rattle.ua_binary.specs.NodeIds.{node_id_reading, node_id_encoding}
 use Rattle.ua_binary.specs.QualifiedNames.{qualified_name_reading, qualified_name_encoding}
 use Rattle.ua_binary.specs.ExtensionObjects.{extension_object_reading, extension_object_encoding}
 use Rattle.ua_binary.specs.DataValues.{data_value_reading, data_value_encoding}
-use Rattle.ua_messages.specs.Diagnostics.{diagnostic_infos_reading, diagnostic_infos_encoding}
 use Rattle.ua_messages.specs.Enumerations.{timestamps_to_return_reading, timestamps_to_return_encoding}
-use Rattle.ua_messages.specs.Headers.{request_header_reading, request_header_encoding, response_header_reading, response_header_encoding}
+use Rattle.ua_messages.specs.Headers.{request_header_reading, request_header_encoding}
 
 unfoldable pub read_raw_modified_details_reading : Reading ReadRawModifiedDetails
 read_raw_modified_details_reading = do
@@ -111,20 +109,3 @@ history_read_result_encoding v =
     status_encoding v.status_code
     ++ byte_string_encoding v.continuation_point
     ++ extension_object_encoding v.history_data
-
-unfoldable pub history_read_response_reading : Reading HistoryReadResponse
-history_read_response_reading = do
-  response_header ← response_header_reading
-  results ← array_reading history_read_result_reading
-  diagnostic_infos ← diagnostic_infos_reading
-  done (record {
-    response_header = response_header;
-    results = results;
-    diagnostic_infos = diagnostic_infos;
-  })
-
-unfoldable pub history_read_response_encoding : HistoryReadResponse → List ℕ
-history_read_response_encoding v =
-    response_header_encoding v.response_header
-    ++ array_encoding history_read_result_encoding v.results
-    ++ diagnostic_infos_encoding v.diagnostic_infos

@@ -1,14 +1,11 @@
 -- The service Read (IEC 62541-4, section 5, Attribute Service Set).
 use Rattle.std.specs.Prelude.{ℕ, List, ◌++◌}
 use Rattle.service_messages.specs.declared.reading.ReadRequest.{ReadRequest}
-use Rattle.service_messages.specs.declared.reading.ReadResponse.{ReadResponse}
 use Rattle.ua_binary.specs.Reading.{Reading, ◌>>=◌, done}
 use Rattle.ua_binary.specs.Scalars.{duration_reading, duration_encoding}
 use Rattle.ua_binary.specs.Arrays.{array_reading, array_encoding}
-use Rattle.ua_binary.specs.DataValues.{data_value_reading, data_value_encoding}
-use Rattle.ua_messages.specs.Diagnostics.{diagnostic_infos_reading, diagnostic_infos_encoding}
 use Rattle.ua_messages.specs.Enumerations.{timestamps_to_return_reading, timestamps_to_return_encoding}
-use Rattle.ua_messages.specs.Headers.{request_header_reading, request_header_encoding, response_header_reading, response_header_encoding}
+use Rattle.ua_messages.specs.Headers.{request_header_reading, request_header_encoding}
 use Rattle.ua_messages.specs.ReadValueIds.{read_value_id_reading, read_value_id_encoding}
 
 unfoldable pub read_request_reading : Reading ReadRequest
@@ -30,20 +27,3 @@ read_request_encoding v =
     ++ duration_encoding v.max_age
     ++ timestamps_to_return_encoding v.timestamps_to_return
     ++ array_encoding read_value_id_encoding v.nodes_to_read
-
-unfoldable pub read_response_reading : Reading ReadResponse
-read_response_reading = do
-  response_header ← response_header_reading
-  results ← array_reading data_value_reading
-  diagnostic_infos ← diagnostic_infos_reading
-  done (record {
-    response_header = response_header;
-    results = results;
-    diagnostic_infos = diagnostic_infos;
-  })
-
-unfoldable pub read_response_encoding : ReadResponse → List ℕ
-read_response_encoding v =
-    response_header_encoding v.response_header
-    ++ array_encoding data_value_encoding v.results
-    ++ diagnostic_infos_encoding v.diagnostic_infos

@@ -3,16 +3,13 @@ use Rattle.std.specs.Prelude.{ℕ, List, ◌++◌}
 use Rattle.std.specs.Int.{w32}
 use Rattle.service_messages.specs.declared.writing.WriteValue.{WriteValue}
 use Rattle.service_messages.specs.declared.writing.WriteRequest.{WriteRequest}
-use Rattle.service_messages.specs.declared.writing.WriteResponse.{WriteResponse}
 use Rattle.ua_binary.specs.Reading.{Reading, ◌>>=◌, done}
 use Rattle.ua_binary.specs.Numbers.{number_reading, number_encoding}
-use Rattle.ua_binary.specs.Scalars.{status_reading, status_encoding}
 use Rattle.ua_binary.specs.Texts.{text_reading, text_encoding}
 use Rattle.ua_binary.specs.Arrays.{array_reading, array_encoding}
 use Rattle.ua_binary.specs.NodeIds.{node_id_reading, node_id_encoding}
 use Rattle.ua_binary.specs.DataValues.{data_value_reading, data_value_encoding}
-use Rattle.ua_messages.specs.Diagnostics.{diagnostic_infos_reading, diagnostic_infos_encoding}
-use Rattle.ua_messages.specs.Headers.{request_header_reading, request_header_encoding, response_header_reading, response_header_encoding}
+use Rattle.ua_messages.specs.Headers.{request_header_reading, request_header_encoding}
 
 unfoldable pub write_value_reading : Reading WriteValue
 write_value_reading = do
@@ -44,20 +41,3 @@ unfoldable pub write_request_encoding : WriteRequest → List ℕ
 write_request_encoding v =
     request_header_encoding v.request_header
     ++ array_encoding write_value_encoding v.nodes_to_write
-
-unfoldable pub write_response_reading : Reading WriteResponse
-write_response_reading = do
-  response_header ← response_header_reading
-  results ← array_reading status_reading
-  diagnostic_infos ← diagnostic_infos_reading
-  done (record {
-    response_header = response_header;
-    results = results;
-    diagnostic_infos = diagnostic_infos;
-  })
-
-unfoldable pub write_response_encoding : WriteResponse → List ℕ
-write_response_encoding v =
-    response_header_encoding v.response_header
-    ++ array_encoding status_encoding v.results
-    ++ diagnostic_infos_encoding v.diagnostic_infos

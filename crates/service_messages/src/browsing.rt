@@ -1,10 +1,11 @@
 //! The services Browse and BrowseNext.
 
-ghost use Rattle.service_messages.specs.Browsing.{browse_direction_reading, browse_direction_encoding, node_class_reading, node_class_encoding, browse_description_reading, browse_description_encoding, browse_request_reading, browse_request_encoding, reference_description_reading, reference_description_encoding, browse_result_reading, browse_result_encoding, browse_response_reading, browse_response_encoding, browse_next_request_reading, browse_next_request_encoding, browse_next_response_reading, browse_next_response_encoding};
+ghost use Rattle.std.specs.Prelude.{⊤};
+ghost use Rattle.service_messages.specs.Browsing.{browse_direction_reading, browse_direction_encoding, node_class_reading, node_class_encoding, browse_description_reading, browse_description_encoding, browse_request_reading, browse_request_encoding, reference_description_reading, reference_description_encoding, browse_result_reading, browse_result_encoding, browse_next_request_reading, browse_next_request_encoding};
 
 use std::alloc::{AllocError, Global};
 use ua_binary::{Cursor, TakeFault, Wire};
-use ua_messages::{DiagnosticInfos, RequestHeader, ResponseHeader};
+use ua_messages::{RequestHeader, Results};
 use ua_types::{
     Array, ByteString, ExpandedNodeId, LocalizedText, Moment, NodeId, QualifiedName, Status,
 };
@@ -28,6 +29,8 @@ impl Wire for BrowseDirection {
     ghost reading = { browse_direction_reading };
 
     ghost encoding = { browse_direction_encoding };
+
+    ghost spares_memory = { λ _. ⊤ };
 
     fn decode(alloc: Global, cursor: &mut Cursor<'_>) -> Result<BrowseDirection, TakeFault> {
         Ok(BrowseDirection(i32::decode(alloc, cursor)?))
@@ -68,6 +71,8 @@ impl Wire for NodeClass {
     ghost reading = { node_class_reading };
 
     ghost encoding = { node_class_encoding };
+
+    ghost spares_memory = { λ _. ⊤ };
 
     fn decode(alloc: Global, cursor: &mut Cursor<'_>) -> Result<NodeClass, TakeFault> {
         Ok(NodeClass(i32::decode(alloc, cursor)?))
@@ -260,34 +265,7 @@ impl Wire for BrowseResult {
 }
 
 /// The response to [`BrowseRequest`], with one result for each node.
-#[derive(Debug, Drop)]
-pub struct BrowseResponse {
-    pub response_header: ResponseHeader,
-    pub results: Array<BrowseResult>,
-    pub diagnostic_infos: DiagnosticInfos,
-}
-
-#[tactic(auto, using(ua_binary::proofs::Fields::fields3), unfolding(crate::specs::Browsing::browse_response_reading, crate::specs::Browsing::browse_response_encoding))]
-impl Wire for BrowseResponse {
-    ghost reading = { browse_response_reading };
-
-    ghost encoding = { browse_response_encoding };
-
-    fn decode(alloc: Global, cursor: &mut Cursor<'_>) -> Result<BrowseResponse, TakeFault> {
-        Ok(BrowseResponse {
-            response_header: ResponseHeader::decode(alloc, cursor)?,
-            results: Array::<BrowseResult>::decode(alloc, cursor)?,
-            diagnostic_infos: DiagnosticInfos::decode(alloc, cursor)?,
-        })
-    }
-
-    fn encode(&self, out: &mut Vec<u8>) -> Result<(), AllocError> {
-        self.response_header.encode(out)?;
-        self.results.encode(out)?;
-        self.diagnostic_infos.encode(out)?;
-        Ok(())
-    }
-}
+pub type BrowseResponse = Results<BrowseResult>;
 
 /// Asks for further references, or gives them up (BrowseNext, IEC 62541-4, section 5, View Service Set).
 #[derive(Debug, Drop)]
@@ -321,31 +299,4 @@ impl Wire for BrowseNextRequest {
 }
 
 /// The response to [`BrowseNextRequest`], with one result for each point.
-#[derive(Debug, Drop)]
-pub struct BrowseNextResponse {
-    pub response_header: ResponseHeader,
-    pub results: Array<BrowseResult>,
-    pub diagnostic_infos: DiagnosticInfos,
-}
-
-#[tactic(auto, using(ua_binary::proofs::Fields::fields3), unfolding(crate::specs::Browsing::browse_next_response_reading, crate::specs::Browsing::browse_next_response_encoding))]
-impl Wire for BrowseNextResponse {
-    ghost reading = { browse_next_response_reading };
-
-    ghost encoding = { browse_next_response_encoding };
-
-    fn decode(alloc: Global, cursor: &mut Cursor<'_>) -> Result<BrowseNextResponse, TakeFault> {
-        Ok(BrowseNextResponse {
-            response_header: ResponseHeader::decode(alloc, cursor)?,
-            results: Array::<BrowseResult>::decode(alloc, cursor)?,
-            diagnostic_infos: DiagnosticInfos::decode(alloc, cursor)?,
-        })
-    }
-
-    fn encode(&self, out: &mut Vec<u8>) -> Result<(), AllocError> {
-        self.response_header.encode(out)?;
-        self.results.encode(out)?;
-        self.diagnostic_infos.encode(out)?;
-        Ok(())
-    }
-}
+pub type BrowseNextResponse = Results<BrowseResult>;

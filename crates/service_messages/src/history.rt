@@ -1,10 +1,13 @@
 //! The service HistoryRead, and the reading of raw values by it.
 
-ghost use Rattle.service_messages.specs.History.{read_raw_modified_details_reading, read_raw_modified_details_encoding, history_data_reading, history_data_encoding, history_read_value_id_reading, history_read_value_id_encoding, history_read_request_reading, history_read_request_encoding, history_read_result_reading, history_read_result_encoding, history_read_response_reading, history_read_response_encoding};
+ghost use Rattle.std.specs.Prelude.{◌≡◌, ◌<◌, ◌^◌, length, Some, IfOk, ⊤};
+ghost use Rattle.ua_messages.specs.declared.type_ids.TheConstants.{HISTORY_DATA};
+ghost use Rattle.ua_messages.specs.Structures.{object_around};
+ghost use Rattle.service_messages.specs.History.{read_raw_modified_details_reading, read_raw_modified_details_encoding, history_data_reading, history_data_encoding, history_read_value_id_reading, history_read_value_id_encoding, history_read_request_reading, history_read_request_encoding, history_read_result_reading, history_read_result_encoding};
 
 use std::alloc::{AllocError, Global};
-use ua_binary::{Cursor, TakeFault, Wire};
-use ua_messages::{DiagnosticInfos, RequestHeader, ResponseHeader, TimestampsToReturn};
+use ua_binary::{BorrowedDataValue, Cursor, TakeFault, Wire, write_list};
+use ua_messages::{RequestHeader, Results, TimestampsToReturn, object_of_bytes, type_ids};
 use ua_types::{Array, ByteString, ExtensionObject, Moment, NodeId, QualifiedName, Status, Text};
 use ua_values::DataValue;
 
@@ -29,6 +32,8 @@ impl Wire for ReadRawModifiedDetails {
     ghost reading = { read_raw_modified_details_reading };
 
     ghost encoding = { read_raw_modified_details_encoding };
+
+    ghost spares_memory = { λ _. ⊤ };
 
     fn decode(alloc: Global, cursor: &mut Cursor<'_>) -> Result<ReadRawModifiedDetails, TakeFault> {
         Ok(ReadRawModifiedDetails {
@@ -72,6 +77,20 @@ impl Wire for HistoryData {
         self.data_values.encode(out)?;
         Ok(())
     }
+}
+
+/// An object that holds [`HistoryData`] of these values, which are written where they stand.
+#[tactic(auto, unfolding(crate::specs::History::history_data_encoding))]
+pub fn history_data_object(
+    alloc: Global,
+    values: &[BorrowedDataValue<'_>],
+) -> Result<ExtensionObject, AllocError>
+    requires { length values.now < 2 ^ 31 }
+    ensures { IfOk result (λ object. object ≡ object_around HISTORY_DATA (history_data_encoding (record { data_values = Some values.now }))) }
+{
+    let mut bytes = Vec::new(alloc);
+    write_list(values, &mut bytes)?;
+    object_of_bytes(type_ids::HISTORY_DATA, bytes)
 }
 
 /// A node, and where in its history to go on (HistoryReadValueId, IEC 62541-4, section 5, HistoryRead).
@@ -182,31 +201,4 @@ impl Wire for HistoryReadResult {
 }
 
 /// The response to [`HistoryReadRequest`], with one result for each node.
-#[derive(Debug, Drop)]
-pub struct HistoryReadResponse {
-    pub response_header: ResponseHeader,
-    pub results: Array<HistoryReadResult>,
-    pub diagnostic_infos: DiagnosticInfos,
-}
-
-#[tactic(auto, using(ua_binary::proofs::Fields::fields3), unfolding(crate::specs::History::history_read_response_reading, crate::specs::History::history_read_response_encoding))]
-impl Wire for HistoryReadResponse {
-    ghost reading = { history_read_response_reading };
-
-    ghost encoding = { history_read_response_encoding };
-
-    fn decode(alloc: Global, cursor: &mut Cursor<'_>) -> Result<HistoryReadResponse, TakeFault> {
-        Ok(HistoryReadResponse {
-            response_header: ResponseHeader::decode(alloc, cursor)?,
-            results: Array::<HistoryReadResult>::decode(alloc, cursor)?,
-            diagnostic_infos: DiagnosticInfos::decode(alloc, cursor)?,
-        })
-    }
-
-    fn encode(&self, out: &mut Vec<u8>) -> Result<(), AllocError> {
-        self.response_header.encode(out)?;
-        self.results.encode(out)?;
-        self.diagnostic_infos.encode(out)?;
-        Ok(())
-    }
-}
+pub type HistoryReadResponse = Results<HistoryReadResult>;

@@ -24,7 +24,7 @@ pub use browsing::{
 };
 pub use history::{
     HistoryData, HistoryReadRequest, HistoryReadResponse, HistoryReadResult, HistoryReadValueId,
-    ReadRawModifiedDetails,
+    ReadRawModifiedDetails, history_data_object,
 };
 pub use reading::{ReadRequest, ReadResponse};
 pub use sessions::{

@@ -1,12 +1,10 @@
 //! The service Read.
 
-ghost use Rattle.service_messages.specs.Reading.{read_request_reading, read_request_encoding, read_response_reading, read_response_encoding};
+ghost use Rattle.service_messages.specs.Reading.{read_request_reading, read_request_encoding};
 
 use std::alloc::{AllocError, Global};
 use ua_binary::{Cursor, TakeFault, Wire};
-use ua_messages::{
-    DiagnosticInfos, ReadValueId, RequestHeader, ResponseHeader, TimestampsToReturn,
-};
+use ua_messages::{ReadValueId, RequestHeader, Results, TimestampsToReturn};
 use ua_types::{Array, Duration};
 use ua_values::DataValue;
 
@@ -45,31 +43,4 @@ impl Wire for ReadRequest {
 }
 
 /// The response to [`ReadRequest`], with one result for each attribute.
-#[derive(Debug, Drop)]
-pub struct ReadResponse {
-    pub response_header: ResponseHeader,
-    pub results: Array<DataValue>,
-    pub diagnostic_infos: DiagnosticInfos,
-}
-
-#[tactic(auto, using(ua_binary::proofs::Fields::fields3), unfolding(crate::specs::Reading::read_response_reading, crate::specs::Reading::read_response_encoding))]
-impl Wire for ReadResponse {
-    ghost reading = { read_response_reading };
-
-    ghost encoding = { read_response_encoding };
-
-    fn decode(alloc: Global, cursor: &mut Cursor<'_>) -> Result<ReadResponse, TakeFault> {
-        Ok(ReadResponse {
-            response_header: ResponseHeader::decode(alloc, cursor)?,
-            results: Array::<DataValue>::decode(alloc, cursor)?,
-            diagnostic_infos: DiagnosticInfos::decode(alloc, cursor)?,
-        })
-    }
-
-    fn encode(&self, out: &mut Vec<u8>) -> Result<(), AllocError> {
-        self.response_header.encode(out)?;
-        self.results.encode(out)?;
-        self.diagnostic_infos.encode(out)?;
-        Ok(())
-    }
-}
+pub type ReadResponse = Results<DataValue>;

@@ -4,9 +4,10 @@ use super::*;
 use std::alloc::Global;
 use std::process::Abort;
 use std::test::*;
-use ua_binary::{Cursor, TakeFault, Wire};
+use ua_binary::{BorrowedDataValue, TakeFault, Wire};
 use ua_messages::{
-    RequestHeader, ServiceFault, TimestampsToReturn, body, message, message_id, type_ids,
+    RequestHeader, ServiceFault, StructureFault, TimestampsToReturn, body, extension_object,
+    message, message_id, results_body, structure, type_ids,
 };
 use ua_types::{
     Array, ByteString, Duration, ExtensionObject, ExtensionObjectBody, Moment, NodeId, Status, Text,
@@ -60,15 +61,11 @@ fn round_trip<T: Wire>(rt: &impl Abort, alloc: Global, id: u32, fields: &[&[u8]]
     value
 }
 
-// The structure in an object, which is all of its body.
-fn inside<T: Wire>(rt: &impl Abort, alloc: Global, object: &ExtensionObject) -> T {
-    let bytes = match &object.body {
-        ExtensionObjectBody::Binary(bytes) => bytes.as_slice().expect(rt, "a body"),
-        _ => &[],
-    };
-    let mut cursor = Cursor::new(bytes);
-    let value = T::take(alloc, &mut cursor).expect(rt, "a structure");
-    assert!(rt; cursor.rest().is_empty());
+// The structure of this type in an object, which is written into an object again.
+fn inside<T: Wire>(rt: &impl Abort, alloc: Global, id: u32, object: &ExtensionObject) -> T {
+    let value: T = structure(alloc, id, object).expect(rt, "a structure");
+    let again = extension_object(alloc, id, &value).expect(rt, "room");
+    assert!(rt; again == *object);
     value
 }
 
@@ -85,6 +82,37 @@ fn is_count(id: &NodeId) -> bool {
 fn is_value(value: &DataValue) -> bool {
     let full = matches!(&value.value, Some(Variant::UInt16(Content::Scalar(65535))));
     full && value.status == Status::GOOD && value.source_time == Some(Moment(100))
+}
+
+// The numbers of the standard (IEC 62541-3, section 8, and IEC 62541-4, section 5, Browse).
+#[test]
+fn numbers_of_the_standard(rt: HostRuntime) {
+    for (value, number) in [
+        (BrowseDirection::FORWARD.0, 0i32),
+        (BrowseDirection::INVERSE.0, 1),
+        (BrowseDirection::BOTH.0, 2),
+        (NodeClass::UNSPECIFIED.0, 0),
+        (NodeClass::OBJECT.0, 1),
+        (NodeClass::VARIABLE.0, 2),
+        (NodeClass::METHOD.0, 4),
+        (NodeClass::OBJECT_TYPE.0, 8),
+        (NodeClass::VARIABLE_TYPE.0, 16),
+        (NodeClass::REFERENCE_TYPE.0, 32),
+        (NodeClass::DATA_TYPE.0, 64),
+        (NodeClass::VIEW.0, 128),
+    ] {
+        assert_eq!(rt; value, number);
+    }
+    for (bit, number) in [
+        (BrowseDescription::REFERENCE_TYPE, 1u32),
+        (BrowseDescription::IS_FORWARD, 2),
+        (BrowseDescription::NODE_CLASS, 4),
+        (BrowseDescription::BROWSE_NAME, 8),
+        (BrowseDescription::DISPLAY_NAME, 16),
+        (BrowseDescription::TYPE_DEFINITION, 32),
+    ] {
+        assert_eq!(rt; bit, number);
+    }
 }
 
 #[test]
@@ -107,17 +135,21 @@ fn create_session(rt: HostRuntime) {
             &NULL,
             &NULL,
             // the server's URI, the URL, the session's name
-            &NULL,
+            &[1, 0, 0, 0, b'g'],
             &[3, 0, 0, 0, b'u', b'r', b'l'],
             &[1, 0, 0, 0, b's'],
             // the nonce, the certificate, the time-out, the largest response
             &[2, 0, 0, 0, 0x0a, 0x0b],
-            &NULL,
+            &[1, 0, 0, 0, 0xcc],
             &MINUTE,
             &[0, 0, 16, 0],
         ],
     );
+    assert!(rt; request.server_uri.as_str() == Some("g"));
+    assert!(rt; request.endpoint_url.as_str() == Some("url"));
+    assert!(rt; request.session_name.as_str() == Some("s"));
     assert!(rt; request.client_nonce.as_slice() == Some([0x0a, 0x0b].as_slice()));
+    assert!(rt; request.client_certificate.as_slice() == Some([0xcc].as_slice()));
     assert!(rt; request.requested_session_timeout == Duration(MINUTE));
     assert_eq!(rt; request.max_response_message_size, 1048576);
 
@@ -135,7 +167,7 @@ fn create_session(rt: HostRuntime) {
             &MINUTE,
             // the nonce, the certificate, the endpoints, the certificates, the signature
             &[2, 0, 0, 0, 0x0c, 0x0d],
-            &NULL,
+            &[1, 0, 0, 0, 0xcd],
             &ZERO,
             &NULL,
             &NULL,
@@ -144,7 +176,9 @@ fn create_session(rt: HostRuntime) {
             &[0, 0, 16, 0],
         ],
     );
-    assert!(rt; is_count(&response.session_id));
+    assert!(rt; is_count(&response.session_id) && !is_count(&response.authentication_token));
+    assert!(rt; response.server_nonce.as_slice() == Some([0x0c, 0x0d].as_slice()));
+    assert!(rt; response.server_certificate.as_slice() == Some([0xcd].as_slice()));
     assert!(rt; !response.server_endpoints.is_null());
     assert_eq!(rt; response.max_request_message_size, 1048576);
 }
@@ -163,26 +197,35 @@ fn activate_session(rt: HostRuntime) {
             // the client's signature: no algorithm, one byte
             &NULL,
             &[1, 0, 0, 0, 0xee],
-            // one certificate of one byte, unsigned
+            // one certificate of one byte, and its signature
             &ONE,
             &[1, 0, 0, 0, 0xaa],
-            &NULL,
+            &[1, 0, 0, 0, 0xbb],
             // one locale
             &ONE,
             &[2, 0, 0, 0, b'e', b'n'],
             // an anonymous identity token, 321, whose policy is named "any"
             &[0x01, 0x00, 0x41, 0x01, 0x01, 7, 0, 0, 0],
             &[3, 0, 0, 0, b'a', b'n', b'y'],
-            // the token's signature
-            &NULL,
-            &NULL,
+            // the token's signature: an algorithm, one byte
+            &[1, 0, 0, 0, b't'],
+            &[1, 0, 0, 0, 0xdd],
         ],
     );
     assert!(rt; request.client_signature.algorithm.is_null());
+    assert!(rt; request.client_signature.signature.as_slice() == Some([0xee].as_slice()));
+    assert!(rt; request.user_token_signature.algorithm.as_str() == Some("t"));
+    assert!(rt; request.user_token_signature.signature.as_slice() == Some([0xdd].as_slice()));
     let certificate = first(&rt, &request.client_software_certificates);
     assert!(rt; certificate.certificate_data.as_slice() == Some([0xaa].as_slice()));
+    assert!(rt; certificate.signature.as_slice() == Some([0xbb].as_slice()));
     assert!(rt; first(&rt, &request.locale_ids).as_str() == Some("en"));
-    let token: AnonymousIdentityToken = inside(&rt, alloc, &request.user_identity_token);
+    let token: AnonymousIdentityToken = inside(
+        &rt,
+        alloc,
+        type_ids::ANONYMOUS_IDENTITY_TOKEN,
+        &request.user_identity_token,
+    );
     assert!(rt; token.policy_id.as_str() == Some("any"));
 
     let response: ActivateSessionResponse = round_trip(
@@ -244,7 +287,7 @@ fn browse(rt: HostRuntime) {
             // the null view, its time and version, two references a node
             &[0x00, 0x00],
             &NEVER,
-            &ZERO,
+            &[3, 0, 0, 0],
             &[2, 0, 0, 0],
             // one node: both directions, type 33 with subtypes, variables, all fields
             &ONE,
@@ -256,7 +299,7 @@ fn browse(rt: HostRuntime) {
             &[63, 0, 0, 0],
         ],
     );
-    assert_eq!(rt; request.requested_max_references_per_node, 2);
+    assert!(rt; request.view_version == 3 && request.requested_max_references_per_node == 2);
     let node = first(&rt, &request.nodes_to_browse);
     assert!(rt; is_count(&node.node_id) && node.reference_type_id == NodeId::numeric(0, 33));
     assert!(rt; node.browse_direction == BrowseDirection::BOTH && node.include_subtypes);
@@ -293,6 +336,8 @@ fn browse(rt: HostRuntime) {
     assert!(rt; result.status_code == Status::GOOD);
     let reference = first(&rt, &result.references);
     assert!(rt; reference.is_forward && is_count(&reference.node_id.node_id));
+    assert!(rt; reference.reference_type_id == NodeId::numeric(0, 47));
+    assert!(rt; reference.type_definition.node_id == NodeId::numeric(0, 63));
     assert!(rt; reference.browse_name.name.as_str() == Some("B"));
     assert!(rt; reference.display_name.text.as_str() == Some("D"));
     assert!(rt; reference.node_class == NodeClass::VARIABLE);
@@ -375,6 +420,11 @@ fn read(rt: HostRuntime) {
         ],
     );
     assert!(rt; is_value(first(&rt, &response.results)));
+    let value = Variant::UInt16(Content::Scalar(65535));
+    let borrowed = BorrowedDataValue::new(Some(&value), Status::GOOD, Some(Moment(100)), None);
+    let id = type_ids::READ_RESPONSE;
+    let written = results_body(alloc, id, &response.response_header, &[borrowed]);
+    assert!(rt; written == body(alloc, id, &response));
 }
 
 #[test]
@@ -424,9 +474,9 @@ fn history_read(rt: HostRuntime) {
             // the id, 664
             &[0x01, 0x00, 0x98, 0x02],
             &REQUEST,
-            // details, 649: the values themselves, from 400 to 100, two of them, no bounds
+            // details, 649: what was modified, from 400 to 100, two of them, no bounds
             &[0x01, 0x00, 0x89, 0x02, 0x01, 22, 0, 0, 0],
-            &[0],
+            &[1],
             &[0x90, 1, 0, 0, 0, 0, 0, 0],
             &[100, 0, 0, 0, 0, 0, 0, 0],
             &[2, 0, 0, 0],
@@ -434,20 +484,27 @@ fn history_read(rt: HostRuntime) {
             // the source's time, points are kept
             &ZERO,
             &[0],
-            // one node: all of its value, in the usual encoding, from the beginning
+            // one node: a part of its value, in the usual encoding, from a point of one byte
             &ONE,
             &COUNT,
-            &NULL,
+            &[1, 0, 0, 0, b'5'],
             &[0, 0],
             &NULL,
-            &NULL,
+            &[1, 0, 0, 0, 9],
         ],
     );
-    let details: ReadRawModifiedDetails = inside(&rt, alloc, &request.history_read_details);
+    let details: ReadRawModifiedDetails = inside(
+        &rt,
+        alloc,
+        type_ids::READ_RAW_MODIFIED_DETAILS,
+        &request.history_read_details,
+    );
     assert!(rt; details.start_time == Moment(400) && details.end_time == Moment(100));
-    assert!(rt; details.num_values_per_node == 2 && !details.return_bounds);
+    assert!(rt; details.num_values_per_node == 2);
+    assert!(rt; details.is_read_modified && !details.return_bounds);
     let node = first(&rt, &request.nodes_to_read);
-    assert!(rt; is_count(&node.node_id) && node.continuation_point.is_null());
+    assert!(rt; is_count(&node.node_id) && node.index_range.as_str() == Some("5"));
+    assert!(rt; node.continuation_point.as_slice() == Some([9].as_slice()));
 
     let response: HistoryReadResponse = round_trip(
         &rt,
@@ -468,7 +525,25 @@ fn history_read(rt: HostRuntime) {
             &NULL,
         ],
     );
-    let data: HistoryData = inside(&rt, alloc, &first(&rt, &response.results).history_data);
+    let object = &first(&rt, &response.results).history_data;
+    let data: HistoryData = inside(&rt, alloc, type_ids::HISTORY_DATA, object);
+    let value = Variant::UInt16(Content::Scalar(65535));
+    let borrowed = BorrowedDataValue::new(Some(&value), Status::GOOD, Some(Moment(100)), None);
+    let written = history_data_object(alloc, &[borrowed]).expect(&rt, "room");
+    assert!(rt; written == *object);
+    // an object of another type, one without a body, and one whose body is XML
+    let other = structure::<HistoryData>(alloc, 659, object);
+    assert!(rt; matches!(other, Err(StructureFault::OtherType)));
+    for body in [
+        ExtensionObjectBody::Absent,
+        ExtensionObjectBody::Xml(ByteString::null()),
+        ExtensionObjectBody::Binary(ByteString::null()),
+    ] {
+        let type_id = NodeId::numeric(0, type_ids::HISTORY_DATA);
+        let empty = ExtensionObject { type_id, body };
+        let read = structure::<HistoryData>(alloc, type_ids::HISTORY_DATA, &empty);
+        assert!(rt; matches!(read, Err(StructureFault::Unreadable)));
+    }
     assert!(rt; is_value(first(&rt, &data.data_values)));
 }
 

@@ -1,10 +1,10 @@
 //! The service Write.
 
-ghost use Rattle.service_messages.specs.Writing.{write_value_reading, write_value_encoding, write_request_reading, write_request_encoding, write_response_reading, write_response_encoding};
+ghost use Rattle.service_messages.specs.Writing.{write_value_reading, write_value_encoding, write_request_reading, write_request_encoding};
 
 use std::alloc::{AllocError, Global};
 use ua_binary::{Cursor, TakeFault, Wire};
-use ua_messages::{DiagnosticInfos, RequestHeader, ResponseHeader};
+use ua_messages::{RequestHeader, Results};
 use ua_types::{Array, NodeId, Status, Text};
 use ua_values::DataValue;
 
@@ -71,31 +71,4 @@ impl Wire for WriteRequest {
 }
 
 /// The response to [`WriteRequest`], with one outcome for each value.
-#[derive(Debug, Drop)]
-pub struct WriteResponse {
-    pub response_header: ResponseHeader,
-    pub results: Array<Status>,
-    pub diagnostic_infos: DiagnosticInfos,
-}
-
-#[tactic(auto, using(ua_binary::proofs::Fields::fields3), unfolding(crate::specs::Writing::write_response_reading, crate::specs::Writing::write_response_encoding))]
-impl Wire for WriteResponse {
-    ghost reading = { write_response_reading };
-
-    ghost encoding = { write_response_encoding };
-
-    fn decode(alloc: Global, cursor: &mut Cursor<'_>) -> Result<WriteResponse, TakeFault> {
-        Ok(WriteResponse {
-            response_header: ResponseHeader::decode(alloc, cursor)?,
-            results: Array::<Status>::decode(alloc, cursor)?,
-            diagnostic_infos: DiagnosticInfos::decode(alloc, cursor)?,
-        })
-    }
-
-    fn encode(&self, out: &mut Vec<u8>) -> Result<(), AllocError> {
-        self.response_header.encode(out)?;
-        self.results.encode(out)?;
-        self.diagnostic_infos.encode(out)?;
-        Ok(())
-    }
-}
+pub type WriteResponse = Results<Status>;

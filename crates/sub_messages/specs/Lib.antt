@@ -3,3 +3,4 @@ pub mod MonitoringParameters
 pub mod MonitoredItems
 pub mod Subscriptions
 pub mod Publishing
+pub mod KeptMessages

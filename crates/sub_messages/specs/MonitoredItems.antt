@@ -5,23 +5,18 @@ use Rattle.std.specs.Int.{w32}
 use Rattle.sub_messages.specs.declared.monitored_items.MonitoredItemCreateRequest.{MonitoredItemCreateRequest}
 use Rattle.sub_messages.specs.declared.monitored_items.CreateMonitoredItemsRequest.{CreateMonitoredItemsRequest}
 use Rattle.sub_messages.specs.declared.monitored_items.MonitoredItemCreateResult.{MonitoredItemCreateResult}
-use Rattle.sub_messages.specs.declared.monitored_items.CreateMonitoredItemsResponse.{CreateMonitoredItemsResponse}
 use Rattle.sub_messages.specs.declared.monitored_items.MonitoredItemModifyRequest.{MonitoredItemModifyRequest}
 use Rattle.sub_messages.specs.declared.monitored_items.ModifyMonitoredItemsRequest.{ModifyMonitoredItemsRequest}
 use Rattle.sub_messages.specs.declared.monitored_items.MonitoredItemModifyResult.{MonitoredItemModifyResult}
-use Rattle.sub_messages.specs.declared.monitored_items.ModifyMonitoredItemsResponse.{ModifyMonitoredItemsResponse}
 use Rattle.sub_messages.specs.declared.monitored_items.SetMonitoringModeRequest.{SetMonitoringModeRequest}
-use Rattle.sub_messages.specs.declared.monitored_items.SetMonitoringModeResponse.{SetMonitoringModeResponse}
 use Rattle.sub_messages.specs.declared.monitored_items.DeleteMonitoredItemsRequest.{DeleteMonitoredItemsRequest}
-use Rattle.sub_messages.specs.declared.monitored_items.DeleteMonitoredItemsResponse.{DeleteMonitoredItemsResponse}
 use Rattle.ua_binary.specs.Reading.{Reading, ◌>>=◌, done}
 use Rattle.ua_binary.specs.Numbers.{number_reading, number_encoding}
 use Rattle.ua_binary.specs.Arrays.{array_reading, array_encoding}
 use Rattle.ua_binary.specs.Scalars.{duration_reading, status_reading, duration_encoding, status_encoding}
 use Rattle.ua_binary.specs.ExtensionObjects.{extension_object_reading, extension_object_encoding}
-use Rattle.ua_messages.specs.Diagnostics.{diagnostic_infos_reading, diagnostic_infos_encoding}
 use Rattle.ua_messages.specs.Enumerations.{timestamps_to_return_reading, timestamps_to_return_encoding}
-use Rattle.ua_messages.specs.Headers.{request_header_reading, response_header_reading, request_header_encoding, response_header_encoding}
+use Rattle.ua_messages.specs.Headers.{request_header_reading, request_header_encoding}
 use Rattle.ua_messages.specs.ReadValueIds.{read_value_id_reading, read_value_id_encoding}
 use Rattle.sub_messages.specs.Enumerations.{monitoring_mode_reading, monitoring_mode_encoding}
 use Rattle.sub_messages.specs.MonitoringParameters.{monitoring_parameters_reading, monitoring_parameters_encoding}
@@ -86,23 +81,6 @@ monitored_item_create_result_encoding v =
     ++ number_encoding w32 v.revised_queue_size
     ++ extension_object_encoding v.filter_result
 
-unfoldable pub create_monitored_items_response_reading : Reading CreateMonitoredItemsResponse
-create_monitored_items_response_reading = do
-  response_header ← response_header_reading
-  results ← array_reading monitored_item_create_result_reading
-  diagnostic_infos ← diagnostic_infos_reading
-  done (record {
-    response_header = response_header;
-    results = results;
-    diagnostic_infos = diagnostic_infos;
-  })
-
-unfoldable pub create_monitored_items_response_encoding : CreateMonitoredItemsResponse → List ℕ
-create_monitored_items_response_encoding v =
-    response_header_encoding v.response_header
-    ++ array_encoding monitored_item_create_result_encoding v.results
-    ++ diagnostic_infos_encoding v.diagnostic_infos
-
 unfoldable pub monitored_item_modify_request_reading : Reading MonitoredItemModifyRequest
 monitored_item_modify_request_reading = do
   monitored_item_id ← number_reading w32
@@ -154,23 +132,6 @@ monitored_item_modify_result_encoding v =
     ++ number_encoding w32 v.revised_queue_size
     ++ extension_object_encoding v.filter_result
 
-unfoldable pub modify_monitored_items_response_reading : Reading ModifyMonitoredItemsResponse
-modify_monitored_items_response_reading = do
-  response_header ← response_header_reading
-  results ← array_reading monitored_item_modify_result_reading
-  diagnostic_infos ← diagnostic_infos_reading
-  done (record {
-    response_header = response_header;
-    results = results;
-    diagnostic_infos = diagnostic_infos;
-  })
-
-unfoldable pub modify_monitored_items_response_encoding : ModifyMonitoredItemsResponse → List ℕ
-modify_monitored_items_response_encoding v =
-    response_header_encoding v.response_header
-    ++ array_encoding monitored_item_modify_result_encoding v.results
-    ++ diagnostic_infos_encoding v.diagnostic_infos
-
 unfoldable pub set_monitoring_mode_request_reading : Reading SetMonitoringModeRequest
 set_monitoring_mode_request_reading = do
   request_header ← request_header_reading
@@ -191,23 +152,6 @@ set_monitoring_mode_request_encoding v =
     ++ monitoring_mode_encoding v.monitoring_mode
     ++ array_encoding (number_encoding w32) v.monitored_item_ids
 
-unfoldable pub set_monitoring_mode_response_reading : Reading SetMonitoringModeResponse
-set_monitoring_mode_response_reading = do
-  response_header ← response_header_reading
-  results ← array_reading status_reading
-  diagnostic_infos ← diagnostic_infos_reading
-  done (record {
-    response_header = response_header;
-    results = results;
-    diagnostic_infos = diagnostic_infos;
-  })
-
-unfoldable pub set_monitoring_mode_response_encoding : SetMonitoringModeResponse → List ℕ
-set_monitoring_mode_response_encoding v =
-    response_header_encoding v.response_header
-    ++ array_encoding status_encoding v.results
-    ++ diagnostic_infos_encoding v.diagnostic_infos
-
 unfoldable pub delete_monitored_items_request_reading : Reading DeleteMonitoredItemsRequest
 delete_monitored_items_request_reading = do
   request_header ← request_header_reading
@@ -224,20 +168,3 @@ delete_monitored_items_request_encoding v =
     request_header_encoding v.request_header
     ++ number_encoding w32 v.subscription_id
     ++ array_encoding (number_encoding w32) v.monitored_item_ids
-
-unfoldable pub delete_monitored_items_response_reading : Reading DeleteMonitoredItemsResponse
-delete_monitored_items_response_reading = do
-  response_header ← response_header_reading
-  results ← array_reading status_reading
-  diagnostic_infos ← diagnostic_infos_reading
-  done (record {
-    response_header = response_header;
-    results = results;
-    diagnostic_infos = diagnostic_infos;
-  })
-
-unfoldable pub delete_monitored_items_response_encoding : DeleteMonitoredItemsResponse → List ℕ
-delete_monitored_items_response_encoding v =
-    response_header_encoding v.response_header
-    ++ array_encoding status_encoding v.results
-    ++ diagnostic_infos_encoding v.diagnostic_infos

@@ -7,14 +7,11 @@ use Rattle.sub_messages.specs.declared.subscriptions.CreateSubscriptionResponse.
 use Rattle.sub_messages.specs.declared.subscriptions.ModifySubscriptionRequest.{ModifySubscriptionRequest}
 use Rattle.sub_messages.specs.declared.subscriptions.ModifySubscriptionResponse.{ModifySubscriptionResponse}
 use Rattle.sub_messages.specs.declared.subscriptions.SetPublishingModeRequest.{SetPublishingModeRequest}
-use Rattle.sub_messages.specs.declared.subscriptions.SetPublishingModeResponse.{SetPublishingModeResponse}
 use Rattle.sub_messages.specs.declared.subscriptions.DeleteSubscriptionsRequest.{DeleteSubscriptionsRequest}
-use Rattle.sub_messages.specs.declared.subscriptions.DeleteSubscriptionsResponse.{DeleteSubscriptionsResponse}
 use Rattle.ua_binary.specs.Reading.{Reading, ◌>>=◌, done}
 use Rattle.ua_binary.specs.Numbers.{boolean_reading, byte_reading, number_reading, boolean_encoding, byte_encoding, number_encoding}
 use Rattle.ua_binary.specs.Arrays.{array_reading, array_encoding}
-use Rattle.ua_binary.specs.Scalars.{duration_reading, status_reading, duration_encoding, status_encoding}
-use Rattle.ua_messages.specs.Diagnostics.{diagnostic_infos_reading, diagnostic_infos_encoding}
+use Rattle.ua_binary.specs.Scalars.{duration_reading, duration_encoding}
 use Rattle.ua_messages.specs.Headers.{request_header_reading, response_header_reading, request_header_encoding, response_header_encoding}
 
 unfoldable pub create_subscription_request_reading : Reading CreateSubscriptionRequest
@@ -135,23 +132,6 @@ set_publishing_mode_request_encoding v =
     ++ boolean_encoding v.publishing_enabled
     ++ array_encoding (number_encoding w32) v.subscription_ids
 
-unfoldable pub set_publishing_mode_response_reading : Reading SetPublishingModeResponse
-set_publishing_mode_response_reading = do
-  response_header ← response_header_reading
-  results ← array_reading status_reading
-  diagnostic_infos ← diagnostic_infos_reading
-  done (record {
-    response_header = response_header;
-    results = results;
-    diagnostic_infos = diagnostic_infos;
-  })
-
-unfoldable pub set_publishing_mode_response_encoding : SetPublishingModeResponse → List ℕ
-set_publishing_mode_response_encoding v =
-    response_header_encoding v.response_header
-    ++ array_encoding status_encoding v.results
-    ++ diagnostic_infos_encoding v.diagnostic_infos
-
 unfoldable pub delete_subscriptions_request_reading : Reading DeleteSubscriptionsRequest
 delete_subscriptions_request_reading = do
   request_header ← request_header_reading
@@ -162,20 +142,3 @@ unfoldable pub delete_subscriptions_request_encoding : DeleteSubscriptionsReques
 delete_subscriptions_request_encoding v =
     request_header_encoding v.request_header
     ++ array_encoding (number_encoding w32) v.subscription_ids
-
-unfoldable pub delete_subscriptions_response_reading : Reading DeleteSubscriptionsResponse
-delete_subscriptions_response_reading = do
-  response_header ← response_header_reading
-  results ← array_reading status_reading
-  diagnostic_infos ← diagnostic_infos_reading
-  done (record {
-    response_header = response_header;
-    results = results;
-    diagnostic_infos = diagnostic_infos;
-  })
-
-unfoldable pub delete_subscriptions_response_encoding : DeleteSubscriptionsResponse → List ℕ
-delete_subscriptions_response_encoding v =
-    response_header_encoding v.response_header
-    ++ array_encoding status_encoding v.results
-    ++ diagnostic_infos_encoding v.diagnostic_infos

@@ -1,6 +1,7 @@
 //! Enumerations of monitored items. On the wire each is an Int32 of which any value is read, so
 //! each is a number with names for the values that have a meaning, and not an enum.
 
+ghost use Rattle.std.specs.Prelude.{⊤};
 ghost use Rattle.sub_messages.specs.Enumerations.{monitoring_mode_reading, monitoring_mode_encoding, data_change_trigger_reading, data_change_trigger_encoding};
 
 use std::alloc::{AllocError, Global};
@@ -26,6 +27,8 @@ impl Wire for MonitoringMode {
     ghost reading = { monitoring_mode_reading };
 
     ghost encoding = { monitoring_mode_encoding };
+
+    ghost spares_memory = { λ _. ⊤ };
 
     fn decode(alloc: Global, cursor: &mut Cursor<'_>) -> Result<MonitoringMode, TakeFault> {
         Ok(MonitoringMode(i32::decode(alloc, cursor)?))
@@ -56,6 +59,8 @@ impl Wire for DataChangeTrigger {
     ghost reading = { data_change_trigger_reading };
 
     ghost encoding = { data_change_trigger_encoding };
+
+    ghost spares_memory = { λ _. ⊤ };
 
     fn decode(alloc: Global, cursor: &mut Cursor<'_>) -> Result<DataChangeTrigger, TakeFault> {
         Ok(DataChangeTrigger(i32::decode(alloc, cursor)?))

@@ -11,12 +11,14 @@
 #![tactic(auto)]
 
 mod enumerations;
+mod kept_messages;
 mod monitored_items;
 mod monitoring_parameters;
 mod publishing;
 mod subscriptions;
 
 pub use enumerations::{DataChangeTrigger, MonitoringMode};
+pub use kept_messages::{publish_body, republish_body};
 pub use monitored_items::{
     CreateMonitoredItemsRequest, CreateMonitoredItemsResponse, DeleteMonitoredItemsRequest,
     DeleteMonitoredItemsResponse, ModifyMonitoredItemsRequest, ModifyMonitoredItemsResponse,

@@ -1,14 +1,12 @@
 //! The services that make, change and delete monitored items.
 
-ghost use Rattle.sub_messages.specs.MonitoredItems.{monitored_item_create_request_reading, monitored_item_create_request_encoding, create_monitored_items_request_reading, create_monitored_items_request_encoding, monitored_item_create_result_reading, monitored_item_create_result_encoding, create_monitored_items_response_reading, create_monitored_items_response_encoding, monitored_item_modify_request_reading, monitored_item_modify_request_encoding, modify_monitored_items_request_reading, modify_monitored_items_request_encoding, monitored_item_modify_result_reading, monitored_item_modify_result_encoding, modify_monitored_items_response_reading, modify_monitored_items_response_encoding, set_monitoring_mode_request_reading, set_monitoring_mode_request_encoding, set_monitoring_mode_response_reading, set_monitoring_mode_response_encoding, delete_monitored_items_request_reading, delete_monitored_items_request_encoding, delete_monitored_items_response_reading, delete_monitored_items_response_encoding};
+ghost use Rattle.sub_messages.specs.MonitoredItems.{monitored_item_create_request_reading, monitored_item_create_request_encoding, create_monitored_items_request_reading, create_monitored_items_request_encoding, monitored_item_create_result_reading, monitored_item_create_result_encoding, monitored_item_modify_request_reading, monitored_item_modify_request_encoding, modify_monitored_items_request_reading, modify_monitored_items_request_encoding, monitored_item_modify_result_reading, monitored_item_modify_result_encoding, set_monitoring_mode_request_reading, set_monitoring_mode_request_encoding, delete_monitored_items_request_reading, delete_monitored_items_request_encoding};
 
 use crate::enumerations::MonitoringMode;
 use crate::monitoring_parameters::MonitoringParameters;
 use std::alloc::{AllocError, Global};
 use ua_binary::{Cursor, TakeFault, Wire};
-use ua_messages::{
-    DiagnosticInfos, ReadValueId, RequestHeader, ResponseHeader, TimestampsToReturn,
-};
+use ua_messages::{ReadValueId, RequestHeader, Results, TimestampsToReturn};
 use ua_types::{Array, Duration, ExtensionObject, Status};
 
 /// One item to make: an element of [`CreateMonitoredItemsRequest`].
@@ -131,37 +129,7 @@ impl Wire for MonitoredItemCreateResult {
 
 /// What became of each item, in the order of the request: the response to
 /// [`CreateMonitoredItemsRequest`].
-#[derive(Debug, Drop)]
-pub struct CreateMonitoredItemsResponse {
-    pub response_header: ResponseHeader,
-    pub results: Array<MonitoredItemCreateResult>,
-    pub diagnostic_infos: DiagnosticInfos,
-}
-
-#[tactic(auto, using(ua_binary::proofs::Fields::fields3), unfolding(crate::specs::MonitoredItems::create_monitored_items_response_reading, crate::specs::MonitoredItems::create_monitored_items_response_encoding))]
-impl Wire for CreateMonitoredItemsResponse {
-    ghost reading = { create_monitored_items_response_reading };
-
-    ghost encoding = { create_monitored_items_response_encoding };
-
-    fn decode(
-        alloc: Global,
-        cursor: &mut Cursor<'_>,
-    ) -> Result<CreateMonitoredItemsResponse, TakeFault> {
-        Ok(CreateMonitoredItemsResponse {
-            response_header: ResponseHeader::decode(alloc, cursor)?,
-            results: Array::<MonitoredItemCreateResult>::decode(alloc, cursor)?,
-            diagnostic_infos: DiagnosticInfos::decode(alloc, cursor)?,
-        })
-    }
-
-    fn encode(&self, out: &mut Vec<u8>) -> Result<(), AllocError> {
-        self.response_header.encode(out)?;
-        self.results.encode(out)?;
-        self.diagnostic_infos.encode(out)?;
-        Ok(())
-    }
-}
+pub type CreateMonitoredItemsResponse = Results<MonitoredItemCreateResult>;
 
 /// One item to change: an element of [`ModifyMonitoredItemsRequest`].
 #[derive(Debug, Drop)]
@@ -275,37 +243,7 @@ impl Wire for MonitoredItemModifyResult {
 
 /// What became of each item, in the order of the request: the response to
 /// [`ModifyMonitoredItemsRequest`].
-#[derive(Debug, Drop)]
-pub struct ModifyMonitoredItemsResponse {
-    pub response_header: ResponseHeader,
-    pub results: Array<MonitoredItemModifyResult>,
-    pub diagnostic_infos: DiagnosticInfos,
-}
-
-#[tactic(auto, using(ua_binary::proofs::Fields::fields3), unfolding(crate::specs::MonitoredItems::modify_monitored_items_response_reading, crate::specs::MonitoredItems::modify_monitored_items_response_encoding))]
-impl Wire for ModifyMonitoredItemsResponse {
-    ghost reading = { modify_monitored_items_response_reading };
-
-    ghost encoding = { modify_monitored_items_response_encoding };
-
-    fn decode(
-        alloc: Global,
-        cursor: &mut Cursor<'_>,
-    ) -> Result<ModifyMonitoredItemsResponse, TakeFault> {
-        Ok(ModifyMonitoredItemsResponse {
-            response_header: ResponseHeader::decode(alloc, cursor)?,
-            results: Array::<MonitoredItemModifyResult>::decode(alloc, cursor)?,
-            diagnostic_infos: DiagnosticInfos::decode(alloc, cursor)?,
-        })
-    }
-
-    fn encode(&self, out: &mut Vec<u8>) -> Result<(), AllocError> {
-        self.response_header.encode(out)?;
-        self.results.encode(out)?;
-        self.diagnostic_infos.encode(out)?;
-        Ok(())
-    }
-}
+pub type ModifyMonitoredItemsResponse = Results<MonitoredItemModifyResult>;
 
 /// Sets the mode of items of a subscription (SetMonitoringMode, IEC 62541-4, section 5,
 /// MonitoredItem Service Set).
@@ -346,37 +284,7 @@ impl Wire for SetMonitoringModeRequest {
 
 /// What became of each item, in the order of the request: the response to
 /// [`SetMonitoringModeRequest`].
-#[derive(Debug, Drop)]
-pub struct SetMonitoringModeResponse {
-    pub response_header: ResponseHeader,
-    pub results: Array<Status>,
-    pub diagnostic_infos: DiagnosticInfos,
-}
-
-#[tactic(auto, using(ua_binary::proofs::Fields::fields3), unfolding(crate::specs::MonitoredItems::set_monitoring_mode_response_reading, crate::specs::MonitoredItems::set_monitoring_mode_response_encoding))]
-impl Wire for SetMonitoringModeResponse {
-    ghost reading = { set_monitoring_mode_response_reading };
-
-    ghost encoding = { set_monitoring_mode_response_encoding };
-
-    fn decode(
-        alloc: Global,
-        cursor: &mut Cursor<'_>,
-    ) -> Result<SetMonitoringModeResponse, TakeFault> {
-        Ok(SetMonitoringModeResponse {
-            response_header: ResponseHeader::decode(alloc, cursor)?,
-            results: Array::<Status>::decode(alloc, cursor)?,
-            diagnostic_infos: DiagnosticInfos::decode(alloc, cursor)?,
-        })
-    }
-
-    fn encode(&self, out: &mut Vec<u8>) -> Result<(), AllocError> {
-        self.response_header.encode(out)?;
-        self.results.encode(out)?;
-        self.diagnostic_infos.encode(out)?;
-        Ok(())
-    }
-}
+pub type SetMonitoringModeResponse = Results<Status>;
 
 /// Deletes items of a subscription (DeleteMonitoredItems, IEC 62541-4, section 5, MonitoredItem
 /// Service Set).
@@ -414,34 +322,4 @@ impl Wire for DeleteMonitoredItemsRequest {
 
 /// What became of each item, in the order of the request: the response to
 /// [`DeleteMonitoredItemsRequest`].
-#[derive(Debug, Drop)]
-pub struct DeleteMonitoredItemsResponse {
-    pub response_header: ResponseHeader,
-    pub results: Array<Status>,
-    pub diagnostic_infos: DiagnosticInfos,
-}
-
-#[tactic(auto, using(ua_binary::proofs::Fields::fields3), unfolding(crate::specs::MonitoredItems::delete_monitored_items_response_reading, crate::specs::MonitoredItems::delete_monitored_items_response_encoding))]
-impl Wire for DeleteMonitoredItemsResponse {
-    ghost reading = { delete_monitored_items_response_reading };
-
-    ghost encoding = { delete_monitored_items_response_encoding };
-
-    fn decode(
-        alloc: Global,
-        cursor: &mut Cursor<'_>,
-    ) -> Result<DeleteMonitoredItemsResponse, TakeFault> {
-        Ok(DeleteMonitoredItemsResponse {
-            response_header: ResponseHeader::decode(alloc, cursor)?,
-            results: Array::<Status>::decode(alloc, cursor)?,
-            diagnostic_infos: DiagnosticInfos::decode(alloc, cursor)?,
-        })
-    }
-
-    fn encode(&self, out: &mut Vec<u8>) -> Result<(), AllocError> {
-        self.response_header.encode(out)?;
-        self.results.encode(out)?;
-        self.diagnostic_infos.encode(out)?;
-        Ok(())
-    }
-}
+pub type DeleteMonitoredItemsResponse = Results<Status>;

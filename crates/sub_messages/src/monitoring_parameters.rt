@@ -1,5 +1,6 @@
 //! How a monitored item takes and keeps its values.
 
+ghost use Rattle.std.specs.Prelude.{⊤};
 ghost use Rattle.sub_messages.specs.MonitoringParameters.{monitoring_parameters_reading, monitoring_parameters_encoding, data_change_filter_reading, data_change_filter_encoding};
 
 use crate::enumerations::DataChangeTrigger;
@@ -72,6 +73,8 @@ impl Wire for DataChangeFilter {
     ghost reading = { data_change_filter_reading };
 
     ghost encoding = { data_change_filter_encoding };
+
+    ghost spares_memory = { λ _. ⊤ };
 
     fn decode(alloc: Global, cursor: &mut Cursor<'_>) -> Result<DataChangeFilter, TakeFault> {
         Ok(DataChangeFilter {

@@ -1,5 +1,6 @@
 //! The services Publish and Republish, and the messages that they bring.
 
+ghost use Rattle.std.specs.Prelude.{⊤};
 ghost use Rattle.sub_messages.specs.Publishing.{subscription_acknowledgement_reading, subscription_acknowledgement_encoding, publish_request_reading, publish_request_encoding, notification_message_reading, notification_message_encoding, publish_response_reading, publish_response_encoding, monitored_item_notification_reading, monitored_item_notification_encoding, data_change_notification_reading, data_change_notification_encoding, status_change_notification_reading, status_change_notification_encoding, republish_request_reading, republish_request_encoding, republish_response_reading, republish_response_encoding};
 
 use std::alloc::{AllocError, Global};
@@ -22,6 +23,8 @@ impl Wire for SubscriptionAcknowledgement {
     ghost reading = { subscription_acknowledgement_reading };
 
     ghost encoding = { subscription_acknowledgement_encoding };
+
+    ghost spares_memory = { λ _. ⊤ };
 
     fn decode(
         alloc: Global,
@@ -224,6 +227,8 @@ impl Wire for StatusChangeNotification {
     ghost reading = { status_change_notification_reading };
 
     ghost encoding = { status_change_notification_encoding };
+
+    ghost spares_memory = { λ _. ⊤ };
 
     fn decode(
         alloc: Global,

@@ -1,10 +1,10 @@
 //! The services that make, change and delete subscriptions.
 
-ghost use Rattle.sub_messages.specs.Subscriptions.{create_subscription_request_reading, create_subscription_request_encoding, create_subscription_response_reading, create_subscription_response_encoding, modify_subscription_request_reading, modify_subscription_request_encoding, modify_subscription_response_reading, modify_subscription_response_encoding, set_publishing_mode_request_reading, set_publishing_mode_request_encoding, set_publishing_mode_response_reading, set_publishing_mode_response_encoding, delete_subscriptions_request_reading, delete_subscriptions_request_encoding, delete_subscriptions_response_reading, delete_subscriptions_response_encoding};
+ghost use Rattle.sub_messages.specs.Subscriptions.{create_subscription_request_reading, create_subscription_request_encoding, create_subscription_response_reading, create_subscription_response_encoding, modify_subscription_request_reading, modify_subscription_request_encoding, modify_subscription_response_reading, modify_subscription_response_encoding, set_publishing_mode_request_reading, set_publishing_mode_request_encoding, delete_subscriptions_request_reading, delete_subscriptions_request_encoding};
 
 use std::alloc::{AllocError, Global};
 use ua_binary::{Cursor, TakeFault, Wire};
-use ua_messages::{DiagnosticInfos, RequestHeader, ResponseHeader};
+use ua_messages::{RequestHeader, ResponseHeader, Results};
 use ua_types::{Array, Duration, Status};
 
 /// Asks for a subscription (CreateSubscription, IEC 62541-4, section 5, Subscription Service Set).
@@ -221,37 +221,7 @@ impl Wire for SetPublishingModeRequest {
 
 /// What became of each subscription, in the order of the request: the response to
 /// [`SetPublishingModeRequest`].
-#[derive(Debug, Drop)]
-pub struct SetPublishingModeResponse {
-    pub response_header: ResponseHeader,
-    pub results: Array<Status>,
-    pub diagnostic_infos: DiagnosticInfos,
-}
-
-#[tactic(auto, using(ua_binary::proofs::Fields::fields3), unfolding(crate::specs::Subscriptions::set_publishing_mode_response_reading, crate::specs::Subscriptions::set_publishing_mode_response_encoding))]
-impl Wire for SetPublishingModeResponse {
-    ghost reading = { set_publishing_mode_response_reading };
-
-    ghost encoding = { set_publishing_mode_response_encoding };
-
-    fn decode(
-        alloc: Global,
-        cursor: &mut Cursor<'_>,
-    ) -> Result<SetPublishingModeResponse, TakeFault> {
-        Ok(SetPublishingModeResponse {
-            response_header: ResponseHeader::decode(alloc, cursor)?,
-            results: Array::<Status>::decode(alloc, cursor)?,
-            diagnostic_infos: DiagnosticInfos::decode(alloc, cursor)?,
-        })
-    }
-
-    fn encode(&self, out: &mut Vec<u8>) -> Result<(), AllocError> {
-        self.response_header.encode(out)?;
-        self.results.encode(out)?;
-        self.diagnostic_infos.encode(out)?;
-        Ok(())
-    }
-}
+pub type SetPublishingModeResponse = Results<Status>;
 
 /// Deletes subscriptions (DeleteSubscriptions, IEC 62541-4, section 5, Subscription Service Set).
 #[derive(Debug, Drop)]
@@ -285,34 +255,4 @@ impl Wire for DeleteSubscriptionsRequest {
 
 /// What became of each subscription, in the order of the request: the response to
 /// [`DeleteSubscriptionsRequest`].
-#[derive(Debug, Drop)]
-pub struct DeleteSubscriptionsResponse {
-    pub response_header: ResponseHeader,
-    pub results: Array<Status>,
-    pub diagnostic_infos: DiagnosticInfos,
-}
-
-#[tactic(auto, using(ua_binary::proofs::Fields::fields3), unfolding(crate::specs::Subscriptions::delete_subscriptions_response_reading, crate::specs::Subscriptions::delete_subscriptions_response_encoding))]
-impl Wire for DeleteSubscriptionsResponse {
-    ghost reading = { delete_subscriptions_response_reading };
-
-    ghost encoding = { delete_subscriptions_response_encoding };
-
-    fn decode(
-        alloc: Global,
-        cursor: &mut Cursor<'_>,
-    ) -> Result<DeleteSubscriptionsResponse, TakeFault> {
-        Ok(DeleteSubscriptionsResponse {
-            response_header: ResponseHeader::decode(alloc, cursor)?,
-            results: Array::<Status>::decode(alloc, cursor)?,
-            diagnostic_infos: DiagnosticInfos::decode(alloc, cursor)?,
-        })
-    }
-
-    fn encode(&self, out: &mut Vec<u8>) -> Result<(), AllocError> {
-        self.response_header.encode(out)?;
-        self.results.encode(out)?;
-        self.diagnostic_infos.encode(out)?;
-        Ok(())
-    }
-}
+pub type DeleteSubscriptionsResponse = Results<Status>;

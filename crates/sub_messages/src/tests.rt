@@ -2,9 +2,11 @@ use super::*;
 use std::alloc::Global;
 use std::process::Abort;
 use std::test::*;
-use ua_binary::{Cursor, Wire};
-use ua_messages::{TimestampsToReturn, body, message, message_id, type_ids};
-use ua_types::{ExtensionObject, ExtensionObjectBody, Moment, NodeId, Status};
+use ua_binary::Wire;
+use ua_messages::{
+    TimestampsToReturn, body, extension_object, message, message_id, structure, type_ids,
+};
+use ua_types::{ExtensionObject, Moment, NodeId, Status};
 use ua_values::{Content, Variant};
 
 // The bytes are laid out by hand from the standard's lists of fields, a piece for a field.
@@ -70,18 +72,24 @@ fn inside<T: Wire>(
     type_id: u32,
     object: &ExtensionObject,
 ) -> Result<T, Fail> {
-    assert!(rt; object.type_id == NodeId::numeric(0, type_id));
-    let bytes = match &object.body {
-        ExtensionObjectBody::Binary(bytes) => bytes.as_slice().ok_or("null")?,
-        _ => return Err(Fail::from("no bytes")),
-    };
-    let mut cursor = Cursor::new(bytes);
-    let value = T::take(alloc, &mut cursor)?;
-    assert!(rt; cursor.rest().is_empty());
-    let mut again = Vec::new(alloc);
-    value.put(&mut again)?;
-    assert_eq!(rt; again.as_slice(), bytes);
+    let value: T = structure(alloc, type_id, object)?;
+    assert!(rt; extension_object(alloc, type_id, &value)? == *object);
     Ok(value)
+}
+
+// The numbers of the standard (IEC 62541-4, section 7).
+#[test]
+fn enumerations_are_those_of_the_standard(rt: HostRuntime) {
+    for (value, number) in [
+        (MonitoringMode::DISABLED.0, 0i32),
+        (MonitoringMode::SAMPLING.0, 1),
+        (MonitoringMode::REPORTING.0, 2),
+        (DataChangeTrigger::STATUS.0, 0),
+        (DataChangeTrigger::STATUS_VALUE.0, 1),
+        (DataChangeTrigger::STATUS_VALUE_TIMESTAMP.0, 2),
+    ] {
+        assert_eq!(rt; value, number);
+    }
 }
 
 #[test]
@@ -159,6 +167,7 @@ fn requests_on_items(rt: HostRuntime) -> Result<(), Fail> {
                     items.len() == 1
                         && items[0].monitored_item_id == 5
                         && items[0].requested_parameters.client_handle == 43
+                        && items[0].requested_parameters.queue_size == 1
                 })
         },
     )?;
@@ -303,6 +312,7 @@ fn requests_on_subscriptions(rt: HostRuntime) -> Result<(), Fail> {
                 && modify.requested_lifetime_count == 30
                 && modify.requested_max_keep_alive_count == 10
                 && modify.max_notifications_per_publish == 5
+                && modify.priority == 200
         },
     )?;
     is_taken(
@@ -401,6 +411,8 @@ fn requests_of_publishing(rt: HostRuntime) -> Result<(), Fail> {
                 messages.len() == 2
                     && messages[0].subscription_id == 8
                     && messages[0].sequence_number == 3
+                    && messages[1].subscription_id == 9
+                    && messages[1].sequence_number == 1
             })
         },
     )?;
@@ -462,6 +474,12 @@ fn time_out_notification(rt: HostRuntime) -> Result<(), Fail> {
         &notifications[0],
     )?;
     assert!(rt; notification.status == Status::BAD_TIMEOUT);
+    let mut message = Vec::new(alloc);
+    response.notification_message.put(&mut message)?;
+    let header = &response.response_header;
+    let message = message.as_slice();
+    let around = publish_body(alloc, header, 8, &[3, 4], false, message, &[Status::GOOD])?;
+    assert!(rt; around == body(alloc, type_ids::PUBLISH_RESPONSE, &response)?);
     Ok(())
 }
 
@@ -491,6 +509,10 @@ fn data_change_notification(rt: HostRuntime) -> Result<(), Fail> {
         ],
     )?;
     let message = &response.notification_message;
+    let mut bytes = Vec::new(alloc);
+    message.put(&mut bytes)?;
+    let around = republish_body(alloc, &response.response_header, bytes.as_slice())?;
+    assert!(rt; around == body(alloc, type_ids::REPUBLISH_RESPONSE, &response)?);
     assert_eq!(rt; message.sequence_number, 3);
     assert_eq!(rt; message.publish_time, Moment(100));
     let notifications = message.notification_data.as_slice().ok_or("null")?;

@@ -1,6 +1,6 @@
 -- Texts and byte strings (IEC 62541-6, 5.2.2.4 and 5.2.2.7): an Int32 length, and so many bytes.
 -- A negative length, which is 2 ^ 31 or more as an unsigned one, means null; null is written as -1.
-use Rattle.std.specs.Prelude.{ℕ, ◌^◌, ◌<◌, ◌≡◌, List, ◌++◌, length, Option, Some, None, Ok, nat_le, if◌then◌else◌}
+use Rattle.std.specs.Prelude.{ℕ, ◌^◌, ◌<◌, ◌≤◌, ◌≡◌, List, ◌++◌, length, Option, Some, None, Ok, nat_le, if◌then◌else◌}
 use Rattle.std.specs.Int.{w32}
 use Rattle.std.specs.Str.{is_utf8}
 use Rattle.ua_binary.specs.declared.fault.TakeFault.TheVariants.{Utf8}
@@ -31,6 +31,13 @@ byte_string_encoding (Some bytes) = number_encoding w32 (length bytes) ++ bytes
 -- a text is written as its bytes are
 abbrev pub text_encoding : Option (List ℕ) → List ℕ
 text_encoding = byte_string_encoding
+
+-- A length stands here, and at least so many bytes after it.
+pub record IsBacked (bytes : List ℕ) : Type 0 where
+  pub count : ℕ
+  pub rest : List ℕ
+  pub read : number_reading w32 bytes ≡ Ok (count, rest)
+  pub there : count ≤ length rest
 
 -- A length stands here, is not that of null, and is above the number of bytes after it.
 pub record ClaimsTooMany (bytes : List ℕ) : Type 0 where

@@ -11,6 +11,7 @@ use crate::cursor::Cursor;
 use crate::fault::TakeFault;
 use crate::texts::NULL;
 use crate::wire::Wire;
+use crate::written::Written;
 use std::alloc::{AllocError, Global};
 use ua_types::Array;
 
@@ -34,29 +35,29 @@ fn elements<T: Wire>(
 }
 
 #[tactic(auto, using(crate::proofs::Extending::extends_more))]
-fn encode_all<T: Wire>(items: &[T], out: &mut Vec<u8>) -> Result<(), AllocError>
-    ensures ok { OnOk result (out.new.items ≡ out.old.items ++ flat_map T.encoding items.now) }
+fn write_all<W: Written>(items: &[W], out: &mut Vec<u8>) -> Result<(), AllocError>
+    ensures ok { OnOk result (out.new.items ≡ out.old.items ++ flat_map W.encoding items.now) }
     ensures err { OnErr result (Extends out.old.items out.new.items) }
-    ensures again { OnOk result (All (IsReadAgain T.reading T.encoding) items.now) }
-    ensures some { OnOk result (length items.now ≤ length (flat_map T.encoding items.now)) }
+    ensures again { OnOk result (All (IsReadAgain W.reading W.encoding) items.now) }
+    ensures some { OnOk result (length items.now ≤ length (flat_map W.encoding items.now)) }
 {
     for item in items {
-        item.encode(out)?;
+        item.write(out)?;
     }
     Ok(())
 }
 
-// Writes a list that isn't null.
+/// Writes a list that isn't null, as [`Array`] is written. At an `Err` a part of it is written.
 #[tactic(auto, using(crate::proofs::Elements::array_again, crate::proofs::Extending::extends_more), unfolding(crate::specs::Arrays::array_encoding))]
-pub(crate) fn encode_slice<T: Wire>(items: &[T], out: &mut Vec<u8>) -> Result<(), AllocError>
+pub fn write_list<W: Written>(items: &[W], out: &mut Vec<u8>) -> Result<(), AllocError>
     requires { length items.now < 2 ^ 31 }
-    ensures ok { OnOk result (out.new.items ≡ out.old.items ++ array_encoding T.encoding (Some items.now)) }
+    ensures ok { OnOk result (out.new.items ≡ out.old.items ++ array_encoding W.encoding (Some items.now)) }
     ensures err { OnErr result (Extends out.old.items out.new.items) }
-    ensures again { OnOk result (IsReadAgain (array_reading T.reading) (array_encoding T.encoding) (Some items.now)) }
-    ensures some { OnOk result (0 < length (array_encoding T.encoding (Some items.now))) }
+    ensures again { OnOk result (IsReadAgain (array_reading W.reading) (array_encoding W.encoding) (Some items.now)) }
+    ensures some { OnOk result (0 < length (array_encoding W.encoding (Some items.now))) }
 {
     (items.len() as u32).encode(out)?;
-    encode_all(items, out)?;
+    write_all(items, out)?;
     Ok(())
 }
 
@@ -66,24 +67,26 @@ impl<T: Wire> Wire for Array<T> {
 
     ghost encoding = { array_encoding T.encoding };
 
-    ghost overclaims = { ClaimsTooMany };
+    ghost spares_memory = { ClaimsTooMany };
 
     fn decode(alloc: Global, cursor: &mut Cursor<'_>) -> Result<Array<T>, TakeFault> {
-        let len = cursor.number()?;
-        if len >= 1 << 31 {
-            return Ok(Array::null());
-        }
-        let len = len as usize;
-        if cursor.rest().len() < len {
+        let mut at = Cursor::new(cursor.rest());
+        let len = at.number()?;
+        let list = if len >= 1 << 31 {
+            Array::null()
+        } else if at.rest().len() < len as usize {
             return Err(TakeFault::Length);
-        }
-        Ok(Array::new(elements(alloc, len, cursor)?))
+        } else {
+            Array::new(elements(alloc, len as usize, &mut at)?)
+        };
+        *cursor = at;
+        Ok(list)
     }
 
     fn encode(&self, out: &mut Vec<u8>) -> Result<(), AllocError> {
         match self.as_slice() {
             None => NULL.encode(out),
-            Some(items) => encode_slice(items, out),
+            Some(items) => write_list(items, out),
         }
     }
 }

@@ -1,16 +1,58 @@
 //! Values with their status and times.
 
-ghost use Rattle.std.specs.Prelude.{◌≡◌, ◌<◌, ◌++◌, is_some, ℕ, List, Ok, OnOk, OnErr};
+ghost use Rattle.std.specs.Prelude.{◌≡◌, ◌<◌, ◌++◌, is_some, ℕ, List, Ok, Err, OnOk, OnErr, option_map};
+ghost use Rattle.ua_binary.specs.declared.fault.TakeFault.TheVariants.{Memory};
 ghost use Rattle.ua_binary.specs.Reading.{Reads, Extends};
+ghost use Rattle.ua_binary.specs.Texts.{IsBacked};
 ghost use Rattle.ua_binary.specs.Parts.{flag};
 ghost use Rattle.ua_binary.specs.DataValues.{optional_reading, optional_encoding, data_value_reading, data_value_encoding};
 
 use crate::cursor::Cursor;
 use crate::fault::TakeFault;
 use crate::wire::Wire;
+use crate::written::Written;
 use std::alloc::{AllocError, Global};
+use std::marker::Model;
 use ua_types::{Moment, Status};
 use ua_values::{DataValue, Variant};
+
+/// A value with its status and times, where the value is borrowed: what is stored is written without a
+/// copy, and with the times that an answer is to have. Contracts see it as the [`DataValue`].
+#[derive(Debug, Drop)]
+pub struct BorrowedDataValue<'a> {
+    value: Option<&'a Variant>,
+    status: Status,
+    source_time: Option<Moment>,
+    server_time: Option<Moment>,
+}
+
+impl<'a> Model for BorrowedDataValue<'a> {
+    ghost use Rattle.std.specs.Prelude.{option_map};
+    ghost use Rattle.ua_values.specs.declared.data_value.DataValue.{DataValue};
+
+    ghost Value = { DataValue };
+
+    ghost view = { λ v. record { value = option_map (λ x. x.now) v.value; status = v.status; source_time = v.source_time; server_time = v.server_time } };
+}
+
+impl<'a> BorrowedDataValue<'a> {
+    /// A data value of these parts.
+    pub fn new(
+        value: Option<&'a Variant>,
+        status: Status,
+        source_time: Option<Moment>,
+        server_time: Option<Moment>,
+    ) -> BorrowedDataValue<'a>
+        ensures { result ≡ record { value = option_map (λ x. x.now) value.entry; status = status; source_time = source_time; server_time = server_time } }
+    {
+        BorrowedDataValue {
+            value,
+            status,
+            source_time,
+            server_time,
+        }
+    }
+}
 
 // Reads a part where its bit is set.
 #[tactic(auto, unfolding(crate::specs::DataValues::optional_reading))]
@@ -19,7 +61,8 @@ fn decode_where_set<T: Wire>(
     bit: u8,
     cursor: &mut Cursor<'_>,
 ) -> Result<Option<T>, TakeFault>
-    ensures { Reads result cursor.new (optional_reading bit T.reading cursor.old) }
+    ensures reads { Reads result cursor.new (optional_reading bit T.reading cursor.old) }
+    ensures backed { result ≡ Err Memory → IsBacked cursor.new }
 {
     if bit == 0 {
         return Ok(None);
@@ -28,8 +71,8 @@ fn decode_where_set<T: Wire>(
 }
 
 // 1 for a part that is there.
-fn bit<T>(part: &Option<T>) -> u8
-    ensures bit { result ≡ flag (is_some part.now) }
+fn bit<T>(part: Option<&T>) -> u8
+    ensures bit { result ≡ flag (is_some part.entry) }
     ensures small { result < 2 }
 {
     match part {
@@ -40,10 +83,10 @@ fn bit<T>(part: &Option<T>) -> u8
 
 // Writes a part that is there.
 #[tactic(auto, unfolding(crate::specs::DataValues::optional_reading, crate::specs::DataValues::optional_encoding))]
-fn encode_if_some<T: Wire>(part: &Option<T>, out: &mut Vec<u8>) -> Result<(), AllocError>
-    ensures ok { OnOk result (out.new.items ≡ out.old.items ++ optional_encoding T.encoding part.now) }
+fn encode_if_some<T: Wire>(part: Option<&T>, out: &mut Vec<u8>) -> Result<(), AllocError>
+    ensures ok { OnOk result (out.new.items ≡ out.old.items ++ optional_encoding T.encoding (option_map (λ p. p.now) part.entry)) }
     ensures err { OnErr result (Extends out.old.items out.new.items) }
-    ensures again { OnOk result ((x : List ℕ) → optional_reading (flag (is_some part.now)) T.reading (optional_encoding T.encoding part.now ++ x) ≡ Ok (part.now, x)) }
+    ensures again { OnOk result ((x : List ℕ) → optional_reading (flag (is_some part.entry)) T.reading (optional_encoding T.encoding (option_map (λ p. p.now) part.entry) ++ x) ≡ Ok (option_map (λ p. p.now) part.entry, x)) }
 {
     match part {
         None => Ok(()),
@@ -55,6 +98,30 @@ fn encode_if_some<T: Wire>(part: &Option<T>, out: &mut Vec<u8>) -> Result<(), Al
 }
 
 #[tactic(auto, using(crate::proofs::Extending::extends_more, crate::proofs::Masks::data_value_again), unfolding(crate::specs::DataValues::data_value_reading, crate::specs::DataValues::data_value_encoding))]
+impl Written for BorrowedDataValue<'_> {
+    ghost reading = { data_value_reading };
+
+    ghost encoding = { data_value_encoding };
+
+    fn write(&self, out: &mut Vec<u8>) -> Result<(), AllocError> {
+        let status = if self.status.0 == 0 {
+            None
+        } else {
+            Some(&self.status)
+        };
+        let source_time = self.source_time.as_ref();
+        let server_time = self.server_time.as_ref();
+        let times = 4 * bit(source_time) + 8 * bit(server_time);
+        (bit(self.value) + 2 * bit(status) + times).encode(out)?;
+        encode_if_some(self.value, out)?;
+        encode_if_some(status, out)?;
+        encode_if_some(source_time, out)?;
+        encode_if_some(server_time, out)?;
+        Ok(())
+    }
+}
+
+#[tactic(auto, unfolding(crate::specs::DataValues::data_value_reading))]
 impl Wire for DataValue {
     ghost reading = { data_value_reading };
 
@@ -77,17 +144,12 @@ impl Wire for DataValue {
     }
 
     fn encode(&self, out: &mut Vec<u8>) -> Result<(), AllocError> {
-        let status = if self.status.0 == 0 {
-            None
-        } else {
-            Some(self.status)
-        };
-        let times = 4 * bit(&self.source_time) + 8 * bit(&self.server_time);
-        (bit(&self.value) + 2 * bit(&status) + times).encode(out)?;
-        encode_if_some(&self.value, out)?;
-        encode_if_some(&status, out)?;
-        encode_if_some(&self.source_time, out)?;
-        encode_if_some(&self.server_time, out)?;
-        Ok(())
+        BorrowedDataValue::new(
+            self.value.as_ref(),
+            self.status,
+            self.source_time,
+            self.server_time,
+        )
+        .write(out)
     }
 }

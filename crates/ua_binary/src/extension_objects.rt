@@ -1,7 +1,9 @@
 //! Structures of any type.
 
-ghost use Rattle.std.specs.Prelude.{◌≡◌};
+ghost use Rattle.std.specs.Prelude.{◌≡◌, Err};
+ghost use Rattle.ua_binary.specs.declared.fault.TakeFault.TheVariants.{Memory};
 ghost use Rattle.ua_binary.specs.Reading.{Reads};
+ghost use Rattle.ua_binary.specs.Texts.{IsBacked};
 ghost use Rattle.ua_binary.specs.ExtensionObjects.{body_reading, extension_object_reading, extension_object_encoding};
 
 use crate::cursor::Cursor;
@@ -16,7 +18,8 @@ fn decode_body(
     form: u8,
     cursor: &mut Cursor<'_>,
 ) -> Result<ExtensionObjectBody, TakeFault>
-    ensures { Reads result cursor.new (body_reading form cursor.old) }
+    ensures reads { Reads result cursor.new (body_reading form cursor.old) }
+    ensures backed { result ≡ Err Memory → IsBacked cursor.new }
 {
     match form {
         0 => Ok(ExtensionObjectBody::Absent),

@@ -1,5 +1,6 @@
 //! Floating-point numbers, which are carried as their bytes.
 
+ghost use Rattle.std.specs.Prelude.{⊤};
 ghost use Rattle.ua_binary.specs.Floats.{float_reading, float_encoding, double_reading, double_encoding};
 
 use crate::cursor::Cursor;
@@ -13,6 +14,8 @@ impl Wire for Float {
     ghost reading = { float_reading };
 
     ghost encoding = { float_encoding };
+
+    ghost spares_memory = { λ _. ⊤ };
 
     fn decode(alloc: Global, cursor: &mut Cursor<'_>) -> Result<Float, TakeFault> {
         Ok(Float(<[u8; 4]>::decode(alloc, cursor)?))
@@ -28,6 +31,8 @@ impl Wire for Double {
     ghost reading = { double_reading };
 
     ghost encoding = { double_encoding };
+
+    ghost spares_memory = { λ _. ⊤ };
 
     fn decode(alloc: Global, cursor: &mut Cursor<'_>) -> Result<Double, TakeFault> {
         Ok(Double(<[u8; 8]>::decode(alloc, cursor)?))

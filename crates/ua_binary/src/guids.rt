@@ -1,5 +1,6 @@
 //! Globally unique ids.
 
+ghost use Rattle.std.specs.Prelude.{⊤};
 ghost use Rattle.ua_binary.specs.Guids.{guid_reading, guid_encoding};
 
 use crate::cursor::Cursor;
@@ -14,13 +15,10 @@ impl Wire for Guid {
 
     ghost encoding = { guid_encoding };
 
-    fn decode(alloc: Global, cursor: &mut Cursor<'_>) -> Result<Guid, TakeFault> {
-        Ok(Guid {
-            data1: u32::decode(alloc, cursor)?,
-            data2: u16::decode(alloc, cursor)?,
-            data3: u16::decode(alloc, cursor)?,
-            data4: <[u8; 8]>::decode(alloc, cursor)?,
-        })
+    ghost spares_memory = { λ _. ⊤ };
+
+    fn decode(_alloc: Global, cursor: &mut Cursor<'_>) -> Result<Guid, TakeFault> {
+        cursor.guid()
     }
 
     fn encode(&self, out: &mut Vec<u8>) -> Result<(), AllocError> {

@@ -34,10 +34,14 @@ mod scalars;
 mod texts;
 mod variants;
 mod wire;
+mod written;
 
+pub use arrays::write_list;
 pub use cursor::Cursor;
+pub use data_values::BorrowedDataValue;
 pub use fault::TakeFault;
 pub use wire::Wire;
+pub use written::Written;
 
 #[cfg(test)]
 mod tests;

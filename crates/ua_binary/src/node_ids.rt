@@ -1,7 +1,9 @@
 //! Ids of nodes.
 
-ghost use Rattle.std.specs.Prelude.{◌≡◌, ◌<◌, ℕ, List, ◌++◌, Ok, OnOk, OnErr};
+ghost use Rattle.std.specs.Prelude.{◌≡◌, ◌<◌, ℕ, List, ◌++◌, Ok, Err, OnOk, OnErr};
+ghost use Rattle.ua_binary.specs.declared.fault.TakeFault.TheVariants.{Memory};
 ghost use Rattle.ua_binary.specs.Reading.{Reads, Extends};
+ghost use Rattle.ua_binary.specs.Texts.{IsBacked};
 ghost use Rattle.ua_binary.specs.NodeIds.{node_id_reading, after_form_reading, node_id_encoding, form_of, after_form_encoding};
 
 use crate::cursor::Cursor;
@@ -17,7 +19,8 @@ pub(crate) fn decode_form(
     form: u8,
     cursor: &mut Cursor<'_>,
 ) -> Result<NodeId, TakeFault>
-    ensures { Reads result cursor.new (after_form_reading form cursor.old) }
+    ensures reads { Reads result cursor.new (after_form_reading form cursor.old) }
+    ensures backed { result ≡ Err Memory → IsBacked cursor.new }
 {
     match form {
         0 => {

@@ -1,6 +1,6 @@
 //! Numbers, truth values, and fields of so many bytes.
 
-ghost use Rattle.std.specs.Prelude.{◌≡◌};
+ghost use Rattle.std.specs.Prelude.{◌≡◌, ⊤};
 ghost use Rattle.std.specs.Int.{w16, w32, w64};
 ghost use Rattle.ua_binary.specs.Numbers.{number_reading, signed_reading, byte_reading, sbyte_reading, boolean_reading, number_encoding, signed_encoding, byte_encoding, sbyte_encoding, boolean_encoding, octets_reading, octets_encoding};
 
@@ -13,6 +13,8 @@ impl Wire for u8 {
     ghost reading = { byte_reading };
 
     ghost encoding = { byte_encoding };
+
+    ghost spares_memory = { λ _. ⊤ };
 
     fn decode(_alloc: Global, cursor: &mut Cursor<'_>) -> Result<u8, TakeFault> {
         cursor.byte()
@@ -29,6 +31,8 @@ impl Wire for bool {
     ghost reading = { boolean_reading };
 
     ghost encoding = { boolean_encoding };
+
+    ghost spares_memory = { λ _. ⊤ };
 
     fn decode(_alloc: Global, cursor: &mut Cursor<'_>) -> Result<bool, TakeFault> {
         let byte = cursor.byte()?;
@@ -47,9 +51,10 @@ impl Wire for u16 {
 
     ghost encoding = { number_encoding w16 };
 
+    ghost spares_memory = { λ _. ⊤ };
+
     fn decode(_alloc: Global, cursor: &mut Cursor<'_>) -> Result<u16, TakeFault> {
-        let b = cursor.lend(2)?;
-        Ok(u16::from_le_bytes([b[0], b[1]]))
+        cursor.short_number()
     }
 
     fn encode(&self, out: &mut Vec<u8>) -> Result<(), AllocError> {
@@ -63,6 +68,8 @@ impl Wire for u32 {
     ghost reading = { number_reading w32 };
 
     ghost encoding = { number_encoding w32 };
+
+    ghost spares_memory = { λ _. ⊤ };
 
     fn decode(_alloc: Global, cursor: &mut Cursor<'_>) -> Result<u32, TakeFault> {
         cursor.number()
@@ -80,9 +87,10 @@ impl Wire for u64 {
 
     ghost encoding = { number_encoding w64 };
 
+    ghost spares_memory = { λ _. ⊤ };
+
     fn decode(_alloc: Global, cursor: &mut Cursor<'_>) -> Result<u64, TakeFault> {
-        let b = cursor.lend(8)?;
-        Ok(u64::from_le_bytes([b[0], b[1], b[2], b[3], b[4], b[5], b[6], b[7]]))
+        cursor.long_number()
     }
 
     fn encode(&self, out: &mut Vec<u8>) -> Result<(), AllocError> {
@@ -96,6 +104,8 @@ impl Wire for i8 {
     ghost reading = { sbyte_reading };
 
     ghost encoding = { sbyte_encoding };
+
+    ghost spares_memory = { λ _. ⊤ };
 
     fn decode(_alloc: Global, cursor: &mut Cursor<'_>) -> Result<i8, TakeFault> {
         let byte = cursor.byte()?;
@@ -113,6 +123,8 @@ impl Wire for i16 {
 
     ghost encoding = { signed_encoding w16 };
 
+    ghost spares_memory = { λ _. ⊤ };
+
     fn decode(alloc: Global, cursor: &mut Cursor<'_>) -> Result<i16, TakeFault> {
         let number = u16::decode(alloc, cursor)?;
         Ok(number.cast_signed())
@@ -128,6 +140,8 @@ impl Wire for i32 {
     ghost reading = { signed_reading w32 };
 
     ghost encoding = { signed_encoding w32 };
+
+    ghost spares_memory = { λ _. ⊤ };
 
     fn decode(alloc: Global, cursor: &mut Cursor<'_>) -> Result<i32, TakeFault> {
         let number = u32::decode(alloc, cursor)?;
@@ -145,6 +159,8 @@ impl Wire for i64 {
 
     ghost encoding = { signed_encoding w64 };
 
+    ghost spares_memory = { λ _. ⊤ };
+
     fn decode(alloc: Global, cursor: &mut Cursor<'_>) -> Result<i64, TakeFault> {
         let number = u64::decode(alloc, cursor)?;
         Ok(number.cast_signed())
@@ -155,15 +171,15 @@ impl Wire for i64 {
     }
 }
 
-#[tactic(auto, unfolding(crate::specs::Numbers::octets_reading))]
 impl Wire for [u8; 4] {
     ghost reading = { octets_reading 4 };
 
     ghost encoding = { octets_encoding };
 
+    ghost spares_memory = { λ _. ⊤ };
+
     fn decode(_alloc: Global, cursor: &mut Cursor<'_>) -> Result<[u8; 4], TakeFault> {
-        let b = cursor.lend(4)?;
-        Ok([b[0], b[1], b[2], b[3]])
+        cursor.four_octets()
     }
 
     fn encode(&self, out: &mut Vec<u8>) -> Result<(), AllocError> {
@@ -171,15 +187,15 @@ impl Wire for [u8; 4] {
     }
 }
 
-#[tactic(auto, unfolding(crate::specs::Numbers::octets_reading))]
 impl Wire for [u8; 8] {
     ghost reading = { octets_reading 8 };
 
     ghost encoding = { octets_encoding };
 
+    ghost spares_memory = { λ _. ⊤ };
+
     fn decode(_alloc: Global, cursor: &mut Cursor<'_>) -> Result<[u8; 8], TakeFault> {
-        let b = cursor.lend(8)?;
-        Ok([b[0], b[1], b[2], b[3], b[4], b[5], b[6], b[7]])
+        cursor.eight_octets()
     }
 
     fn encode(&self, out: &mut Vec<u8>) -> Result<(), AllocError> {

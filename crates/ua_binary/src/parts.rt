@@ -1,10 +1,11 @@
 //! Parts that are there where a bit says so.
 
-ghost use Rattle.std.specs.Prelude.{◌≡◌, ◌++◌, List, ℕ, OnOk, OnErr, IfSome, Ok, None};
+ghost use Rattle.std.specs.Prelude.{◌≡◌, ◌≢◌, ◌++◌, List, ℕ, OnOk, OnErr, IfSome, Ok, Err, None};
 ghost use Rattle.std.specs.Int.{w32};
+ghost use Rattle.ua_binary.specs.declared.fault.TakeFault.TheVariants.{Memory};
 ghost use Rattle.ua_binary.specs.Reading.{Reads, Extends};
 ghost use Rattle.ua_binary.specs.Numbers.{number_reading};
-ghost use Rattle.ua_binary.specs.Texts.{text_reading};
+ghost use Rattle.ua_binary.specs.Texts.{text_reading, IsBacked};
 ghost use Rattle.ua_binary.specs.Parts.{where_set, text_unless_null};
 
 use crate::cursor::Cursor;
@@ -19,7 +20,8 @@ pub(crate) fn text_where_set(
     bit: u8,
     cursor: &mut Cursor<'_>,
 ) -> Result<Text, TakeFault>
-    ensures { Reads result cursor.new (where_set bit None text_reading cursor.old) }
+    ensures reads { Reads result cursor.new (where_set bit None text_reading cursor.old) }
+    ensures backed { result ≡ Err Memory → IsBacked cursor.new }
 {
     if bit == 0 {
         Ok(Text::null())
@@ -34,7 +36,8 @@ pub(crate) fn number_where_set(
     bit: u8,
     cursor: &mut Cursor<'_>,
 ) -> Result<u32, TakeFault>
-    ensures { Reads result cursor.new (where_set bit 0 (number_reading w32) cursor.old) }
+    ensures reads { Reads result cursor.new (where_set bit 0 (number_reading w32) cursor.old) }
+    ensures no_memory { result ≢ Err Memory }
 {
     if bit == 0 {
         Ok(0)

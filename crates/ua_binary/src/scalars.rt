@@ -1,5 +1,6 @@
 //! Moments, status codes and spans of time.
 
+ghost use Rattle.std.specs.Prelude.{⊤};
 ghost use Rattle.ua_binary.specs.Scalars.{moment_reading, moment_encoding, status_reading, status_encoding, duration_reading, duration_encoding};
 
 use crate::cursor::Cursor;
@@ -13,6 +14,8 @@ impl Wire for Moment {
     ghost reading = { moment_reading };
 
     ghost encoding = { moment_encoding };
+
+    ghost spares_memory = { λ _. ⊤ };
 
     fn decode(alloc: Global, cursor: &mut Cursor<'_>) -> Result<Moment, TakeFault> {
         Ok(Moment(i64::decode(alloc, cursor)?))
@@ -29,6 +32,8 @@ impl Wire for Status {
 
     ghost encoding = { status_encoding };
 
+    ghost spares_memory = { λ _. ⊤ };
+
     fn decode(alloc: Global, cursor: &mut Cursor<'_>) -> Result<Status, TakeFault> {
         Ok(Status(u32::decode(alloc, cursor)?))
     }
@@ -43,6 +48,8 @@ impl Wire for Duration {
     ghost reading = { duration_reading };
 
     ghost encoding = { duration_encoding };
+
+    ghost spares_memory = { λ _. ⊤ };
 
     fn decode(alloc: Global, cursor: &mut Cursor<'_>) -> Result<Duration, TakeFault> {
         Ok(Duration(<[u8; 8]>::decode(alloc, cursor)?))

@@ -168,44 +168,118 @@ fn ids_and_structures_both_ways(rt: HostRuntime) -> Result<(), Fail> {
     Ok(())
 }
 
+// The name of a value's case, so that a type is known by it and not by its number.
+fn case(value: &Variant) -> &'static str {
+    match value {
+        Variant::Null => "Null",
+        Variant::Boolean(_) => "Boolean",
+        Variant::SByte(_) => "SByte",
+        Variant::Byte(_) => "Byte",
+        Variant::Int16(_) => "Int16",
+        Variant::UInt16(_) => "UInt16",
+        Variant::Int32(_) => "Int32",
+        Variant::UInt32(_) => "UInt32",
+        Variant::Int64(_) => "Int64",
+        Variant::UInt64(_) => "UInt64",
+        Variant::Float(_) => "Float",
+        Variant::Double(_) => "Double",
+        Variant::String(_) => "String",
+        Variant::DateTime(_) => "DateTime",
+        Variant::Guid(_) => "Guid",
+        Variant::ByteString(_) => "ByteString",
+        Variant::XmlElement(_) => "XmlElement",
+        Variant::NodeId(_) => "NodeId",
+        Variant::ExpandedNodeId(_) => "ExpandedNodeId",
+        Variant::StatusCode(_) => "StatusCode",
+        Variant::QualifiedName(_) => "QualifiedName",
+        Variant::LocalizedText(_) => "LocalizedText",
+        Variant::ExtensionObject(_) => "ExtensionObject",
+    }
+}
+
 // One value of each type, 0 to 22, laid out by hand from the standard's tables.
 #[test]
 fn a_variant_of_each_type_both_ways(rt: HostRuntime) -> Result<(), Fail> {
     let alloc = rt.alloc();
-    for (number, bytes) in [
-        (0u8, [0x00u8].as_slice()),
-        (1, [0x01, 1].as_slice()),
-        (2, [0x02, 0xfe].as_slice()),
-        (3, [0x03, 7].as_slice()),
-        (4, [0x04, 0xfe, 0xff].as_slice()),
-        (5, [0x05, 0xff, 0xff].as_slice()),
-        (6, [0x06, 0xfe, 0xff, 0xff, 0xff].as_slice()),
-        (7, [0x07, 0x78, 0x56, 0x34, 0x12].as_slice()),
+    for (name, bytes) in [
+        ("Null", [0x00u8].as_slice()),
+        ("Boolean", [0x01, 1].as_slice()),
+        ("SByte", [0x02, 0xfe].as_slice()),
+        ("Byte", [0x03, 7].as_slice()),
+        ("Int16", [0x04, 0xfe, 0xff].as_slice()),
+        ("UInt16", [0x05, 0xff, 0xff].as_slice()),
+        ("Int32", [0x06, 0xfe, 0xff, 0xff, 0xff].as_slice()),
+        ("UInt32", [0x07, 0x78, 0x56, 0x34, 0x12].as_slice()),
         (
-            8,
+            "Int64",
             [0x08, 0xff, 0xff, 0xff, 0xff, 0xff, 0xff, 0xff, 0xff].as_slice(),
         ),
-        (9, [0x09, 2, 0, 0, 0, 0, 0, 0, 1].as_slice()),
-        (10, [0x0a, 0, 0, 0x80, 0x3f].as_slice()),
-        (11, [0x0b, 0, 0, 0, 0, 0, 0, 0xf0, 0x3f].as_slice()),
-        (12, [0x0c, 1, 0, 0, 0, b'a'].as_slice()),
-        (13, [0x0d, 100, 0, 0, 0, 0, 0, 0, 0].as_slice()),
+        ("UInt64", [0x09, 2, 0, 0, 0, 0, 0, 0, 1].as_slice()),
+        ("Float", [0x0a, 0, 0, 0x80, 0x3f].as_slice()),
+        ("Double", [0x0b, 0, 0, 0, 0, 0, 0, 0xf0, 0x3f].as_slice()),
+        ("String", [0x0c, 1, 0, 0, 0, b'a'].as_slice()),
+        ("DateTime", [0x0d, 100, 0, 0, 0, 0, 0, 0, 0].as_slice()),
         (
-            14,
+            "Guid",
             [0x0e, 1, 0, 0, 0, 2, 0, 3, 0, 4, 5, 6, 7, 8, 9, 10, 11].as_slice(),
         ),
-        (15, [0x0f, 0xff, 0xff, 0xff, 0xff].as_slice()),
-        (16, [0x10, 1, 0, 0, 0, 0xff].as_slice()),
-        (17, [0x11, 0, 0x55].as_slice()),
-        (18, [0x12, 0x40, 0x55, 1, 0, 0, 0].as_slice()),
-        (19, [0x13, 0, 0, 7, 0x80].as_slice()),
-        (20, [0x14, 1, 0, 1, 0, 0, 0, b'a'].as_slice()),
-        (21, [0x15, 2, 1, 0, 0, 0, b'a'].as_slice()),
-        (22, [0x16, 0, 0x55, 1, 1, 0, 0, 0, 9].as_slice()),
+        ("ByteString", [0x0f, 0xff, 0xff, 0xff, 0xff].as_slice()),
+        ("XmlElement", [0x10, 1, 0, 0, 0, 0xff].as_slice()),
+        ("NodeId", [0x11, 0, 0x55].as_slice()),
+        ("ExpandedNodeId", [0x12, 0x40, 0x55, 1, 0, 0, 0].as_slice()),
+        ("StatusCode", [0x13, 0, 0, 7, 0x80].as_slice()),
+        ("QualifiedName", [0x14, 1, 0, 1, 0, 0, 0, b'a'].as_slice()),
+        ("LocalizedText", [0x15, 2, 1, 0, 0, 0, b'a'].as_slice()),
+        (
+            "ExtensionObject",
+            [0x16, 0, 0x55, 1, 1, 0, 0, 0, 9].as_slice(),
+        ),
     ] {
         let value = both_ways::<_, Variant>(&rt, alloc, bytes)?;
-        assert_eq!(rt; value.type_number(), number);
+        assert_eq!(rt; case(&value), name);
+        assert_eq!(rt; value.type_number(), bytes[0]);
     }
+    Ok(())
+}
+
+// What is read and never written: other truths, other lengths of null, picoseconds without a time.
+#[test]
+fn second_spellings(rt: HostRuntime) -> Result<(), Fail> {
+    let alloc = rt.alloc();
+    let mut cursor = Cursor::new(&[2, 0xfe, 0xff, 0xff, 0xff, 0xfe, 0xff, 0xff, 0xff]);
+    assert!(rt; bool::take(alloc, &mut cursor)?);
+    assert!(rt; Text::take(alloc, &mut cursor)?.is_null());
+    assert!(rt; Array::<u32>::take(alloc, &mut cursor)?.is_null());
+    let mut cursor = Cursor::new(&[0, 0, 0, 0x80, 0xfe, 0xff, 0xff, 0xff]);
+    assert!(rt; ByteString::take(alloc, &mut cursor)?.is_null());
+    assert!(rt; ByteString::take(alloc, &mut cursor)?.is_null());
+    // picoseconds of the server's time alone, and then of the source's alone
+    let mut cursor = Cursor::new(&[0x20, 9, 0, 0x10, 9, 0]);
+    assert!(rt; DataValue::take(alloc, &mut cursor)? == DataValue::take(alloc, &mut cursor)?);
+    assert!(rt; cursor.rest().is_empty());
+    Ok(())
+}
+
+// Fields of one type, each with a value of its own.
+#[test]
+fn fields_that_look_alike(rt: HostRuntime) -> Result<(), Fail> {
+    let alloc = rt.alloc();
+    let bytes = [3, 2, 0, 0, 0, b'e', b'n', 1, 0, 0, 0, b'a'];
+    let text = both_ways::<_, LocalizedText>(&rt, alloc, &bytes)?;
+    assert_eq!(rt; text.locale.as_str(), Some("en"));
+    assert_eq!(rt; text.text.as_str(), Some("a"));
+    let locale = both_ways::<_, LocalizedText>(&rt, alloc, &[1, 1, 0, 0, 0, b'e'])?;
+    assert_eq!(rt; locale.locale.as_str(), Some("e"));
+    assert!(rt; locale.text.is_null());
+    // the server's time alone, and then the source's
+    let server = both_ways::<_, DataValue>(&rt, alloc, &[8, 1, 0, 0, 0, 0, 0, 0, 0])?;
+    assert!(rt; server.source_time.is_none() && server.server_time == Some(Moment(1)));
+    let source = both_ways::<_, DataValue>(&rt, alloc, &[4, 1, 0, 0, 0, 0, 0, 0, 0])?;
+    assert!(rt; source.server_time.is_none() && source.source_time == Some(Moment(1)));
+    // an XML body, and the numbers of an id in a namespace
+    let xml = both_ways::<_, ExtensionObject>(&rt, alloc, &[2, 1, 0, 7, 0, 0, 1, 2, 0, 0, 0, 0])?;
+    assert!(rt; matches!(&xml.body, ExtensionObjectBody::Xml(_)));
+    assert!(rt; xml.type_id == NodeId::numeric(1, 0x0100_0007));
     Ok(())
 }
 

@@ -39,13 +39,16 @@ impl Wire for Text {
 
     ghost encoding = { text_encoding };
 
-    ghost overclaims = { ClaimsTooMany };
+    ghost spares_memory = { ClaimsTooMany };
 
     fn decode(alloc: Global, cursor: &mut Cursor<'_>) -> Result<Text, TakeFault> {
-        match cursor.text()? {
-            None => Ok(Text::null()),
-            Some(text) => Ok(Text::from_str(alloc, text)?),
-        }
+        let mut at = Cursor::new(cursor.rest());
+        let text = match at.text()? {
+            None => Text::null(),
+            Some(text) => Text::from_str(alloc, text)?,
+        };
+        *cursor = at;
+        Ok(text)
     }
 
     fn encode(&self, out: &mut Vec<u8>) -> Result<(), AllocError> {
@@ -62,13 +65,16 @@ impl Wire for ByteString {
 
     ghost encoding = { byte_string_encoding };
 
-    ghost overclaims = { ClaimsTooMany };
+    ghost spares_memory = { ClaimsTooMany };
 
     fn decode(alloc: Global, cursor: &mut Cursor<'_>) -> Result<ByteString, TakeFault> {
-        match cursor.byte_string()? {
-            None => Ok(ByteString::null()),
-            Some(bytes) => Ok(ByteString::from_slice(alloc, bytes)?),
-        }
+        let mut at = Cursor::new(cursor.rest());
+        let bytes = match at.byte_string()? {
+            None => ByteString::null(),
+            Some(bytes) => ByteString::from_slice(alloc, bytes)?,
+        };
+        *cursor = at;
+        Ok(bytes)
     }
 
     fn encode(&self, out: &mut Vec<u8>) -> Result<(), AllocError> {

@@ -3,10 +3,10 @@
 ghost use Rattle.std.specs.Prelude.{◌≡◌, ◌≢◌, ◌<◌, ◌≤◌, ◌++◌, ℕ, List, Ok, Err, OnOk, OnErr};
 ghost use Rattle.ua_binary.specs.declared.fault.TakeFault.TheVariants.{Memory};
 ghost use Rattle.ua_binary.specs.Reading.{Reads, Extends};
-ghost use Rattle.ua_binary.specs.Texts.{ClaimsTooMany};
+ghost use Rattle.ua_binary.specs.Texts.{ClaimsTooMany, IsBacked};
 ghost use Rattle.ua_binary.specs.Variants.{in_dimensions, or_empty, content_reading, typed_reading, variant_reading, ClaimsTooManyElements, flags_of, content_encoding, typed_encoding, variant_encoding};
 
-use crate::arrays::encode_slice;
+use crate::arrays::write_list;
 use crate::cursor::Cursor;
 use crate::fault::TakeFault;
 use crate::wire::Wire;
@@ -20,7 +20,8 @@ fn with_dimensions<T: Drop>(
     elements: Array<T>,
     dimensions: Array<u32>,
 ) -> Result<Content<T>, TakeFault>
-    ensures { (rest : List ℕ) → Reads result rest (in_dimensions elements (or_empty dimensions) rest) }
+    ensures reads { (rest : List ℕ) → Reads result rest (in_dimensions elements (or_empty dimensions) rest) }
+    ensures no_memory { result ≢ Err Memory }
 {
     let Some(elements) = elements.into_vec() else {
         return Err(TakeFault::Form);
@@ -44,6 +45,7 @@ fn decode_content<T: Wire>(
 ) -> Result<Content<T>, TakeFault>
     ensures reads { Reads result cursor.new (content_reading T.reading flags cursor.old) }
     ensures claim { 2 ≤ flags → ClaimsTooMany cursor.old → result ≢ Err Memory }
+    ensures backed { result ≡ Err Memory → IsBacked cursor.new }
 {
     match flags {
         0 => {
@@ -63,6 +65,106 @@ fn decode_content<T: Wire>(
     }
 }
 
+// The types stand in four functions, since each takes room for the contents of all its types at once.
+
+// Reads what follows a first byte with the number of a Boolean or an integer of up to 32 bits.
+#[tactic(auto, unfolding(crate::specs::Variants::typed_reading))]
+fn decode_integer(
+    alloc: Global,
+    number: u8,
+    flags: u8,
+    cursor: &mut Cursor<'_>,
+) -> Result<Variant, TakeFault>
+    requires least { 1 ≤ number }
+    requires most { number ≤ 7 }
+    ensures reads { Reads result cursor.new (typed_reading number flags cursor.old) }
+    ensures claim { 2 ≤ flags → ClaimsTooMany cursor.old → result ≢ Err Memory }
+    ensures backed { result ≡ Err Memory → IsBacked cursor.new }
+{
+    match number {
+        1 => Ok(Variant::Boolean(decode_content(alloc, flags, cursor)?)),
+        2 => Ok(Variant::SByte(decode_content(alloc, flags, cursor)?)),
+        3 => Ok(Variant::Byte(decode_content(alloc, flags, cursor)?)),
+        4 => Ok(Variant::Int16(decode_content(alloc, flags, cursor)?)),
+        5 => Ok(Variant::UInt16(decode_content(alloc, flags, cursor)?)),
+        6 => Ok(Variant::Int32(decode_content(alloc, flags, cursor)?)),
+        7 => Ok(Variant::UInt32(decode_content(alloc, flags, cursor)?)),
+        _ => unreachable!(),
+    }
+}
+
+// Reads what follows a first byte with the number of a longer number.
+#[tactic(auto, unfolding(crate::specs::Variants::typed_reading))]
+fn decode_number(
+    alloc: Global,
+    number: u8,
+    flags: u8,
+    cursor: &mut Cursor<'_>,
+) -> Result<Variant, TakeFault>
+    requires least { 8 ≤ number }
+    requires most { number ≤ 11 }
+    ensures reads { Reads result cursor.new (typed_reading number flags cursor.old) }
+    ensures claim { 2 ≤ flags → ClaimsTooMany cursor.old → result ≢ Err Memory }
+    ensures backed { result ≡ Err Memory → IsBacked cursor.new }
+{
+    match number {
+        8 => Ok(Variant::Int64(decode_content(alloc, flags, cursor)?)),
+        9 => Ok(Variant::UInt64(decode_content(alloc, flags, cursor)?)),
+        10 => Ok(Variant::Float(decode_content(alloc, flags, cursor)?)),
+        11 => Ok(Variant::Double(decode_content(alloc, flags, cursor)?)),
+        _ => unreachable!(),
+    }
+}
+
+// Reads what follows a first byte with the number of a text, a moment, a Guid or bytes.
+#[tactic(auto, unfolding(crate::specs::Variants::typed_reading))]
+fn decode_sized(
+    alloc: Global,
+    number: u8,
+    flags: u8,
+    cursor: &mut Cursor<'_>,
+) -> Result<Variant, TakeFault>
+    requires least { 12 ≤ number }
+    requires most { number ≤ 16 }
+    ensures reads { Reads result cursor.new (typed_reading number flags cursor.old) }
+    ensures claim { 2 ≤ flags → ClaimsTooMany cursor.old → result ≢ Err Memory }
+    ensures backed { result ≡ Err Memory → IsBacked cursor.new }
+{
+    match number {
+        12 => Ok(Variant::String(decode_content(alloc, flags, cursor)?)),
+        13 => Ok(Variant::DateTime(decode_content(alloc, flags, cursor)?)),
+        14 => Ok(Variant::Guid(decode_content(alloc, flags, cursor)?)),
+        15 => Ok(Variant::ByteString(decode_content(alloc, flags, cursor)?)),
+        16 => Ok(Variant::XmlElement(decode_content(alloc, flags, cursor)?)),
+        _ => unreachable!(),
+    }
+}
+
+// Reads what follows a first byte with the number of an id, a status, a name or a structure.
+#[tactic(auto, unfolding(crate::specs::Variants::typed_reading))]
+fn decode_composed(
+    alloc: Global,
+    number: u8,
+    flags: u8,
+    cursor: &mut Cursor<'_>,
+) -> Result<Variant, TakeFault>
+    requires least { 17 ≤ number }
+    requires most { number ≤ 22 }
+    ensures reads { Reads result cursor.new (typed_reading number flags cursor.old) }
+    ensures claim { 2 ≤ flags → ClaimsTooMany cursor.old → result ≢ Err Memory }
+    ensures backed { result ≡ Err Memory → IsBacked cursor.new }
+{
+    match number {
+        17 => Ok(Variant::NodeId(decode_content(alloc, flags, cursor)?)),
+        18 => Ok(Variant::ExpandedNodeId(decode_content(alloc, flags, cursor)?)),
+        19 => Ok(Variant::StatusCode(decode_content(alloc, flags, cursor)?)),
+        20 => Ok(Variant::QualifiedName(decode_content(alloc, flags, cursor)?)),
+        21 => Ok(Variant::LocalizedText(decode_content(alloc, flags, cursor)?)),
+        22 => Ok(Variant::ExtensionObject(decode_content(alloc, flags, cursor)?)),
+        _ => unreachable!(),
+    }
+}
+
 // Reads what follows a first byte with this number and these flags.
 #[tactic(auto, unfolding(crate::specs::Variants::typed_reading))]
 fn decode_typed(
@@ -73,6 +175,7 @@ fn decode_typed(
 ) -> Result<Variant, TakeFault>
     ensures reads { Reads result cursor.new (typed_reading number flags cursor.old) }
     ensures claim { 2 ≤ flags → ClaimsTooMany cursor.old → result ≢ Err Memory }
+    ensures backed { result ≡ Err Memory → IsBacked cursor.new }
 {
     match number {
         0 => {
@@ -82,28 +185,10 @@ fn decode_typed(
                 Err(TakeFault::Form)
             }
         }
-        1 => Ok(Variant::Boolean(decode_content(alloc, flags, cursor)?)),
-        2 => Ok(Variant::SByte(decode_content(alloc, flags, cursor)?)),
-        3 => Ok(Variant::Byte(decode_content(alloc, flags, cursor)?)),
-        4 => Ok(Variant::Int16(decode_content(alloc, flags, cursor)?)),
-        5 => Ok(Variant::UInt16(decode_content(alloc, flags, cursor)?)),
-        6 => Ok(Variant::Int32(decode_content(alloc, flags, cursor)?)),
-        7 => Ok(Variant::UInt32(decode_content(alloc, flags, cursor)?)),
-        8 => Ok(Variant::Int64(decode_content(alloc, flags, cursor)?)),
-        9 => Ok(Variant::UInt64(decode_content(alloc, flags, cursor)?)),
-        10 => Ok(Variant::Float(decode_content(alloc, flags, cursor)?)),
-        11 => Ok(Variant::Double(decode_content(alloc, flags, cursor)?)),
-        12 => Ok(Variant::String(decode_content(alloc, flags, cursor)?)),
-        13 => Ok(Variant::DateTime(decode_content(alloc, flags, cursor)?)),
-        14 => Ok(Variant::Guid(decode_content(alloc, flags, cursor)?)),
-        15 => Ok(Variant::ByteString(decode_content(alloc, flags, cursor)?)),
-        16 => Ok(Variant::XmlElement(decode_content(alloc, flags, cursor)?)),
-        17 => Ok(Variant::NodeId(decode_content(alloc, flags, cursor)?)),
-        18 => Ok(Variant::ExpandedNodeId(decode_content(alloc, flags, cursor)?)),
-        19 => Ok(Variant::StatusCode(decode_content(alloc, flags, cursor)?)),
-        20 => Ok(Variant::QualifiedName(decode_content(alloc, flags, cursor)?)),
-        21 => Ok(Variant::LocalizedText(decode_content(alloc, flags, cursor)?)),
-        22 => Ok(Variant::ExtensionObject(decode_content(alloc, flags, cursor)?)),
+        1..=7 => decode_integer(alloc, number, flags, cursor),
+        8..=11 => decode_number(alloc, number, flags, cursor),
+        12..=16 => decode_sized(alloc, number, flags, cursor),
+        17..=22 => decode_composed(alloc, number, flags, cursor),
         _ => Err(TakeFault::Kind),
     }
 }
@@ -133,8 +218,8 @@ fn encode_typed<T: Wire>(
         }
         Content::Matrix(matrix) => {
             (number + 192).encode(out)?;
-            encode_slice(matrix.elements(), out)?;
-            encode_slice(matrix.dimensions(), out)?;
+            write_list(matrix.elements(), out)?;
+            write_list(matrix.dimensions(), out)?;
             Ok(())
         }
     }
@@ -146,7 +231,7 @@ impl Wire for Variant {
 
     ghost encoding = { variant_encoding };
 
-    ghost overclaims = { ClaimsTooManyElements };
+    ghost spares_memory = { ClaimsTooManyElements };
 
     fn decode(alloc: Global, cursor: &mut Cursor<'_>) -> Result<Variant, TakeFault> {
         let first = cursor.byte()?;

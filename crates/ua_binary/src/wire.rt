@@ -2,6 +2,7 @@
 
 ghost use Rattle.std.specs.Prelude.{◌≡◌, ◌≢◌, ◌<◌, ℕ, List, ◌++◌, length, Err, OnOk, OnErr};
 ghost use Rattle.ua_binary.specs.Reading.{Reading, Reads, Extends, IsReadAgain};
+ghost use Rattle.ua_binary.specs.Texts.{IsBacked};
 ghost use Rattle.ua_binary.specs.declared.fault.TakeFault.TheVariants.{Memory};
 
 use crate::cursor::Cursor;
@@ -19,13 +20,16 @@ pub trait Wire: Drop {
     /// The one text that is written for a value.
     ghost encoding: { Self → List ℕ };
 
-    /// The bytes begin with a claim of more than is left, which is refused before memory is taken.
-    ghost overclaims: { List ℕ → Type 0 } = { λ _. ⊥ };
+    /// Of these bytes a value is read or refused without memory: of all bytes for a type of fixed
+    /// size, and else where they begin with a claim of more than is left.
+    ghost spares_memory: { List ℕ → Type 0 } = { λ _. ⊥ };
 
-    /// Reads the fields in order. At an `Err` the cursor stands where the fault is.
+    /// Reads the fields in order. At an `Err` the cursor stands where the fault is; at `Memory` before
+    /// the length of what wanted it, and so much is there.
     fn decode(alloc: Global, cursor: &mut Cursor<'_>) -> Result<Self, TakeFault>
         ensures reads { Reads result cursor.new (reading cursor.old) }
-        ensures claim { overclaims cursor.old → result ≢ Err Memory };
+        ensures claim { spares_memory cursor.old → result ≢ Err Memory }
+        ensures backed { result ≡ Err Memory → IsBacked cursor.new };
 
     /// Writes the fields in order. At an `Err` some of them are written.
     fn encode(&self, out: &mut Vec<u8>) -> Result<(), AllocError>
@@ -40,7 +44,7 @@ pub trait Wire: Drop {
     /// growth was refused.
     final fn take(alloc: Global, cursor: &mut Cursor<'_>) -> Result<Self, TakeFault>
         ensures reads { Reads result cursor.new (reading cursor.old) }
-        ensures claim { overclaims cursor.old → result ≢ Err Memory }
+        ensures claim { spares_memory cursor.old → result ≢ Err Memory }
         ensures err { OnErr result (cursor.new ≡ cursor.old) }
     {
         let mut at = Cursor::new(cursor.rest());

@@ -1,1 +1,3 @@
 pub mod BodiesAgain
+pub mod ResultLemmas
+pub mod StructuresAgain

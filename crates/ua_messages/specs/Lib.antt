@@ -3,6 +3,8 @@ pub mod Enumerations
 pub mod Headers
 pub mod Bodies
 pub mod ServiceFaults
+pub mod ResultLists
+pub mod Structures
 pub mod Descriptions
 pub mod GetEndpoints
 pub mod SecureChannels

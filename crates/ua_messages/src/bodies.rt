@@ -1,39 +1,13 @@
 //! Bodies: the id of a message's encoding, and then the message.
 
-ghost use Rattle.std.specs.Prelude.{◌≡◌, ◌≢◌, Ok, Err, IfOk, IfErr, OnOk, IsOk};
-ghost use Rattle.std.specs.Int.{w16};
+ghost use Rattle.std.specs.Prelude.{◌≡◌, Ok, Err, IfOk, IfErr};
 ghost use Rattle.ua_binary.specs.declared.fault.TakeFault.TheVariants.{Memory};
-ghost use Rattle.ua_binary.specs.Numbers.{number_reading};
-ghost use Rattle.ua_binary.specs.Guids.{guid_reading};
-ghost use Rattle.ua_binary.specs.NodeIds.{after_form_reading};
 ghost use Rattle.ua_types.specs.Answers.{Gives};
-ghost use Rattle.ua_messages.specs.Bodies.{only_value, standard_number, message_id_of, message_of, body_encoding};
+ghost use Rattle.ua_messages.specs.Bodies.{message_id_of, message_of, body_encoding};
 
 use std::alloc::{AllocError, Global};
 use ua_binary::{Cursor, TakeFault, Wire};
 use ua_types::NodeId;
-
-#[tactic(auto, unfolding(ua_binary::specs::Numbers::number_reading))]
-fn short_number(cursor: &mut Cursor<'_>) -> Result<u16, TakeFault>
-    ensures ok { IfOk result (λ n. number_reading w16 cursor.old ≡ Ok (n, cursor.new)) }
-    ensures err { IfErr result (λ e. number_reading w16 cursor.old ≡ Err e) }
-{
-    let b = cursor.lend(2)?;
-    Ok(u16::from_le_bytes([b[0], b[1]]))
-}
-
-// Looks at a Guid and keeps nothing of it.
-#[tactic(auto, unfolding(ua_binary::specs::Guids::guid_reading, ua_binary::specs::Numbers::octets_reading))]
-fn pass_guid(cursor: &mut Cursor<'_>) -> Result<(), TakeFault>
-    ensures ok { OnOk result (IsOk (guid_reading cursor.old)) }
-    ensures err { IfErr result (λ e. guid_reading cursor.old ≡ Err e) }
-{
-    cursor.number()?;
-    short_number(cursor)?;
-    short_number(cursor)?;
-    cursor.lend(8)?;
-    Ok(())
-}
 
 /// The number of the id that a body begins with (one of `type_ids`), or 0 where the id is of another
 /// namespace or isn't a number.
@@ -49,26 +23,26 @@ pub fn message_id(body: &[u8]) -> Result<u32, TakeFault>
         0 => Ok(cursor.byte()? as u32),
         1 => {
             let namespace = cursor.byte()?;
-            let number = short_number(&mut cursor)?;
+            let number = cursor.short_number()?;
             Ok(if namespace == 0 { number as u32 } else { 0 })
         }
         2 => {
-            let namespace = short_number(&mut cursor)?;
+            let namespace = cursor.short_number()?;
             let number = cursor.number()?;
             Ok(if namespace == 0 { number } else { 0 })
         }
         3 => {
-            short_number(&mut cursor)?;
+            cursor.short_number()?;
             cursor.text()?;
             Ok(0)
         }
         4 => {
-            short_number(&mut cursor)?;
-            pass_guid(&mut cursor)?;
+            cursor.short_number()?;
+            cursor.guid()?;
             Ok(0)
         }
         5 => {
-            short_number(&mut cursor)?;
+            cursor.short_number()?;
             cursor.byte_string()?;
             Ok(0)
         }

@@ -1,6 +1,6 @@
 //! Diagnostic infos, of which none is read and none written.
 
-ghost use Rattle.ua_binary.specs.Texts.{ClaimsTooMany};
+ghost use Rattle.std.specs.Prelude.{⊤};
 ghost use Rattle.ua_messages.specs.Diagnostics.{diagnostic_info_reading, diagnostic_info_encoding, diagnostic_infos_reading, diagnostic_infos_encoding};
 
 use std::alloc::{AllocError, Global};
@@ -18,6 +18,8 @@ impl Wire for DiagnosticInfo {
     ghost reading = { diagnostic_info_reading };
 
     ghost encoding = { diagnostic_info_encoding };
+
+    ghost spares_memory = { λ _. ⊤ };
 
     fn decode(_alloc: Global, cursor: &mut Cursor<'_>) -> Result<DiagnosticInfo, TakeFault> {
         match cursor.byte()? {
@@ -47,7 +49,7 @@ impl Wire for DiagnosticInfos {
 
     ghost encoding = { diagnostic_infos_encoding };
 
-    ghost overclaims = { ClaimsTooMany };
+    ghost spares_memory = { λ _. ⊤ };
 
     fn decode(_alloc: Global, cursor: &mut Cursor<'_>) -> Result<DiagnosticInfos, TakeFault> {
         let len = cursor.number()?;

@@ -1,6 +1,7 @@
 //! Enumerations of the standard. On the wire each is an Int32 of which any value is read, so each is
 //! a number with names for the values that have a meaning, and not an enum.
 
+ghost use Rattle.std.specs.Prelude.{⊤};
 ghost use Rattle.ua_messages.specs.Enumerations.{application_type_reading, application_type_encoding, message_security_mode_reading, message_security_mode_encoding, user_token_type_reading, user_token_type_encoding, security_token_request_type_reading, security_token_request_type_encoding, timestamps_to_return_reading, timestamps_to_return_encoding};
 
 use std::alloc::{AllocError, Global};
@@ -25,6 +26,8 @@ impl Wire for ApplicationType {
     ghost reading = { application_type_reading };
 
     ghost encoding = { application_type_encoding };
+
+    ghost spares_memory = { λ _. ⊤ };
 
     fn decode(alloc: Global, cursor: &mut Cursor<'_>) -> Result<ApplicationType, TakeFault> {
         Ok(ApplicationType(i32::decode(alloc, cursor)?))
@@ -53,6 +56,8 @@ impl Wire for MessageSecurityMode {
     ghost reading = { message_security_mode_reading };
 
     ghost encoding = { message_security_mode_encoding };
+
+    ghost spares_memory = { λ _. ⊤ };
 
     fn decode(alloc: Global, cursor: &mut Cursor<'_>) -> Result<MessageSecurityMode, TakeFault> {
         Ok(MessageSecurityMode(i32::decode(alloc, cursor)?))
@@ -84,6 +89,8 @@ impl Wire for UserTokenType {
 
     ghost encoding = { user_token_type_encoding };
 
+    ghost spares_memory = { λ _. ⊤ };
+
     fn decode(alloc: Global, cursor: &mut Cursor<'_>) -> Result<UserTokenType, TakeFault> {
         Ok(UserTokenType(i32::decode(alloc, cursor)?))
     }
@@ -111,6 +118,8 @@ impl Wire for SecurityTokenRequestType {
     ghost reading = { security_token_request_type_reading };
 
     ghost encoding = { security_token_request_type_encoding };
+
+    ghost spares_memory = { λ _. ⊤ };
 
     fn decode(
         alloc: Global,
@@ -145,6 +154,8 @@ impl Wire for TimestampsToReturn {
     ghost reading = { timestamps_to_return_reading };
 
     ghost encoding = { timestamps_to_return_encoding };
+
+    ghost spares_memory = { λ _. ⊤ };
 
     fn decode(alloc: Global, cursor: &mut Cursor<'_>) -> Result<TimestampsToReturn, TakeFault> {
         Ok(TimestampsToReturn(i32::decode(alloc, cursor)?))

@@ -6,7 +6,9 @@
 //! [`ua_binary::Wire`]: its *reading* and its *encoding* in `specs/` are that list of fields, and the
 //! trait says that what is written is read again. A *body* is the id of a message's encoding, and then
 //! the message. [`message_id`] tells which message a body holds, [`message`] reads it, [`body`] writes
-//! one, and [`fault`] writes the answer to a request that failed.
+//! one, and [`fault`] writes the answer to a request that failed. [`Results`] is the response that has one
+//! result for each thing asked for, and [`results_body`] writes it from results that stand elsewhere.
+//! [`structure`] reads what an ExtensionObject holds, and [`extension_object`] makes one.
 //!
 //! Nothing here decides anything: no field is judged beyond its form, no session is looked up, and no
 //! clock is read. Frames and chunks are other crates' work.
@@ -22,8 +24,10 @@ mod enumerations;
 mod get_endpoints;
 mod headers;
 mod read_value_ids;
+mod results;
 mod secure_channels;
 mod service_faults;
+mod structures;
 pub mod type_ids;
 
 pub use bodies::{body, message, message_id};
@@ -36,10 +40,12 @@ pub use enumerations::{
 pub use get_endpoints::{GetEndpointsRequest, GetEndpointsResponse};
 pub use headers::{RequestHeader, ResponseHeader};
 pub use read_value_ids::ReadValueId;
+pub use results::{Results, results_body};
 pub use secure_channels::{
     CloseSecureChannelRequest, OpenSecureChannelRequest, OpenSecureChannelResponse,
 };
 pub use service_faults::{ServiceFault, fault};
+pub use structures::{StructureFault, extension_object, object_of_bytes, structure};
 
 #[cfg(test)]
 mod tests;

@@ -4,3 +4,4 @@ pub mod NodeIdOrder
 pub mod Configuration
 pub mod Answers
 pub mod IdTexts
+pub mod Refusals

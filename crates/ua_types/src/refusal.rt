@@ -1,7 +1,7 @@
 //! Why a service has no answer of its own.
 
 ghost use Rattle.std.specs.Prelude.{◌≡◌};
-ghost use Rattle.ua_types.specs.declared.refusal.Refusal.TheVariants.{Memory};
+ghost use Rattle.ua_types.specs.declared.refusal.Refusal.TheVariants.{Service, Memory};
 
 use crate::status::Status;
 use std::alloc::{AllocError, AllocFailed};
@@ -19,6 +19,14 @@ pub enum Refusal {
     /// A serial of 64 bits is at its last value.
     #[error("out of serial numbers")]
     Exhausted,
+}
+
+impl From<Status> for Refusal {
+    ghost from_gives = { λ status e. e ≡ Service status };
+
+    fn from(status: Status) -> Refusal {
+        Refusal::Service(status)
+    }
 }
 
 impl From<AllocError> for Refusal {

@@ -1,4 +1,5 @@
 pub mod Shapes
 pub mod TypeNumbers
+pub mod ValueShapes
 pub mod MatrixOrders
 pub mod ContentOrders

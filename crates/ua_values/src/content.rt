@@ -6,6 +6,7 @@ ghost use Rattle.std.specs.Ordering.{as_partial_cmp};
 ghost use Rattle.ua_values.specs.ContentOrders.{place_of, scalar_of, elements_of, dimensions_of, same_content, content_cmp, same_content_equiv, content_cmp_total, content_ties};
 
 use crate::matrix::Matrix;
+use crate::shape::Shape;
 use std::alloc::{AllocError, Global};
 use std::cmp::Ordering;
 use ua_types::{Array, Copyable};
@@ -24,6 +25,19 @@ pub enum Content<T> {
 }
 
 impl<T> Content<T> {
+    ghost use Rattle.ua_values.specs.ValueShapes.{shape_in};
+
+    /// What it is, whatever its elements.
+    pub fn shape(&self) -> Shape
+        ensures { result ≡ shape_in self.now }
+    {
+        match self {
+            Content::Scalar(_) => Shape::Scalar,
+            Content::Array(_) => Shape::List,
+            Content::Matrix(_) => Shape::Matrix,
+        }
+    }
+
     // What contents are compared by: the place of the case, the scalar, the elements, the dimensions.
     fn parts(&self) -> (u8, Option<&T>, &[T], &[u32])
         ensures place { result.0 ≡ place_of self.now }

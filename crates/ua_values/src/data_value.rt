@@ -1,5 +1,7 @@
 //! Values with their status and times.
 
+ghost use Rattle.std.specs.Prelude.{◌≡◌};
+
 use crate::variant::Variant;
 use std::alloc::{AllocError, Global};
 use ua_types::{Copyable, Moment, Status};
@@ -17,6 +19,21 @@ pub struct DataValue {
     pub source_time: Option<Moment>,
     /// When the server learnt of it, or knew it to be still so.
     pub server_time: Option<Moment>,
+}
+
+impl DataValue {
+    /// The value itself, where there is one.
+    pub fn into_value(self) -> Option<Variant>
+        ensures { result ≡ self.value }
+    {
+        let DataValue {
+            value,
+            status: _,
+            source_time: _,
+            server_time: _,
+        } = self;
+        value
+    }
 }
 
 // Written out, so that a proof sees a drop as one call and not as its cases.

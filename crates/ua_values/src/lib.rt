@@ -15,12 +15,14 @@ mod content;
 mod data_value;
 mod float;
 mod matrix;
+mod shape;
 mod variant;
 
 pub use content::Content;
 pub use data_value::DataValue;
 pub use float::{Double, Float};
 pub use matrix::{Matrix, has_shape};
+pub use shape::Shape;
 pub use variant::Variant;
 
 #[cfg(test)]

@@ -62,5 +62,13 @@ fn variants_go_by_type_then_kind_then_content(rt: HostRuntime) -> Result<(), Fai
         matrix(alloc, Text::from_str(alloc, "a")?)? < matrix(alloc, Text::from_str(alloc, "b")?)?
     );
     assert_eq!(rt; list(1)?.type_number(), 3);
+    assert!(rt; list(1)?.shape() == Shape::List && Variant::Null.shape() == Shape::Null);
+    let value = DataValue {
+        value: Some(list(1)?),
+        status: Status::GOOD,
+        source_time: None,
+        server_time: None,
+    };
+    assert!(rt; value.into_value() == Some(list(1)?));
     Ok(())
 }

@@ -2,9 +2,11 @@
 
 ghost use Rattle.std.specs.Prelude.{◌≡◌, ◌<◌};
 ghost use Rattle.ua_values.specs.TypeNumbers.{type_number};
+ghost use Rattle.ua_values.specs.ValueShapes.{shape_of};
 
 use crate::content::Content;
 use crate::float::{Double, Float};
+use crate::shape::Shape;
 use std::alloc::{AllocError, Global};
 use ua_types::{
     ByteString, Copyable, ExpandedNodeId, ExtensionObject, Guid, LocalizedText, Moment, NodeId,
@@ -74,6 +76,37 @@ impl Variant {
             Variant::QualifiedName(_) => 20,
             Variant::LocalizedText(_) => 21,
             Variant::ExtensionObject(_) => 22,
+        }
+    }
+
+    /// Whether it is one value, a list, or a list with dimensions.
+    pub fn shape(&self) -> Shape
+        ensures { result ≡ shape_of self.now }
+    {
+        match self {
+            Variant::Null => Shape::Null,
+            Variant::Boolean(content) => content.shape(),
+            Variant::SByte(content) => content.shape(),
+            Variant::Byte(content) => content.shape(),
+            Variant::Int16(content) => content.shape(),
+            Variant::UInt16(content) => content.shape(),
+            Variant::Int32(content) => content.shape(),
+            Variant::UInt32(content) => content.shape(),
+            Variant::Int64(content) => content.shape(),
+            Variant::UInt64(content) => content.shape(),
+            Variant::Float(content) => content.shape(),
+            Variant::Double(content) => content.shape(),
+            Variant::String(content) => content.shape(),
+            Variant::DateTime(content) => content.shape(),
+            Variant::Guid(content) => content.shape(),
+            Variant::ByteString(content) => content.shape(),
+            Variant::XmlElement(content) => content.shape(),
+            Variant::NodeId(content) => content.shape(),
+            Variant::ExpandedNodeId(content) => content.shape(),
+            Variant::StatusCode(content) => content.shape(),
+            Variant::QualifiedName(content) => content.shape(),
+            Variant::LocalizedText(content) => content.shape(),
+            Variant::ExtensionObject(content) => content.shape(),
         }
     }
 }
