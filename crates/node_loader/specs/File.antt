@@ -16,6 +16,7 @@ use Rattle.node_loader.specs.Server.{server_of}
 use Rattle.node_loader.specs.declared.fault.Cause.{Cause}
 use Rattle.node_loader.specs.declared.fault.Cause.TheVariants.{Toml, Version, Memory}
 use Rattle.node_loader.specs.declared.fault.LoadFault.{LoadFault}
+use Rattle.node_loader.specs.declared.file.Loaded.{Loaded}
 use Rattle.node_loader.specs.declared.node.Entry.{Entry}
 use Rattle.node_loader.specs.declared.node.Setting.{Setting}
 
@@ -74,12 +75,7 @@ abbrev pub references_of : ℕ → Items → Result (List Triple) LoadFault
 references_of highest ds = each (λ n d. in_part (part.Reference n) (listed_reference_of highest (part.Reference n) (as_table d))) 1 ds
 
 -- the configuration, the nodes and the references of a file; the references that come with nodes stand first
-pub record Contents : Type 0 where
-  pub config : Configuration
-  pub nodes : List Node
-  pub triples : List Triple
-
-unfoldable pub contents_of : Members → Result Contents LoadFault
+unfoldable pub contents_of : Members → Result Loaded LoadFault
 contents_of ms = do
   parts ← in_part part.File (parts_of ms)
   config ← in_part part.Server (server_of parts.server)
@@ -88,12 +84,12 @@ contents_of ms = do
   Ok (record { config = config; nodes = nodes.0; triples = nodes.1 ++ references })
 
 -- a text that is no TOML
-abbrev pub read_of : Option Members → Result Contents LoadFault
+abbrev pub read_of : Option Members → Result Loaded LoadFault
 read_of None = Err (record { cause = Toml; part = part.File })
 read_of (Some ms) = contents_of ms
 
 -- what a node file means, or its first fault
-abbrev pub meaning_of : List ℕ → Result Contents LoadFault
+abbrev pub meaning_of : List ℕ → Result Loaded LoadFault
 meaning_of text = read_of (parse_document text)
 
 -- what a call answers, seen by view, is what is said, unless memory ran out

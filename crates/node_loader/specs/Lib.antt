@@ -6,3 +6,5 @@ pub mod Value
 pub mod Node
 pub mod Reference
 pub mod File
+pub mod Smallest
+pub mod Ordered

@@ -1,5 +1,5 @@
 -- An entry of the list `node`: for each key its name, its default and its range.
-use Rattle.std.specs.Prelude.{ℕ, List, [], ◌∷◌, ◌++◌, codes, Option, Some, None, option_map, Result, Ok, Err, if◌then◌else◌}
+use Rattle.std.specs.Prelude.{ℕ, Bool, List, [], ◌∷◌, ◌++◌, codes, Option, Some, None, option_map, Result, Ok, Err, if◌then◌else◌}
 use Rattle.std.specs.Str.{bytes_eq}
 use Rattle.toml.specs.Data.{Members}
 use Rattle.ua_types.specs.NodeIds.{numeric_id}
@@ -82,6 +82,15 @@ type_at ms = do
   word ← required_word (codes "type") ms
   type_of word
 
+abbrev pub variable_with : ValueType → Variant → Moment → ℕ → Bool → Variable
+variable_with value_type value start access historizing = record {
+  data_type = number_of value_type;
+  value_rank = ranks.Scalar;
+  value = value_since start value;
+  access = access;
+  historizing = historizing;
+}
+
 -- what only variables have
 unfoldable pub variable_of : Setting → Members → Result Variable Cause
 variable_of setting ms = do
@@ -89,13 +98,7 @@ variable_of setting ms = do
   value ← value_of value_type setting.highest ms
   access ← number_at (codes "access") 1 0 15 ms
   historizing ← boolean_at (codes "historizing") ms
-  Ok (record {
-    data_type = number_of value_type;
-    value_rank = ranks.Scalar;
-    value = value_since setting.start value;
-    access = access;
-    historizing = historizing;
-  })
+  Ok (variable_with value_type value setting.start access historizing)
 
 -- what each class has beside the names
 unfoldable pub object_of : Setting → Members → Result Kind Cause

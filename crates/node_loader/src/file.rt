@@ -11,6 +11,7 @@ use crate::fault::{Cause, LoadFault};
 use crate::keys::{only, value_at};
 use crate::node::{Entry, Setting, entry_at};
 use crate::reference::reference;
+use crate::sequence::Sequence;
 use crate::server::server;
 use std::alloc::{AllocError, AllocFailed, Global};
 use toml::{Table, Value};
@@ -164,16 +165,16 @@ fn with_references(
 pub struct Loaded {
     pub config: Config,
     /// The nodes of the file, in its order.
-    pub nodes: Vec<Node>,
+    pub nodes: Sequence<Node>,
     /// The references: first those that come with the nodes, node by node, from the parent and then
     /// to the type definition, and then those of the list `reference`. Each has the part that
     /// declares it.
-    pub triples: Vec<Triple>,
+    pub triples: Sequence<Triple>,
 }
 
 #[tactic(auto, unfolding(crate::specs::File::contents_of))]
 fn contents(alloc: Global, table: &Table) -> Result<Loaded, LoadFault>
-    ensures { Loads (λ l. record { config = l.config; nodes = l.nodes.items; triples = l.triples.items }) result (contents_of (table_view table.now)) }
+    ensures { Loads (λ l. l) result (contents_of (table_view table.now)) }
 {
     let empty = Table::new(alloc);
     let (server_table, node_list, reference_list) = match parts(table, &empty) {
@@ -199,15 +200,15 @@ fn contents(alloc: Global, table: &Table) -> Result<Loaded, LoadFault>
     let triples = with_references(alloc, own, setting.highest, reference_list)?;
     Ok(Loaded {
         config,
-        nodes,
-        triples,
+        nodes: Sequence::new(nodes),
+        triples: Sequence::new(triples),
     })
 }
 
 /// What the text of a node file means, or its first fault. The fault `Memory`, at any part, comes
 /// only where a growth was refused.
 pub fn load(alloc: Global, text: &str) -> Result<Loaded, LoadFault>
-    ensures { Loads (λ l. record { config = l.config; nodes = l.nodes.items; triples = l.triples.items }) result (meaning_of text.now) }
+    ensures { Loads (λ l. l) result (meaning_of text.now) }
 {
     match toml::table_from_str(alloc, text) {
         Ok(table) => contents(alloc, &table),

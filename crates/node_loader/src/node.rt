@@ -1,11 +1,14 @@
 //! An entry of the list `node`: the node, and the references that come with it.
 
-ghost use Rattle.std.specs.Prelude.{◌≡◌, ◌≤◌, IfOk};
+ghost use Rattle.std.specs.Prelude.{◌≡◌, ◌≤◌, true, IfOk};
 ghost use Rattle.toml.specs.Data.{as_table};
 ghost use Rattle.toml.specs.View.{table_view, view};
+ghost use Rattle.ua_space.specs.Variables.{is_of};
+ghost use Rattle.ua_space.specs.declared.node.ValueRank.TheVariants as ranks;
 ghost use Rattle.node_loader.specs.Answers.{Gives};
 ghost use Rattle.node_loader.specs.Keys.{only};
-ghost use Rattle.node_loader.specs.Node.{class_of, keys_of, names_of, place_of, parent_triple, definition_triple, entry_from, value_since, type_at, variable_of, object_of, variable_node_of, object_type_of, variable_type_of, reference_type_of, data_type_of, kind_of, rest_of, node_of, entry_of};
+ghost use Rattle.node_loader.specs.Value.{number_of};
+ghost use Rattle.node_loader.specs.Node.{class_of, keys_of, names_of, place_of, parent_triple, definition_triple, entry_from, value_since, type_at, variable_with, variable_of, object_of, variable_node_of, object_type_of, variable_type_of, reference_type_of, data_type_of, kind_of, rest_of, node_of, entry_of};
 
 use crate::fault::Cause;
 use crate::ids::{id_at, id_if_any, id_or, standard_id};
@@ -230,6 +233,27 @@ fn type_at(table: &Table) -> Result<ValueType, Cause>
     type_of(word)
 }
 
+// A variable with a value of its type, which is good since the start.
+fn variable_with(
+    value_type: ValueType,
+    value: Variant,
+    start: Moment,
+    access: u64,
+    historizing: bool,
+) -> Variable
+    requires typed { is_of (number_of value_type) ranks.Scalar value ≡ true }
+    requires access { access ≤ 15 }
+    ensures { result ≡ variable_with value_type value start access historizing }
+{
+    Variable {
+        data_type: value_type.number(),
+        value_rank: ValueRank::Scalar,
+        value: value_since(start, value),
+        access: access as u8,
+        historizing,
+    }
+}
+
 #[tactic(auto, unfolding(crate::specs::Node::variable_of))]
 fn variable_in(alloc: Global, setting: &Setting, table: &Table) -> Result<Variable, Cause>
     ensures { Gives (λ v. v) result (variable_of setting.now (table_view table.now)) }
@@ -238,13 +262,7 @@ fn variable_in(alloc: Global, setting: &Setting, table: &Table) -> Result<Variab
     let value = value_of(alloc, value_type, setting.highest, table)?;
     let access = number_at(table, "access", 1, 0, 15)?;
     let historizing = boolean_at(table, "historizing")?;
-    Ok(Variable {
-        data_type: value_type.number(),
-        value_rank: ValueRank::Scalar,
-        value: value_since(setting.start, value),
-        access: access as u8,
-        historizing,
-    })
+    Ok(variable_with(value_type, value, setting.start, access, historizing))
 }
 
 #[tactic(auto, unfolding(crate::specs::Node::object_of))]

@@ -6,7 +6,7 @@ use ua_space::{NodeDetails, Part, Variable};
 use ua_types::{Moment, NodeId};
 use ua_values::{Content, Variant};
 
-/// The small plant line of examples/line.toml: two objects and five variables.
+/// The small plant line of crates/uaserver/data/line.toml: two objects and five variables.
 const LINE: &str = "version = 1\n\
     [[node]]\nid = 'ns=1;i=1'\nclass = 'Object'\nname = 'Line'\nparent = 'i=85'\ndefinition = 'i=61'\n\
     [[node]]\nid = 'ns=1;i=2'\nclass = 'Object'\nname = 'Empty'\nparent = 'i=85'\ndefinition = 'i=61'\n\
@@ -73,20 +73,22 @@ fn is_count(variable: &Variable) -> bool {
 fn loads_the_line(rt: HostRuntime) {
     let alloc = rt.alloc();
     let line = load(alloc, LINE).expect(&rt, "a good file");
-    assert_eq!(rt; line.nodes.len(), 7);
-    assert_eq!(rt; line.triples.len(), 14);
+    let nodes = line.nodes.as_slice();
+    let triples = line.triples.as_slice();
+    assert_eq!(rt; nodes.len(), 7);
+    assert_eq!(rt; triples.len(), 14);
     assert_eq!(rt; line.config.receive_size, 65536);
-    assert!(rt; line.nodes[2].id == NodeId::numeric(1, 11));
-    assert!(rt; line.nodes[2].browse_name.namespace == 1);
-    let counts = match &line.nodes[2].details {
+    assert!(rt; nodes[2].id == NodeId::numeric(1, 11));
+    assert!(rt; nodes[2].browse_name.namespace == 1);
+    let counts = match &nodes[2].details {
         NodeDetails::Variable(variable) => is_count(variable),
         _ => false,
     };
     assert!(rt; counts);
-    let parent = &line.triples[4];
+    let parent = &triples[4];
     assert!(rt; parent.source == NodeId::numeric(1, 1) && parent.target == NodeId::numeric(1, 11));
     assert!(rt; parent.reference_type == NodeId::numeric(0, 47) && parent.part == Part::Node(3));
-    let definition = &line.triples[5];
+    let definition = &triples[5];
     assert!(rt; definition.source == NodeId::numeric(1, 11));
     assert!(rt; definition.reference_type == NodeId::numeric(0, 40));
     assert!(rt; definition.target == NodeId::numeric(0, 63));

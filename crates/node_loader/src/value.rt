@@ -1,6 +1,6 @@
 //! Values in a file: the types that they may have, and what is read as each.
 
-ghost use Rattle.std.specs.Prelude.{◌≡◌, ◌<◌};
+ghost use Rattle.std.specs.Prelude.{◌≡◌, ◌≤◌};
 ghost use Rattle.hex.specs.Hex.{decode_of};
 ghost use Rattle.toml.specs.View.{table_view};
 ghost use Rattle.ua_types.specs.IdTexts.{guid_of};
@@ -42,7 +42,8 @@ impl ValueType {
     /// Its number (IEC 62541-6, 5.1.2).
     pub fn number(self) -> u8
         ensures number { result ≡ number_of self }
-        ensures served { result < 23 }
+        ensures lowest { 1 ≤ result }
+        ensures highest { result ≤ 22 }
     {
         match self {
             ValueType::Boolean => 1,

@@ -1,8 +1,11 @@
 //! How long it takes to build a space of the largest size: 100,000 nodes and 400,000 references, with
-//! a chain of 50,000 types that are subtypes of each other.
+//! a chain of 50,000 types that are subtypes of each other, and a ladder of 10,000 steps with two types
+//! each, both of them subtypes of both types of the step above. There are 2^9,999 ways down that ladder.
 //!
 //! The counts go to standard output, where the gate compares them; the times go to standard error.
 #![tactic(auto)]
+
+ghost use Rattle.std.specs.Prelude.{◌<◌};
 
 use std::alloc::{AllocError, Global};
 use std::io::{self, Write};
@@ -13,7 +16,14 @@ use ua_types::{Config, LocalizedText, NodeId, QualifiedName, Text};
 
 const TYPES: u32 = 50_000;
 
-const OBJECTS: u32 = 49_978;
+const STEPS: u32 = 10_000;
+
+// The first of the ladder's types, and the first object.
+const LADDER: u32 = TYPES;
+
+const FIRST: u32 = LADDER + 2 * STEPS;
+
+const OBJECTS: u32 = 29_978;
 
 const TRIPLES: usize = 399_971;
 
@@ -45,13 +55,13 @@ fn reference_type() -> NodeDetails {
     }
 }
 
-// Types 1 to 50,000, and then objects.
+// The types of the chain and of the ladder, and then objects.
 fn nodes(alloc: Global) -> Result<Vec<Node>, AllocError> {
     let mut nodes = Vec::new(alloc);
-    for number in 0..TYPES {
+    for number in 0..FIRST {
         nodes.push(node(number, reference_type()))?;
     }
-    for number in TYPES..TYPES + OBJECTS {
+    for number in FIRST..FIRST + OBJECTS {
         nodes.push(node(number, NodeDetails::Object))?;
     }
     Ok(nodes)
@@ -66,7 +76,23 @@ fn triple(source: NodeId, kind: u32, target: NodeId, place: u64) -> Triple {
     }
 }
 
-// A chain of HasSubtype references, the lowest first, and then each object organizes those after it.
+// The ladder's references, each step's four.
+fn add_ladder(triples: &mut Vec<Triple>) -> Result<(), AllocError> {
+    for step in 1..STEPS {
+        for upper in 0..2u32 {
+            for lower in 0..2u32 {
+                let place = triples.len() as u64;
+                let source = NodeId::numeric(1, LADDER + 2 * (step - 1) + upper);
+                let target = NodeId::numeric(1, LADDER + 2 * step + lower);
+                triples.push(triple(source, 45, target, place))?;
+            }
+        }
+    }
+    Ok(())
+}
+
+// A chain of HasSubtype references, the lowest first, the ladder, and then each object organizes those
+// after it.
 fn triples(alloc: Global) -> Result<Vec<Triple>, AllocError> {
     let mut triples = Vec::new(alloc);
     for number in (1..TYPES).rev() {
@@ -74,14 +100,15 @@ fn triples(alloc: Global) -> Result<Vec<Triple>, AllocError> {
         let upper = NodeId::numeric(1, number - 1);
         triples.push(triple(upper, 45, NodeId::numeric(1, number), place))?;
     }
-    for step in 1..9u32 {
+    add_ladder(&mut triples)?;
+    for step in 1..12u32 {
         for number in 0..OBJECTS {
             if triples.len() == TRIPLES {
                 return Ok(triples);
             }
             let place = triples.len() as u64;
-            let source = NodeId::numeric(1, TYPES + number);
-            let target = NodeId::numeric(1, TYPES + (number + step) % OBJECTS);
+            let source = NodeId::numeric(1, FIRST + number);
+            let target = NodeId::numeric(1, FIRST + (number + step) % OBJECTS);
             triples.push(triple(source, 35, target, place))?;
         }
     }
@@ -108,22 +135,51 @@ fn report(rt: &HostRuntime, name: &str, start: io::Result<Instant>) {
     }
 }
 
+// How many of the ladder's types are the first type of a step or a subtype of it.
+fn below(rt: &HostRuntime, space: &Space, step: u32) -> Result<usize, AllocError>
+    requires { step < 10000 }
+{
+    let upper = NodeId::numeric(1, LADDER + 2 * step);
+    let start = Instant::now(rt);
+    let types = space.subtypes(rt.alloc(), &upper)?;
+    report(rt, "subtypes", start);
+    let start = Instant::now(rt);
+    let mut count = 0usize;
+    for number in LADDER..FIRST {
+        if types.contains(&NodeId::numeric(1, number)) {
+            count = count.saturating_add(1);
+        }
+    }
+    report(rt, "20,000 questions about them", start);
+    Ok(count)
+}
+
+fn ladder(rt: &HostRuntime, space: &Space) -> Result<(usize, usize), AllocError> {
+    Ok((below(rt, space, 0)?, below(rt, space, STEPS / 2)?))
+}
+
+fn run(rt: &HostRuntime, space: &Space) -> Result<(), io::Error> {
+    let lowest = NodeId::numeric(1, TYPES - 1);
+    let highest = NodeId::numeric(1, 0);
+    let start = Instant::now(rt);
+    let chained = space.is_subtype(&lowest, &highest);
+    report(rt, "is_subtype over 49,999 steps", start);
+    let nodes = space.node_count();
+    let triples = space.triple_count();
+    let mut out = rt.stdout();
+    writeln!(out, "{nodes} nodes, {triples} references, {chained}")?;
+    match ladder(rt, space) {
+        Ok((all, half)) => writeln!(out, "{all} and {half} subtypes"),
+        Err(_) => writeln!(out, "memory"),
+    }
+}
+
 fn main(rt: HostRuntime) -> ExitCode {
     match build(&rt) {
         Err(_) => ExitCode::from(1),
-        Ok(space) => {
-            let lowest = NodeId::numeric(1, TYPES - 1);
-            let highest = NodeId::numeric(1, 0);
-            let start = Instant::now(&rt);
-            let below = space.is_subtype(&lowest, &highest);
-            report(&rt, "is_subtype over 49,999 steps", start);
-            let nodes = space.node_count();
-            let triples = space.triple_count();
-            let mut out = rt.stdout();
-            match writeln!(out, "{nodes} nodes, {triples} references, {below}") {
-                Ok(()) => ExitCode::SUCCESS,
-                Err(_) => ExitCode::from(1),
-            }
-        }
+        Ok(space) => match run(&rt, &space) {
+            Ok(()) => ExitCode::SUCCESS,
+            Err(_) => ExitCode::from(1),
+        },
     }
 }

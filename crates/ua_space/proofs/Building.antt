@@ -13,9 +13,8 @@ use Rattle.ua_space.specs.declared.fault.SpaceFault.{SpaceFault}
 use Rattle.ua_space.specs.declared.fault.SpaceFault.TheVariants.{Duplicate, DanglingReference}
 use Rattle.ua_space.specs.Nodes.{Nodes, node_at}
 use Rattle.ua_space.specs.TripleOrder.{same_triple, triple_cmp, same_triple_equiv, triple_ties}
-use Rattle.ua_types.specs.Configuration.{Configuration}
-use Rattle.ua_space.specs.BaseNodes.{base_nodes}
-use Rattle.ua_space.specs.Build.{fits, linked, named, all_named}
+use Rattle.ua_space.specs.Build.{linked, named, all_named}
+use Rattle.ua_space.specs.Spaces.{fits}
 
 abbrev Linked : Type 0
 Linked = Result (Unit {0}) SpaceFault
@@ -48,7 +47,7 @@ all_good ns ts i total le so_far =
     let one : linked ns (take i ts) (drop i ts) ≡ Ok tt = rw (drop_all i ts le) refl in
     sym so_far ∙ one
 
-either_way : (b x : Bool) → cond b true x ≡ (x || (b || false))
+pub either_way : (b x : Bool) → cond b true x ≡ (x || (b || false))
 either_way true true = refl
 either_way true false = refl
 either_way false true = refl
@@ -100,14 +99,14 @@ unfolding named
 nodes_end n known left total none so_far = sym so_far ∙ rw (nothing_left left none) refl
 
 -- the base nodes and then the given ones
-pub base_fails : (config : Configuration) (nodes base : List Node) (empty : Nodes) (e : SpaceFault) → empty ≡ [] → base ≡ base_nodes config → named 0 empty base ≡ Err e → all_named config nodes ≡ Err e
+pub base_fails : (base nodes : List Node) (empty : Nodes) (e : SpaceFault) → empty ≡ [] → named 0 empty base ≡ Err e → all_named base nodes ≡ Err e
 unfolding all_named
-base_fails config nodes base empty e none is failed =
-    let one : named 0 [] (base_nodes config) ≡ Err e = ap (λ m. named 0 m (base_nodes config)) (sym none) ∙ ap (named 0 empty) (sym is) ∙ failed in
+base_fails base nodes empty e none failed =
+    let one : named 0 [] base ≡ Err e = ap (λ m. named 0 m base) (sym none) ∙ failed in
     rw one refl
 
-pub base_stands : (config : Configuration) (nodes base : List Node) (empty known : Nodes) → empty ≡ [] → base ≡ base_nodes config → named 0 empty base ≡ Ok known → named 1 known nodes ≡ all_named config nodes
+pub base_stands : (base nodes : List Node) (empty known : Nodes) → empty ≡ [] → named 0 empty base ≡ Ok known → named 1 known nodes ≡ all_named base nodes
 unfolding all_named
-base_stands config nodes base empty known none is stood =
-    let one : named 0 [] (base_nodes config) ≡ Ok known = ap (λ m. named 0 m (base_nodes config)) (sym none) ∙ ap (named 0 empty) (sym is) ∙ stood in
+base_stands base nodes empty known none stood =
+    let one : named 0 [] base ≡ Ok known = ap (λ m. named 0 m base) (sym none) ∙ stood in
     rw one refl

@@ -12,12 +12,12 @@ use Rattle.ua_space.specs.Subtypes.{is_subtyping, leads_to, reaches}
 
 -- ---- lists
 
-at_get : {X : Type 0} (xs : List X) (k : ℕ) (x : X) → Some x ≡ slice_get xs k → (k < length xs) × (x ≡ get_or xs k x)
+pub at_get : {X : Type 0} (xs : List X) (k : ℕ) (x : X) → Some x ≡ slice_get xs k → (k < length xs) × (x ≡ get_or xs k x)
 at_get [] k x e = absurd cc
 at_get (y ∷ xs) zero x e = (omega arith, cc)
 at_get (y ∷ xs) (suc k) x e = let r = at_get xs k x e in (omega (arith, r.0), r.1)
 
-none_past : {X : Type 0} (xs : List X) (k : ℕ) → None ≡ slice_get xs k → k < length xs → ⊥
+pub none_past : {X : Type 0} (xs : List X) (k : ℕ) → None ≡ slice_get xs k → k < length xs → ⊥
 none_past [] k e lt = omega arith
 none_past (y ∷ xs) zero e lt = cc
 none_past (y ∷ xs) (suc k) e lt = none_past xs k e (omega arith)
@@ -52,7 +52,7 @@ any_filter p p' q same (x ∷ xs) =
 
 -- ---- chains
 
-under : (b : Bool) (key id : NodeId) → is_key id (cond b (Some key) None) ≡ (b && same_id key id)
+pub under : (b : Bool) (key id : NodeId) → is_key id (cond b (Some key) None) ≡ (b && same_id key id)
 under true key id = refl
 under false key id = refl
 

@@ -3,3 +3,7 @@ pub mod Chains
 pub mod Indexing
 pub mod Climbing
 pub mod Ranking
+pub mod Soundness
+pub mod Walking
+pub mod Referring
+pub mod Making

@@ -8,6 +8,8 @@ use Rattle.ua_values.specs.declared.content.Content.TheVariants as content
 use Rattle.ua_values.specs.declared.data_value.DataValue.{DataValue}
 use Rattle.ua_values.specs.declared.variant.Variant.{Variant}
 use Rattle.ua_values.specs.declared.variant.Variant.TheVariants as variants
+use Rattle.ua_space.specs.declared.base.Kind.{Kind}
+use Rattle.ua_space.specs.declared.base.Kind.TheVariants as kinds
 use Rattle.ua_space.specs.declared.node.Node.{Node}
 use Rattle.ua_space.specs.declared.node.NodeDetails.{NodeDetails}
 use Rattle.ua_space.specs.declared.node.NodeDetails.TheVariants as details
@@ -56,22 +58,19 @@ state c = readable 6 ranks.Scalar (value_since c.start (variants.Int32 (content.
 
 -- types that aren't abstract: of objects, of variables with a text, and of references that are asymmetric and
 -- have no inverse name
-abbrev pub object_type : NodeDetails
-object_type = details.ObjectType false
-
-abbrev pub text_type : NodeDetails
-text_type = details.VariableType 12 ranks.Scalar false
-
-abbrev pub reference_type : NodeDetails
-reference_type = details.ReferenceType false false (record { locale = None; text = None })
+abbrev pub details_of : Kind → NodeDetails
+details_of kinds.Object = details.Object
+details_of kinds.ObjectType = details.ObjectType false
+details_of kinds.VariableType = details.VariableType 12 ranks.Scalar false
+details_of kinds.ReferenceType = details.ReferenceType false false (record { locale = None; text = None })
 
 abbrev pub base_objects : List Node
 base_objects =
-    standard_node 84 (codes "Root") details.Object
-    ∷ standard_node 85 (codes "Objects") details.Object
-    ∷ standard_node 86 (codes "Types") details.Object
-    ∷ standard_node 87 (codes "Views") details.Object
-    ∷ standard_node 2253 (codes "Server") details.Object
+    standard_node 84 (codes "Root") (details_of kinds.Object)
+    ∷ standard_node 85 (codes "Objects") (details_of kinds.Object)
+    ∷ standard_node 86 (codes "Types") (details_of kinds.Object)
+    ∷ standard_node 87 (codes "Views") (details_of kinds.Object)
+    ∷ standard_node 2253 (codes "Server") (details_of kinds.Object)
     ∷ []
 
 abbrev pub base_variables : Configuration → List Node
@@ -82,23 +81,23 @@ base_variables c =
     ∷ []
 
 abbrev pub base_object_types : List Node
-base_object_types = standard_node 58 (codes "BaseObjectType") object_type ∷ standard_node 61 (codes "FolderType") object_type ∷ []
+base_object_types = standard_node 58 (codes "BaseObjectType") (details_of kinds.ObjectType) ∷ standard_node 61 (codes "FolderType") (details_of kinds.ObjectType) ∷ []
 
 abbrev pub base_variable_types : List Node
-base_variable_types = standard_node 63 (codes "BaseDataVariableType") text_type ∷ standard_node 68 (codes "PropertyType") text_type ∷ []
+base_variable_types = standard_node 63 (codes "BaseDataVariableType") (details_of kinds.VariableType) ∷ standard_node 68 (codes "PropertyType") (details_of kinds.VariableType) ∷ []
 
 abbrev pub base_reference_types : List Node
 base_reference_types =
-    standard_node 31 (codes "References") reference_type
-    ∷ standard_node 32 (codes "NonHierarchicalReferences") reference_type
-    ∷ standard_node 33 (codes "HierarchicalReferences") reference_type
-    ∷ standard_node 34 (codes "HasChild") reference_type
-    ∷ standard_node 35 (codes "Organizes") reference_type
-    ∷ standard_node 44 (codes "Aggregates") reference_type
-    ∷ standard_node 45 (codes "HasSubtype") reference_type
-    ∷ standard_node 46 (codes "HasProperty") reference_type
-    ∷ standard_node 47 (codes "HasComponent") reference_type
-    ∷ standard_node 40 (codes "HasTypeDefinition") reference_type
+    standard_node 31 (codes "References") (details_of kinds.ReferenceType)
+    ∷ standard_node 32 (codes "NonHierarchicalReferences") (details_of kinds.ReferenceType)
+    ∷ standard_node 33 (codes "HierarchicalReferences") (details_of kinds.ReferenceType)
+    ∷ standard_node 34 (codes "HasChild") (details_of kinds.ReferenceType)
+    ∷ standard_node 35 (codes "Organizes") (details_of kinds.ReferenceType)
+    ∷ standard_node 44 (codes "Aggregates") (details_of kinds.ReferenceType)
+    ∷ standard_node 45 (codes "HasSubtype") (details_of kinds.ReferenceType)
+    ∷ standard_node 46 (codes "HasProperty") (details_of kinds.ReferenceType)
+    ∷ standard_node 47 (codes "HasComponent") (details_of kinds.ReferenceType)
+    ∷ standard_node 40 (codes "HasTypeDefinition") (details_of kinds.ReferenceType)
     ∷ []
 
 unfoldable pub base_nodes : Configuration → List Node

@@ -1,18 +1,17 @@
 -- The space that nodes and references make, or the first thing that is wrong with them.
-use Rattle.std.specs.Prelude.{◌≡◌, ◌≢◌, ℕ, ◌+◌, List, [], ◌∷◌, ◌++◌, Bool, true, false, not, ◌&&◌, ◌||◌, nat_lt, length, Option, Some, None, is_some, Result, Ok, Err, if◌then◌else◌}
+use Rattle.std.specs.Prelude.{◌≡◌, ◌≢◌, ℕ, ◌+◌, List, [], ◌∷◌, ◌++◌, Bool, not, ◌||◌, nat_lt, length, Option, Some, None, is_some, Result, Ok, Err, if◌then◌else◌}
 use Rattle.std.specs.List.{list_any, find}
 use Rattle.std.specs.BTreeMap.{insert_entry}
 use Rattle.ua_types.specs.Configuration.{Configuration}
 use Rattle.ua_types.specs.NodeIdOrder.{id_cmp}
 use Rattle.ua_space.specs.declared.node.Node.{Node}
-use Rattle.ua_space.specs.declared.node.NodeDetails.{NodeDetails}
-use Rattle.ua_space.specs.declared.node.NodeDetails.TheVariants as details
 use Rattle.ua_space.specs.declared.triple.Triple.{Triple}
 use Rattle.ua_space.specs.declared.triple.Part.TheVariants as part
 use Rattle.ua_space.specs.declared.fault.SpaceFault.{SpaceFault}
 use Rattle.ua_space.specs.declared.fault.SpaceFault.TheVariants.{Duplicate, DanglingReference, SubtypeLoop, Limit, Memory}
 use Rattle.ua_space.specs.Nodes.{Nodes, SpaceState, node_at}
 use Rattle.ua_space.specs.TripleOrder.{same_triple}
+use Rattle.ua_space.specs.Spaces.{most_nodes, most_triples, fits}
 use Rattle.ua_space.specs.Subtypes.{lies_on_loop}
 use Rattle.ua_space.specs.BaseNodes.{base_nodes, base_triples}
 
@@ -27,9 +26,13 @@ abbrev pub ◌>>=◌ : {A B : Type 0} → Result A SpaceFault → (A → Result 
 (Ok x) >>= f = f x
 (Err e) >>= f = Err e
 
--- with the base set's 22 nodes and 29 references there are at most 100,000 nodes and 400,000 references
-abbrev pub within_limits : List Node → List Triple → Result (Unit {0}) SpaceFault
-within_limits nodes triples = if nat_lt 99978 (length nodes) || nat_lt 399971 (length triples) then Err Limit else Ok tt
+-- what is given comes beside the base set
+abbrev pub is_too_much : ℕ → ℕ → ℕ → Bool
+is_too_much most base given = nat_lt most (base + given)
+
+abbrev pub within_limits : List Node → List Node → List Triple → Result (Unit {0}) SpaceFault
+within_limits base nodes triples =
+    if is_too_much most_nodes (length base) (length nodes) || is_too_much most_triples (length base_triples) (length triples) then Err Limit else Ok tt
 
 -- each node under its id, up to the first whose id is there already; the nodes count from n
 unfoldable pub named : ℕ → Nodes → List Node → Result Nodes SpaceFault
@@ -39,22 +42,10 @@ named n known (node ∷ nodes) =
     else named (n + 1) (insert_entry id_cmp known node.id node) nodes
 
 -- the base nodes, whose ids are distinct, and then the given ones
-unfoldable pub all_named : Configuration → List Node → Result Nodes SpaceFault
-all_named config nodes = do
-  base ← named 0 [] (base_nodes config)
-  named 1 base nodes
-
-abbrev pub has_reference_details : NodeDetails → Bool
-has_reference_details (details.ReferenceType a s i) = true
-has_reference_details other = false
-
-abbrev pub is_reference_type : Option Node → Bool
-is_reference_type None = false
-is_reference_type (Some node) = has_reference_details node.details
-
--- both ends are nodes, and the type is a ReferenceType node
-abbrev pub fits : Nodes → Triple → Bool
-fits nodes t = (is_some (node_at t.source nodes) && is_some (node_at t.target nodes)) && is_reference_type (node_at t.reference_type nodes)
+unfoldable pub all_named : List Node → List Node → Result Nodes SpaceFault
+all_named base nodes = do
+  known ← named 0 [] base
+  named 1 known nodes
 
 -- each reference fits and is new, up to the first that isn't
 unfoldable pub linked : Nodes → List Triple → List Triple → Result (Unit {0}) SpaceFault
@@ -72,8 +63,8 @@ no_loop (Some t) = Err (SubtypeLoop t.part)
 -- in order, and of loops of HasSubtype, told by their first reference
 unfoldable pub space_of : Configuration → List Node → List Triple → Result SpaceState SpaceFault
 space_of config nodes triples = do
-  few ← within_limits nodes triples
-  known ← all_named config nodes
+  few ← within_limits (base_nodes config) nodes triples
+  known ← all_named (base_nodes config) nodes
   sound ← linked known [] (base_triples ++ triples)
   ordered ← no_loop (find (lies_on_loop (base_triples ++ triples)) (base_triples ++ triples))
   Ok (record { nodes = known; triples = base_triples ++ triples })

@@ -1,8 +1,13 @@
 pub mod NodeClasses
+pub mod Variables
 pub mod Nodes
+pub mod Spaces
 pub mod TripleOrder
 pub mod Subtypes
 pub mod BaseNodes
 pub mod Build
 pub mod Indexes
+pub mod Indexed
+pub mod Walks
 pub mod Ranks
+pub mod Made

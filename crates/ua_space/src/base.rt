@@ -1,8 +1,9 @@
 //! The base set: the nodes and references that every server has.
 
-ghost use Rattle.std.specs.Prelude.{◌≡◌, ◌<◌, ◌^◌, ◌++◌, ◌∷◌, [], length, map, IfOk, OnOk, vec_len};
+ghost use Rattle.std.specs.Prelude.{◌≡◌, ◌≤◌, ◌<◌, ◌^◌, ◌++◌, ◌∷◌, [], length, map, IfOk, OnOk, true, vec_len};
 ghost use Rattle.std.specs.List.{All};
-ghost use Rattle.ua_space.specs.BaseNodes.{standard_node, value_since, readable, reference_type, server_array, namespaces, namespace_array, state, base_nodes, base_triple, base_triples, base_objects, base_variables, base_object_types, base_variable_types, base_reference_types};
+ghost use Rattle.ua_space.specs.BaseNodes.{standard_node, value_since, readable, details_of, server_array, namespaces, namespace_array, state, base_nodes, base_triple, base_triples, base_objects, base_variables, base_object_types, base_variable_types, base_reference_types};
+ghost use Rattle.ua_space.specs.Variables.{is_of};
 ghost use Rattle.ua_values.specs.declared.content.Content.TheVariants as content;
 ghost use Rattle.ua_values.specs.declared.variant.Variant.TheVariants as variants;
 
@@ -42,25 +43,61 @@ fn standard_node(
     })
 }
 
-// Appends one such node for each number and name.
+// What nodes of the base set have alike.
+#[derive(Clone, Copy)]
+enum Kind {
+    Object,
+    ObjectType,
+    VariableType,
+    ReferenceType,
+}
+
+// Types aren't abstract; a variable of a type has a text; a reference is asymmetric and has no inverse
+// name.
+fn details_of(kind: Kind) -> NodeDetails
+    ensures { result ≡ details_of kind }
+{
+    match kind {
+        Kind::Object => NodeDetails::Object,
+        Kind::ObjectType => NodeDetails::ObjectType { is_abstract: false },
+        Kind::VariableType => NodeDetails::VariableType {
+            data_type: 12,
+            value_rank: ValueRank::Scalar,
+            is_abstract: false,
+        },
+        Kind::ReferenceType => NodeDetails::ReferenceType {
+            is_abstract: false,
+            symmetric: false,
+            inverse_name: LocalizedText {
+                locale: Text::null(),
+                text: Text::null(),
+            },
+        },
+    }
+}
+
+// Appends a node of this kind for each number and name.
 fn add_all(
     alloc: Global,
     nodes: &mut Vec<Node>,
     names: &[(u32, &str)],
-    details: &NodeDetails,
+    kind: Kind,
 ) -> Result<(), AllocError>
     requires { All (λ e. length e.1.now < 2 ^ 31) names.now }
     ensures { OnOk result (nodes.new.items
-        ≡ nodes.old.items ++ map (λ e. standard_node e.0 e.1.now details.now) names.now) }
+        ≡ nodes.old.items ++ map (λ e. standard_node e.0 e.1.now (details_of kind)) names.now) }
 {
     for (number, name) in names {
-        nodes.push(standard_node(alloc, *number, name, details.copy(alloc)?)?)?;
+        nodes.push(standard_node(alloc, *number, name, details_of(kind))?)?;
     }
     Ok(())
 }
 
 // A variable that may be read, with a value that is good since the start.
 fn readable(data_type: u8, value_rank: ValueRank, start: Moment, value: Variant) -> NodeDetails
+    requires lowest { 1 ≤ data_type }
+    requires highest { data_type ≤ 22 }
+    requires taken { is_of data_type value_rank value ≡ true }
     ensures { result ≡ readable data_type value_rank (value_since start value) }
 {
     NodeDetails::Variable(Variable {
@@ -100,7 +137,8 @@ fn triples_of(
     Ok(triples)
 }
 
-const TRIPLES: [(u32, u32, u32); 29] = [
+/// The base set's references: their types, sources and targets.
+pub(crate) const TRIPLES: [(u32, u32, u32); 29] = [
     (35, 84, 85),
     (35, 84, 86),
     (35, 84, 87),
@@ -162,42 +200,21 @@ fn add_objects(alloc: Global, nodes: &mut Vec<Node>) -> Result<(), AllocError>
         (87, "Views"),
         (2253, "Server"),
     ];
-    add_all(alloc, nodes, &names, &NodeDetails::Object)
-}
-
-// Types that aren't abstract: of objects, of variables with a text, and of references that are
-// asymmetric and have no inverse name.
-fn reference_type() -> NodeDetails
-    ensures { result ≡ reference_type }
-{
-    NodeDetails::ReferenceType {
-        is_abstract: false,
-        symmetric: false,
-        inverse_name: LocalizedText {
-            locale: Text::null(),
-            text: Text::null(),
-        },
-    }
+    add_all(alloc, nodes, &names, Kind::Object)
 }
 
 fn add_object_types(alloc: Global, nodes: &mut Vec<Node>) -> Result<(), AllocError>
     ensures { OnOk result (nodes.new.items ≡ nodes.old.items ++ base_object_types) }
 {
     let names = [(58, "BaseObjectType"), (61, "FolderType")];
-    let details = NodeDetails::ObjectType { is_abstract: false };
-    add_all(alloc, nodes, &names, &details)
+    add_all(alloc, nodes, &names, Kind::ObjectType)
 }
 
 fn add_variable_types(alloc: Global, nodes: &mut Vec<Node>) -> Result<(), AllocError>
     ensures { OnOk result (nodes.new.items ≡ nodes.old.items ++ base_variable_types) }
 {
     let names = [(63, "BaseDataVariableType"), (68, "PropertyType")];
-    let details = NodeDetails::VariableType {
-        data_type: 12,
-        value_rank: ValueRank::Scalar,
-        is_abstract: false,
-    };
-    add_all(alloc, nodes, &names, &details)
+    add_all(alloc, nodes, &names, Kind::VariableType)
 }
 
 fn add_reference_types(alloc: Global, nodes: &mut Vec<Node>) -> Result<(), AllocError>
@@ -215,8 +232,7 @@ fn add_reference_types(alloc: Global, nodes: &mut Vec<Node>) -> Result<(), Alloc
         (47, "HasComponent"),
         (40, "HasTypeDefinition"),
     ];
-    let details = reference_type();
-    add_all(alloc, nodes, &names, &details)
+    add_all(alloc, nodes, &names, Kind::ReferenceType)
 }
 
 fn list(texts: Vec<Text>) -> Variant
@@ -226,6 +242,7 @@ fn list(texts: Vec<Text>) -> Variant
     Variant::String(Content::Array(Array::new(texts)))
 }
 
+#[tactic(auto, unfolding(crate::specs::Variables::has_rank))]
 fn server_array(alloc: Global, config: &Config) -> Result<NodeDetails, AllocError>
     ensures { IfOk result (λ details. details ≡ server_array config.now) }
 {
@@ -247,6 +264,7 @@ fn namespaces(alloc: Global, config: &Config) -> Result<Vec<Text>, AllocError>
     Ok(texts)
 }
 
+#[tactic(auto, unfolding(crate::specs::Variables::has_rank))]
 fn namespace_array(alloc: Global, config: &Config) -> Result<NodeDetails, AllocError>
     ensures { IfOk result (λ details. details ≡ namespace_array config.now) }
 {
@@ -254,6 +272,7 @@ fn namespace_array(alloc: Global, config: &Config) -> Result<NodeDetails, AllocE
     Ok(readable(12, ValueRank::List, config.start, list(texts)))
 }
 
+#[tactic(auto, unfolding(crate::specs::Variables::has_rank))]
 fn state(config: &Config) -> NodeDetails
     ensures { result ≡ state config.now }
 {

@@ -1,13 +1,14 @@
 //! A space out of nodes and references, or the first thing that is wrong with them.
 
-ghost use Rattle.std.specs.Prelude.{◌≡◌, ◌<◌, ◌^◌, ◌+◌, ◌++◌, [], vec_len, IfOk, IfErr};
+ghost use Rattle.std.specs.Prelude.{◌≡◌, ◌≤◌, ◌<◌, ◌^◌, ◌+◌, ◌++◌, [], length, vec_len, IfOk, IfErr, OnOk};
 ghost use Rattle.ua_space.specs.BaseNodes.{base_triples};
-ghost use Rattle.ua_space.specs.Build.{Makes, named, all_named, fits, linked};
+ghost use Rattle.ua_space.specs.Build.{Makes, is_too_much, within_limits, named, all_named, linked};
+ghost use Rattle.ua_space.specs.Spaces.{fits};
 ghost use Rattle.ua_space.specs.declared.fault.SpaceFault.TheVariants.{Memory};
 
-use crate::base::{base_nodes, base_triples};
+use crate::base::{TRIPLES, base_nodes, base_triples};
 use crate::fault::SpaceFault;
-use crate::index::{Key, index_by};
+use crate::index::Indexes;
 use crate::loops::no_loop;
 use crate::node::{Node, NodeDetails};
 use crate::space::Space;
@@ -16,10 +17,33 @@ use std::alloc::Global;
 use std::collections::{BTreeMap, BTreeSet};
 use ua_types::{Config, Copyable, NodeId};
 
-/// The most nodes of a space, the base set's 22 included.
+/// The most nodes of a space, those of the base set included.
 const MAX_NODES: usize = 100_000;
-/// The most references of a space, the base set's 29 included.
+/// The most references of a space, those of the base set included.
 const MAX_TRIPLES: usize = 400_000;
+
+// Whether so many are too many beside those of the base set.
+fn is_too_much(most: usize, base: usize, given: usize) -> bool
+    requires { base ≤ most }
+    ensures { result ≡ is_too_much most base given }
+{
+    given > most - base
+}
+
+#[tactic(auto, unfolding(crate::specs::BaseNodes::base_triples))]
+fn within_limits(base: &[Node], nodes: &[Node], triples: &[Triple]) -> Result<(), SpaceFault>
+    requires { length base.now ≤ 22 }
+    ensures limits { result ≡ within_limits base.now nodes.now triples.now }
+    ensures few_nodes { OnOk result (length nodes.now < 2 ^ 32) }
+    ensures few_triples { OnOk result (length triples.now < 400000) }
+{
+    if is_too_much(MAX_NODES, base.len(), nodes.len())
+        || is_too_much(MAX_TRIPLES, TRIPLES.len(), triples.len())
+    {
+        return Err(SpaceFault::Limit);
+    }
+    Ok(())
+}
 
 // Each node under its id. The nodes count from `first`.
 fn named(
@@ -92,13 +116,13 @@ fn with_base(alloc: Global, triples: Vec<Triple>) -> Result<Vec<Triple>, SpaceFa
 // The base nodes and then the given ones, under their ids.
 fn all_named(
     alloc: Global,
-    config: &Config,
+    base: Vec<Node>,
     nodes: Vec<Node>,
 ) -> Result<BTreeMap<NodeId, Node>, SpaceFault>
-    requires { vec_len nodes < 2 ^ 32 }
-    ensures { Makes (λ m. m.entries) result (all_named config.now nodes.items) }
+    requires few_base { vec_len base < 2 ^ 32 }
+    requires few { vec_len nodes < 2 ^ 32 }
+    ensures { Makes (λ m. m.entries) result (all_named base.items nodes.items) }
 {
-    let base = base_nodes(alloc, config)?;
     match named(alloc, BTreeMap::new(alloc), 0, base) {
         Err(fault) => Err(fault),
         Ok(known) => named(alloc, known, 1, nodes),
@@ -125,16 +149,13 @@ impl Space {
     ) -> Result<Space, SpaceFault>
         ensures { Gives Memory result (space_of config.now nodes.items triples.items) }
     {
-        if nodes.len() > MAX_NODES - 22 || triples.len() > MAX_TRIPLES - 29 {
-            return Err(SpaceFault::Limit);
-        }
-        let known = all_named(alloc, config, nodes)?;
+        let base = base_nodes(alloc, config)?;
+        within_limits(base.as_slice(), nodes.as_slice(), triples.as_slice())?;
+        let known = all_named(alloc, base, nodes)?;
         let all = with_base(alloc, triples)?;
         linked(alloc, &known, all.as_slice())?;
-        let supertypes = index_by(alloc, Key::Subtype, all.as_slice())?;
-        no_loop(alloc, all.as_slice(), &supertypes)?;
-        let by_source = index_by(alloc, Key::Source, all.as_slice())?;
-        let by_target = index_by(alloc, Key::Target, all.as_slice())?;
-        Ok(Space::new(known, all, by_source, by_target, supertypes))
+        let indexes = Indexes::new(alloc, all.as_slice())?;
+        no_loop(alloc, all.as_slice(), &indexes.supertypes)?;
+        Ok(Space::new(known, all, indexes))
     }
 }

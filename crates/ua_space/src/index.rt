@@ -1,11 +1,12 @@
 //! Which references stand under which id, so that no look-up goes over all of them.
 
-ghost use Rattle.std.specs.Prelude.{◌≡◌, ◌<◌, ◌^◌, ◌++◌, ◌∷◌, [], cond, length, IfOk, OnOk, vec_len};
+ghost use Rattle.std.specs.Prelude.{◌≡◌, ◌<◌, ◌^◌, ◌++◌, ◌∷◌, [], cond, if◌then◌else◌, length, IfOk, OnOk, vec_len};
 ghost use Rattle.std.specs.Option.{option_copied};
 ghost use Rattle.ua_types.specs.NodeIdOrder.{same_id};
 ghost use Rattle.ua_types.specs.declared.node_id.NodeId.{NodeId};
+ghost use Rattle.ua_space.specs.Nodes.{is_defining};
 ghost use Rattle.ua_space.specs.Subtypes.{is_subtyping};
-ghost use Rattle.ua_space.specs.Indexes.{IsIndex, places_at, key_of, stands_under};
+ghost use Rattle.ua_space.specs.Indexes.{IsIndex, items, places_at, key_of, stands_under};
 
 use crate::triple::Triple;
 use std::alloc::{AllocError, Global};
@@ -20,6 +21,10 @@ pub(crate) type Index = BTreeMap<NodeId, Vec<u32>>;
 pub(crate) enum Key {
     Source,
     Target,
+    /// The source, of HasTypeDefinition references alone.
+    Definition,
+    /// The source, of HasSubtype references alone.
+    Supertype,
     /// The target, of HasSubtype references alone.
     Subtype,
 }
@@ -31,6 +36,20 @@ pub(crate) fn is_subtyping(triple: &Triple) -> bool
     triple.reference_type == NodeId::numeric(0, 45)
 }
 
+// Whether it leads from a node to its type definition.
+fn is_defining(triple: &Triple) -> bool
+    ensures { result ≡ is_defining triple.now }
+{
+    triple.reference_type == NodeId::numeric(0, 40)
+}
+
+// The id, if it is asked for.
+fn id_if(asked: bool, id: &NodeId) -> Option<&NodeId>
+    ensures { option_copied result ≡ (if asked then Some id.now else None) }
+{
+    if asked { Some(id) } else { None }
+}
+
 // The id under which a reference stands.
 fn key_of(key: Key, triple: &Triple) -> Option<&NodeId>
     ensures { option_copied result ≡ key_of key triple.now }
@@ -38,20 +57,16 @@ fn key_of(key: Key, triple: &Triple) -> Option<&NodeId>
     match key {
         Key::Source => Some(&triple.source),
         Key::Target => Some(&triple.target),
-        Key::Subtype => {
-            if is_subtyping(triple) {
-                Some(&triple.target)
-            } else {
-                None
-            }
-        }
+        Key::Definition => id_if(is_defining(triple), &triple.source),
+        Key::Supertype => id_if(is_subtyping(triple), &triple.source),
+        Key::Subtype => id_if(is_subtyping(triple), &triple.target),
     }
 }
 
 // Adds a place under an id.
 fn add(alloc: Global, index: &mut Index, id: &NodeId, place: u32) -> Result<(), AllocError>
-    ensures { OnOk result ((q : NodeId) → places_at (λ v. v.items) q index.new.entries
-        ≡ cond (same_id id.now q) (places_at (λ v. v.items) q index.old.entries ++ place ∷ []) (places_at (λ v. v.items) q index.old.entries)) }
+    ensures { OnOk result ((q : NodeId) → places_at items q index.new.entries
+        ≡ cond (same_id id.now q) (places_at items q index.old.entries ++ place ∷ []) (places_at items q index.old.entries)) }
 {
     match index.get_mut(id) {
         Some(places) => places.push(place)?,
@@ -67,7 +82,7 @@ fn add(alloc: Global, index: &mut Index, id: &NodeId, place: u32) -> Result<(), 
 /// The index of these references.
 pub(crate) fn index_by(alloc: Global, key: Key, triples: &[Triple]) -> Result<Index, AllocError>
     requires { length triples.now < 2 ^ 32 }
-    ensures { IfOk result (λ index. IsIndex (λ v. v.items) (stands_under key) triples.now index.entries) }
+    ensures { IfOk result (λ index. IsIndex items (stands_under key) triples.now index.entries) }
 {
     let mut index = BTreeMap::new(alloc);
     for (place, triple) in triples.iter().enumerate() {
@@ -81,10 +96,47 @@ pub(crate) fn index_by(alloc: Global, key: Key, triples: &[Triple]) -> Result<In
 
 /// The places under an id.
 pub(crate) fn places_at<'a>(index: &'a Index, id: &NodeId) -> &'a [u32]
-    ensures { result.now ≡ places_at (λ v. v.items) id.now index.entry.now.entries }
+    ensures { result.now ≡ places_at items id.now index.entry.now.entries }
 {
     match index.get(id) {
         None => &[],
         Some(places) => places.as_slice(),
+    }
+}
+
+/// The indexes that a space keeps.
+#[derive(Drop)]
+pub(crate) struct Indexes {
+    pub by_source: Index,
+    pub by_target: Index,
+    /// The references to type definitions, under the nodes that they define.
+    pub definitions: Index,
+    /// The references to subtypes, under the supertype.
+    pub subtypes: Index,
+    /// The references to subtypes, under the subtype.
+    pub supertypes: Index,
+}
+
+impl Indexes {
+    ghost use Rattle.std.specs.Prelude.{◌<◌, ◌^◌, length, IfOk};
+    ghost use Rattle.ua_space.specs.Indexed.{AreIndexes};
+
+    /// The indexes of these references.
+    pub(crate) fn new(alloc: Global, triples: &[Triple]) -> Result<Indexes, AllocError>
+        requires { length triples.now < 2 ^ 32 }
+        ensures { IfOk result (λ indexes. AreIndexes triples.now indexes) }
+    {
+        let by_source = index_by(alloc, Key::Source, triples)?;
+        let by_target = index_by(alloc, Key::Target, triples)?;
+        let definitions = index_by(alloc, Key::Definition, triples)?;
+        let subtypes = index_by(alloc, Key::Supertype, triples)?;
+        let supertypes = index_by(alloc, Key::Subtype, triples)?;
+        Ok(Indexes {
+            by_source,
+            by_target,
+            definitions,
+            subtypes,
+            supertypes,
+        })
     }
 }

@@ -16,17 +16,20 @@ mod build;
 mod fault;
 mod hints;
 mod index;
+pub mod laws;
 mod loops;
 mod node;
 mod references;
 mod space;
+mod subtype_set;
 mod subtypes;
 mod triple;
 
 pub use fault::SpaceFault;
 pub use node::{Node, NodeClass, NodeDetails, ValueRank, Variable};
-pub use references::{References, TripleList};
+pub use references::{Direction, Reference, References};
 pub use space::Space;
+pub use subtype_set::Subtypes;
 pub use triple::{Part, Triple};
 
 #[cfg(test)]

@@ -4,7 +4,7 @@ ghost use Rattle.std.specs.Prelude.{◌≡◌, true, IsTrue};
 ghost use Rattle.std.specs.List.{list_all, find};
 ghost use Rattle.std.specs.Option.{option_copied};
 ghost use Rattle.ua_space.specs.Build.{Makes, no_loop};
-ghost use Rattle.ua_space.specs.Indexes.{IsIndex, stands_under};
+ghost use Rattle.ua_space.specs.Indexes.{IsIndex, items, stands_under};
 ghost use Rattle.ua_space.specs.declared.index.Key.TheVariants as keys;
 ghost use Rattle.ua_space.specs.Ranks.{rank_at, keeps_rank, raises_rank};
 ghost use Rattle.ua_space.specs.Subtypes.{is_subtype, leads_to, lies_on_loop};
@@ -64,7 +64,7 @@ fn follows(triples: &[Triple], path: &[usize], lower: &NodeId, upper: &NodeId) -
 
 // The path is a quick way to see a loop; where it is none, each chain is tried.
 fn lies_on_loop(triples: &[Triple], supertypes: &Index, path: &[usize], triple: &Triple) -> bool
-    requires { IsIndex (λ v. v.items) (stands_under keys.Subtype) triples.now supertypes.now.entries }
+    requires { IsIndex items (stands_under keys.Subtype) triples.now supertypes.now.entries }
     ensures { result ≡ lies_on_loop triples.now triple.now }
 {
     is_subtyping(triple)
@@ -86,7 +86,7 @@ fn is_looped(
     sound: bool,
     triple: &Triple,
 ) -> bool
-    requires index { IsIndex (λ v. v.items) (stands_under keys.Subtype) triples.now supertypes.now.entries }
+    requires index { IsIndex items (stands_under keys.Subtype) triples.now supertypes.now.entries }
     requires sound { sound ≡ list_all (keeps_rank (rank_at hints.now.numbers.entries hints.now.ranks.items)) triples.now }
     ensures { result ≡ lies_on_loop triples.now triple.now }
 {
@@ -102,7 +102,7 @@ pub(crate) fn first_on_loop<'a>(
     supertypes: &Index,
     hints: &Hints,
 ) -> Option<&'a Triple>
-    requires { IsIndex (λ v. v.items) (stands_under keys.Subtype) triples.now supertypes.now.entries }
+    requires { IsIndex items (stands_under keys.Subtype) triples.now supertypes.now.entries }
     ensures { option_copied result ≡ find (lies_on_loop triples.entry.now) triples.entry.now }
 {
     let sound = is_sound(hints, triples);
@@ -120,7 +120,7 @@ pub(crate) fn no_loop(
     triples: &[Triple],
     supertypes: &Index,
 ) -> Result<(), SpaceFault>
-    requires { IsIndex (λ v. v.items) (stands_under keys.Subtype) triples.now supertypes.now.entries }
+    requires { IsIndex items (stands_under keys.Subtype) triples.now supertypes.now.entries }
     ensures { Makes (λ x. x) result (no_loop (find (lies_on_loop triples.now) triples.now)) }
 {
     let hints = Hints::new(alloc, triples)?;

@@ -1,11 +1,12 @@
 //! Nodes: what all have, and what each class adds.
 
-ghost use Rattle.std.specs.Prelude.{◌≡◌};
+ghost use Rattle.std.specs.Prelude.{◌≡◌, true};
 ghost use Rattle.ua_space.specs.NodeClasses.{class_of};
+ghost use Rattle.ua_space.specs.Variables.{content_has_rank, has_rank, takes, takes_if_any};
 
-use std::alloc::{AllocError, Global};
-use ua_types::{Copyable, LocalizedText, NodeId, QualifiedName};
-use ua_values::DataValue;
+use std::marker::Model;
+use ua_types::{LocalizedText, NodeId, QualifiedName};
+use ua_values::{Content, DataValue, Variant};
 
 /// The classes of nodes that the server has (NodeClass, IEC 62541-3, 8.29), with their numbers.
 #[derive(Clone, Copy, Debug, PartialEq, Eq)]
@@ -28,6 +29,9 @@ pub enum ValueRank {
 }
 
 /// What a Variable node has beside the attributes of all nodes (IEC 62541-3, 5.6.2).
+///
+/// It always has a value of its type and rank, its type is a built-in one, and its access level lies in
+/// its range.
 #[derive(Debug, Drop)]
 pub struct Variable {
     /// The number of the values' type (IEC 62541-6, 5.1.2), 1 to 22.
@@ -42,15 +46,73 @@ pub struct Variable {
     pub historizing: bool,
 }
 
-impl Copyable for Variable {
-    fn copy(&self, alloc: Global) -> Result<Variable, AllocError> {
-        Ok(Variable {
-            data_type: self.data_type,
-            value_rank: self.value_rank,
-            value: self.value.copy(alloc)?,
-            access: self.access,
-            historizing: self.historizing,
-        })
+impl Model for Variable {
+    ghost use Rattle.ua_space.specs.Variables.{VariableAttributes, IsTyped};
+
+    ghost Value = { VariableAttributes };
+
+    ghost view = { λ v. record { data_type = v.data_type; value_rank = v.value_rank; value = v.value; access = v.access; historizing = v.historizing } };
+
+    ghost invariant = { λ v. IsTyped (view v) };
+}
+
+// Whether it is one value, or a list without dimensions, as the rank says.
+fn content_has_rank<T>(content: &Content<T>, rank: ValueRank) -> bool
+    ensures { result ≡ content_has_rank rank content.now }
+{
+    match content {
+        Content::Scalar(_) => matches!(rank, ValueRank::Scalar),
+        Content::Array(_) => matches!(rank, ValueRank::List),
+        Content::Matrix(_) => false,
+    }
+}
+
+#[tactic(auto, unfolding(crate::specs::Variables::has_rank))]
+fn has_rank(value: &Variant, rank: ValueRank) -> bool
+    ensures { result ≡ has_rank rank value.now }
+{
+    match value {
+        Variant::Null => false,
+        Variant::Boolean(content) => content_has_rank(content, rank),
+        Variant::SByte(content) => content_has_rank(content, rank),
+        Variant::Byte(content) => content_has_rank(content, rank),
+        Variant::Int16(content) => content_has_rank(content, rank),
+        Variant::UInt16(content) => content_has_rank(content, rank),
+        Variant::Int32(content) => content_has_rank(content, rank),
+        Variant::UInt32(content) => content_has_rank(content, rank),
+        Variant::Int64(content) => content_has_rank(content, rank),
+        Variant::UInt64(content) => content_has_rank(content, rank),
+        Variant::Float(content) => content_has_rank(content, rank),
+        Variant::Double(content) => content_has_rank(content, rank),
+        Variant::String(content) => content_has_rank(content, rank),
+        Variant::DateTime(content) => content_has_rank(content, rank),
+        Variant::Guid(content) => content_has_rank(content, rank),
+        Variant::ByteString(content) => content_has_rank(content, rank),
+        Variant::XmlElement(content) => content_has_rank(content, rank),
+        Variant::NodeId(content) => content_has_rank(content, rank),
+        Variant::ExpandedNodeId(content) => content_has_rank(content, rank),
+        Variant::StatusCode(content) => content_has_rank(content, rank),
+        Variant::QualifiedName(content) => content_has_rank(content, rank),
+        Variant::LocalizedText(content) => content_has_rank(content, rank),
+        Variant::ExtensionObject(content) => content_has_rank(content, rank),
+    }
+}
+
+impl Variable {
+    /// Whether it may have this value: one of its type, and one value or a list as its rank says. A list
+    /// may be null, and has no dimensions. No value (`Variant::Null`) is never taken.
+    pub fn takes(&self, value: &Variant) -> bool
+        ensures { result ≡ takes self.now value.now }
+    {
+        value.type_number() == self.data_type && has_rank(value, self.value_rank)
+    }
+
+    // Gives it a new value.
+    pub(crate) fn set(&mut self, value: DataValue)
+        requires { takes_if_any self.old value.value ≡ true }
+        ensures { self.new ≡ record self.old { value = value } }
+    {
+        self.value = value;
     }
 }
 
@@ -102,39 +164,6 @@ impl Drop for NodeDetails {
     }
 }
 
-impl Copyable for NodeDetails {
-    fn copy(&self, alloc: Global) -> Result<NodeDetails, AllocError> {
-        match self {
-            NodeDetails::Object => Ok(NodeDetails::Object),
-            NodeDetails::Variable(variable) => Ok(NodeDetails::Variable(variable.copy(alloc)?)),
-            NodeDetails::ObjectType { is_abstract } => Ok(NodeDetails::ObjectType {
-                is_abstract: *is_abstract,
-            }),
-            NodeDetails::VariableType {
-                data_type,
-                value_rank,
-                is_abstract,
-            } => Ok(NodeDetails::VariableType {
-                data_type: *data_type,
-                value_rank: *value_rank,
-                is_abstract: *is_abstract,
-            }),
-            NodeDetails::ReferenceType {
-                is_abstract,
-                symmetric,
-                inverse_name,
-            } => Ok(NodeDetails::ReferenceType {
-                is_abstract: *is_abstract,
-                symmetric: *symmetric,
-                inverse_name: inverse_name.copy(alloc)?,
-            }),
-            NodeDetails::DataType { is_abstract } => Ok(NodeDetails::DataType {
-                is_abstract: *is_abstract,
-            }),
-        }
-    }
-}
-
 /// A node, with its attributes (IEC 62541-3, 5.2).
 #[derive(Debug, Drop)]
 pub struct Node {
@@ -161,17 +190,5 @@ impl Node {
             NodeDetails::ReferenceType { .. } => NodeClass::ReferenceType,
             NodeDetails::DataType { .. } => NodeClass::DataType,
         }
-    }
-}
-
-impl Copyable for Node {
-    fn copy(&self, alloc: Global) -> Result<Node, AllocError> {
-        Ok(Node {
-            id: self.id.copy(alloc)?,
-            browse_name: self.browse_name.copy(alloc)?,
-            display_name: self.display_name.copy(alloc)?,
-            description: self.description.copy(alloc)?,
-            details: self.details.copy(alloc)?,
-        })
     }
 }

@@ -1,14 +1,12 @@
 //! Lists of references that lie in a space.
 
-ghost use Rattle.std.specs.Prelude.{◌≡◌, ◌++◌, length, slice_get};
-ghost use Rattle.std.specs.Option.{option_copied};
-
 use crate::triple::Triple;
 use std::marker::Model;
+use ua_types::NodeId;
 
-/// Some of a space's references, in declared order. No call on them takes memory.
+// Some of a space's references, in declared order. No call on them takes memory.
 #[derive(Debug, Drop)]
-pub struct TripleList<'a> {
+pub(crate) struct TripleList<'a> {
     triples: &'a [Triple],
     places: &'a [u32],
 }
@@ -40,7 +38,7 @@ impl<'a> TripleList<'a> {
         TripleList { triples, places }
     }
 
-    /// How many they are.
+    // How many they are.
     #[tactic(auto, using(crate::proofs::Indexing::length_pick))]
     pub fn len(&self) -> usize
         ensures { result ≡ length self.now }
@@ -48,7 +46,7 @@ impl<'a> TripleList<'a> {
         self.places.len()
     }
 
-    /// The one at this place, counted from 0.
+    // The one at this place, counted from 0.
     pub fn get(&self, place: usize) -> Option<&'a Triple>
         ensures { option_copied result ≡ slice_get self.now place }
     {
@@ -59,25 +57,109 @@ impl<'a> TripleList<'a> {
     }
 }
 
-/// A node's references: those that go out from it, and those that lead to it.
+/// Which way a reference leads, seen from one of its ends.
+#[derive(Clone, Copy, Debug, PartialEq, Eq)]
+pub enum Direction {
+    /// It goes out from there.
+    Forward,
+    /// It leads there.
+    Inverse,
+}
+
+/// A reference, seen from one of its ends.
+#[derive(Debug, Drop)]
+pub struct Reference<'a> {
+    pub direction: Direction,
+    pub triple: &'a Triple,
+}
+
+impl<'a> Model for Reference<'a> {
+    ghost use Rattle.ua_space.specs.Nodes.{Directed};
+
+    ghost Value = { Directed };
+
+    ghost view = { λ r. record { direction = r.direction; triple = r.triple.now } };
+}
+
+impl<'a> Reference<'a> {
+    ghost use Rattle.std.specs.Prelude.{◌≡◌};
+    ghost use Rattle.ua_space.specs.Nodes.{end_of};
+
+    /// The id of the node at its other end.
+    pub fn end(&self) -> &'a NodeId
+        ensures { result.now ≡ end_of self.now.direction self.now.triple }
+    {
+        match self.direction {
+            Direction::Forward => &self.triple.target,
+            Direction::Inverse => &self.triple.source,
+        }
+    }
+}
+
+/// A node's references: those that go out from it, and then those that lead to it, each in declared
+/// order.
+///
+/// A caller that stops after some of them goes on by the number of those that it has had: [`References::get`]
+/// takes the same time at each place. No call on them takes memory.
 #[derive(Debug, Drop)]
 pub struct References<'a> {
-    /// The references that the node is the source of, in declared order.
-    pub forward: TripleList<'a>,
-    /// The references that the node is the target of, in declared order.
-    pub inverse: TripleList<'a>,
+    outgoing: TripleList<'a>,
+    incoming: TripleList<'a>,
+}
+
+impl<'a> Model for References<'a> {
+    ghost use Rattle.std.specs.Prelude.{◌<◌, ◌^◌, ◌++◌, List, length, map};
+    ghost use Rattle.ua_space.specs.Nodes.{Directed, outwards, inwards};
+
+    ghost Value = { List Directed };
+
+    ghost view = { λ r. map outwards r.outgoing ++ map inwards r.incoming };
+
+    ghost invariant = { λ r. (length r.outgoing < 2 ^ 32) × (length r.incoming < 2 ^ 32) };
 }
 
 impl<'a> References<'a> {
-    /// The one at this place, counted from 0: the forward ones stand before the inverse ones.
-    pub fn get(&self, place: usize) -> Option<&'a Triple>
-        ensures { option_copied result ≡ slice_get (self.now.forward ++ self.now.inverse) place }
+    ghost use Rattle.std.specs.Prelude.{◌≡◌, ◌<◌, ◌^◌, ◌++◌, length, map, slice_get};
+    ghost use Rattle.ua_space.specs.Nodes.{outwards, inwards};
+
+    // These forward ones, and then these inverse ones.
+    pub(crate) fn new(outgoing: TripleList<'a>, incoming: TripleList<'a>) -> References<'a>
+        requires outgoing { length outgoing < 2 ^ 32 }
+        requires incoming { length incoming < 2 ^ 32 }
+        ensures { result ≡ map outwards outgoing.entry ++ map inwards incoming.entry }
     {
-        let forward = self.forward.len();
-        if place < forward {
-            self.forward.get(place)
+        References { outgoing, incoming }
+    }
+
+    /// How many they are.
+    #[tactic(auto, using(crate::proofs::Referring::length_both))]
+    pub fn len(&self) -> usize
+        ensures { result ≡ length self.now }
+    {
+        self.outgoing.len() + self.incoming.len()
+    }
+
+    /// The one at this place, counted from 0.
+    pub fn get(&self, place: usize) -> Option<Reference<'a>>
+        ensures { result ≡ slice_get self.now place }
+    {
+        let outgoing = self.outgoing.len();
+        if place < outgoing {
+            match self.outgoing.get(place) {
+                None => None,
+                Some(triple) => Some(Reference {
+                    direction: Direction::Forward,
+                    triple,
+                }),
+            }
         } else {
-            self.inverse.get(place - forward)
+            match self.incoming.get(place - outgoing) {
+                None => None,
+                Some(triple) => Some(Reference {
+                    direction: Direction::Inverse,
+                    triple,
+                }),
+            }
         }
     }
 }

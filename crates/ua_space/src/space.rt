@@ -1,10 +1,15 @@
 //! The address space.
 
-use crate::index::{Index, places_at};
-use crate::node::{Node, NodeDetails};
+ghost use Rattle.std.specs.Prelude.{◌≡◌, true};
+ghost use Rattle.ua_space.specs.Nodes.{takes_at, with_value};
+
+use crate::index::{Indexes, places_at};
+use crate::node::{Node, NodeDetails, Variable};
 use crate::references::{References, TripleList};
+use crate::subtype_set::{Subtypes, walked_down};
 use crate::subtypes::reaches;
 use crate::triple::Triple;
+use std::alloc::{AllocError, Global};
 use std::collections::BTreeMap;
 use std::marker::Model;
 use ua_types::NodeId;
@@ -12,62 +17,80 @@ use ua_values::DataValue;
 
 /// The nodes of a server and the references between them, the base set included.
 ///
-/// It is built by [`Space::build`]. Later only values of variables change.
+/// It is built by [`Space::build`]. Later only values of variables change. So each node stands under its
+/// own id, each reference's ends are nodes and its type is a ReferenceType node, none is there twice, no
+/// chain of HasSubtype references comes back, and there are at most 100,000 nodes and 400,000
+/// references (`IsSpace`).
 #[derive(Drop)]
 pub struct Space {
     nodes: BTreeMap<NodeId, Node>,
     triples: Vec<Triple>,
-    // The places of the references: by source, by target, and by target of HasSubtype alone.
-    by_source: Index,
-    by_target: Index,
-    supertypes: Index,
+    indexes: Indexes,
 }
 
 impl Model for Space {
     ghost use Rattle.std.specs.Prelude.{◌≡◌, ◌<◌, ◌^◌, length};
     ghost use Rattle.ua_space.specs.Nodes.{SpaceState};
-    ghost use Rattle.ua_space.specs.Indexes.{IsIndex, stands_under};
-    ghost use Rattle.ua_space.specs.declared.index.Key.TheVariants as keys;
+    ghost use Rattle.ua_space.specs.Spaces.{IsSpace};
+    ghost use Rattle.ua_space.specs.Indexed.{AreIndexes};
 
     ghost Value = { SpaceState };
 
     ghost view = { λ s. record { nodes = s.nodes.entries; triples = s.triples.items } };
 
     ghost invariant = { λ s. record {
-      sources : IsIndex (λ v. v.items) (stands_under keys.Source) s.triples.items s.by_source.entries;
-      targets : IsIndex (λ v. v.items) (stands_under keys.Target) s.triples.items s.by_target.entries;
-      supertypes : IsIndex (λ v. v.items) (stands_under keys.Subtype) s.triples.items s.supertypes.entries;
+      sound : IsSpace (view s);
+      indexes : AreIndexes s.triples.items s.indexes;
     } };
 }
 
+// Gives the variable under this id a new value.
+fn set_in(nodes: &mut BTreeMap<NodeId, Node>, id: &NodeId, value: DataValue)
+    requires { takes_at id.now value nodes.old.entries ≡ true }
+    ensures { nodes.new.entries ≡ with_value id.now value nodes.old.entries }
+{
+    match nodes.get_mut(id) {
+        None => {}
+        Some(node) => match &mut node.details {
+            NodeDetails::Variable(variable) => variable.set(value),
+            _ => {}
+        },
+    }
+}
+
 impl Space {
-    ghost use Rattle.std.specs.Prelude.{◌≡◌, ◌++◌, length, IsTrue, ◌↔◌, is_some};
+    ghost use Rattle.std.specs.Prelude.{◌≡◌, length, true, IsTrue, ◌↔◌, IfOk};
+    ghost use Rattle.std.specs.List.{list_any};
+    ghost use Rattle.ua_types.specs.NodeIdOrder.{same_id};
+    ghost use Rattle.ua_types.specs.declared.node_id.NodeId.{NodeId};
     ghost use Rattle.std.specs.Option.{option_copied};
-    ghost use Rattle.ua_space.specs.Nodes.{node_at, value_at, forward_of, inverse_of, references_of, with_value};
+    ghost use Rattle.ua_space.specs.Nodes.{node_at, variable_at, value_at, takes_at, references_of, type_definition_of, with_value};
+    ghost use Rattle.ua_space.specs.Spaces.{IsSpace};
     ghost use Rattle.ua_space.specs.Subtypes.{IsSubtype, is_subtype};
-    ghost use Rattle.ua_space.specs.Indexes.{IsIndex, stands_under};
-    ghost use Rattle.ua_space.specs.declared.index.Key.TheVariants as keys;
+    ghost use Rattle.ua_space.specs.Indexed.{AreIndexes};
 
     // A space of these nodes and references, and of their indexes.
     pub(crate) fn new(
         nodes: BTreeMap<NodeId, Node>,
         triples: Vec<Triple>,
-        by_source: Index,
-        by_target: Index,
-        supertypes: Index,
+        indexes: Indexes,
     ) -> Space
-        requires sources { IsIndex (λ v. v.items) (stands_under keys.Source) triples.items by_source.entries }
-        requires targets { IsIndex (λ v. v.items) (stands_under keys.Target) triples.items by_target.entries }
-        requires supertypes { IsIndex (λ v. v.items) (stands_under keys.Subtype) triples.items supertypes.entries }
+        requires sound { IsSpace (record { nodes = nodes.entries; triples = triples.items }) }
+        requires indexes { AreIndexes triples.items indexes }
         ensures { result ≡ record { nodes = nodes.entries; triples = triples.items } }
     {
         Space {
             nodes,
             triples,
-            by_source,
-            by_target,
-            supertypes,
+            indexes,
         }
+    }
+
+    /// What every space keeps, for a proof that needs it. Does nothing.
+    pub fn soundness(&self)
+        ensures { IsSpace self.now }
+    {
+        let _ = &self.nodes;
     }
 
     /// The node with this id.
@@ -77,37 +100,38 @@ impl Space {
         self.nodes.get(id)
     }
 
-    /// The value of the variable with this id; None where that is no Variable node.
-    pub fn value(&self, id: &NodeId) -> Option<&DataValue>
-        ensures { option_copied result ≡ value_at id.now self.now.nodes }
+    /// The variable with this id; None where that is no Variable node.
+    pub fn variable(&self, id: &NodeId) -> Option<&Variable>
+        ensures { option_copied result ≡ variable_at id.now self.now.nodes }
     {
         match self.nodes.get(id) {
             None => None,
             Some(node) => match &node.details {
-                NodeDetails::Variable(variable) => Some(&variable.value),
+                NodeDetails::Variable(variable) => Some(variable),
                 _ => None,
             },
         }
     }
 
-    /// Gives the variable with this id a new value, and says whether there is such a Variable node.
+    /// The value of the variable with this id; None where that is no Variable node.
+    pub fn value(&self, id: &NodeId) -> Option<&DataValue>
+        ensures { option_copied result ≡ value_at id.now self.now.nodes }
+    {
+        match self.variable(id) {
+            None => None,
+            Some(variable) => Some(&variable.value),
+        }
+    }
+
+    /// Gives the variable with this id a new value, which it takes ([`Variable::takes`]).
     ///
     /// Nothing else changes. Takes no memory.
-    pub fn set_value(&mut self, id: &NodeId, value: DataValue) -> bool
+    pub fn set_value(&mut self, id: &NodeId, value: DataValue)
+        requires { takes_at id.now value self.old.nodes ≡ true }
         ensures nodes { self.new.nodes ≡ with_value id.now value self.old.nodes }
         ensures triples { self.new.triples ≡ self.old.triples }
-        ensures variable { result ≡ is_some (value_at id.now self.old.nodes) }
     {
-        match self.nodes.get_mut(id) {
-            None => false,
-            Some(node) => match &mut node.details {
-                NodeDetails::Variable(variable) => {
-                    variable.value = value;
-                    true
-                }
-                _ => false,
-            },
-        }
+        set_in(&mut self.nodes, id, value);
     }
 
     /// How many nodes there are, the base set included.
@@ -124,24 +148,43 @@ impl Space {
         self.triples.len()
     }
 
-    /// The references in declared order, those of the base set first.
-    pub fn triples(&self) -> &[Triple]
-        ensures { result.now ≡ self.now.triples }
-    {
-        self.triples.as_slice()
-    }
-
     /// The references of a node, found by an index and without memory.
+    #[tactic(auto, using(crate::proofs::Referring::few_filtered))]
     pub fn references(&self, id: &NodeId) -> References<'_>
-        ensures forward { result.forward ≡ forward_of id.now self.now.triples }
-        ensures inverse { result.inverse ≡ inverse_of id.now self.now.triples }
-        ensures references { result.forward ++ result.inverse ≡ references_of id.now self.now.triples }
+        ensures { result ≡ references_of id.now self.now.triples }
     {
         let triples = self.triples.as_slice();
-        References {
-            forward: TripleList::new(triples, places_at(&self.by_source, id)),
-            inverse: TripleList::new(triples, places_at(&self.by_target, id)),
+        let outgoing = TripleList::new(triples, places_at(&self.indexes.by_source, id));
+        let incoming = TripleList::new(triples, places_at(&self.indexes.by_target, id));
+        References::new(outgoing, incoming)
+    }
+
+    /// The type definition of a node: where its first HasTypeDefinition reference leads, if it has one.
+    /// Found by an index and without memory.
+    pub fn type_definition(&self, id: &NodeId) -> Option<&NodeId>
+        ensures { option_copied result ≡ type_definition_of id.now self.now.triples }
+    {
+        let triples = self.triples.as_slice();
+        let definitions = TripleList::new(triples, places_at(&self.indexes.definitions, id));
+        match definitions.get(0) {
+            None => None,
+            Some(triple) => Some(&triple.target),
         }
+    }
+
+    /// A type with all its subtypes, for many questions about the same type.
+    ///
+    /// Each type is met once, and each HasSubtype reference that goes out from it is followed once,
+    /// however many supertypes a type has.
+    pub fn subtypes(&self, alloc: Global, upper: &NodeId) -> Result<Subtypes, AllocError>
+        ensures { IfOk result (λ types. (id : NodeId) → list_any (same_id id) types ≡ is_subtype self.now.triples id upper.now) }
+    {
+        walked_down(
+            alloc,
+            self.triples.as_slice(),
+            &self.indexes.subtypes,
+            upper,
+        )
     }
 
     /// Whether the one type is the other or one of its subtypes. A type is a subtype of itself.
@@ -153,6 +196,12 @@ impl Space {
         ensures value { result ≡ is_subtype self.now.triples lower.now upper.now }
     {
         let triples = self.triples.as_slice();
-        reaches(triples, &self.supertypes, triples.len(), lower, upper)
+        reaches(
+            triples,
+            &self.indexes.supertypes,
+            triples.len(),
+            lower,
+            upper,
+        )
     }
 }

@@ -1,7 +1,7 @@
 //! Chains of HasSubtype references, walked from a type up to its supertypes.
 
 ghost use Rattle.std.specs.Prelude.{◌≡◌, ◌≤◌, filter};
-ghost use Rattle.ua_space.specs.Indexes.{IsIndex, stands_under};
+ghost use Rattle.ua_space.specs.Indexes.{IsIndex, items, stands_under};
 ghost use Rattle.ua_space.specs.declared.index.Key.TheVariants as keys;
 ghost use Rattle.ua_space.specs.Subtypes.{reaches};
 
@@ -12,7 +12,7 @@ use ua_types::NodeId;
 
 // The HasSubtype references that lead to a type.
 fn above<'a>(triples: &'a [Triple], supertypes: &'a Index, lower: &NodeId) -> TripleList<'a>
-    requires { IsIndex (λ v. v.items) (stands_under keys.Subtype) triples.now supertypes.now.entries }
+    requires { IsIndex items (stands_under keys.Subtype) triples.now supertypes.now.entries }
     ensures { result ≡ filter (stands_under keys.Subtype lower.now) triples.entry.now }
 {
     TripleList::new(triples, places_at(supertypes, lower))
@@ -26,7 +26,7 @@ fn climb<'a>(
     lower: &'a NodeId,
     upper: &NodeId,
 ) -> (usize, &'a NodeId)
-    requires { IsIndex (λ v. v.items) (stands_under keys.Subtype) triples.now supertypes.now.entries }
+    requires { IsIndex items (stands_under keys.Subtype) triples.now supertypes.now.entries }
     ensures same { reaches triples.entry.now result.0 result.1.now upper.now ≡ reaches triples.entry.now most lower.entry.now upper.now }
     ensures fewer { result.0 ≤ most }
 {
@@ -56,7 +56,7 @@ pub(crate) fn reaches(
     lower: &NodeId,
     upper: &NodeId,
 ) -> bool
-    requires { IsIndex (λ v. v.items) (stands_under keys.Subtype) triples.now supertypes.now.entries }
+    requires { IsIndex items (stands_under keys.Subtype) triples.now supertypes.now.entries }
     ensures { result ≡ reaches triples.now most lower.now upper.now }
 {
     let (left, reached) = climb(triples, supertypes, most, lower, upper);

@@ -5,10 +5,9 @@ ghost use Rattle.std.specs.Cmp.{partial_equiv_from_equiv, po};
 ghost use Rattle.std.specs.Ordering.{as_partial_cmp};
 ghost use Rattle.ua_space.specs.TripleOrder.{same_triple, triple_cmp, same_triple_equiv, triple_cmp_total, triple_ties};
 
-use std::alloc::{AllocError, Global};
 use std::cmp::Ordering;
 use std::fmt;
-use ua_types::{Copyable, NodeId};
+use ua_types::NodeId;
 
 /// The place that declares a node or a reference. Nodes and references count from 1.
 #[derive(Clone, Copy, Debug, PartialEq, Eq)]
@@ -46,17 +45,6 @@ pub struct Triple {
     pub target: NodeId,
     /// Where it is declared.
     pub part: Part,
-}
-
-impl Copyable for Triple {
-    fn copy(&self, alloc: Global) -> Result<Triple, AllocError> {
-        Ok(Triple {
-            source: self.source.copy(alloc)?,
-            reference_type: self.reference_type.copy(alloc)?,
-            target: self.target.copy(alloc)?,
-            part: self.part,
-        })
-    }
 }
 
 impl PartialEq for Triple {
