@@ -1,8 +1,8 @@
 -- Lemmas on what a pump has written and read so far.
 use lib.Seq.{take-append-add, take-append-le, drop-cons}
 use Rattle.std.proofs.lemmas.List.Concat.{flat_map-append}
-use Rattle.ua_core.specs.Stepping.{joined, sent_bytes}
-use Rattle.ua_core.specs.declared.out.Out.{Out}
+use Rattle.ua_core.specs.Running.{joined, sent_bytes}
+use Rattle.ua_connections.specs.declared.out.Out.{Out}
 use Rattle.std.proofs.lemmas.Bool.Decides.{nat_tests}
 use Rattle.ua_tcp.specs.Tapped.{counted}
 use Rattle.std.proofs.Common.{Bool, true, false, suc, ◌∷◌, get_or, length-append, take-append-drop, ◌≡◌, ℕ, ◌+◌, ◌^◌, ◌<◌, ◌≤◌, ◌*◌, inl, inr, List, ◌++◌, length, take, drop, Option, arith, sym, ap, ◌∙◌}

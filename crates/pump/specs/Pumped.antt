@@ -1,46 +1,34 @@
 -- What a pump reads, hands to the server and writes.
-use Rattle.std.specs.Prelude.{◌≡◌, ℕ, ◌+◌, ◌-◌, ◌^◌, ◌≤◌, ◌<◌, ◌⊎◌, min, List, ◌++◌, length, map, All, Option, None, Bool, true, not, Result, Ok, Err}
-use Rattle.std.specs.List.{concat, flat_map}
+use Rattle.std.specs.Prelude.{◌≡◌, ℕ, ◌+◌, ◌-◌, ◌^◌, ◌≤◌, ◌⊎◌, min, List, ◌++◌, length, Option, None, Bool, true, false, not, Result, Ok, Err}
 use Rattle.std.specs.Io.KnownBytes.{Appends, Consumes, IsAtEnd}
-use Rattle.ua_types.specs.Answers as answers
 use Rattle.ua_tcp.specs.Tapped.{Tapped, Rose}
-use Rattle.ua_core.specs.Stepping.{step_on, run_of, joined, closes}
-use Rattle.ua_core.specs.declared.event.Event.{Event}
+use Rattle.ua_connections.specs.declared.out.Out.{Out}
+use Rattle.ua_core.specs.Effects.{outs_of}
+use Rattle.ua_core.specs.Running.{heard_run, joined, closes}
+use Rattle.ua_core.specs.Stepping.{step_on, IsSpent}
+use Rattle.ua_core.specs.declared.world.World.{World}
 use Rattle.ua_core.specs.declared.event.Event.TheVariants.{Bytes}
-use Rattle.ua_core.specs.declared.out.Out.{Out}
-use Rattle.ua_core.specs.declared.out.Step as core_step
 use Rattle.ua_core.specs.declared.out.StepFault.{StepFault}
-use Rattle.ua_core.specs.declared.out.StepFault.TheVariants.{KnownConnection, UnknownConnection, Memory, Halted, Exhausted}
+use Rattle.ua_core.specs.declared.out.StepFault.TheVariants.{Memory, Exhausted}
 use Rattle.pump.specs.declared.PumpFault.{PumpFault}
 use Rattle.pump.specs.declared.PumpFault.TheVariants.{Read, Write, Step, Turns}
 
-module _ {S A : Type 0} where
-  -- the type of what a function takes
-  abbrev pub domain : (S → A) → Type 0
-  domain f = S
-
 -- what a server knows, or none once it is halted
 abbrev pub State : Type 0
-State = domain run_of
+State = Option World
 
--- each piece comes as an event of its own
-abbrev pub events : ℕ → List (List ℕ) → List Event
-events conn pieces = map (Bytes conn) pieces
+-- ---- what the server says to these bytes of a connection, however they are cut
 
--- all that is to be done, in order
-abbrev pub outs_of : List core_step.Step → List Out
-outs_of steps = flat_map (λ s. s.outs) steps
+abbrev pub outs_to : ℕ → State → List ℕ → List Out
+outs_to conn server read = outs_of (heard_run server conn read).effects
 
--- what the server wants done for these pieces
-abbrev pub outs_to : ℕ → State → List (List ℕ) → List Out
-outs_to conn server pieces = outs_of (run_of server (events conn pieces)).steps
+abbrev pub sends_to : ℕ → State → List ℕ → List ℕ
+sends_to conn server read = joined (outs_to conn server read)
 
--- what it sends for them
-abbrev pub sends_to : ℕ → State → List (List ℕ) → List ℕ
-sends_to conn server pieces = joined (outs_to conn server pieces)
+abbrev pub is_closed_by : ℕ → State → List ℕ → Bool
+is_closed_by conn server read = closes conn (outs_to conn server read)
 
-abbrev pub IsPiece : List ℕ → Type 0
-IsPiece piece = (0 < length piece) × (length piece ≤ 4096)
+-- ---- what a run works on
 
 abbrev pub IsPrefix : List ℕ → List ℕ → Type 0
 IsPrefix front all = (rest : List ℕ) × (all ≡ front ++ rest)
@@ -78,45 +66,58 @@ pub record Moved (old new : Scene) (read put : List ℕ) : Type 0 where
   pub reads : old.read_failures ≤ new.read_failures
   pub writes : old.write_failures ≤ new.write_failures
 
--- these pieces were read, the server took each as an event, and these bytes were written
-pub record Fed (conn : ℕ) (old new : Scene) (pieces : List (List ℕ)) (put : List ℕ) : Type 0 where
-  pub sizes : All IsPiece pieces
-  pub moved : Moved old new (concat pieces) put
-  pub answered : (run_of old.server (events conn pieces)).fault ≡ None
-  pub server : new.server ≡ (run_of old.server (events conn pieces)).server
+-- these bytes were read, the server answered them and is as they left it, and those were written
+pub record Fed (conn : ℕ) (old new : Scene) (read put : List ℕ) : Type 0 where
+  pub moved : Moved old new read put
+  pub answered : (heard_run old.server conn read).fault ≡ None
+  pub server : new.server ≡ (heard_run old.server conn read).server
 
--- at least n reads were tried: each gave a piece or failed
-abbrev pub Tried : ℕ → Scene → Scene → List (List ℕ) → Type 0
-Tried n old new pieces = (n ≤ length pieces + (new.read_failures - old.read_failures)) ⊎ (2 ^ 64 - 1 ≤ new.read_failures)
+-- ---- what a run comes to
 
--- n reads or more went well, and all that the server sends is out
+-- at least n reads were tried: each gave a byte or more, or failed
+abbrev pub Tried : ℕ → Scene → Scene → List ℕ → Type 0
+Tried n old new read = (n ≤ length read + (new.read_failures - old.read_failures)) ⊎ (2 ^ 64 - 1 ≤ new.read_failures)
+
+-- n reads or more went well, all that the server sends to what was read is out, and the connection is open
 abbrev pub Goes : ℕ → ℕ → Scene → Scene → Type 0
-Goes n conn old new = (pieces : List (List ℕ)) × Fed conn old new pieces (sends_to conn old.server pieces) × Tried n old new pieces
+Goes n conn old new =
+    (read : List ℕ) × Fed conn old new read (sends_to conn old.server read) × (is_closed_by conn old.server read ≡ false) × Tried n old new read
 
--- all that the server sends is out, and the input is at its end or the connection is closed
+-- the last piece, of at most 4096 bytes, closed the connection
+pub record JustClosed (conn : ℕ) (server : State) (read : List ℕ) : Type 0 where
+  pub before : List ℕ
+  pub last : List ℕ
+  pub split : read ≡ before ++ last
+  pub size : length last ≤ 4096
+  pub open_before : is_closed_by conn server before ≡ false
+  pub closed : is_closed_by conn server read ≡ true
+
+-- All that the server sends to what was read is out. The input is at its end and the connection open, or it has just been closed
 abbrev pub Done : ℕ → Scene → Scene → Type 0
 Done conn old new =
-    (pieces : List (List ℕ)) × Fed conn old new pieces (sends_to conn old.server pieces)
-    × (IsAtEnd new.left ⊎ (closes conn (outs_to conn old.server pieces) ≡ true))
+    (read : List ℕ) × Fed conn old new read (sends_to conn old.server read)
+    × ((IsAtEnd new.left × (is_closed_by conn old.server read ≡ false)) ⊎ JustClosed conn old.server read)
 
 -- The server's fault at the piece that came last. Where memory ran out, the server is halted, or else there was no room for
 -- the piece, and the server didn't get it.
 abbrev pub Faulted : ℕ → State → State → List ℕ → StepFault → Type 0
-Faulted conn server new last KnownConnection = step_on server (Bytes conn last) ≡ answers.step (Err KnownConnection) new
-Faulted conn server new last UnknownConnection = step_on server (Bytes conn last) ≡ answers.step (Err UnknownConnection) new
 Faulted conn server new last Memory = (new ≡ None) ⊎ (new ≡ server)
-Faulted conn server new last Halted = step_on server (Bytes conn last) ≡ answers.step (Err Halted) new
-Faulted conn server new last Exhausted = step_on server (Bytes conn last) ≡ answers.step (Err Exhausted) new
+Faulted conn server new last Exhausted = (new ≡ None) × IsSpent (step_on server (Bytes conn last))
+Faulted conn server new last fault = (step_on server (Bytes conn last) ≡ Err fault) × (new ≡ server)
 
--- a part of what the server sends is out, from its beginning on
+-- Where a read failed, or the server didn't answer the piece that came last, all that was due before is out. Where a write
+-- failed, a part of what is due is out, from its beginning on
 abbrev pub Stopped : ℕ → Scene → Scene → PumpFault → Type 0
-Stopped conn old new Read = (pieces : List (List ℕ)) × (put : List ℕ) × Fed conn old new pieces put × IsPrefix put (sends_to conn old.server pieces) × Rose old.read_failures new.read_failures
-Stopped conn old new Write = (pieces : List (List ℕ)) × (put : List ℕ) × Fed conn old new pieces put × IsPrefix put (sends_to conn old.server pieces) × Rose old.write_failures new.write_failures
+Stopped conn old new Read =
+    (read : List ℕ) × Fed conn old new read (sends_to conn old.server read) × (is_closed_by conn old.server read ≡ false) × Rose old.read_failures new.read_failures
+Stopped conn old new Write =
+    (read : List ℕ) × (put : List ℕ) × Fed conn old new read put × IsPrefix put (sends_to conn old.server read) × Rose old.write_failures new.write_failures
 Stopped conn old new (Step fault) =
-    (pieces : List (List ℕ)) × (last : List ℕ) × (put : List ℕ) × All IsPiece pieces × Moved old new (concat pieces ++ last) put
-    × ((run_of old.server (events conn pieces)).fault ≡ None)
-    × IsPrefix put (sends_to conn old.server pieces) × Faulted conn (run_of old.server (events conn pieces)).server new.server last fault
+    (read : List ℕ) × (last : List ℕ) × Moved old new (read ++ last) (sends_to conn old.server read) × ((heard_run old.server conn read).fault ≡ None)
+    × (is_closed_by conn old.server read ≡ false) × Faulted conn (heard_run old.server conn read).server new.server last fault
 Stopped conn old new Turns = Goes 1000000000 conn old new
+
+-- ---- one answer
 
 -- the sends of one step are out, and `open` says whether the connection still is; or a part of them is
 abbrev pub Answered : ℕ → List Out → Option (List ℕ) → Option (List ℕ) → ℕ → ℕ → Result Bool PumpFault → Type 0

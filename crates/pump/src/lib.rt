@@ -8,7 +8,8 @@ ghost use Rattle.std.specs.Prelude.{◌≡◌, ℕ, ◌+◌, ◌-◌, ◌^◌, �
 ghost use Rattle.std.specs.Bool.{MatchBool};
 ghost use Rattle.std.specs.Io.KnownBytes.{Appends, Consumes, Keeps, IsAtEnd};
 ghost use Rattle.ua_tcp.specs.Tapped.{Rose, counted};
-ghost use Rattle.ua_core.specs.Stepping.{joined, closes};
+ghost use Rattle.ua_core.specs.Running.{joined, closes};
+ghost use Rattle.ua_core.specs.World.{world_of};
 
 use bytes::Bytes;
 use std::alloc::Global;
@@ -158,8 +159,8 @@ impl Pump {
         writer: &mut Tap<W>,
     ) -> Result<bool, PumpFault>
         requires room { self.old < 2 ^ 128 }
-        ensures went { let old = scene R.remaining W.contents self.old server.old reader.old writer.old in
-            let new = scene R.remaining W.contents self.new server.new reader.new writer.new in
+        ensures went { let old = scene R.remaining W.contents self.old (world_of server.old) reader.old writer.old in
+            let new = scene R.remaining W.contents self.new (world_of server.new) reader.new writer.new in
             MatchResult result (λ more. MatchBool more (Goes 1 conn old new) (Done conn old new)) (Stopped conn old new) }
         ensures no_turns { result ≢ Err PumpFault.Turns }
     {
@@ -192,10 +193,12 @@ impl Pump {
     /// All that the server sends is written here, so it should know no other connection. A read that is
     /// interrupted is tried again.
     ///
-    /// Where the run ends well, all that the server sends to what was read is out. At a fault a part of
-    /// it is, from its beginning on, and [`Pump::sent`] is the length of that part. `Read` and `Write`
-    /// come only where a call of that tap failed. At `Step(Memory)` the server is halted, or as its last
-    /// step left it, where a growth of the pump's own was refused. `Turns` comes after 10^9 reads.
+    /// Each piece is answered before the next is read, and nothing is read once the connection is closed.
+    /// So where the run ends well, at `Read`, `Step` and `Turns`, all that the server sends to what was
+    /// read before is out. At `Write` a part of it is, from its beginning on. [`Pump::sent`] is the
+    /// length of what is out. `Read` and `Write` come only where a call of that tap failed. At
+    /// `Step(Memory)` the server is halted, or as its last step left it, where a growth of the pump's own
+    /// was refused. `Turns` comes after 10^9 reads.
     pub fn run<R: Read, W: Write>(
         &mut self,
         alloc: Global,
@@ -204,8 +207,8 @@ impl Pump {
         reader: &mut Tap<R>,
         writer: &mut Tap<W>,
     ) -> Result<(), PumpFault>
-        ensures { let old = scene R.remaining W.contents 0 server.old reader.old writer.old in
-            let new = scene R.remaining W.contents self.new server.new reader.new writer.new in
+        ensures { let old = scene R.remaining W.contents 0 (world_of server.old) reader.old writer.old in
+            let new = scene R.remaining W.contents self.new (world_of server.new) reader.new writer.new in
             MatchResult result (λ _. Done conn old new) (Stopped conn old new) }
     {
         self.sent = 0;

@@ -1,5 +1,6 @@
 -- The chunks of an answer are read again as one message.
-use Rattle.std.proofs.Common.{◌≡◌, ℕ, zero, suc, ◌+◌, ◌-◌, ◌<◌, ◌≤◌, ◌^◌, List, [], ◌∷◌, ◌++◌, length, drop, take, Result, Ok, refl, sym, ◌∙◌, ap, arith, inl, inr, ◌⊎◌, append_assoc, append-nil, subst}
+use Rattle.std.specs.Prelude.{◌&&◌}
+use Rattle.std.proofs.Common.{◌≡◌, Bool, true, cond, Some, None, eq-eqb, ℕ, zero, suc, ◌+◌, ◌-◌, ◌<◌, ◌≤◌, ◌^◌, List, [], ◌∷◌, ◌++◌, length, drop, take, Result, Ok, refl, sym, ◌∙◌, ap, arith, inl, inr, ◌⊎◌, append_assoc, append-nil, subst}
 use Rattle.std.specs.List.{concat, flat_map, AllByRecursion}
 use Rattle.std.proofs.lemmas.List.{length-drop, length-take-le, length-append, take-append-drop}
 use Rattle.std.proofs.lemmas.Bool.{cases_lt}
@@ -9,13 +10,14 @@ use Rattle.ua_tcp.specs.Header.{judgement_of}
 use Rattle.ua_tcp.specs.Frames.{Framed, Rest, frames}
 use Rattle.ua_tcp.specs.declared.frame.Frame.{Frame}
 use Rattle.ua_tcp.specs.declared.frame.Judgement.TheVariants.{Incomplete}
+use Rattle.ua_tcp.specs.declared.frame.MessageType.TheVariants as message
 use Rattle.ua_tcp.specs.declared.frame.ChunkType.{ChunkType}
 use Rattle.ua_tcp.specs.declared.frame.ChunkType.TheVariants.{Intermediate, Final}
 use Rattle.ua_tcp.proofs.EncodedLemmas.{split_read}
 use Rattle.ua_channel.specs.declared.headers.ChunkHeader.{ChunkHeader}
-use Rattle.ua_channel.specs.Headers.{chunk_header_reading, chunk_header_encoding, part_of, IsWritable}
+use Rattle.ua_channel.specs.Headers.{chunk_header_reading, chunk_header_encoding, IsWritable}
 use Rattle.ua_channel.specs.ChannelStates.{ChannelState}
-use Rattle.ua_channel.specs.Chunks.{joins, joined_by}
+use Rattle.ua_channel.specs.Chunks.{Begun, Messages, parts_of, is_of, joined_on, joined_to, joined_by, joins}
 use Rattle.ua_channel.specs.Cutting.{Cut, cut_of, chunk_frame, chunk_encoding, next_header, send_of, header_of}
 use Rattle.ua_channel.proofs.HeaderLemmas.{header_again, encoding_length, part_again, sequence_number_small}
 use Rattle.ua_channel.proofs.CuttingLemmas.{cut_more, cut_last, chunks_of_send}
@@ -29,19 +31,22 @@ record Reads (limit id : ℕ) (body : List ℕ) (chunks : List (List ℕ)) : Typ
   fs : List Frame
   text : concat chunks ≡ flat_map frame_encoding fs
   each : AllByRecursion (IsFrame limit) fs
-  message : (so_far : List ℕ) → joins so_far fs ≡ (id, so_far ++ body) ∷ []
+  message : (begun : Begun) → is_of begun id ≡ true → joins begun fs ≡ Some ((id, parts_of begun ++ body) ∷ [])
 
 is_frame : (limit : ℕ) (header : ChunkHeader) (chunk_type : ChunkType) (part : List ℕ) → 24 + length part ≤ limit → IsFrame limit (chunk_frame header chunk_type part)
 is_frame limit header chunk_type part l =
     record { chunk_type = refl; size = omega (arith, encoding_length header, length-append (chunk_header_encoding header) part) }
 
--- a chunk is read as its header and its part
-read_chunk : (header : ChunkHeader) (chunk_type : ChunkType) (part so_far : List ℕ) (more : List ℕ → List (ℕ × List ℕ)) → IsWritable header →
-    joined_by (chunk_header_reading (chunk_frame header chunk_type part).body) chunk_type so_far (part_of (chunk_frame header chunk_type part)) more
-    ≡ joined_by (Ok (header, part)) chunk_type so_far part more
-read_chunk header chunk_type part so_far more w =
-    ap (λ (r : Result (ChunkHeader × List ℕ) TakeFault). joined_by r chunk_type so_far (part_of (chunk_frame header chunk_type part)) more) (header_again header part w)
-    ∙ ap (λ (p : List ℕ). joined_by (Ok (header, part)) chunk_type so_far p more) (part_again header part)
+-- a chunk is read as its header and its part, and joins what has begun of its request
+read_chunk : (header : ChunkHeader) (chunk_type : ChunkType) (part : List ℕ) (begun : Begun) (more : Begun → Messages) → IsWritable header → is_of begun header.request_id ≡ true →
+    (let f = chunk_frame header chunk_type part in joined_by begun f (chunk_header_reading f.body) more)
+    ≡ joined_on chunk_type header.request_id (parts_of begun ++ part) more
+read_chunk header chunk_type part begun more w e =
+    let f = chunk_frame header chunk_type part in
+    let whole : Messages = joined_on chunk_type header.request_id (parts_of begun ++ part) more in
+    ap (λ (r : Result (ChunkHeader × List ℕ) TakeFault). joined_by begun f r more) (header_again header part w)
+    ∙ ap (λ (p : List ℕ). joined_to begun message.Message chunk_type header.request_id p more) (part_again header part)
+    ∙ ap (λ (b : Bool). cond (true && b) whole None) e
 
 last_read : (limit : ℕ) (header : ChunkHeader) (body : List ℕ) → 24 + length body ≤ limit → IsWritable header → Reads limit header.request_id body (chunk_encoding header Final body ∷ [])
 last_read limit header body m w =
@@ -49,7 +54,7 @@ last_read limit header body m w =
       fs = chunk_frame header Final body ∷ [];
       text = refl;
       each = (is_frame limit header Final body m, tt);
-      message = λ so_far. read_chunk header Final body so_far (λ b. joins b []) w;
+      message = λ begun e. read_chunk header Final body begun (λ b. joins b []) w e;
     }
 
 more_read : (limit : ℕ) (header : ChunkHeader) (part rest : List ℕ) (chunks : List (List ℕ)) → 24 + length part ≤ limit → IsWritable header → Reads limit header.request_id rest chunks →
@@ -60,10 +65,10 @@ more_read limit header part rest chunks m w rs =
       fs = f ∷ rs.fs;
       text = ap (λ (t : List ℕ). frame_encoding f ++ t) rs.text;
       each = (is_frame limit header Intermediate part m, rs.each);
-      message = λ so_far.
-          read_chunk header Intermediate part so_far (λ b. joins b rs.fs) w
-          ∙ rs.message (so_far ++ part)
-          ∙ ap (λ (b : List ℕ). (header.request_id, b) ∷ []) (append_assoc so_far part rest);
+      message = λ begun e.
+          read_chunk header Intermediate part begun (λ b. joins b rs.fs) w e
+          ∙ rs.message (Some (header.request_id, parts_of begun ++ part)) (eq-eqb header.request_id header.request_id refl)
+          ∙ ap (λ (b : List ℕ). Some ((header.request_id, b) ∷ [])) (append_assoc (parts_of begun) part rest);
     }
 
 next_writable : (header : ChunkHeader) → IsWritable header → IsWritable (next_header header)
@@ -94,7 +99,7 @@ reads_within (suc n) limit header room body r m w l (inl long) =
 pub message_read : (s : ChannelState) (request_id : ℕ) (body : List ℕ) (chunks : List (List ℕ)) → 24 < s.agreed.send_size → s.agreed.send_size < 2 ^ 32 → IsWritable (header_of s request_id) →
     (send_of s request_id body).answer ≡ Ok chunks →
     let read = frames s.agreed.send_size (concat chunks) in
-    (read.end ≡ Rest []) × (joins [] read.frames ≡ (request_id, body) ∷ [])
+    (read.end ≡ Rest []) × (joins None read.frames ≡ Some ((request_id, body) ∷ []))
 message_read s request_id body chunks r l w e =
     let limit = s.agreed.send_size in
     let rs : Reads limit request_id body chunks =
@@ -103,4 +108,4 @@ message_read s request_id body chunks r l w e =
     let text : concat chunks ≡ flat_map frame_encoding rs.fs ++ [] = rs.text ∙ sym (append-nil (flat_map frame_encoding rs.fs)) in
     let read : frames limit (concat chunks) ≡ record { frames = rs.fs; end = Rest [] } =
     split_read limit (concat chunks) rs.fs [] (Rest []) l (record { whole = text; each = rs.each; ends = (refl, none_yet limit) }) in
-    (ap (λ (x : Framed). x.end) read, ap (λ (x : Framed). joins [] x.frames) read ∙ rs.message [])
+    (ap (λ (x : Framed). x.end) read, ap (λ (x : Framed). joins None x.frames) read ∙ rs.message None refl)

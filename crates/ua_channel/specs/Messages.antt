@@ -1,8 +1,7 @@
 -- Messages out of the chunks that they come in.
 use Rattle.std.specs.Prelude.{ℕ, ◌+◌, ◌==◌, Bool, true, not, ◌||◌, nat_lt, List, ◌++◌, length, ◌≤◌, Option, Some, None, Ok, Err, if◌then◌else◌, IfSome}
 use Rattle.ua_types.specs.Answers.{Step, step}
-use Rattle.ua_types.specs.declared.refusal.Refusal.{Refusal}
-use Rattle.ua_types.specs.declared.refusal.Refusal.TheVariants.{Service}
+use Rattle.ua_types.specs.declared.status.Status.{Status}
 use Rattle.ua_types.specs.declared.status.TheConstants.Status as status
 use Rattle.ua_tcp.specs.Agreements.{Limitation}
 use Rattle.ua_tcp.specs.declared.frame.ChunkType.{ChunkType}
@@ -32,17 +31,17 @@ exceeds_limits limits message =
     nat_lt limits.max_message (length message.body) || nat_lt limits.max_chunks message.chunk_count
 
 -- what a message's chunk of this type gives, and what of the message is left unfinished
-abbrev pub joined_as : ChunkType → UnfinishedMessage → Step Taken Refusal (Option UnfinishedMessage)
+abbrev pub joined_as : ChunkType → UnfinishedMessage → Step Taken Status (Option UnfinishedMessage)
 joined_as Intermediate message = step (Ok taken.Nothing) (Some message)
 joined_as Final message = step (Ok (taken.Request message.request_id message.body)) None
 joined_as Aborted message = step (Ok (taken.Aborted message.request_id)) None
 
 -- A chunk is joined to what has come of its message. Refused are a chunk of another request, and one
 -- with which the message is too large.
-unfoldable pub joining_of : Limitation → Option UnfinishedMessage → ℕ → ChunkType → List ℕ → Step Taken Refusal (Option UnfinishedMessage)
+unfoldable pub joining_of : Limitation → Option UnfinishedMessage → ℕ → ChunkType → List ℕ → Step Taken Status (Option UnfinishedMessage)
 joining_of limits unfinished request_id chunk_type part =
-    if not (may_join unfinished request_id) then step (Err (Service status.BAD_DECODING_ERROR)) unfinished
-    else if exceeds_limits limits (extended unfinished request_id part) then step (Err (Service status.BAD_TCP_MESSAGE_TOO_LARGE)) unfinished
+    if not (may_join unfinished request_id) then step (Err status.BAD_DECODING_ERROR) unfinished
+    else if exceeds_limits limits (extended unfinished request_id part) then step (Err status.BAD_TCP_MESSAGE_TOO_LARGE) unfinished
     else joined_as chunk_type (extended unfinished request_id part)
 
 pub record IsWithinLimits (limits : Limitation) (message : UnfinishedMessage) : Type 0 where

@@ -2,8 +2,7 @@
 use Rattle.std.specs.Prelude.{ℕ, pos, ◌==◌, Bool, true, false, not, ◌||◌, List, Option, Some, None, Result, Ok, Err, codes, if◌then◌else◌}
 use Rattle.std.specs.Ordering.{int_eq}
 use Rattle.std.specs.Str.{bytes_eq}
-use Rattle.ua_types.specs.declared.refusal.Refusal.{Refusal}
-use Rattle.ua_types.specs.declared.refusal.Refusal.TheVariants.{Service}
+use Rattle.ua_types.specs.declared.status.Status.{Status}
 use Rattle.ua_types.specs.declared.status.TheConstants.Status as status
 use Rattle.ua_binary.specs.declared.fault.TakeFault.{TakeFault}
 use Rattle.ua_messages.specs.Bodies.{message_id_of, message_of}
@@ -29,12 +28,12 @@ asked_in request = record {
 }
 
 -- 446 is the id of an OpenSecureChannelRequest
-abbrev pub opening_request_by : Result ℕ TakeFault → Result OpenSecureChannelRequest TakeFault → Result OpeningRequest Refusal
-opening_request_by (Ok id) (Ok request) = if id == 446 then Ok (asked_in request) else Err (Service status.BAD_DECODING_ERROR)
-opening_request_by id request = Err (Service status.BAD_DECODING_ERROR)
+abbrev pub opening_request_by : Result ℕ TakeFault → Result OpenSecureChannelRequest TakeFault → Result OpeningRequest Status
+opening_request_by (Ok id) (Ok request) = if id == 446 then Ok (asked_in request) else Err status.BAD_DECODING_ERROR
+opening_request_by id request = Err status.BAD_DECODING_ERROR
 
 -- the request that an OPN's body is
-abbrev pub opening_request_of : List ℕ → Result OpeningRequest Refusal
+abbrev pub opening_request_of : List ℕ → Result OpeningRequest Status
 opening_request_of body = opening_request_by (message_id_of body) (message_of open_secure_channel_request_reading body)
 
 abbrev pub is_open : Option ℕ → Bool
@@ -52,10 +51,10 @@ abbrev pub is_mode_none : OpeningRequest → Bool
 is_mode_none request = int_eq request.security_mode.0 (pos 1)
 
 -- whether the request, which came with this channel number, renews the token: the refusals in order
-abbrev pub renewal_of : Option ℕ → ℕ → OpeningRequest → Result Bool Refusal
+abbrev pub renewal_of : Option ℕ → ℕ → OpeningRequest → Result Bool Status
 renewal_of channel_id number request =
-    if not (is_issue request || is_renew request) then Err (Service status.BAD_DECODING_ERROR)
-    else if not (is_mode_none request) then Err (Service status.BAD_SECURITY_MODE_REJECTED)
-    else if is_issue request then (if is_open channel_id then Err (Service status.BAD_SECURE_CHANNEL_ID_INVALID) else Ok false)
-    else if not (is_channel channel_id number) then Err (Service status.BAD_TCP_SECURE_CHANNEL_UNKNOWN)
+    if not (is_issue request || is_renew request) then Err status.BAD_DECODING_ERROR
+    else if not (is_mode_none request) then Err status.BAD_SECURITY_MODE_REJECTED
+    else if is_issue request then (if is_open channel_id then Err status.BAD_SECURE_CHANNEL_ID_INVALID else Ok false)
+    else if not (is_channel channel_id number) then Err status.BAD_TCP_SECURE_CHANNEL_UNKNOWN
     else Ok true

@@ -1,8 +1,8 @@
 //! A secure channel.
 
 ghost use Rattle.std.specs.Prelude.{◌≡◌, ◌≤◌, length, IfOk};
-ghost use Rattle.ua_types.specs.Answers.{Gives, Takes};
-ghost use Rattle.ua_types.specs.declared.refusal.Refusal.TheVariants as refusal;
+ghost use Rattle.ua_types.specs.Answers.{Takes};
+ghost use Rattle.ua_types.specs.Refusals.{GivesOrRefuses, TakesOrRefuses};
 ghost use Rattle.ua_channel.specs.declared.send_fault.SendFault.TheVariants as send_fault;
 ghost use Rattle.ua_channel.specs.Messages.{AreWithinLimits};
 ghost use Rattle.ua_channel.specs.ChannelStates.{new_channel, token_after, granted_of};
@@ -141,7 +141,7 @@ impl Channel {
     /// `Memory` comes only where a growth was refused. The channel is then as it was, and the same
     /// frame may be taken again. `Exhausted` never comes.
     pub fn take(&mut self, alloc: Global, frame: &Frame) -> Result<Taken, Refusal>
-        ensures taken { Takes refusal.Memory result self.old self.new (take_of self.old frame.now) }
+        ensures taken { TakesOrRefuses result self.old self.new (take_of self.old frame.now) }
         ensures limits { AreWithinLimits self.new.agreed.limits self.new.unfinished }
     {
         if let Some(status) = self.refused {
@@ -156,7 +156,7 @@ impl Channel {
 
     // The same of a channel that refused nothing yet. A refusal leaves it as it was.
     fn accept(&mut self, alloc: Global, frame: &Frame) -> Result<Taken, Refusal>
-        ensures { Takes refusal.Memory result self.old self.new (acceptance_of self.old frame.now) }
+        ensures { TakesOrRefuses result self.old self.new (acceptance_of self.old frame.now) }
     {
         if frame.message_type == MessageType::Error {
             return Ok(Taken::Closed);
@@ -177,7 +177,7 @@ impl Channel {
 
     #[tactic(auto, unfolding(crate::specs::Acceptance::opening_taken))]
     fn accept_opening(&mut self, alloc: Global, frame: &Frame) -> Result<Taken, Refusal>
-        ensures { Takes refusal.Memory result self.old self.new (opening_taken self.old frame.now.body) }
+        ensures { TakesOrRefuses result self.old self.new (opening_taken self.old frame.now.body) }
     {
         let mut cursor = Cursor::new(frame.body.as_slice());
         let header = match OpeningHeader::decode(alloc, &mut cursor) {
@@ -202,7 +202,7 @@ impl Channel {
     }
 
     fn accept_close(&mut self, alloc: Global, frame: &Frame) -> Result<Taken, Refusal>
-        ensures { Takes refusal.Memory result self.old self.new (close_taken self.old (admission_of self.old frame.now.body)) }
+        ensures { TakesOrRefuses result self.old self.new (close_taken self.old (admission_of self.old frame.now.body)) }
     {
         let header = self.admit(alloc, frame)?;
         self.used_token = header.token_id;
@@ -211,7 +211,7 @@ impl Channel {
     }
 
     fn accept_chunk(&mut self, alloc: Global, frame: &Frame) -> Result<Taken, Refusal>
-        ensures { Takes refusal.Memory result self.old self.new
+        ensures { TakesOrRefuses result self.old self.new
             (message_taken self.old frame.now (admission_of self.old frame.now.body)) }
     {
         let header = self.admit(alloc, frame)?;
@@ -230,7 +230,7 @@ impl Channel {
     // The header of a MSG or a CLO, once it is judged.
     #[tactic(auto, using(crate::proofs::HeaderLemmas::header_length), unfolding(crate::specs::Acceptance::admission_of))]
     fn admit(&self, alloc: Global, frame: &Frame) -> Result<ChunkHeader, Refusal>
-        ensures header { Gives refusal.Memory result (admission_of self.now frame.now.body) }
+        ensures header { GivesOrRefuses result (admission_of self.now frame.now.body) }
         ensures long { IfOk result (λ _. 16 ≤ length frame.now.body) }
     {
         let mut cursor = Cursor::new(frame.body.as_slice());

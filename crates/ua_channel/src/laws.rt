@@ -1,10 +1,9 @@
 //! What holds of every channel and every answer.
 
-ghost use Rattle.std.specs.Prelude.{◌≡◌, ◌<◌, ◌≤◌, ◌^◌, ◌+◌, ℕ, List, [], ◌∷◌, length, Some, Ok, Err, IsOk};
+ghost use Rattle.std.specs.Prelude.{◌≡◌, ◌<◌, ◌≤◌, ◌^◌, ◌+◌, ℕ, List, [], ◌∷◌, length, Some, None, Ok, Err, IsOk};
 ghost use Rattle.std.specs.List.{concat};
 ghost use Rattle.ua_types.specs.Answers.{step};
 ghost use Rattle.ua_types.specs.declared.status.Status.{Status};
-ghost use Rattle.ua_types.specs.declared.refusal.Refusal.TheVariants.{Service};
 ghost use Rattle.ua_tcp.specs.Agreements.{IsAgreement};
 ghost use Rattle.ua_tcp.specs.Frames.{frames, Rest};
 ghost use Rattle.ua_tcp.specs.declared.frame.Frame.{Frame};
@@ -18,13 +17,13 @@ ghost use Rattle.ua_channel.specs.Cutting.{send_of, send_opening_of, header_of, 
 /// The requests that a channel gives are those that the chunks join to, where it refuses none.
 pub fn gives_what_chunks_join_to()
     ensures { (s : ChannelState) (chunks : List Frame) → AreAccepted s chunks →
-        requests (answers s chunks) ≡ joins (come s.unfinished) chunks }
+        joins (come s.unfinished) chunks ≡ Some (requests (answers s chunks)) }
 {}
 
 /// Once a frame was refused, every later one is refused with the same status.
 pub fn refuses_for_good()
     ensures { (s : ChannelState) (status : Status) (frame : Frame) → s.refused ≡ Some status →
-        take_of s frame ≡ step (Err (Service status)) s }
+        take_of s frame ≡ step (Err status) s }
 {}
 
 /// An unfinished message is always within the server's limits.
@@ -47,7 +46,7 @@ pub fn is_read_again()
         s.agreed.send_size < 2 ^ 32 → IsWritable (header_of s request_id) →
         (send_of s request_id body).answer ≡ Ok chunks →
         let read = frames s.agreed.send_size (concat chunks) in
-        (read.end ≡ Rest []) × (joins [] read.frames ≡ (request_id, body) ∷ []) }
+        (read.end ≡ Rest []) × (joins None read.frames ≡ Some ((request_id, body) ∷ [])) }
 {}
 
 /// An answer of at most 1000 bytes is never too large, whatever was agreed.

@@ -1,8 +1,7 @@
 //! Messages out of the chunks that they come in.
 
 ghost use Rattle.std.specs.Prelude.{◌≡◌, ◌≤◌, ◌<◌, ◌+◌, ◌++◌, ℕ, length, drop, false, Some, None, OnOk, OnErr, IfOk, IfSome};
-ghost use Rattle.ua_types.specs.Answers.{Takes};
-ghost use Rattle.ua_types.specs.declared.refusal.Refusal.TheVariants as refusal;
+ghost use Rattle.ua_types.specs.Refusals.{TakesOrRefuses};
 ghost use Rattle.ua_channel.specs.Messages.{may_join as may_join_lem, extended, exceeds_limits as exceeds_limits_lem, joining_of, AreWithinLimits};
 
 use crate::headers::HEADER_SIZE;
@@ -136,7 +135,7 @@ pub fn join(
 ) -> Result<Taken, Refusal>
     requires header { 16 ≤ length frame.now.body }
     requires limits { AreWithinLimits limits.now unfinished.old }
-    ensures joins { Takes refusal.Memory result unfinished.old unfinished.new
+    ensures joins { TakesOrRefuses result unfinished.old unfinished.new
         (joining_of limits.now unfinished.old request_id frame.now.chunk_type (drop 16 frame.now.body)) }
     ensures limits { AreWithinLimits limits.now unfinished.new }
     ensures err { OnErr result (unfinished.new ≡ unfinished.old) }

@@ -1,8 +1,7 @@
 //! Requests to open a channel or to renew its token.
 
 ghost use Rattle.std.specs.Prelude.{◌≡◌};
-ghost use Rattle.ua_types.specs.Answers.{Gives};
-ghost use Rattle.ua_types.specs.declared.refusal.Refusal.TheVariants as refusal;
+ghost use Rattle.ua_types.specs.Refusals.{GivesOrRefuses};
 ghost use Rattle.ua_channel.specs.Openings.{is_policy_none as is_policy_none_lem, opening_request_of, renewal_of};
 
 use std::alloc::Global;
@@ -36,7 +35,7 @@ pub struct OpeningRequest {
 
 // The request that the body of an OPN is.
 pub fn opening_request(alloc: Global, body: &[u8]) -> Result<OpeningRequest, Refusal>
-    ensures { Gives refusal.Memory result (opening_request_of body.now) }
+    ensures { GivesOrRefuses result (opening_request_of body.now) }
 {
     match message_id(body) {
         Ok(type_ids::OPEN_SECURE_CHANNEL_REQUEST) => {}
@@ -59,22 +58,22 @@ pub fn renewal(
     channel_id: Option<u32>,
     number: u32,
     request: &OpeningRequest,
-) -> Result<bool, Refusal>
+) -> Result<bool, Status>
     ensures { result ≡ renewal_of channel_id number request.now }
 {
     let renew = match request.request_type {
         SecurityTokenRequestType::ISSUE => false,
         SecurityTokenRequestType::RENEW => true,
-        _ => return Err(Refusal::Service(Status::BAD_DECODING_ERROR)),
+        _ => return Err(Status::BAD_DECODING_ERROR),
     };
     if request.security_mode != MessageSecurityMode::NONE {
-        return Err(Refusal::Service(Status::BAD_SECURITY_MODE_REJECTED));
+        return Err(Status::BAD_SECURITY_MODE_REJECTED);
     }
     if !renew && channel_id.is_some() {
-        return Err(Refusal::Service(Status::BAD_SECURE_CHANNEL_ID_INVALID));
+        return Err(Status::BAD_SECURE_CHANNEL_ID_INVALID);
     }
     if renew && channel_id != Some(number) {
-        return Err(Refusal::Service(Status::BAD_TCP_SECURE_CHANNEL_UNKNOWN));
+        return Err(Status::BAD_TCP_SECURE_CHANNEL_UNKNOWN);
     }
     Ok(renew)
 }

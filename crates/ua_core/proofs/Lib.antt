@@ -1,5 +1,11 @@
-pub mod MapLemmas
+pub mod EffectLemmas
+pub mod HandlingLemmas
 pub mod RunLemmas
 pub mod CutLemmas
+pub mod Keeping
 pub mod ApartLemmas
-pub mod FittingLemmas
+pub mod RoomLemmas
+pub mod CoherentLemmas
+pub mod RecutLemmas
+pub mod PartLemmas
+pub mod AlikeLemmas

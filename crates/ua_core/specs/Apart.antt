@@ -1,41 +1,37 @@
 -- What the bytes of one connection leave as it was.
 use Rattle.std.specs.Prelude.{◌≡◌, ◌≢◌, ◌&&◌, ℕ, Bool, true, false, List, [], ◌∷◌, Option, Some, None, Result, Ok}
 use Rattle.std.specs.FinMap.{get}
-use Rattle.ua_types.specs.declared.refusal.Refusal.{Refusal}
+use Rattle.ua_connections.specs.Apart.{unsent, with_known, SeesAlike}
+use Rattle.ua_connections.specs.Connecting.{is_known}
+use Rattle.ua_types.specs.declared.status.Status.{Status}
 use Rattle.ua_tcp.specs.Feeding.{Framing, framed_of}
 use Rattle.ua_tcp.specs.Frames.{End, Rest, Broken}
 use Rattle.ua_tcp.specs.declared.frame.Frame.{Frame}
 use Rattle.ua_channel.specs.declared.taken.Taken.{Taken}
 use Rattle.ua_channel.specs.declared.taken.Taken.TheVariants as taken
 use Rattle.ua_channel.specs.Acceptance.{take_of}
-use Rattle.ua_core.specs.declared.connection.Connection.{Connection}
-use Rattle.ua_core.specs.declared.connection.Phase.{Phase}
-use Rattle.ua_core.specs.declared.connection.Phase.TheVariants.{Talking}
-use Rattle.ua_core.specs.declared.out.Out.{Out}
-use Rattle.ua_core.specs.declared.out.Out.TheVariants.{Send, Close}
-use Rattle.ua_core.specs.World.{World, Core, is_known}
+use Rattle.ua_connections.specs.declared.connection.Connection.{Connection}
+use Rattle.ua_connections.specs.declared.connection.Phase.{Phase}
+use Rattle.ua_connections.specs.declared.connection.Phase.TheVariants.{Talking}
 use Rattle.ua_core.specs.Handling.{handled}
+use Rattle.ua_core.specs.World.{World, Core}
 
--- ---- any bytes
+-- the old server, but with the connections, the number of channels and the services of the new one
+abbrev pub with_parts : Core → Core → Core
+with_parts old new = record old { connections = with_known old.connections new.connections; services = new.services }
 
--- other connections are as they were, and so are the configuration, the clock and the numbers of connections
+-- Other connections are as they were but for what was sent on them, this one is known where it was, and beside these parts
+-- nothing is another
 pub record KeepsOthers (conn : ℕ) (old new : World) : Type 0 where
+  pub rest : new ≡ record old { links = new.links; core = with_parts old.core new.core }
+  pub known : is_known new.core.connections conn ≡ is_known old.core.connections conn
   pub links : (other : ℕ) → other ≢ conn → get new.links other ≡ get old.links other
-  pub connections : (other : ℕ) → other ≢ conn → get new.core.connections other ≡ get old.core.connections other
-  pub known : is_known new conn ≡ is_known old conn
-  pub config : new.core.config ≡ old.core.config
-  pub clock : new.core.clock ≡ old.core.clock
-  pub greatest : new.core.greatest ≡ old.core.greatest
-
--- the connection that something is to be done for
-abbrev pub conn_of : Out → ℕ
-conn_of (Send conn bytes) = conn
-conn_of (Close conn) = conn
+  pub connections : (other : ℕ) → other ≢ conn → unsent (get new.core.connections.known other) ≡ unsent (get old.core.connections.known other)
 
 -- ---- bytes that are only a part of a message
 
 -- the frame is a chunk that its message doesn't end with, or one that drops it
-abbrev pub is_part_taken : Result Taken Refusal → Bool
+abbrev pub is_part_taken : Result Taken Status → Bool
 is_part_taken (Ok taken.Nothing) = true
 is_part_taken (Ok (taken.Aborted id)) = true
 is_part_taken answer = false
@@ -52,7 +48,7 @@ is_part_of (Some connection) frame = is_part_in connection.phase frame
 abbrev pub are_parts : ℕ → Core → List Frame → Bool
 are_parts conn core [] = true
 are_parts conn core (frame ∷ frames) =
-    is_part_of (get core.connections conn) frame && are_parts conn (handled conn core frame).state frames
+    is_part_of (get core.connections.known conn) frame && are_parts conn (handled conn core frame).state frames
 
 abbrev pub is_rest : End → Bool
 is_rest (Rest bytes) = true
@@ -68,7 +64,25 @@ completes_none_in world conn piece (Some framing) =
 abbrev pub completes_none : World → ℕ → List ℕ → Bool
 completes_none world conn piece = completes_none_in world conn piece (get world.links conn)
 
--- the connection's own part alone may be another one: no channel is opened beside
+-- the old server, but with the connections of the new one
+abbrev pub with_connections_of : Core → Core → Core
+with_connections_of old new = record old { connections = record old.connections { known = new.connections.known } }
+
+-- the connection's own part alone may be another one: its framer, and what has come of its message
 pub record KeepsAllElse (conn : ℕ) (old new : World) : Type 0 where
-  pub others : KeepsOthers conn old new
-  pub channels : new.core.channels ≡ old.core.channels
+  pub rest : new ≡ record old { links = new.links; core = with_connections_of old.core new.core }
+  pub links : (other : ℕ) → other ≢ conn → get new.links other ≡ get old.links other
+  pub connections : (other : ℕ) → other ≢ conn → get new.core.connections.known other ≡ get old.core.connections.known other
+
+-- ---- one connection's own stream
+
+-- two cores are alike to a connection: the same setting and services, and the same of its own
+pub record IsAlike (conn : ℕ) (a b : Core) : Type 0 where
+  pub setting : a.setting ≡ b.setting
+  pub sees : SeesAlike conn a.connections b.connections
+  pub services : a.services ≡ b.services
+
+-- two worlds are: its framer is the same too
+pub record IsAlikeTo (conn : ℕ) (a b : World) : Type 0 where
+  pub framer : get a.links conn ≡ get b.links conn
+  pub core : IsAlike conn a.core b.core

@@ -1,8 +1,8 @@
-pub mod Codes
+pub mod Faults
+pub mod Effects
 pub mod World
-pub mod Endpoints
-pub mod Answering
 pub mod Handling
 pub mod Stepping
-pub mod WorldCodes
+pub mod Running
+pub mod Coherent
 pub mod Apart

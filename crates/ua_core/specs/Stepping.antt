@@ -1,55 +1,56 @@
--- One event, and a run of events.
-use Rattle.std.specs.Prelude.{◌≡◌, ⊤, ℕ, ◌==◌, Bool, true, false, not, List, [], ◌∷◌, ◌++◌, Option, Some, None, Result, Ok, Err, if◌then◌else◌}
-use Rattle.std.specs.List.{list_any, flat_map}
+-- One event.
+use Rattle.std.specs.Prelude.{◌≡◌, ⊤, ℕ, Bool, true, not, nat_lt, int_lt, List, [], ◌++◌, Option, Some, None, Result, Ok, Err, is_some, if◌then◌else◌}
 use Rattle.std.specs.Ordering.{nat_cmp}
-use Rattle.std.specs.FinMap.{FinMap, get, insert, remove}
+use Rattle.std.specs.FinMap.{FinMap, get, insert, remove, len}
 use Rattle.ua_types.specs.Answers as answers
-use Rattle.ua_types.specs.declared.status.TheConstants.Status as status
 use Rattle.ua_types.specs.declared.moment.Moment.{Moment}
 use Rattle.ua_tcp.specs.Feeding.{Framing, unfed, framed_of}
-use Rattle.ua_tcp.specs.Pieces.{at_end, all_handled}
-use Rattle.ua_core.specs.declared.connection.Phase.{Phase}
-use Rattle.ua_core.specs.declared.connection.Phase.TheVariants.{Greeting, Closed}
+use Rattle.ua_tcp.specs.Pieces.{Stepped, at_end, all_handled}
+use Rattle.ua_requests.specs.declared.halt.Halt.{Halt}
+use Rattle.ua_requests.specs.declared.halt.Halt.TheVariants as halt
+use Rattle.ua_connections.specs.Connecting.{is_known, is_new, welcomed, turned_away}
+use Rattle.ua_services.specs.Services.{is_idle}
 use Rattle.ua_core.specs.declared.event.Event.{Event}
 use Rattle.ua_core.specs.declared.event.Event.TheVariants.{Opened, Bytes, Gone, Tick}
-use Rattle.ua_core.specs.declared.out.Out.{Out}
-use Rattle.ua_core.specs.declared.out.Out.TheVariants.{Send, Close}
 use Rattle.ua_core.specs.declared.out.Step.{Step}
 use Rattle.ua_core.specs.declared.out.StepFault.{StepFault}
-use Rattle.ua_core.specs.declared.out.StepFault.TheVariants.{KnownConnection, UnknownConnection, Memory, Halted}
-use Rattle.ua_core.specs.World.{World, Core, is_known, is_open, is_above, has_none_open, with_connection, later}
-use Rattle.ua_core.specs.Handling.{refusal, handled, broken}
+use Rattle.ua_core.specs.declared.out.StepFault.TheVariants.{KnownConnection, UnknownConnection, Memory, Halted, Exhausted}
+use Rattle.ua_core.specs.Effects.{Effect, doing, are_spent, shown}
+use Rattle.ua_core.specs.Handling.{handled, broken, gone_from, ticked_core}
+use Rattle.ua_core.specs.World.{World, Core}
 
--- the world after an event, and what is to be done
+-- the world after an event, and its effects
 pub record Served : Type 0 where
   pub world : World
-  pub outs : List Out
+  pub effects : List Effect
 
-abbrev pub served : World → List Out → Served
-served world outs = record { world = world; outs = outs }
+abbrev pub served : World → List Effect → Served
+served world effects = record { world = world; effects = effects }
 
 -- ---- Opened
 
-abbrev pub known_as : Core → ℕ → List ℕ → Phase → Core
-known_as core conn key phase =
-    with_connection (record core { greatest = Some conn }) conn (record { key = key; phase = phase })
+-- so many connections are open at once
+abbrev pub has_room : World → Bool
+has_room world = nat_lt (len world.links) world.core.setting.config.connections
 
 -- a new connection's first frame is awaited
-abbrev pub welcomed : World → ℕ → List ℕ → World
-welcomed world conn key = record {
-  links = insert world.links conn (unfed world.core.config.receive_size);
-  core = known_as world.core conn key Greeting;
+abbrev pub greeted : World → ℕ → List ℕ → World
+greeted world conn key = record {
+  links = insert world.links conn (unfed world.core.setting.config.receive_size);
+  core = record world.core { connections = welcomed world.core.connections conn key };
 }
 
--- while one is open already, another is turned away
-abbrev pub turned_away : World → ℕ → List ℕ → World
-turned_away world conn key = record world { core = known_as world.core conn key Closed }
+-- one too many is closed at once
+abbrev pub refused : World → ℕ → List ℕ → Served
+refused world conn key =
+    let r = turned_away world.core.connections conn key in
+    served (record world { core = record world.core { connections = r.connections } }) (doing r.outs)
 
 abbrev pub opened : World → ℕ → List ℕ → Result Served StepFault
 opened world conn key =
-    if not (is_above conn world.core.greatest) then Err KnownConnection
-    else if has_none_open world then Ok (served (welcomed world conn key) [])
-    else Ok (served (turned_away world conn key) (refusal conn status.BAD_TCP_NOT_ENOUGH_RESOURCES))
+    if not (is_new world.core.connections conn) then Err KnownConnection
+    else if has_room world then Ok (served (greeted world conn key) [])
+    else Ok (refused world conn key)
 
 -- ---- Bytes
 
@@ -58,17 +59,17 @@ abbrev pub with_held : ℕ → ℕ → Option (List ℕ) → FinMap nat_cmp Fram
 with_held conn limit None links = links
 with_held conn limit (Some held) links = insert links conn (record { limit = limit; held = Some held })
 
+abbrev pub placed : World → ℕ → ℕ → Stepped Core Effect → Served
+placed world conn limit step =
+    served (record { links = with_held conn limit step.stream.held (remove world.links conn); core = step.stream.state }) step.outs
+
 -- Nothing is done for a connection that is closed. For another the frames of the bytes held and the
 -- piece are handled in order, up to one that closes it, and then what is no frame
 abbrev pub fed_to : World → ℕ → List ℕ → Option Framing → Served
 fed_to world conn piece None = served world []
 fed_to world conn piece (Some framing) =
     let framed = framed_of framing.limit framing.held piece in
-    let step = at_end (broken conn) framed.end (all_handled (handled conn) world.core framed.frames) in
-    served (record {
-      links = with_held conn framing.limit step.stream.held (remove world.links conn);
-      core = step.stream.state;
-    }) step.outs
+    placed world conn framing.limit (at_end (broken conn) framed.end (all_handled (handled conn) world.core framed.frames))
 
 unfoldable pub fed : World → ℕ → List ℕ → Served
 fed world conn piece = fed_to world conn piece (get world.links conn)
@@ -78,110 +79,88 @@ abbrev pub fed_twice : World → ℕ → List ℕ → List ℕ → Served
 fed_twice world conn a b =
     let first = fed world conn a in
     let second = fed first.world conn b in
-    served second.world (first.outs ++ second.outs)
+    served second.world (first.effects ++ second.effects)
 
 -- ---- Gone and Tick
 
 abbrev pub forgotten : World → ℕ → World
-forgotten world conn = record {
-  links = remove world.links conn;
-  core = record world.core { connections = remove world.core.connections conn };
-}
+forgotten world conn = record { links = remove world.links conn; core = gone_from world.core conn }
 
-abbrev pub ticked : World → Moment → World
-ticked world now = record world { core = record world.core { clock = later world.core.clock now } }
+-- the later of two moments
+abbrev pub later : Moment → Moment → Moment
+later a b = if int_lt a.0 b.0 then b else a
+
+abbrev pub ticked : World → Moment → Served
+ticked world now =
+    let d = ticked_core world.core (later world.core.setting.clock now) in
+    served (record world { core = d.state }) d.outs
 
 -- ---- any event
 
 -- only of a connection that is known
 abbrev pub if_known : World → ℕ → Served → Result Served StepFault
-if_known world conn then_served = if is_known world conn then Ok then_served else Err UnknownConnection
+if_known world conn then_served = if is_known world.core.connections conn then Ok then_served else Err UnknownConnection
 
 -- what an event does, or why it has no answer, while the server isn't halted
 abbrev pub step_of : World → Event → Result Served StepFault
 step_of world (Opened conn key) = opened world conn key
 step_of world (Bytes conn bytes) = if_known world conn (fed world conn bytes)
 step_of world (Gone conn) = if_known world conn (served (forgotten world conn) [])
-step_of world (Tick now) = Ok (served (ticked world now) [])
-
--- a call does what is said of it, unless memory ran out; a refused event changes nothing
-abbrev pub Matches : Result Step StepFault → World → World → Result Served StepFault → Type 0
-Matches (Ok s) old new said = said ≡ Ok (served new s.outs)
-Matches (Err Memory) old new said = ⊤
-Matches (Err fault) old new said = (said ≡ Err fault) × (new ≡ old)
+step_of world (Tick now) = Ok (ticked world now)
 
 -- whether an event is answered without memory: it is refused, or it sends nothing and stores nothing
 abbrev pub takes_no_memory : World → Event → Bool
-takes_no_memory world (Opened conn key) = not (is_above conn world.core.greatest)
-takes_no_memory world (Bytes conn bytes) = not (is_open world conn)
+takes_no_memory world (Opened conn key) = not (is_new world.core.connections conn)
+takes_no_memory world (Bytes conn bytes) = not (is_some (get world.links conn))
 takes_no_memory world (Gone conn) = true
-takes_no_memory world (Tick now) = true
+takes_no_memory world (Tick now) = is_idle world.core.services
 
--- A server is its world, or none once it is halted. A refused event changes nothing.
-abbrev pub stepped_by : World → Result Served StepFault → answers.Step Step StepFault (Option World)
-stepped_by world (Ok s) = answers.step (Ok (record { outs = s.outs })) (Some s.world)
-stepped_by world (Err fault) = answers.step (Err fault) (Some world)
+-- ---- what the code gives of it
 
-abbrev pub step_on : Option World → Event → answers.Step Step StepFault (Option World)
-step_on None event = answers.step (Err Halted) None
-step_on (Some world) event = stepped_by world (step_of world event)
+abbrev pub links_kept : Bool → ℕ → Framing → FinMap nat_cmp Framing → FinMap nat_cmp Framing
+links_kept goes_on conn framing links = if goes_on then insert links conn framing else links
 
--- a call takes the step that is said of it, unless memory ran out, which halts the server
-abbrev pub TakesOrHalts : Result Step StepFault → Option World → answers.Step Step StepFault (Option World) → Type 0
-TakesOrHalts (Err Memory) new said = new ≡ None
-TakesOrHalts answer new said = said ≡ answers.step answer new
+abbrev pub Feeds : Result Step Halt → World → Served → Type 0
+Feeds (Ok given) new said = (said.world ≡ new) × (shown said.effects ≡ given)
+Feeds (Err halt.Memory) new said = ⊤
+Feeds (Err halt.Exhausted) new said = are_spent said.effects ≡ true
 
--- ---- a run
+abbrev pub IsSpent : Result Served StepFault → Type 0
+IsSpent (Ok s) = are_spent s.effects ≡ true
+IsSpent (Err fault) = ⊥
 
--- the answers, the fault that ended the run, and the server after it
-pub record Running : Type 0 where
-  pub steps : List Step
-  pub fault : Option StepFault
-  pub server : Option World
+-- a server is its world, or none once it is halted; a refused event changes nothing
+abbrev pub shown_by : World → Result Served StepFault → answers.Step Step StepFault World
+shown_by world (Ok s) = answers.step (Ok (shown s.effects)) s.world
+shown_by world (Err fault) = answers.step (Err fault) world
 
-abbrev pub then_run : answers.Step Step StepFault (Option World) → Result Step StepFault → (Option World → Running) → Running
-then_run step (Ok s) more = let rest = more step.state in record { steps = s ∷ rest.steps; fault = rest.fault; server = rest.server }
-then_run step (Err fault) more = record { steps = []; fault = Some fault; server = step.state }
+-- a call does what is said of it, unless memory ran out, or a serial that is said to be spent
+abbrev pub Matches : Result Step StepFault → World → World → Result Served StepFault → Type 0
+Matches (Err Memory) old new said = ⊤
+Matches (Err Exhausted) old new said = IsSpent said
+Matches answer old new said = shown_by old said ≡ answers.step answer new
 
--- event after event, up to the first fault
-abbrev pub run_of : Option World → List Event → Running
-run_of server [] = record { steps = []; fault = None; server = server }
-run_of server (event ∷ events) =
-    let step = step_on server event in
-    then_run step step.answer (λ s. run_of s events)
+-- ---- a server, which is its world, or none once it is halted
 
-abbrev pub running : List Step → Option StepFault → Option World → Running
-running steps fault server = record { steps = steps; fault = fault; server = server }
+abbrev pub step_on : Option World → Event → Result Served StepFault
+step_on None event = Err Halted
+step_on (Some world) event = step_of world event
 
--- these answers, and then those of another run
-abbrev pub run_after : List Step → Running → Running
-run_after steps r = running (steps ++ r.steps) r.fault r.server
+abbrev pub server_by : Option World → Result Served StepFault → Option World
+server_by server (Ok s) = Some s.world
+server_by server (Err fault) = server
 
--- memory ran out after these answers, which are the first of those that are said
-pub record HaltsAfter (answers_so_far : List Step) (new : Option World) (said : Running) : Type 0 where
-  pub halted : new ≡ None
-  pub rest : Running
-  pub answered : said ≡ run_after answers_so_far rest
+abbrev pub answer_by : Result Served StepFault → Result Step StepFault
+answer_by (Ok s) = Ok (shown s.effects)
+answer_by (Err fault) = Err fault
 
--- a call runs as is said of it, unless memory ran out, which halts the server
-abbrev pub RunsOrHalts : Option StepFault → List Step → Option World → Running → Type 0
-RunsOrHalts (Some Memory) steps new said = HaltsAfter steps new said
-RunsOrHalts fault steps new said = said ≡ running steps fault new
+-- A call takes the step that is said of it. Where memory ran out, or a serial that is said to be spent, the server is halted
+abbrev pub StepsTo : Result Step StepFault → Option World → Option World → Result Served StepFault → Type 0
+StepsTo (Err Memory) old new said = new ≡ None
+StepsTo (Err Exhausted) old new said = (new ≡ None) × IsSpent said
+StepsTo answer old new said = answers.step answer new ≡ answers.step (answer_by said) (server_by old said)
 
--- ---- what is sent
-
-abbrev pub sent_bytes : Out → List ℕ
-sent_bytes (Send conn bytes) = bytes
-sent_bytes (Close conn) = []
-
--- the bytes of the sends, one after the other
-abbrev pub joined : List Out → List ℕ
-joined outs = flat_map sent_bytes outs
-
-abbrev pub is_close : ℕ → Out → Bool
-is_close conn (Send number bytes) = false
-is_close conn (Close number) = number == conn
-
--- whether the connection is closed among these
-abbrev pub closes : ℕ → List Out → Bool
-closes conn outs = list_any (is_close conn) outs
+-- a halted server takes no memory to say so
+abbrev pub takes_no_memory_on : Option World → Event → Bool
+takes_no_memory_on None event = true
+takes_no_memory_on (Some world) event = takes_no_memory world event

@@ -1,34 +1,43 @@
 //! An OPC UA server as a pure machine: what happens goes in as [`Event`]s, and what is to be done
 //! comes out as [`Out`]s.
 //!
-//! A [`Server`] is driven by [`Server::step`], one event after the other, or by [`Server::run`]. It is
-//! told when a connection opens, when bytes come on it, when it is gone and what time it is, and says
-//! which frames to send and which connections to close. It answers the Hello of a connection, opens
-//! and renews its secure channel, and answers GetEndpoints; every other request gets a fault. In this
-//! stage one connection is open at a time.
+//! A [`Server`] is told when a connection opens, when bytes come on it, when it is gone and what time
+//! it is. Its answer, a [`Step`], says which frames to send and which connections to close, and which
+//! rows of the subscriptions' state table fired. Here is no socket, no clock and no source of random
+//! numbers: bytes, moments and keys come in as values. A loop that drives it:
 //!
-//! Here is no socket, no clock and no source of random numbers: bytes, moments and keys come in as
-//! values.
+//! ```text
+//! let mut server = Server::new(alloc, config, space);
+//! for event in events {
+//!     let step = server.step(alloc, &event)?;
+//!     for out in step.outs.as_slice() {
+//!         match out {
+//!             Out::Send { conn, bytes } => sockets.write(*conn, bytes.as_slice())?,
+//!             Out::Close { conn } => sockets.close(*conn),
+//!         }
+//!     }
+//! }
+//! ```
 //!
-//! Read [`Event`], [`Out`] and [`Server`] first. `specs/` defines what the server knows (`World`), what
-//! an event does (`Stepping`) and a frame (`Handling`), how a request is answered (`Answering`) and
-//! what the server says of itself (`Endpoints`). [`laws::any_cut`] states that it makes no difference
-//! where a stream is cut.
+//! What a server knows has two parts that know nothing of each other: `ua_connections` has who is
+//! connected, and `ua_services` what is served. A frame is taken, the request that it completes is
+//! served, and each reply is delivered on the connection that its request came by.
+//!
+//! Read [`Event`], [`Step`] and [`Server`] first. `specs/World` has what the server knows, `Handling`
+//! what a frame does, `Stepping` what an event does and `Running` what a list of events does: the world
+//! after it, and one list of effects, of which outs and rows are what the code gives. `Coherent` is what
+//! every reached world keeps, and [`laws`] states it, with what holds wherever streams are cut.
 #![tactic(auto)]
 
-mod answers;
-mod connection;
-mod connections;
-mod endpoints;
 mod event;
-mod handling;
 pub mod laws;
-mod links;
 mod out;
+mod parts;
 mod server;
-mod serving;
 mod world;
 
 pub use event::Event;
-pub use out::{Out, Outs, Ran, Step, StepFault, Steps};
+pub use out::{Ran, Step, StepFault};
 pub use server::Server;
+pub use ua_connections::Out;
+pub use ua_requests::{Fired, Listed};

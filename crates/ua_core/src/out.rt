@@ -1,75 +1,36 @@
 //! What goes out.
 
-ghost use Rattle.std.specs.Prelude.{◌≡◌};
+ghost use Rattle.std.specs.Prelude.{◌≡◌, []};
 ghost use Rattle.ua_core.specs.declared.out.StepFault.TheVariants.{Memory};
+ghost use Rattle.ua_core.specs.Faults.{fault_of};
 
-use bytes::Bytes;
-use std::alloc::{AllocError, AllocFailed};
-use std::marker::Model;
+use std::alloc::{AllocError, AllocFailed, Global};
 use thiserror::Error;
-
-/// Something that is to be done on a connection.
-#[derive(Debug, Drop)]
-pub enum Out {
-    /// A frame is to be sent.
-    Send {
-        /// The connection's number.
-        conn: u64,
-
-        /// The whole frame.
-        bytes: Bytes,
-    },
-
-    /// The connection is to be closed, once what was to be sent is sent.
-    Close {
-        /// The connection's number.
-        conn: u64,
-    },
-}
-
-/// What is to be done, in order. Contracts see the list.
-#[derive(Debug, Drop)]
-pub struct Outs {
-    items: Vec<Out>,
-}
-
-impl Model for Outs {
-    ghost use Rattle.std.specs.Prelude.{List};
-    ghost use Rattle.ua_core.specs.declared.out.Out.{Out};
-
-    ghost Value = { List Out };
-
-    ghost view = { λ o. o.items.items };
-}
-
-impl Outs {
-    /// These.
-    pub fn new(outs: Vec<Out>) -> Outs
-        ensures { result ≡ outs.items }
-    {
-        Outs { items: outs }
-    }
-
-    /// What is to be done.
-    pub fn as_slice(&self) -> &[Out]
-        ensures { result.now ≡ self.now }
-    {
-        self.items.as_slice()
-    }
-
-    /// The same, to be taken apart. Takes no memory.
-    pub fn into_vec(self) -> Vec<Out>
-        ensures { result.items ≡ self }
-    {
-        self.items
-    }
-}
+use ua_connections::Out;
+use ua_requests::{Fired, Halt, Listed};
 
 /// The server's answer to an event.
 #[derive(Debug, Drop)]
 pub struct Step {
     /// What is to be done, in order.
-    pub outs: Outs,
+    pub outs: Listed<Out>,
+
+    /// The rows of the subscriptions' state table that fired, in order. Subscriptions are still to
+    /// come, so there are none yet.
+    pub rows: Listed<Fired>,
+}
+
+impl Step {
+    /// Nothing is to be done. Takes no memory.
+    pub fn new(alloc: Global) -> Step
+        ensures outs { result.outs ≡ [] }
+        ensures rows { result.rows ≡ [] }
+    {
+        Step {
+            outs: Listed::new(alloc),
+            rows: Listed::new(alloc),
+        }
+    }
 }
 
 /// Why an event has no answer.
@@ -113,41 +74,14 @@ impl<T: Drop> From<AllocFailed<T>> for StepFault {
     }
 }
 
-/// The answers to events, in order. Contracts see the list.
-#[derive(Debug, Drop)]
-pub struct Steps {
-    items: Vec<Step>,
-}
+impl From<Halt> for StepFault {
+    ghost from_gives = { λ halt e. e ≡ fault_of halt };
 
-impl Model for Steps {
-    ghost use Rattle.std.specs.Prelude.{List};
-    ghost use Rattle.ua_core.specs.declared.out.Step.{Step};
-
-    ghost Value = { List Step };
-
-    ghost view = { λ s. s.items.items };
-}
-
-impl Steps {
-    /// These.
-    pub fn new(steps: Vec<Step>) -> Steps
-        ensures { result ≡ steps.items }
-    {
-        Steps { items: steps }
-    }
-
-    /// The answers.
-    pub fn as_slice(&self) -> &[Step]
-        ensures { result.now ≡ self.now }
-    {
-        self.items.as_slice()
-    }
-
-    /// The same, to be taken apart. Takes no memory.
-    pub fn into_vec(self) -> Vec<Step>
-        ensures { result.items ≡ self }
-    {
-        self.items
+    fn from(halt: Halt) -> StepFault {
+        match halt {
+            Halt::Memory => StepFault::Memory,
+            Halt::Exhausted => StepFault::Exhausted,
+        }
     }
 }
 
@@ -155,7 +89,7 @@ impl Steps {
 #[derive(Debug, Drop)]
 pub struct Ran {
     /// The answers, up to the first event that had none.
-    pub steps: Steps,
+    pub steps: Listed<Step>,
 
     /// Why that event had none.
     pub fault: Option<StepFault>,

@@ -1,57 +1,46 @@
 //! The server.
 
-ghost use Rattle.std.specs.Prelude.{◌≡◌, ◌≢◌, IfSome, Some, Err, false};
-ghost use Rattle.ua_core.specs.World.{opening};
-ghost use Rattle.ua_core.specs.Stepping.{step_on, TakesOrHalts, takes_no_memory, run_of, RunsOrHalts};
+ghost use Rattle.std.specs.Prelude.{◌≡◌, Some, None, Err, false};
+ghost use Rattle.ua_core.specs.World.{opening, world_of};
+ghost use Rattle.ua_core.specs.Stepping.{step_on, StepsTo, takes_no_memory_on};
+ghost use Rattle.ua_core.specs.Running.{Runs};
+ghost use Rattle.ua_core.specs.declared.out.StepFault.TheVariants as step_fault;
 
-use crate::connections::Connections;
 use crate::event::Event;
-use crate::links::Links;
-use crate::out::{Ran, Step, StepFault, Steps};
-use crate::world::{Core, World};
+use crate::out::{Ran, Step, StepFault};
+use crate::parts::Core;
+use crate::world::World;
 use std::alloc::Global;
-use std::marker::Model;
+use ua_connections::{Connections, Numbered};
+use ua_requests::{Listed, Setting};
+use ua_services::Services;
+use ua_space::Space;
 use ua_types::Config;
 
 /// An OPC UA server without a socket, a clock and a source of random numbers.
 ///
 /// Tell it what happens, one [`Event`] after the other, and do what each [`Step`] says. Contracts see
-/// what the server knows, its world, or none once it is halted.
-#[derive(Debug, Drop)]
+/// `world_of` it: what the server knows, its world, or none once it is halted.
+#[derive(Drop)]
 pub struct Server {
-    // None for good once a growth was refused.
+    // None for good once it is halted.
     world: Option<World>,
 }
 
-impl Model for Server {
-    ghost use Rattle.std.specs.Prelude.{Option};
-    ghost use Rattle.ua_core.specs.declared.world.World.{World};
-    ghost use Rattle.std.specs.Coded.{coded_option};
-    ghost use Rattle.ua_core.specs.WorldCodes.{coded_world};
-
-    ghost Value = { Option World };
-
-    ghost coded = { coded_option coded_world };
-
-    ghost view = { λ s. s.world };
-}
-
 impl Server {
-    /// A server of this configuration, whose clock shows the configured start. It knows no
-    /// connection.
-    pub fn new(alloc: Global, config: Config) -> Server
-        ensures { result ≡ Some (opening config) }
+    /// A server of this configuration and address space, whose clock shows the configured start. It
+    /// knows no connection. Takes no memory.
+    pub fn new(alloc: Global, config: Config, space: Space) -> Server
+        ensures { world_of result ≡ Some (opening config space) }
     {
         let clock = config.start;
         Server {
             world: Some(World {
-                links: Links::new(alloc),
+                links: Numbered::new(alloc),
                 core: Core {
-                    config,
-                    clock,
-                    greatest: None,
+                    setting: Setting { config, clock },
                     connections: Connections::new(alloc),
-                    channels: 0,
+                    services: Services::new(space),
                 },
             }),
         }
@@ -62,17 +51,18 @@ impl Server {
     ///
     /// `KnownConnection` and `UnknownConnection` refuse the event, and nothing has changed. `Memory`
     /// comes only where a growth was refused, and never for an event that is refused, is of a
-    /// connection that is closed, or is `Gone` or a `Tick`. It halts the server, which answers `Halted`
-    /// from then on, and at no other time. `Exhausted` never comes.
+    /// connection that is closed, is `Gone`, or is a `Tick` at which nothing is due. `Exhausted` comes
+    /// only where the event spends the last serial of 64 bits. Both halt the server, which answers
+    /// `Halted` from then on, and at no other time.
     pub fn step(&mut self, alloc: Global, event: &Event) -> Result<Step, StepFault>
-        ensures step { TakesOrHalts result self.new (step_on self.old event.now) }
-        ensures memory { result ≡ Err StepFault.Memory → IfSome self.old (λ world. takes_no_memory world event.now ≡ false) }
+        ensures step { StepsTo result (world_of self.old) (world_of self.new) (step_on (world_of self.old) event.now) }
+        ensures memory { result ≡ Err step_fault.Memory → takes_no_memory_on (world_of self.old) event.now ≡ false }
     {
         let Some(world) = &mut self.world else {
             return Err(StepFault::Halted);
         };
         let answer = world.step(alloc, event);
-        if let Err(StepFault::Memory) = &answer {
+        if matches!(&answer, Err(StepFault::Memory | StepFault::Exhausted)) {
             self.world = None;
         }
         answer
@@ -80,32 +70,43 @@ impl Server {
 
     /// Takes events in order, up to the first that has no answer.
     ///
-    /// Where a growth is refused between two events, to keep the answers, the server is halted too.
-    #[tactic(auto, using(crate::proofs::RunLemmas::then_more, crate::proofs::RunLemmas::then_none))]
+    /// Room for an answer is taken before its event is. Where that growth is refused, the fault is
+    /// `Memory` too, and the server is halted.
     pub fn run(&mut self, alloc: Global, events: &[Event]) -> Ran
-        ensures { RunsOrHalts result.fault result.steps self.new (run_of self.old events.now) }
+        ensures { Runs result.fault result.steps (world_of self.old) events.now (world_of self.new) }
     {
-        let mut steps = Vec::new(alloc);
+        let mut steps = Listed::new(alloc);
         for event in events {
+            if steps.reserve_one().is_err() {
+                return self.halt(steps);
+            }
             match self.step(alloc, event) {
                 Ok(step) => {
                     if steps.push(step).is_err() {
-                        self.world = None;
-                        return ran(steps, Some(StepFault::Memory));
+                        return self.halt(steps);
                     }
                 }
-                Err(fault) => return ran(steps, Some(fault)),
+                Err(fault) => {
+                    return Ran {
+                        steps,
+                        fault: Some(fault),
+                    };
+                }
             }
         }
-        ran(steps, None)
+        Ran { steps, fault: None }
     }
-}
 
-fn ran(steps: Vec<Step>, fault: Option<StepFault>) -> Ran
-    ensures { result ≡ record { steps = steps.items; fault = fault } }
-{
-    Ran {
-        steps: Steps::new(steps),
-        fault,
+    // Breaks a run off for want of memory.
+    fn halt(&mut self, steps: Listed<Step>) -> Ran
+        ensures steps { result.steps ≡ steps }
+        ensures fault { result.fault ≡ Some step_fault.Memory }
+        ensures halted { world_of self.new ≡ None }
+    {
+        self.world = None;
+        Ran {
+            steps,
+            fault: Some(StepFault::Memory),
+        }
     }
 }

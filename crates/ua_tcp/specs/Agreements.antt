@@ -5,8 +5,6 @@ use Rattle.std.specs.Int.{w32, to_le_bytes}
 use Rattle.ua_types.specs.Configuration.{Configuration, IsWithin}
 use Rattle.ua_types.specs.declared.status.Status.{Status}
 use Rattle.ua_types.specs.declared.status.TheConstants.Status as status
-use Rattle.ua_types.specs.declared.refusal.Refusal.{Refusal}
-use Rattle.ua_types.specs.declared.refusal.Refusal.TheVariants.{Service}
 use Rattle.ua_binary.specs.declared.fault.TakeFault.{TakeFault}
 use Rattle.ua_tcp.specs.Encoding.{frame_encoding}
 use Rattle.ua_tcp.specs.Hellos.{hello_reading}
@@ -62,8 +60,8 @@ agreement_of limits hello = record {
 }
 
 -- the client is told this status
-abbrev pub refused : Status → Result Agreement Refusal
-refused code = Err (Service code)
+abbrev pub refused : Status → Result Agreement Status
+refused code = Err code
 
 abbrev pub is_hello : MessageType → Bool
 is_hello HelloType = true
@@ -80,18 +78,18 @@ is_too_small hello =
     || (nat_lt 0 hello.max_message_size && nat_lt hello.max_message_size 1024)
 
 -- the first refusal, or what is agreed
-abbrev pub outcome_of : Limitation → Hello → Result Agreement Refusal
+abbrev pub outcome_of : Limitation → Hello → Result Agreement Status
 outcome_of limits hello =
     if is_longer_than 4096 hello.endpoint_url then refused status.BAD_TCP_ENDPOINT_URL_INVALID
     else if is_too_small hello then refused status.BAD_TCP_NOT_ENOUGH_RESOURCES
     else Ok (agreement_of limits hello)
 
 -- what follows the last field is ignored
-abbrev pub outcome_of_reading : Limitation → Result (Hello × List ℕ) TakeFault → Result Agreement Refusal
+abbrev pub outcome_of_reading : Limitation → Result (Hello × List ℕ) TakeFault → Result Agreement Status
 outcome_of_reading limits (Ok read) = outcome_of limits read.0
 outcome_of_reading limits (Err fault) = refused status.BAD_DECODING_ERROR
 
-abbrev pub outcome_of_frame : Limitation → Frame → Result Agreement Refusal
+abbrev pub outcome_of_frame : Limitation → Frame → Result Agreement Status
 outcome_of_frame limits frame =
     if is_hello frame.message_type then outcome_of_reading limits (hello_reading frame.body) else refused status.BAD_TCP_MESSAGE_TYPE_INVALID
 

@@ -1,7 +1,7 @@
 //! A connection's first frame, and the answers to it.
 
 ghost use Rattle.std.specs.Prelude.{◌≡◌, ◌<◌, ◌≤◌, length, IfOk};
-ghost use Rattle.ua_types.specs.Answers.{Gives};
+ghost use Rattle.ua_types.specs.Refusals.{GivesOrRefuses};
 ghost use Rattle.ua_tcp.specs.Agreements.{is_too_small as is_too_small_lem, outcome_of_frame, acknowledge_encoding, error_encoding};
 
 use crate::frame::{Frame, MessageType};
@@ -96,7 +96,7 @@ fn is_too_small(hello: &Hello) -> bool
 ///
 /// `Memory` comes only where a growth was refused, and `Exhausted` never.
 pub fn hello(alloc: Global, frame: &Frame, limits: &Limits) -> Result<Agreed, Refusal>
-    ensures { Gives Refusal.Memory result (outcome_of_frame limits.now frame.now) }
+    ensures { GivesOrRefuses result (outcome_of_frame limits.now frame.now) }
 {
     if frame.message_type != MessageType::Hello {
         return Err(Refusal::Service(Status::BAD_TCP_MESSAGE_TYPE_INVALID));

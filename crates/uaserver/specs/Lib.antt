@@ -1,1 +1,3 @@
+pub mod Statuses
 pub mod NodeFiles
+pub mod Commands

@@ -1,20 +1,34 @@
--- What a node file comes to: its configuration, and the address space of what it means, where nothing is
--- wrong with either.
-use Rattle.std.specs.Prelude.{ℕ, List, Option, Some, None, Result, Ok, Err}
-use Rattle.ua_types.specs.Configuration.{Configuration}
+-- What a node file comes to.
+use Rattle.std.specs.Prelude.{ℕ, List, [], Option, Some, None, Result, Ok, Err}
+use Rattle.ua_types.specs.Configuration.{Configuration, standard}
 use Rattle.ua_space.specs.Nodes.{SpaceState}
 use Rattle.ua_space.specs.Build.{space_of}
 use Rattle.ua_space.specs.declared.fault.SpaceFault.{SpaceFault}
-use Rattle.node_loader.specs.File.{Contents, meaning_of}
+use Rattle.node_loader.specs.File.{meaning_of}
 use Rattle.node_loader.specs.declared.fault.LoadFault.{LoadFault}
+use Rattle.node_loader.specs.declared.file.Loaded.{Loaded}
 
-abbrev pub built : Configuration → Result SpaceState SpaceFault → Option (Configuration × SpaceState)
+-- a file that was read: its path and its text
+pub record ReadFile : Type 0 where
+  pub path : List ℕ
+  pub text : List ℕ
+
+-- a configuration, and the address space of a server
+abbrev pub Made : Type 0
+Made = Configuration × SpaceState
+
+abbrev pub built : Configuration → Result SpaceState SpaceFault → Option Made
 built config (Ok space) = Some (config, space)
 built config (Err fault) = None
 
-abbrev pub made_by : Result Contents LoadFault → Option (Configuration × SpaceState)
+abbrev pub made_by : Result Loaded LoadFault → Option Made
 made_by (Ok c) = built c.config (space_of c.config c.nodes c.triples)
 made_by (Err fault) = None
 
-abbrev pub made_in : List ℕ → Option (Configuration × SpaceState)
+-- the configuration and the address space that a text means, where nothing is wrong with either
+abbrev pub made_in : List ℕ → Option Made
 made_in text = made_by (meaning_of text)
+
+-- the same of no file: the standard configuration and the base set
+abbrev pub made_of_none : Option Made
+made_of_none = built standard (space_of standard [] [])

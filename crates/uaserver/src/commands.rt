@@ -1,23 +1,43 @@
-//! What the commands do, over texts and streams.
+//! What the commands do, over words, texts and streams.
 
-ghost use Rattle.std.specs.Prelude.{◌≡◌, ◌≢◌, IfOk, IsSome, Some, None, Err};
-ghost use Rattle.uaserver.specs.NodeFiles.{made_in};
+ghost use Rattle.std.specs.Prelude.{◌≡◌, ◌⊎◌, Option, None, IfOk, IfErr, map, option_map};
+ghost use Rattle.ua_core.specs.World.{world_of};
+ghost use Rattle.ua_space.specs.Build.{space_of};
+ghost use Rattle.uaserver.specs.NodeFiles.{Made, built, made_in, made_of_none};
+ghost use Rattle.uaserver.specs.Commands.{ReadsNone, MadeBy, Checks, ChecksFile, opened, status_of, Pipes, PipesMade, PipesFile, Runs};
 
+use crate::node_file::{FileFault, NodeFile};
 use crate::status::Status;
 use command_line::{Command, Stop, parse};
 use node_loader::{Cause, Loaded, load};
 use pump::{Pump, PumpFault};
 use std::alloc::Global;
-use std::fs;
-use std::io::{ErrorKind, Read, Write};
+use std::io::{Read, Write};
 use std::rt::Files;
 use ua_core::{Event, Server, StepFault};
-use ua_space::{Space, SpaceFault};
+use ua_space::{Node, Space, SpaceFault, Triple};
 use ua_tcp::Tap;
 use ua_types::Config;
 
 /// The one connection of `pipe`.
 const CONNECTION: u64 = 1;
+
+/// How a run of the program ended, and the node file that it read.
+#[derive(Debug, Drop)]
+pub struct Ended {
+    pub status: Status,
+    pub file: Option<NodeFile>,
+}
+
+impl Ended {
+    // No file was read.
+    fn by(status: Status) -> Ended
+        ensures status { result.status ≡ status }
+        ensures file { result.file ≡ None }
+    {
+        Ended { status, file: None }
+    }
+}
 
 /// Says that memory ran out.
 pub fn no_memory<E: Write>(errors: &mut E) -> Status
@@ -46,27 +66,48 @@ fn stream<E: Write>(errors: &mut E) -> Status
     Status::Stream
 }
 
-// The text of the file at this path, or the status of why there is none.
-fn text_of<R: Files + AllocGlobal, E: Write>(
+// Reads the node file at this path, or says why there is none.
+fn read_file<R: Files + AllocGlobal, E: Write>(
     rt: &R,
     path: &str,
     errors: &mut E,
-) -> Result<String, Status> {
-    match fs::read_to_string(rt, path) {
-        Ok(text) => Ok(text),
-        Err(error) if error.kind() == ErrorKind::OutOfMemory => Err(no_memory(errors)),
-        Err(_) => {
+) -> Result<NodeFile, Status>
+    ensures file { IfOk result (λ file. file.path ≡ path.now) }
+    ensures status { IfErr result ReadsNone }
+{
+    match NodeFile::read(rt, path) {
+        Ok(file) => Ok(file),
+        Err(FileFault::Memory) => Err(no_memory(errors)),
+        Err(FileFault::Unreadable) => {
             let _ = writeln!(errors, "file {path}");
             Err(Status::File)
         }
     }
 }
 
+// The address space of a configuration, or the status of why there is none.
+fn build<E: Write>(
+    alloc: Global,
+    config: Config,
+    nodes: Vec<Node>,
+    triples: Vec<Triple>,
+    errors: &mut E,
+) -> Result<(Config, Space), Status>
+    ensures { MadeBy result (built config (space_of config nodes.items triples.items)) }
+{
+    match Space::build(alloc, &config, nodes, triples) {
+        Ok(space) => Ok((config, space)),
+        Err(SpaceFault::Memory) => Err(no_memory(errors)),
+        Err(fault) => {
+            let _ = writeln!(errors, "nodes: {fault}");
+            Err(Status::Nodes)
+        }
+    }
+}
+
 // The configuration and the address space that the text of a node file means.
 fn nodes_in<E: Write>(alloc: Global, text: &str, errors: &mut E) -> Result<(Config, Space), Status>
-    ensures made { IfOk result (λ made. made_in text.now ≡ Some (made.0, made.1)) }
-    ensures fault { result ≡ Err Status.Nodes → made_in text.now ≡ None }
-    ensures status { result ≢ Err Status.Done }
+    ensures { MadeBy result (made_in text.now) }
 {
     let Loaded {
         config,
@@ -80,26 +121,28 @@ fn nodes_in<E: Write>(alloc: Global, text: &str, errors: &mut E) -> Result<(Conf
             return Err(Status::Nodes);
         }
     };
-    match Space::build(alloc, &config, nodes, triples) {
-        Ok(space) => Ok((config, space)),
-        Err(SpaceFault::Memory) => Err(no_memory(errors)),
-        Err(fault) => {
-            let _ = writeln!(errors, "nodes: {fault}");
-            Err(Status::Nodes)
-        }
+    build(alloc, config, nodes.into_vec(), triples.into_vec(), errors)
+}
+
+// The standard configuration, and the base set alone.
+fn no_nodes<E: Write>(alloc: Global, errors: &mut E) -> Result<(Config, Space), Status>
+    ensures { MadeBy result made_of_none }
+{
+    match Config::standard(alloc) {
+        Ok(config) => build(alloc, config, Vec::new(alloc), Vec::new(alloc), errors),
+        Err(_) => Err(no_memory(errors)),
     }
 }
 
 /// Counts the nodes and the references that the text of a node file means, those that every server has
-/// included. `Done` comes only where it means an address space, and `Nodes` only where it means none.
+/// included.
 pub fn check<O: Write, E: Write>(
     alloc: Global,
     text: &str,
     output: &mut O,
     errors: &mut E,
 ) -> Status
-    ensures done { result ≡ Status.Done → IsSome (made_in text.now) }
-    ensures nodes { result ≡ Status.Nodes → made_in text.now ≡ None }
+    ensures { Checks text.now result }
 {
     let (_config, space) = match nodes_in(alloc, text, errors) {
         Ok(found) => found,
@@ -115,95 +158,146 @@ pub fn check<O: Write, E: Write>(
     Status::Done
 }
 
-/// Hands the input to a server of this configuration, as its only connection, and writes the server's
-/// answers.
-pub fn pipe<I: Read + Drop, O: Write + Drop, E: Write>(
-    alloc: Global,
-    config: Config,
-    input: I,
-    output: O,
-    errors: &mut E,
-) -> Status {
-    let mut server = Server::new(alloc, config);
-    let opened = Event::Opened {
-        conn: CONNECTION,
-        key: [0; 32],
-    };
-    if let Err(fault) = server.step(alloc, &opened) {
-        return step_fault(fault, errors);
-    }
-    let mut reader = Tap::new(input);
-    let mut writer = Tap::new(output);
-    match Pump::new().run(alloc, &mut server, CONNECTION, &mut reader, &mut writer) {
-        Ok(()) => Status::Done,
-        Err(PumpFault::Step(fault)) => step_fault(fault, errors),
-        Err(PumpFault::Read | PumpFault::Write | PumpFault::Turns) => stream(errors),
-    }
-}
-
-// `pipe`, with the configuration of the node file at this path where there is one.
-fn pipe_with<R: Files + AllocGlobal, I: Read + Drop, O: Write + Drop, E: Write>(
-    rt: &R,
-    nodes: Option<&str>,
-    input: I,
-    output: O,
-    errors: &mut E,
-) -> Status {
-    let alloc = rt.alloc();
-    let config = match nodes {
-        None => match Config::standard(alloc) {
-            Ok(config) => config,
-            Err(_) => return no_memory(errors),
-        },
-        Some(path) => {
-            let text = match text_of(rt, path, errors) {
-                Ok(text) => text,
-                Err(status) => return status,
-            };
-            match nodes_in(alloc, text.as_str(), errors) {
-                Ok((config, _space)) => config,
-                Err(status) => return status,
-            }
-        }
-    };
-    pipe(alloc, config, input, output, errors)
-}
-
 // `check` of the node file at this path.
 fn check_at<R: Files + AllocGlobal, O: Write, E: Write>(
     rt: &R,
     path: &str,
     output: &mut O,
     errors: &mut E,
-) -> Status {
-    match text_of(rt, path, errors) {
-        Ok(text) => check(rt.alloc(), text.as_str(), output, errors),
+) -> Ended
+    ensures { ChecksFile path.now result.status result.file }
+{
+    match read_file(rt, path, errors) {
+        Ok(file) => Ended {
+            status: check(rt.alloc(), file.text(), output, errors),
+            file: Some(file),
+        },
+        Err(status) => Ended::by(status),
+    }
+}
+
+// A server whose one connection is open.
+fn opened_server(alloc: Global, config: Config, space: Space) -> Result<Server, StepFault>
+    ensures { IfOk result (λ server. world_of server ≡ opened (config, space)) }
+{
+    let mut server = Server::new(alloc, config, space);
+    let opening = Event::Opened {
+        conn: CONNECTION,
+        key: [0; 32],
+    };
+    match server.step(alloc, &opening) {
+        Ok(_) => Ok(server),
+        Err(fault) => Err(fault),
+    }
+}
+
+// How a run of the pump ends the program.
+fn pumped<E: Write>(ran: Result<(), PumpFault>, errors: &mut E) -> Status
+    ensures { result ≡ status_of ran }
+{
+    match ran {
+        Ok(()) => Status::Done,
+        Err(PumpFault::Step(fault)) => step_fault(fault, errors),
+        Err(PumpFault::Read | PumpFault::Write | PumpFault::Turns) => stream(errors),
+    }
+}
+
+/// Hands the input to a server of this configuration and address space, as its only connection, and
+/// writes the server's answers.
+pub fn pipe<I: Read, O: Write, E: Write>(
+    alloc: Global,
+    config: Config,
+    space: Space,
+    input: &mut Tap<I>,
+    output: &mut Tap<O>,
+    errors: &mut E,
+) -> Status
+    ensures { Pipes I.remaining O.contents input.old input.new output.old output.new (config, space) result }
+{
+    let mut server = match opened_server(alloc, config, space) {
+        Ok(server) => server,
+        Err(fault) => return step_fault(fault, errors),
+    };
+    let ran = Pump::new().run(alloc, &mut server, CONNECTION, input, output);
+    pumped(ran, errors)
+}
+
+// `pipe` of what was made.
+fn pipe_made<I: Read, O: Write, E: Write>(
+    alloc: Global,
+    made: Result<(Config, Space), Status>,
+    input: &mut Tap<I>,
+    output: &mut Tap<O>,
+    errors: &mut E,
+) -> Status
+    ensures { (said : Option Made) → MadeBy made said →
+        PipesMade I.remaining O.contents input.old input.new output.old output.new said result }
+{
+    match made {
+        Ok((config, space)) => pipe(alloc, config, space, input, output, errors),
         Err(status) => status,
     }
 }
 
+// `pipe`, with the configuration and the nodes of the file at this path where there is one.
+fn pipe_with<R: Files + AllocGlobal, I: Read, O: Write, E: Write>(
+    rt: &R,
+    nodes: Option<&str>,
+    input: &mut Tap<I>,
+    output: &mut Tap<O>,
+    errors: &mut E,
+) -> Ended
+    ensures { PipesFile I.remaining O.contents input.old input.new output.old output.new
+        (option_map (λ n. n.now) nodes.entry) result.status result.file }
+{
+    let alloc = rt.alloc();
+    match nodes {
+        None => {
+            let made = no_nodes(alloc, errors);
+            Ended::by(pipe_made(alloc, made, input, output, errors))
+        }
+        Some(path) => match read_file(rt, path, errors) {
+            Ok(file) => {
+                let made = nodes_in(alloc, file.text(), errors);
+                Ended {
+                    status: pipe_made(alloc, made, input, output, errors),
+                    file: Some(file),
+                }
+            }
+            Err(status) => Ended::by(status),
+        },
+    }
+}
+
+// Writes the text of a request for help.
+fn help<O: Write, E: Write>(text: &str, output: &mut O, errors: &mut E) -> Status
+    ensures { (result ≡ Status.Done) ⊎ (result ≡ Status.Stream) }
+{
+    if write!(output, "{text}").is_err() || output.flush().is_err() {
+        return stream(errors);
+    }
+    Status::Done
+}
+
 /// Does what these words ask for: the words after the program's name. What is asked for goes to
-/// `output`, what went wrong to `errors`, each as a line; the answer is the exit status.
-pub fn run<R: Files + AllocGlobal, I: Read + Drop, O: Write + Drop, E: Write>(
+/// `output`, what went wrong to `errors`, each as a line.
+pub fn run<R: Files + AllocGlobal, I: Read, O: Write, E: Write>(
     rt: &R,
     words: &[&str],
-    input: I,
-    mut output: O,
+    input: &mut Tap<I>,
+    output: &mut Tap<O>,
     errors: &mut E,
-) -> Status {
+) -> Ended
+    ensures { Runs I.remaining O.contents input.old input.new output.old output.new (map (λ w. w.now) words.now) result }
+{
     match parse(rt.alloc(), words) {
         Ok(Command::Pipe { nodes }) => pipe_with(rt, nodes, input, output, errors),
-        Ok(Command::Check { nodes }) => check_at(rt, nodes, &mut output, errors),
-        Err(Stop::Help(text)) => {
-            if write!(output, "{text}").is_err() || output.flush().is_err() {
-                return stream(errors);
-            }
-            Status::Done
-        }
+        Ok(Command::Check { nodes }) => check_at(rt, nodes, output, errors),
+        Err(Stop::Help(text)) => Ended::by(help(text.as_str(), output, errors)),
         Err(Stop::Usage(text)) => {
             let _ = write!(errors, "{text}");
-            Status::Usage
+            Ended::by(Status::Usage)
         }
-        Err(Stop::Memory) => no_memory(errors),
+        Err(Stop::Memory) => Ended::by(no_memory(errors)),
     }
 }

@@ -7,12 +7,13 @@
 #![tactic(auto)]
 
 mod commands;
+mod node_file;
 mod status;
 
-use crate::status::Status;
 use std::alloc::Global;
 use std::env;
 use std::process::ExitCode;
+use ua_tcp::Tap;
 
 // The words after the program's name. None is want of memory.
 fn words_after_name(alloc: Global, args: &[String]) -> Option<Vec<&str>> {
@@ -25,21 +26,22 @@ fn words_after_name(alloc: Global, args: &[String]) -> Option<Vec<&str>> {
 
 fn main(rt: HostRuntime) -> ExitCode {
     let alloc = rt.alloc();
+    let mut input = Tap::new(rt.stdin());
+    let mut output = Tap::new(rt.stdout());
     let mut errors = rt.stderr();
     // Words that aren't UTF-8 name no command.
     let Ok(args) = env::args(&rt) else {
-        return ExitCode::from(
-            commands::run(&rt, &["\u{fffd}"], rt.stdin(), rt.stdout(), &mut errors) as u8,
-        );
+        let ended = commands::run(&rt, &["\u{fffd}"], &mut input, &mut output, &mut errors);
+        return ExitCode::from(ended.status.code());
     };
     let Ok(args) = args.collect::<Vec<String>>(alloc) else {
-        return ExitCode::from(commands::no_memory(&mut errors) as u8);
+        return ExitCode::from(commands::no_memory(&mut errors).code());
     };
     let Some(words) = words_after_name(alloc, args.as_slice()) else {
-        return ExitCode::from(commands::no_memory(&mut errors) as u8);
+        return ExitCode::from(commands::no_memory(&mut errors).code());
     };
-    let status: Status = commands::run(&rt, words.as_slice(), rt.stdin(), rt.stdout(), &mut errors);
-    ExitCode::from(status as u8)
+    let ended = commands::run(&rt, words.as_slice(), &mut input, &mut output, &mut errors);
+    ExitCode::from(ended.status.code())
 }
 
 #[cfg(test)]

@@ -1,18 +1,37 @@
 //! How the program ends.
 
-/// The exit status of the program.
+ghost use Rattle.std.specs.Prelude.{◌≡◌};
+ghost use Rattle.uaserver.specs.Statuses.{code_of};
+
+/// How the program ends. The exit status is [`Status::code`].
 #[derive(Clone, Copy, Debug, PartialEq, Eq)]
 pub enum Status {
     /// All was done, as far as the input went.
-    Done = 0,
+    Done,
     /// The command line is none of the program's.
-    Usage = 2,
+    Usage,
     /// A file can't be read, or isn't UTF-8.
-    File = 3,
+    File,
     /// Something is wrong with a node file.
-    Nodes = 4,
+    Nodes,
     /// Memory ran out, or the server halted.
-    Halted = 5,
+    Halted,
     /// Standard input or output failed, or the input had no end.
-    Stream = 7,
+    Stream,
+}
+
+impl Status {
+    /// The exit status: 0 where all was done.
+    pub fn code(self) -> u8
+        ensures { result ≡ code_of self }
+    {
+        match self {
+            Status::Done => 0,
+            Status::Usage => 2,
+            Status::File => 3,
+            Status::Nodes => 4,
+            Status::Halted => 5,
+            Status::Stream => 7,
+        }
+    }
 }

@@ -1,5 +1,5 @@
 use Rattle.std.proofs.Common.{◌≡◌, ◌∙◌, sym, ap, arith}
-use Rattle.ua_core.specs.Stepping.{sent_bytes}
+use Rattle.ua_core.specs.Running.{sent_bytes}
 use Rattle.pump.proofs.PumpLemmas.{part_put}
 use Rattle.pump.proofs.put_outs.Goals as goal
 

@@ -1,5 +1,5 @@
 use Rattle.std.proofs.Common.{take}
-use Rattle.ua_core.specs.Stepping.{joined}
+use Rattle.ua_core.specs.Running.{joined}
 use Rattle.pump.proofs.PumpLemmas.{AllPut}
 use Rattle.pump.proofs.put_outs.Given as goal
 

@@ -3,23 +3,27 @@
 use crate::commands;
 use crate::status::Status;
 use crate::tests::messages::{
-    ACKNOWLEDGE, ENDPOINTS_ANSWER_SIZE, HELLO, chunk, close, fault, get_endpoints, joined, opening,
-    opening_answer, part_of_get_endpoints,
+    ACKNOWLEDGE, ENDPOINTS_ANSWER_SIZE, HELLO, UNKNOWN, chunk, close, fault, get_endpoints, joined,
+    opening, opening_answer, part_of_get_endpoints,
 };
 use std::alloc::Global;
 use std::process::Abort;
 use std::test::Fail;
+use ua_space::Space;
+use ua_tcp::Tap;
 use ua_types::Config;
 
 /// What `uaserver pipe` writes for this input.
 fn piped(rt: &impl Abort, alloc: Global, input: &[u8]) -> Result<Vec<u8>, Fail> {
-    let mut output = Vec::new(alloc);
+    let mut input = Tap::new(input);
+    let mut output = Tap::new(Vec::new(alloc));
     let mut errors = Vec::new(alloc);
     let config = Config::standard(alloc)?;
-    let status = commands::pipe(alloc, config, input, &mut output, &mut errors);
+    let space = Space::build(alloc, &config, Vec::new(alloc), Vec::new(alloc))?;
+    let status = commands::pipe(alloc, config, space, &mut input, &mut output, &mut errors);
     assert_eq!(rt; status, Status::Done);
     assert!(rt; errors.is_empty());
-    Ok(output)
+    Ok(output.into_inner())
 }
 
 /// What it writes behind the Acknowledge and the answer to the opening, for what comes behind the Hello
@@ -29,7 +33,7 @@ fn talked(rt: &impl Abort, alloc: Global, messages: &[&[u8]]) -> Result<Vec<u8>,
     let rest = joined(alloc, messages)?;
     let input = joined(alloc, &[HELLO, greeting.as_slice(), rest.as_slice()])?;
     let output = piped(rt, alloc, input.as_slice())?;
-    let opened = opening_answer(alloc, 1, 1)?;
+    let opened = opening_answer(alloc, 1, 1, 1)?;
     let front = joined(alloc, &[ACKNOWLEDGE, opened.as_slice()])?;
     match output.as_slice().strip_prefix(front.as_slice()) {
         Some(rest) => Ok(Vec::from_slice(alloc, rest)?),
@@ -78,16 +82,13 @@ fn get_endpoints_and_close(rt: HostRuntime) -> Result<(), Fail> {
 #[test]
 fn unknown_and_unreadable_requests(rt: HostRuntime) -> Result<(), Fail> {
     let alloc = rt.alloc();
-    // TranslateBrowsePathsToNodeIds, of the type 554.
-    let unknown: &[u8] =
-        b"\x01\0\x2a\x02\0\0\0\0\0\0\0\0\0\0\x02\0\0\0\0\0\0\0\xff\xff\xff\xff\0\0\0\0\0\0\0";
     // An id of no form, a header cut short, and a GetEndpoints cut short behind its header.
     let no_id: &[u8] = b"\x06";
     let no_header: &[u8] = b"\x01\0\xac\x01\0\0\0\0\0\0\0\0\0\0\x02\0\0";
     let no_fields: &[u8] =
         b"\x01\0\xac\x01\0\0\0\0\0\0\0\0\0\0\x02\0\0\0\0\0\0\0\xff\xff\xff\xff\0\0\0\0\0\0\0\xff\xff";
     let cases = [
-        (unknown, 2, 0x0b),
+        (UNKNOWN, 2, 0x0b),
         (no_id, 0, 0x07),
         (no_header, 0, 0x07),
         (no_fields, 2, 0x07),
@@ -166,12 +167,10 @@ fn as_many_chunks_as_are_taken(rt: HostRuntime) -> Result<(), Fail> {
 #[test]
 fn renewed_token(rt: HostRuntime) -> Result<(), Fail> {
     let alloc = rt.alloc();
-    let unknown: &[u8] =
-        b"\x01\0\x2a\x02\0\0\0\0\0\0\0\0\0\0\x02\0\0\0\0\0\0\0\xff\xff\xff\xff\0\0\0\0\0\0\0";
     let renew = opening(alloc, 1, 2, true)?;
-    let old = chunk(alloc, b"MSGF", 1, 3, 2, unknown)?;
-    let new = chunk(alloc, b"MSGF", 2, 4, 2, unknown)?;
-    let late = chunk(alloc, b"MSGF", 1, 5, 2, unknown)?;
+    let old = chunk(alloc, b"MSGF", 1, 3, 2, UNKNOWN)?;
+    let new = chunk(alloc, b"MSGF", 2, 4, 2, UNKNOWN)?;
+    let late = chunk(alloc, b"MSGF", 1, 5, 2, UNKNOWN)?;
     let answer = talked(
         &rt,
         alloc,
@@ -182,7 +181,7 @@ fn renewed_token(rt: HostRuntime) -> Result<(), Fail> {
             late.as_slice(),
         ],
     )?;
-    let renewed = opening_answer(alloc, 2, 2)?;
+    let renewed = opening_answer(alloc, 1, 2, 2)?;
     let first = fault(alloc, 1, 3, 2, 0x0b)?;
     let second = fault(alloc, 2, 4, 2, 0x0b)?;
     let refused = b"ERRF\x10\0\0\0\0\0\x87\x80\xff\xff\xff\xff";

@@ -53,9 +53,10 @@ pub fn opening(
     )
 }
 
-/// The answer to an opening of the channel 1: the token, and an hour.
+/// The answer to an opening: the channel, the token, and an hour.
 pub fn opening_answer(
     alloc: Global,
+    channel: u8,
     sequence_number: u32,
     token: u8,
 ) -> Result<Vec<u8>, AllocError> {
@@ -64,12 +65,12 @@ pub fn opening_answer(
     joined(
         alloc,
         &[
-            b"OPNF\x87\0\0\0\x01\0\0\0".as_slice(),
+            b"OPNF\x87\0\0\0".as_slice(),
+            &[channel, 0, 0, 0],
             POLICY,
             sequence_number.to_le_bytes().as_slice(),
             header.as_slice(),
-            b"\0\0\0\0\x01\0\0\0".as_slice(),
-            &[token, 0, 0, 0],
+            &[0, 0, 0, 0, channel, 0, 0, 0, token, 0, 0, 0],
             b"\0\0\0\0\0\0\0\0\x80\xee\x36\0\xff\xff\xff\xff".as_slice(),
         ],
     )
@@ -97,6 +98,18 @@ pub fn chunk(
         ],
     )
 }
+
+/// The same chunk of another channel.
+pub fn of_channel(mut chunk: Vec<u8>, channel: u8) -> Vec<u8> {
+    if let Some(number) = chunk.get_mut(8) {
+        *number = channel;
+    }
+    chunk
+}
+
+/// TranslateBrowsePathsToNodeIds, of the type 554, which isn't served, with the handle 2.
+pub const UNKNOWN: &[u8] =
+    b"\x01\0\x2a\x02\0\0\0\0\0\0\0\0\0\0\x02\0\0\0\0\0\0\0\xff\xff\xff\xff\0\0\0\0\0\0\0";
 
 /// A fault of the request 2, in one chunk.
 pub fn fault(

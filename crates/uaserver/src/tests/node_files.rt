@@ -1,80 +1,35 @@
-//! What `check` says of node files, and both commands of a file that isn't there.
+//! What `check` and `pipe` make of node files, and of one that isn't there.
 
 use crate::commands;
 use crate::status::Status;
 use crate::tests::messages::HELLO;
 use std::alloc::Global;
-use std::io;
+use std::fs;
 use std::process::Abort;
 use std::test::Fail;
+use ua_tcp::Tap;
 
-/// A small plant line: two objects and five variables.
-const LINE: &str = "version = 1
+/// A small plant: an object and a variable, and limits that an Acknowledge shows.
+const PLANT: &str = "version = 1
+
+[server]
+max_message = 2048
+max_chunks = 7
 
 [[node]]
 id = \"ns=1;i=1\"
 class = \"Object\"
 name = \"Line\"
 parent = \"i=85\"
-definition = \"i=61\"
 
 [[node]]
 id = \"ns=1;i=2\"
-class = \"Object\"
-name = \"Empty\"
-parent = \"i=85\"
-definition = \"i=61\"
-
-[[node]]
-id = \"ns=1;i=11\"
 class = \"Variable\"
 name = \"Count\"
 parent = \"ns=1;i=1\"
 via = \"i=47\"
 type = \"UInt16\"
 value = 0
-access = 7
-historizing = true
-
-[[node]]
-id = \"ns=1;i=12\"
-class = \"Variable\"
-name = \"Speed\"
-parent = \"ns=1;i=1\"
-via = \"i=47\"
-type = \"Int32\"
-value = 0
-access = 3
-
-[[node]]
-id = \"ns=1;i=13\"
-class = \"Variable\"
-name = \"Run\"
-parent = \"ns=1;i=1\"
-via = \"i=47\"
-type = \"Boolean\"
-value = false
-access = 1
-
-[[node]]
-id = \"ns=1;i=14\"
-class = \"Variable\"
-name = \"Label\"
-parent = \"ns=1;i=1\"
-via = \"i=47\"
-type = \"String\"
-value = \"\"
-access = 3
-
-[[node]]
-id = \"ns=1;i=15\"
-class = \"Variable\"
-name = \"Total\"
-parent = \"ns=1;i=1\"
-via = \"i=47\"
-type = \"UInt64\"
-value = 0
-access = 2
 ";
 
 /// Checks the text of a node file: its status, and the line that it writes to the output or the errors.
@@ -93,16 +48,15 @@ fn says(rt: &impl Abort, alloc: Global, text: &str, status: Status, line: &str) 
 }
 
 #[test]
-fn checking_the_sample_node_file(rt: HostRuntime) -> Result<(), Fail> {
+fn checking_node_files(rt: HostRuntime) -> Result<(), Fail> {
     let alloc = rt.alloc();
-    says(&rt, alloc, LINE, Status::Done, "29 nodes, 43 references\n");
-    says(
-        &rt,
-        alloc,
-        "version = 1",
-        Status::Done,
-        "22 nodes, 29 references\n",
-    );
+    let good = [
+        ("version = 1", "22 nodes, 29 references\n"),
+        (PLANT, "24 nodes, 33 references\n"),
+    ];
+    for (text, line) in good {
+        says(&rt, alloc, text, Status::Done, line);
+    }
     let faults = [
         ("", "nodes: Version file 0\n"),
         ("version = ", "nodes: Toml file 0\n"),
@@ -122,22 +76,39 @@ fn checking_the_sample_node_file(rt: HostRuntime) -> Result<(), Fail> {
     for (text, line) in faults {
         says(&rt, alloc, text, Status::Nodes, line);
     }
-    let twice = LINE.replace(alloc, "ns=1;i=2", "ns=1;i=1")?;
-    says(
-        &rt,
-        alloc,
-        twice.as_str(),
-        Status::Nodes,
-        "nodes: Duplicate node 2\n",
+    let twice = PLANT.replace(alloc, "ns=1;i=2", "ns=1;i=1")?;
+    let line = "nodes: Duplicate node 2\n";
+    says(&rt, alloc, twice.as_str(), Status::Nodes, line);
+    let colour = PLANT.replace(alloc, "value = 0", "value = 0\ncolour = 1")?;
+    let line = "nodes: UnknownKey node 2\n";
+    says(&rt, alloc, colour.as_str(), Status::Nodes, line);
+    Ok(())
+}
+
+#[test]
+fn a_file_that_is_there(rt: HostRuntime) -> Result<(), Fail> {
+    let alloc = rt.alloc();
+    fs::write(&rt, "plant.toml", PLANT)?;
+    let mut input = Tap::new(HELLO);
+    let mut output = Tap::new(Vec::new(alloc));
+    let mut errors = Vec::new(alloc);
+    let words = ["check", "plant.toml"];
+    let ended = commands::run(&rt, &words, &mut input, &mut output, &mut errors);
+    assert_eq!(rt; ended.status, Status::Done);
+    assert_eq!(rt;
+        output.into_inner().as_slice(),
+        b"24 nodes, 33 references\n".as_slice()
     );
-    let colour = LINE.replace(alloc, "access = 7", "access = 7\ncolour = 1")?;
-    says(
-        &rt,
-        alloc,
-        colour.as_str(),
-        Status::Nodes,
-        "nodes: UnknownKey node 3\n",
+    // `pipe` takes its configuration from the file: messages of 2048 bytes, in 7 chunks.
+    let mut output = Tap::new(Vec::new(alloc));
+    let words = ["pipe", "plant.toml"];
+    let ended = commands::run(&rt, &words, &mut input, &mut output, &mut errors);
+    assert_eq!(rt; ended.status, Status::Done);
+    assert_eq!(rt;
+        output.into_inner().as_slice(),
+        b"ACKF\x1c\0\0\0\0\0\0\0\0\0\x01\0\0\0\x01\0\0\x08\0\0\x07\0\0\0".as_slice()
     );
+    assert!(rt; errors.is_empty());
     Ok(())
 }
 
@@ -145,11 +116,14 @@ fn checking_the_sample_node_file(rt: HostRuntime) -> Result<(), Fail> {
 fn a_file_that_is_not_there(rt: HostRuntime) -> Result<(), Fail> {
     let alloc = rt.alloc();
     for command in ["check", "pipe"] {
+        let mut input = Tap::new(HELLO);
+        let mut output = Tap::new(Vec::new(alloc));
         let mut errors = Vec::new(alloc);
         let words = [command, "no/such/file.toml"];
-        let status = commands::run(&rt, &words, HELLO, io::sink(), &mut errors);
-        assert_eq!(rt; status, Status::File);
+        let ended = commands::run(&rt, &words, &mut input, &mut output, &mut errors);
+        assert_eq!(rt; ended.status, Status::File);
         assert_eq!(rt; errors.as_slice(), b"file no/such/file.toml\n".as_slice());
+        assert!(rt; output.into_inner().is_empty());
     }
     Ok(())
 }

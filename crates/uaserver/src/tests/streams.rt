@@ -8,6 +8,7 @@ use std::io::{ErrorKind, Read, Write};
 use std::process::Abort;
 use std::test::Fail;
 use ua_core::{Event, Server};
+use ua_space::Space;
 use ua_tcp::Tap;
 use ua_types::Config;
 
@@ -35,7 +36,7 @@ impl<'a> Read for Source<'a> {
     }
 }
 
-/// Takes a few bytes at a time, and at one call fails or takes none.
+/// Takes a few bytes at a time, and at one call fails or takes none. Counts the bytes that were flushed.
 #[derive(Drop)]
 struct Sink {
     held: Vec<u8>,
@@ -43,6 +44,7 @@ struct Sink {
     calls: u64,
     fails_at: u64,
     kind: Option<ErrorKind>,
+    flushed: usize,
 }
 
 impl Write for Sink {
@@ -60,6 +62,7 @@ impl Write for Sink {
     }
 
     fn flush(&mut self) -> io::Result<()> {
+        self.flushed = self.held.len();
         Ok(())
     }
 }
@@ -90,7 +93,9 @@ fn pumped(
     alloc: Global,
     case: Case,
 ) -> Result<(Result<(), PumpFault>, usize), Fail> {
-    let mut server = Server::new(alloc, Config::standard(alloc)?);
+    let config = Config::standard(alloc)?;
+    let space = Space::build(alloc, &config, Vec::new(alloc), Vec::new(alloc))?;
+    let mut server = Server::new(alloc, config, space);
     let opened = Event::Opened {
         conn: 1,
         key: [0; 32],
@@ -109,10 +114,21 @@ fn pumped(
         calls: 0,
         fails_at: case.write_fails,
         kind: case.write_kind,
+        flushed: 0,
     });
     let mut pump = Pump::new();
     let res = pump.run(alloc, &mut server, 1, &mut reader, &mut writer);
-    let held = writer.into_inner().held;
+    let Sink {
+        held,
+        size: _,
+        calls: _,
+        fails_at: _,
+        kind: _,
+        flushed,
+    } = writer.into_inner();
+    if res.is_ok() {
+        assert_eq!(rt; flushed, held.len());
+    }
     assert_eq!(rt; pump.sent(), held.len() as u128);
     assert!(rt; held.len() <= ACKNOWLEDGE.len());
     assert_eq!(rt; held.as_slice(), &ACKNOWLEDGE[..held.len()]);

@@ -1,6 +1,6 @@
 use Rattle.std.proofs.Common.{◌≡◌, take, drop, length, sym, take-append-drop, arith}
 use Rattle.std.proofs.lemmas.List.{length-take-le}
-use Rattle.ua_core.specs.Stepping.{joined}
+use Rattle.ua_core.specs.Running.{joined}
 use Rattle.pump.proofs.Pump.answer.Goals as goal
 
 pub returns-then-not-all-clause-answered : goal.returns-then-not-all-clause-answered

@@ -1,5 +1,5 @@
-use Rattle.ua_core.proofs.FittingLemmas.{fault_fits}
+use Rattle.ua_core.proofs.CoherentLemmas.{reached_fits}
 use Rattle.ua_core.proofs.laws.faults_fit.Goals as goal
 
 pub returns : goal.returns
-returns c = fault_fits
+returns c = reached_fits

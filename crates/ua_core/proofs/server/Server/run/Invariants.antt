@@ -1,7 +1,8 @@
-use Rattle.std.proofs.Common.{◌≡◌, drop}
-use Rattle.ua_core.specs.Stepping.{run_of, run_after}
+use Rattle.std.proofs.Common.{drop}
+use Rattle.ua_core.specs.World.{world_of}
+use Rattle.ua_core.proofs.RunLemmas.{Begun}
 use Rattle.ua_core.proofs.server.Server.run.Given as goal
 
--- the answers so far and the run of what is left are the whole
+-- the events before this one have passed, and were answered
 abbrev pub invariant-loop-event : goal.invariant-loop-event
-invariant-loop-event l = run_after l.steps.items (run_of l.self (drop l.event-index l.events)) ≡ run_of l.fn.self l.fn.events
+invariant-loop-event l = Begun (world_of l.fn.self) l.fn.events (drop l.event-index l.events) l.steps (world_of l.self)

@@ -1,0 +1,7 @@
+pub mod MapLemmas
+pub mod AgreedLemmas
+pub mod CoherentLemmas
+pub mod ApartLemmas
+pub mod FittingLemmas
+pub mod NumberingLemmas
+pub mod AlikeLemmas

@@ -1,0 +1,26 @@
+//! Who is connected: connections, their secure channels, and what goes out by them.
+//!
+//! [`Connections::take`] makes requests of frames: it answers a Hello, opens and renews secure
+//! channels, joins chunks and refuses what has to be refused. [`Connections::deliver`] sends replies,
+//! each on the connection that its request came by. Nothing here knows of sessions, nodes and
+//! services, nor of the bytes of a frame that is still to come: framers are kept beside, in a
+//! [`Numbered`] of their own.
+//!
+//! Read [`Connections`] first. `specs/Turns` defines what a frame does to its connection,
+//! `Connecting` what frames, openings and endings do to all of them, `Delivering` how replies are
+//! sent, and `Coherent` what holds of the connections of every server.
+#![tactic(auto)]
+
+mod asked;
+mod connection;
+mod connections;
+mod numbered;
+mod out;
+mod sending;
+mod turns;
+
+pub use asked::Asked;
+pub use connection::{Connection, Phase};
+pub use connections::Connections;
+pub use numbered::Numbered;
+pub use out::Out;

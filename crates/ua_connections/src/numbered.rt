@@ -1,0 +1,70 @@
+//! What has a number.
+
+ghost use Rattle.std.specs.Prelude.{◌≡◌, OnOk, IfNone, is_some};
+ghost use Rattle.std.specs.FinMap as map;
+
+use std::alloc::{AllocError, Global};
+use std::collections::BTreeMap;
+use std::marker::Model;
+
+/// Values by their numbers, found in logarithmic time. Contracts see a finite map.
+#[derive(Debug, Drop)]
+pub struct Numbered<V> {
+    entries: BTreeMap<u64, V>,
+}
+
+impl<V> Model for Numbered<V> {
+    ghost use Rattle.std.specs.Ordering.{nat_cmp};
+    ghost use Rattle.std.specs.FinMap as map;
+    ghost use Rattle.std.specs.Coded.{coded_ℕ};
+
+    ghost Value = { map.FinMap nat_cmp V };
+
+    ghost coded = { map.code coded_ℕ V.code };
+
+    ghost view = { λ n. map.from_entries n.entries.entries };
+}
+
+impl<V> Numbered<V> {
+    /// None yet. Takes no memory.
+    pub fn new(alloc: Global) -> Numbered<V>
+        ensures { result ≡ map.empty }
+    {
+        Numbered {
+            entries: BTreeMap::new(alloc),
+        }
+    }
+
+    /// How many there are.
+    pub fn len(&self) -> usize
+        ensures { result ≡ map.len self.now }
+    {
+        self.entries.len()
+    }
+
+    /// Whether there is one with this number.
+    pub fn contains(&self, number: u64) -> bool
+        ensures { result ≡ is_some (map.get self.now number) }
+    {
+        self.entries.contains_key(&number)
+    }
+
+    /// Takes the one with this number out. Takes no memory.
+    pub fn remove(&mut self, number: u64) -> Option<V>
+        ensures found { result ≡ map.get self.old number }
+        ensures removed { self.new ≡ map.remove self.old number }
+        ensures absent { IfNone result (self.new ≡ self.old) }
+    {
+        self.entries.remove(&number)
+    }
+}
+
+impl<V: Drop> Numbered<V> {
+    /// Gives this number a value, in the place of one that it had.
+    pub fn insert(&mut self, number: u64, value: V) -> Result<(), AllocError>
+        ensures { OnOk result (self.new ≡ map.insert self.old number value) }
+    {
+        self.entries.insert(number, value)?;
+        Ok(())
+    }
+}

@@ -1,0 +1,16 @@
+//! What services give.
+
+use crate::fired::Fired;
+use crate::listed::Listed;
+use crate::reply::Reply;
+
+/// What a request or a tick came to, beside what the services keep.
+#[derive(Debug, Drop)]
+pub struct Served {
+    /// The replies, in the order in which they are sent. They are for the request and for others that
+    /// waited, on any connection.
+    pub replies: Listed<Reply>,
+
+    /// The rows of the subscriptions' state table that fired, in order.
+    pub rows: Listed<Fired>,
+}

@@ -1,0 +1,100 @@
+//! What is served.
+
+ghost use Rattle.std.specs.Prelude.{◌≡◌, true, IsOk};
+ghost use Rattle.ua_services.specs.Serving.{Serves};
+ghost use Rattle.ua_services.specs.Services.{serving_of, ticking_of, is_idle, forgotten};
+
+use crate::call::Call;
+use crate::get_endpoints::GetEndpoints;
+use crate::service::{Service, refuse};
+use std::alloc::Global;
+use std::marker::Model;
+use ua_binary::TakeFault;
+use ua_messages::{RequestHeader, message, message_id, type_ids};
+use ua_requests::{Halt, Listed, Request, Served, Setting};
+use ua_space::Space;
+use ua_types::Status;
+
+/// The services, and what they keep: the address space. Contracts see a record of it.
+///
+/// Each request is judged in this order, and the first that is wrong is answered by a fault with that
+/// status (IEC 62541-4, "ServiceFault"): its type id or its header can't be read,
+/// `BAD_DECODING_ERROR` under the handle 0; its type isn't served, `BAD_SERVICE_UNSUPPORTED`; its
+/// fields can't be read, `BAD_DECODING_ERROR`. At an `Err` nothing is known of what is left.
+#[derive(Drop)]
+pub struct Services {
+    space: Space,
+}
+
+impl Model for Services {
+    ghost use Rattle.ua_services.specs.ServicesState.{ServicesState};
+
+    ghost Value = { ServicesState };
+
+    ghost view = { λ s. record { space = s.space } };
+}
+
+impl Services {
+    /// Nothing was served yet, over this address space. Takes no memory.
+    pub fn new(space: Space) -> Services
+        ensures { result ≡ record { space = space } }
+    {
+        Services { space }
+    }
+
+    /// Does what a request asks for. The replies may be for it and for others that waited.
+    ///
+    /// `Memory` comes only where a growth was refused. No serial is counted yet, so `Exhausted` never
+    /// comes.
+    #[tactic(auto, unfolding(crate::specs::Services::serving_of))]
+    pub fn serve(
+        &mut self,
+        alloc: Global,
+        setting: &Setting,
+        request: &Request,
+    ) -> Result<Served, Halt>
+        ensures { Serves result self.new (serving_of setting.now request.now self.old) }
+    {
+        let body = request.body.as_slice();
+        let mut call = Call {
+            conn: request.conn,
+            key: request.key,
+            id: request.id,
+            handle: 0,
+        };
+        let Ok(type_id) = message_id(body) else {
+            return Ok(refuse(alloc, &call, Status::BAD_DECODING_ERROR, setting.clock)?);
+        };
+        let header: RequestHeader = match message(alloc, body) {
+            Ok(header) => header,
+            Err(TakeFault::Memory) => return Err(Halt::Memory),
+            Err(_) => {
+                return Ok(refuse(alloc, &call, Status::BAD_DECODING_ERROR, setting.clock)?);
+            }
+        };
+        call.handle = header.request_handle;
+        match type_id {
+            type_ids::GET_ENDPOINTS_REQUEST => {
+                GetEndpoints::take(alloc, setting, &call, body, self)
+            }
+            _ => Ok(refuse(alloc, &call, Status::BAD_SERVICE_UNSUPPORTED, setting.clock)?),
+        }
+    }
+
+    /// Does what is due as time passes, which is nothing yet. Takes no memory where nothing is due.
+    pub fn tick(&mut self, alloc: Global, _setting: &Setting) -> Result<Served, Halt>
+        ensures ticks { Serves result self.new (ticking_of _setting.now self.old) }
+        ensures idle { is_idle self.old ≡ true → IsOk result }
+    {
+        Ok(Served {
+            replies: Listed::new(alloc),
+            rows: Listed::new(alloc),
+        })
+    }
+
+    /// Drops what a connection that is closed or gone still waited for, which is nothing yet. Takes no
+    /// memory.
+    pub fn forget(&mut self, _conn: u64)
+        ensures { self.new ≡ forgotten self.old _conn }
+    {}
+}
