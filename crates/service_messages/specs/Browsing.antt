@@ -2,13 +2,13 @@
 use Rattle.std.specs.Prelude.{ℕ, List, ◌++◌}
 use Rattle.std.specs.Int.{w32}
 use Rattle.service_messages.specs.declared.browsing.BrowseDirection.{BrowseDirection}
-use Rattle.service_messages.specs.declared.browsing.NodeClass.{NodeClass}
 use Rattle.service_messages.specs.declared.browsing.BrowseDescription.{BrowseDescription}
 use Rattle.service_messages.specs.declared.browsing.BrowseRequest.{BrowseRequest}
 use Rattle.service_messages.specs.declared.browsing.ReferenceDescription.{ReferenceDescription}
 use Rattle.service_messages.specs.declared.browsing.BrowseResult.{BrowseResult}
 use Rattle.service_messages.specs.declared.browsing.BrowseNextRequest.{BrowseNextRequest}
 use Rattle.ua_binary.specs.Reading.{Reading, ◌>>=◌, done}
+use Rattle.ua_binary.specs.Enumerations.{enumeration_reading, enumeration_encoding}
 use Rattle.ua_binary.specs.Numbers.{boolean_reading, boolean_encoding, number_reading, number_encoding, signed_reading, signed_encoding}
 use Rattle.ua_binary.specs.Scalars.{moment_reading, moment_encoding, status_reading, status_encoding}
 use Rattle.ua_binary.specs.Texts.{byte_string_reading, byte_string_encoding}
@@ -19,21 +19,11 @@ use Rattle.ua_binary.specs.QualifiedNames.{qualified_name_reading, qualified_nam
 use Rattle.ua_binary.specs.LocalizedTexts.{localized_text_reading, localized_text_encoding}
 use Rattle.ua_messages.specs.Headers.{request_header_reading, request_header_encoding}
 
-unfoldable pub browse_direction_reading : Reading BrowseDirection
-browse_direction_reading = do
-  n ← signed_reading w32
-  done (record { 0 = n })
+abbrev pub browse_direction_reading : Reading BrowseDirection
+browse_direction_reading = enumeration_reading (λ n. record { 0 = n })
 
-unfoldable pub browse_direction_encoding : BrowseDirection → List ℕ
-browse_direction_encoding v = signed_encoding w32 v.0
-
-unfoldable pub node_class_reading : Reading NodeClass
-node_class_reading = do
-  n ← signed_reading w32
-  done (record { 0 = n })
-
-unfoldable pub node_class_encoding : NodeClass → List ℕ
-node_class_encoding v = signed_encoding w32 v.0
+abbrev pub browse_direction_encoding : BrowseDirection → List ℕ
+browse_direction_encoding = enumeration_encoding (λ v. v.0)
 
 unfoldable pub browse_description_reading : Reading BrowseDescription
 browse_description_reading = do
@@ -94,7 +84,7 @@ reference_description_reading = do
   node_id ← expanded_node_id_reading
   browse_name ← qualified_name_reading
   display_name ← localized_text_reading
-  node_class ← node_class_reading
+  node_class ← signed_reading w32
   type_definition ← expanded_node_id_reading
   done (record {
     reference_type_id = reference_type_id;
@@ -113,7 +103,7 @@ reference_description_encoding v =
     ++ expanded_node_id_encoding v.node_id
     ++ qualified_name_encoding v.browse_name
     ++ localized_text_encoding v.display_name
-    ++ node_class_encoding v.node_class
+    ++ signed_encoding w32 v.node_class
     ++ expanded_node_id_encoding v.type_definition
 
 unfoldable pub browse_result_reading : Reading BrowseResult

@@ -1,10 +1,10 @@
 //! The services Browse and BrowseNext.
 
-ghost use Rattle.std.specs.Prelude.{⊤};
-ghost use Rattle.service_messages.specs.Browsing.{browse_direction_reading, browse_direction_encoding, node_class_reading, node_class_encoding, browse_description_reading, browse_description_encoding, browse_request_reading, browse_request_encoding, reference_description_reading, reference_description_encoding, browse_result_reading, browse_result_encoding, browse_next_request_reading, browse_next_request_encoding};
+ghost use Rattle.std.specs.Prelude.{refl};
+ghost use Rattle.service_messages.specs.Browsing.{browse_description_reading, browse_description_encoding, browse_request_reading, browse_request_encoding, reference_description_reading, reference_description_encoding, browse_result_reading, browse_result_encoding, browse_next_request_reading, browse_next_request_encoding};
 
 use std::alloc::{AllocError, Global};
-use ua_binary::{Cursor, TakeFault, Wire};
+use ua_binary::{Cursor, Enumeration, TakeFault, Wire};
 use ua_messages::{RequestHeader, Results};
 use ua_types::{
     Array, ByteString, ExpandedNodeId, LocalizedText, Moment, NodeId, QualifiedName, Status,
@@ -24,63 +24,20 @@ impl BrowseDirection {
     pub const BOTH: BrowseDirection = BrowseDirection(2);
 }
 
-#[tactic(auto, unfolding(crate::specs::Browsing::browse_direction_reading, crate::specs::Browsing::browse_direction_encoding))]
-impl Wire for BrowseDirection {
-    ghost reading = { browse_direction_reading };
+impl Enumeration for BrowseDirection {
+    ghost of_number = { λ n. record { 0 = n } };
 
-    ghost encoding = { browse_direction_encoding };
+    ghost number_of = { λ v. v.0 };
 
-    ghost spares_memory = { λ _. ⊤ };
-
-    fn decode(alloc: Global, cursor: &mut Cursor<'_>) -> Result<BrowseDirection, TakeFault> {
-        Ok(BrowseDirection(i32::decode(alloc, cursor)?))
+    fn from_number(number: i32) -> BrowseDirection {
+        BrowseDirection(number)
     }
 
-    fn encode(&self, out: &mut Vec<u8>) -> Result<(), AllocError> {
-        self.0.encode(out)
-    }
-}
-
-/// What a node is (NodeClass, IEC 62541-3, section 8). Each class is a bit, so that a mask can hold many.
-#[derive(Clone, Copy, Debug, PartialEq, Eq)]
-pub struct NodeClass(pub i32);
-
-impl NodeClass {
-    /// None is told.
-    pub const UNSPECIFIED: NodeClass = NodeClass(0);
-
-    pub const OBJECT: NodeClass = NodeClass(1);
-
-    pub const VARIABLE: NodeClass = NodeClass(2);
-
-    pub const METHOD: NodeClass = NodeClass(4);
-
-    pub const OBJECT_TYPE: NodeClass = NodeClass(8);
-
-    pub const VARIABLE_TYPE: NodeClass = NodeClass(16);
-
-    pub const REFERENCE_TYPE: NodeClass = NodeClass(32);
-
-    pub const DATA_TYPE: NodeClass = NodeClass(64);
-
-    pub const VIEW: NodeClass = NodeClass(128);
-}
-
-#[tactic(auto, unfolding(crate::specs::Browsing::node_class_reading, crate::specs::Browsing::node_class_encoding))]
-impl Wire for NodeClass {
-    ghost reading = { node_class_reading };
-
-    ghost encoding = { node_class_encoding };
-
-    ghost spares_memory = { λ _. ⊤ };
-
-    fn decode(alloc: Global, cursor: &mut Cursor<'_>) -> Result<NodeClass, TakeFault> {
-        Ok(NodeClass(i32::decode(alloc, cursor)?))
+    fn number(&self) -> i32 {
+        self.0
     }
 
-    fn encode(&self, out: &mut Vec<u8>) -> Result<(), AllocError> {
-        self.0.encode(out)
-    }
+    ghost kept = { λ v. refl };
 }
 
 /// Which references of one node are wanted, and what of them (BrowseDescription, IEC 62541-4, section 5,
@@ -93,7 +50,8 @@ pub struct BrowseDescription {
     pub reference_type_id: NodeId,
     /// Whether subtypes of that type count too.
     pub include_subtypes: bool,
-    /// The classes of the nodes at the other end, as the sum of their numbers in [`NodeClass`]; 0 is all.
+    /// The classes of the nodes at the other end, as the sum of their numbers (`ua_types::NodeClass`); 0
+    /// is all.
     pub node_class_mask: u32,
     /// Which fields of a [`ReferenceDescription`] are wanted: the sum of the constants of this type.
     pub result_mask: u32,
@@ -198,7 +156,8 @@ pub struct ReferenceDescription {
     pub node_id: ExpandedNodeId,
     pub browse_name: QualifiedName,
     pub display_name: LocalizedText,
-    pub node_class: NodeClass,
+    /// The number of its class (`ua_types::NodeClass`).
+    pub node_class: i32,
     /// The type of an object or a variable, else null.
     pub type_definition: ExpandedNodeId,
 }
@@ -216,7 +175,7 @@ impl Wire for ReferenceDescription {
             node_id: ExpandedNodeId::decode(alloc, cursor)?,
             browse_name: QualifiedName::decode(alloc, cursor)?,
             display_name: LocalizedText::decode(alloc, cursor)?,
-            node_class: NodeClass::decode(alloc, cursor)?,
+            node_class: i32::decode(alloc, cursor)?,
             type_definition: ExpandedNodeId::decode(alloc, cursor)?,
         })
     }

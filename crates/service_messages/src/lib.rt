@@ -20,7 +20,7 @@ mod writing;
 
 pub use browsing::{
     BrowseDescription, BrowseDirection, BrowseNextRequest, BrowseNextResponse, BrowseRequest,
-    BrowseResponse, BrowseResult, NodeClass, ReferenceDescription,
+    BrowseResponse, BrowseResult, ReferenceDescription,
 };
 pub use history::{
     HistoryData, HistoryReadRequest, HistoryReadResponse, HistoryReadResult, HistoryReadValueId,

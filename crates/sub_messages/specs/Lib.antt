@@ -4,3 +4,4 @@ pub mod MonitoredItems
 pub mod Subscriptions
 pub mod Publishing
 pub mod KeptMessages
+pub mod Triggering

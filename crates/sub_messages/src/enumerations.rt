@@ -1,11 +1,9 @@
 //! Enumerations of monitored items. On the wire each is an Int32 of which any value is read, so
 //! each is a number with names for the values that have a meaning, and not an enum.
 
-ghost use Rattle.std.specs.Prelude.{⊤};
-ghost use Rattle.sub_messages.specs.Enumerations.{monitoring_mode_reading, monitoring_mode_encoding, data_change_trigger_reading, data_change_trigger_encoding};
+ghost use Rattle.std.specs.Prelude.{refl};
 
-use std::alloc::{AllocError, Global};
-use ua_binary::{Cursor, TakeFault, Wire};
+use ua_binary::Enumeration;
 
 /// What a monitored item does (MonitoringMode, IEC 62541-4, section 7).
 #[derive(Clone, Copy, Debug, PartialEq, Eq)]
@@ -22,21 +20,20 @@ impl MonitoringMode {
     pub const REPORTING: MonitoringMode = MonitoringMode(2);
 }
 
-#[tactic(auto, unfolding(crate::specs::Enumerations::monitoring_mode_reading, crate::specs::Enumerations::monitoring_mode_encoding))]
-impl Wire for MonitoringMode {
-    ghost reading = { monitoring_mode_reading };
+impl Enumeration for MonitoringMode {
+    ghost of_number = { λ n. record { 0 = n } };
 
-    ghost encoding = { monitoring_mode_encoding };
+    ghost number_of = { λ v. v.0 };
 
-    ghost spares_memory = { λ _. ⊤ };
-
-    fn decode(alloc: Global, cursor: &mut Cursor<'_>) -> Result<MonitoringMode, TakeFault> {
-        Ok(MonitoringMode(i32::decode(alloc, cursor)?))
+    fn from_number(number: i32) -> MonitoringMode {
+        MonitoringMode(number)
     }
 
-    fn encode(&self, out: &mut Vec<u8>) -> Result<(), AllocError> {
-        self.0.encode(out)
+    fn number(&self) -> i32 {
+        self.0
     }
+
+    ghost kept = { λ v. refl };
 }
 
 /// Which change of a value is reported (DataChangeTrigger, IEC 62541-4, section 7).
@@ -54,19 +51,18 @@ impl DataChangeTrigger {
     pub const STATUS_VALUE_TIMESTAMP: DataChangeTrigger = DataChangeTrigger(2);
 }
 
-#[tactic(auto, unfolding(crate::specs::Enumerations::data_change_trigger_reading, crate::specs::Enumerations::data_change_trigger_encoding))]
-impl Wire for DataChangeTrigger {
-    ghost reading = { data_change_trigger_reading };
+impl Enumeration for DataChangeTrigger {
+    ghost of_number = { λ n. record { 0 = n } };
 
-    ghost encoding = { data_change_trigger_encoding };
+    ghost number_of = { λ v. v.0 };
 
-    ghost spares_memory = { λ _. ⊤ };
-
-    fn decode(alloc: Global, cursor: &mut Cursor<'_>) -> Result<DataChangeTrigger, TakeFault> {
-        Ok(DataChangeTrigger(i32::decode(alloc, cursor)?))
+    fn from_number(number: i32) -> DataChangeTrigger {
+        DataChangeTrigger(number)
     }
 
-    fn encode(&self, out: &mut Vec<u8>) -> Result<(), AllocError> {
-        self.0.encode(out)
+    fn number(&self) -> i32 {
+        self.0
     }
+
+    ghost kept = { λ v. refl };
 }

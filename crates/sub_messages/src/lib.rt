@@ -1,5 +1,5 @@
-//! The messages of monitored items and subscriptions (IEC 62541-4, section 5): creating, changing and
-//! deleting them, Publish and Republish, and the notifications that these bring.
+//! The messages of monitored items and subscriptions (IEC 62541-4, section 5): creating, changing,
+//! linking and deleting them, Publish and Republish, and the notifications that these bring.
 //!
 //! Each structure is the standard's fields in the standard's order and is [`ua_binary::Wire`], as in
 //! `ua_messages`, whose `message` and `body` read and write all of these too. A filter and a
@@ -16,6 +16,7 @@ mod monitored_items;
 mod monitoring_parameters;
 mod publishing;
 mod subscriptions;
+mod triggering;
 
 pub use enumerations::{DataChangeTrigger, MonitoringMode};
 pub use kept_messages::{publish_body, republish_body};
@@ -36,6 +37,7 @@ pub use subscriptions::{
     DeleteSubscriptionsResponse, ModifySubscriptionRequest, ModifySubscriptionResponse,
     SetPublishingModeRequest, SetPublishingModeResponse,
 };
+pub use triggering::{SetTriggeringRequest, SetTriggeringResponse};
 
 #[cfg(test)]
 mod tests;

@@ -392,6 +392,51 @@ fn responses_on_subscriptions(rt: HostRuntime) -> Result<(), Fail> {
 }
 
 #[test]
+fn triggering(rt: HostRuntime) -> Result<(), Fail> {
+    let alloc = rt.alloc();
+    is_taken(
+        &rt,
+        alloc,
+        type_ids::SET_TRIGGERING_REQUEST,
+        &[
+            "01000703",
+            REQUEST,
+            // subscription 8, the item 9 triggers; the items 10 and 11 are added, 12 is removed
+            "08000000",
+            "09000000",
+            "020000000a0000000b000000",
+            "010000000c000000",
+        ],
+        |set: &SetTriggeringRequest| {
+            set.subscription_id == 8
+                && set.triggering_item_id == 9
+                && set.links_to_add.as_slice() == Some([10u32, 11].as_slice())
+                && set.links_to_remove.as_slice() == Some([12u32].as_slice())
+        },
+    )?;
+    let added = [Status::GOOD, Status::BAD_MONITORED_ITEM_ID_INVALID];
+    is_taken(
+        &rt,
+        alloc,
+        type_ids::SET_TRIGGERING_RESPONSE,
+        &[
+            "01000a03",
+            RESPONSE,
+            // one link was added, one names no item
+            "020000000000000000004280",
+            NULL,
+            // one was removed
+            "0100000000000000",
+            NULL,
+        ],
+        |set: &SetTriggeringResponse| {
+            set.add_results.as_slice() == Some(added.as_slice())
+                && set.remove_results.as_slice() == Some([Status::GOOD].as_slice())
+        },
+    )
+}
+
+#[test]
 fn requests_of_publishing(rt: HostRuntime) -> Result<(), Fail> {
     let alloc = rt.alloc();
     is_taken(

@@ -3,6 +3,7 @@ pub mod Numbers
 pub mod Texts
 pub mod Arrays
 pub mod Scalars
+pub mod Enumerations
 pub mod Guids
 pub mod NodeIds
 pub mod Parts

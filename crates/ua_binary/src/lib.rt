@@ -19,6 +19,7 @@
 mod arrays;
 mod cursor;
 mod data_values;
+mod enumerations;
 mod expanded_node_ids;
 mod extension_objects;
 mod fault;
@@ -39,6 +40,7 @@ mod written;
 pub use arrays::write_list;
 pub use cursor::Cursor;
 pub use data_values::BorrowedDataValue;
+pub use enumerations::Enumeration;
 pub use fault::TakeFault;
 pub use wire::Wire;
 pub use written::Written;

@@ -1,11 +1,9 @@
 //! Enumerations of the standard. On the wire each is an Int32 of which any value is read, so each is
 //! a number with names for the values that have a meaning, and not an enum.
 
-ghost use Rattle.std.specs.Prelude.{⊤};
-ghost use Rattle.ua_messages.specs.Enumerations.{application_type_reading, application_type_encoding, message_security_mode_reading, message_security_mode_encoding, user_token_type_reading, user_token_type_encoding, security_token_request_type_reading, security_token_request_type_encoding, timestamps_to_return_reading, timestamps_to_return_encoding};
+ghost use Rattle.std.specs.Prelude.{refl};
 
-use std::alloc::{AllocError, Global};
-use ua_binary::{Cursor, TakeFault, Wire};
+use ua_binary::Enumeration;
 
 /// What an application is (ApplicationType, IEC 62541-4, section 7).
 #[derive(Clone, Copy, Debug, PartialEq, Eq)]
@@ -21,21 +19,20 @@ impl ApplicationType {
     pub const DISCOVERY_SERVER: ApplicationType = ApplicationType(3);
 }
 
-#[tactic(auto, unfolding(crate::specs::Enumerations::application_type_reading, crate::specs::Enumerations::application_type_encoding))]
-impl Wire for ApplicationType {
-    ghost reading = { application_type_reading };
+impl Enumeration for ApplicationType {
+    ghost of_number = { λ n. record { 0 = n } };
 
-    ghost encoding = { application_type_encoding };
+    ghost number_of = { λ v. v.0 };
 
-    ghost spares_memory = { λ _. ⊤ };
-
-    fn decode(alloc: Global, cursor: &mut Cursor<'_>) -> Result<ApplicationType, TakeFault> {
-        Ok(ApplicationType(i32::decode(alloc, cursor)?))
+    fn from_number(number: i32) -> ApplicationType {
+        ApplicationType(number)
     }
 
-    fn encode(&self, out: &mut Vec<u8>) -> Result<(), AllocError> {
-        self.0.encode(out)
+    fn number(&self) -> i32 {
+        self.0
     }
+
+    ghost kept = { λ v. refl };
 }
 
 /// How messages are protected (MessageSecurityMode, IEC 62541-4, section 7).
@@ -51,21 +48,20 @@ impl MessageSecurityMode {
     pub const SIGN_AND_ENCRYPT: MessageSecurityMode = MessageSecurityMode(3);
 }
 
-#[tactic(auto, unfolding(crate::specs::Enumerations::message_security_mode_reading, crate::specs::Enumerations::message_security_mode_encoding))]
-impl Wire for MessageSecurityMode {
-    ghost reading = { message_security_mode_reading };
+impl Enumeration for MessageSecurityMode {
+    ghost of_number = { λ n. record { 0 = n } };
 
-    ghost encoding = { message_security_mode_encoding };
+    ghost number_of = { λ v. v.0 };
 
-    ghost spares_memory = { λ _. ⊤ };
-
-    fn decode(alloc: Global, cursor: &mut Cursor<'_>) -> Result<MessageSecurityMode, TakeFault> {
-        Ok(MessageSecurityMode(i32::decode(alloc, cursor)?))
+    fn from_number(number: i32) -> MessageSecurityMode {
+        MessageSecurityMode(number)
     }
 
-    fn encode(&self, out: &mut Vec<u8>) -> Result<(), AllocError> {
-        self.0.encode(out)
+    fn number(&self) -> i32 {
+        self.0
     }
+
+    ghost kept = { λ v. refl };
 }
 
 /// How a user says who they are (UserTokenType, IEC 62541-4, section 7).
@@ -83,21 +79,20 @@ impl UserTokenType {
     pub const ISSUED_TOKEN: UserTokenType = UserTokenType(3);
 }
 
-#[tactic(auto, unfolding(crate::specs::Enumerations::user_token_type_reading, crate::specs::Enumerations::user_token_type_encoding))]
-impl Wire for UserTokenType {
-    ghost reading = { user_token_type_reading };
+impl Enumeration for UserTokenType {
+    ghost of_number = { λ n. record { 0 = n } };
 
-    ghost encoding = { user_token_type_encoding };
+    ghost number_of = { λ v. v.0 };
 
-    ghost spares_memory = { λ _. ⊤ };
-
-    fn decode(alloc: Global, cursor: &mut Cursor<'_>) -> Result<UserTokenType, TakeFault> {
-        Ok(UserTokenType(i32::decode(alloc, cursor)?))
+    fn from_number(number: i32) -> UserTokenType {
+        UserTokenType(number)
     }
 
-    fn encode(&self, out: &mut Vec<u8>) -> Result<(), AllocError> {
-        self.0.encode(out)
+    fn number(&self) -> i32 {
+        self.0
     }
+
+    ghost kept = { λ v. refl };
 }
 
 /// What a request to open a channel asks for (SecurityTokenRequestType,
@@ -113,24 +108,20 @@ impl SecurityTokenRequestType {
     pub const RENEW: SecurityTokenRequestType = SecurityTokenRequestType(1);
 }
 
-#[tactic(auto, unfolding(crate::specs::Enumerations::security_token_request_type_reading, crate::specs::Enumerations::security_token_request_type_encoding))]
-impl Wire for SecurityTokenRequestType {
-    ghost reading = { security_token_request_type_reading };
+impl Enumeration for SecurityTokenRequestType {
+    ghost of_number = { λ n. record { 0 = n } };
 
-    ghost encoding = { security_token_request_type_encoding };
+    ghost number_of = { λ v. v.0 };
 
-    ghost spares_memory = { λ _. ⊤ };
-
-    fn decode(
-        alloc: Global,
-        cursor: &mut Cursor<'_>,
-    ) -> Result<SecurityTokenRequestType, TakeFault> {
-        Ok(SecurityTokenRequestType(i32::decode(alloc, cursor)?))
+    fn from_number(number: i32) -> SecurityTokenRequestType {
+        SecurityTokenRequestType(number)
     }
 
-    fn encode(&self, out: &mut Vec<u8>) -> Result<(), AllocError> {
-        self.0.encode(out)
+    fn number(&self) -> i32 {
+        self.0
     }
+
+    ghost kept = { λ v. refl };
 }
 
 /// Which times a value is to have in an answer (TimestampsToReturn, IEC 62541-4, section 7).
@@ -149,19 +140,18 @@ impl TimestampsToReturn {
     pub const NEITHER: TimestampsToReturn = TimestampsToReturn(3);
 }
 
-#[tactic(auto, unfolding(crate::specs::Enumerations::timestamps_to_return_reading, crate::specs::Enumerations::timestamps_to_return_encoding))]
-impl Wire for TimestampsToReturn {
-    ghost reading = { timestamps_to_return_reading };
+impl Enumeration for TimestampsToReturn {
+    ghost of_number = { λ n. record { 0 = n } };
 
-    ghost encoding = { timestamps_to_return_encoding };
+    ghost number_of = { λ v. v.0 };
 
-    ghost spares_memory = { λ _. ⊤ };
-
-    fn decode(alloc: Global, cursor: &mut Cursor<'_>) -> Result<TimestampsToReturn, TakeFault> {
-        Ok(TimestampsToReturn(i32::decode(alloc, cursor)?))
+    fn from_number(number: i32) -> TimestampsToReturn {
+        TimestampsToReturn(number)
     }
 
-    fn encode(&self, out: &mut Vec<u8>) -> Result<(), AllocError> {
-        self.0.encode(out)
+    fn number(&self) -> i32 {
+        self.0
     }
+
+    ghost kept = { λ v. refl };
 }

@@ -1,10 +1,17 @@
 -- Maps under number keys, seen as finite maps: what they have at a key, and what an insertion and a removal change.
-use Rattle.std.proofs.Common.{◌≡◌, ℕ, Bool, true, false, cond, List, [], ◌∷◌, Option, Some, None, refl, sym, ◌∙◌, ap}
-use Rattle.std.specs.Ordering.{nat_cmp, eq_by_cmp}
-use Rattle.std.specs.Map.{lookup}
+use Rattle.std.specs.Prelude.{◌&&◌, T}
+use Rattle.std.specs.List.{AllByRecursion}
+use Rattle.std.specs.List.Sorted.{IsStrictlySortedBy}
+use Rattle.std.specs.declared.cmp.Ordering.{Ordering}
+use Rattle.std.specs.declared.cmp.Ordering.TheVariants.{Less, Equal, Greater}
+use Rattle.std.proofs.Common.{◌≡◌, ◌≢◌, ℕ, Bool, true, false, cond, List, [], ◌∷◌, length, Option, Some, None, refl, sym, subst, ◌∙◌, ap}
+use Rattle.std.proofs.lemmas.Bool.{false≢true}
+use Rattle.std.specs.Ordering.{nat_cmp, eq_by_cmp, is_eq, is_lt}
+use Rattle.std.specs.Map.{lookup, keys_of}
 use Rattle.std.specs.BTreeMap.{is_at}
 use Rattle.std.specs.Cmp.{nat_cmp_total, eq_by_cmp_equiv}
-use Rattle.std.specs.FinMap.{FinMap, get, insert, remove, find, from_entries, get-from_entries, get-insert, get-remove, same_map, nat_cmp-IsAntisymmetric}
+use Rattle.std.specs.FinMap.Entries.{below_all}
+use Rattle.std.specs.FinMap.{FinMap, get, insert, remove, len, find, entries, from_entries, from_sorted, is_sorted, entries-from_sorted, len-entries, get-from_entries, get-from_sorted, get-insert, get-remove, same_map, nat_cmp-IsAntisymmetric}
 
 itself : (k : ℕ) → eq_by_cmp nat_cmp k k ≡ true
 itself k = (eq_by_cmp_equiv nat_cmp_total).refl k
@@ -47,3 +54,69 @@ module _ {V : Type 0} where
       ∙ ap (cond (eq_by_cmp nat_cmp q k) None) (get-insert nat_cmp_total (remove m k) k v q ∙ ap (cond (eq_by_cmp nat_cmp q k) (Some v)) (get-remove nat_cmp_total m k q))
       ∙ twice (eq_by_cmp nat_cmp q k) None (Some v) _ ∙ twice (eq_by_cmp nat_cmp q k) None None (get m q)
       ∙ sym (get-remove nat_cmp_total m k q))
+
+-- ---- numbers that differ, and those that don't
+
+-- keys that differ are told apart
+pub told_apart : (q k : ℕ) (r : Ordering) → nat_cmp q k ≡ r → q ≢ k → is_eq r ≡ false
+told_apart q k Less e apart = refl
+told_apart q k Greater e apart = refl
+told_apart q k Equal e apart = absurd (apart (nat_cmp-IsAntisymmetric q k e))
+
+-- keys that are told to be the same are, and the other way round
+pub same_number : (q k : ℕ) → eq_by_cmp nat_cmp q k ≡ true → q ≡ k
+same_number q k = by (nat_cmp q k) refl
+  where
+    by : (r : Ordering) → nat_cmp q k ≡ r → is_eq r ≡ true → q ≡ k
+    by Less e f = absurd (false≢true f)
+    by Greater e f = absurd (false≢true f)
+    by Equal e f = nat_cmp-IsAntisymmetric q k e
+
+pub numbers_same : (q k : ℕ) → q ≡ k → eq_by_cmp nat_cmp q k ≡ true
+numbers_same q k e = subst (λ (n : ℕ). eq_by_cmp nat_cmp q n ≡ true) e ((eq_by_cmp_equiv nat_cmp_total).refl q)
+
+module _ {V : Type 0} where
+  -- an insertion and a removal change nothing elsewhere
+  pub get_inserted_elsewhere : (m : FinMap nat_cmp V) (k : ℕ) (v : V) (q : ℕ) → q ≢ k → get (insert m k v) q ≡ get m q
+  get_inserted_elsewhere m k v q apart =
+      get-insert nat_cmp_total m k v q ∙ ap (λ b. cond b (Some v) (get m q)) (told_apart q k (nat_cmp q k) refl apart)
+
+  pub get_removed_elsewhere : (m : FinMap nat_cmp V) (k q : ℕ) → q ≢ k → get (remove m k) q ≡ get m q
+  get_removed_elsewhere m k q apart =
+      get-remove nat_cmp_total m k q ∙ ap (λ b. cond b None (get m q)) (told_apart q k (nat_cmp q k) refl apart)
+
+  once : (b : Bool) (w v : Option V) (x : Option V) → cond b w (cond b v x) ≡ cond b w x
+  once true w v x = refl
+  once false w v x = refl
+
+  -- a key that is taken out and set has the new value
+  pub insert_removed : (m : FinMap nat_cmp V) (k : ℕ) (v : V) → insert (remove m k) k v ≡ insert m k v
+  insert_removed m k v = same_map nat_cmp_total nat_cmp-IsAntisymmetric _ _ (λ q.
+      get-insert nat_cmp_total (remove m k) k v q ∙ ap (cond (eq_by_cmp nat_cmp q k) (Some v)) (get-remove nat_cmp_total m k q)
+      ∙ once (eq_by_cmp nat_cmp q k) (Some v) None (get m q)
+      ∙ sym (get-insert nat_cmp_total m k v q))
+
+-- ---- how many entries a map has
+
+both : (a b : Bool) → T a → T b → T (a && b)
+both true b p q = q
+both false b p q = p
+
+module _ {V : Type 0} where
+  below_all_of : (k : ℕ) (es : List (ℕ × V)) → AllByRecursion (λ y. nat_cmp k y ≡ Less) (keys_of es) → T (below_all nat_cmp k es)
+  below_all_of k [] h = tt
+  below_all_of k (e ∷ es) h = both _ _ (subst (λ (o : Ordering). T (is_lt o)) (sym h.0) tt) (below_all_of k es h.1)
+
+  sorted_of : (es : List (ℕ × V)) → IsStrictlySortedBy nat_cmp (keys_of es) → T (is_sorted nat_cmp es)
+  unfolding IsStrictlySortedBy
+  sorted_of [] h = tt
+  sorted_of (e ∷ es) h = both _ _ (below_all_of e.0 es h.0) (sorted_of es h.1)
+
+  -- the map of entries whose keys rise has these, and as many
+  pub entries_are : (es : List (ℕ × V)) → IsStrictlySortedBy nat_cmp (keys_of es) → entries (from_entries {R = nat_cmp} es) ≡ es
+  entries_are es h =
+      let s = sorted_of es h in
+      ap entries (same_map nat_cmp_total nat_cmp-IsAntisymmetric _ _ (λ q. get-from_entries nat_cmp_total es q ∙ sym (get-from_sorted nat_cmp es q s))) ∙ entries-from_sorted nat_cmp es s
+
+  pub count_is : (es : List (ℕ × V)) → IsStrictlySortedBy nat_cmp (keys_of es) → length es ≡ len (from_entries {R = nat_cmp} es)
+  count_is es h = ap length (sym (entries_are es h)) ∙ sym (len-entries (from_entries {R = nat_cmp} es))

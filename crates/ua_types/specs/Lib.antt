@@ -5,3 +5,5 @@ pub mod Configuration
 pub mod Answers
 pub mod IdTexts
 pub mod Refusals
+pub mod Moments
+pub mod NodeClasses

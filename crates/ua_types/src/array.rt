@@ -1,9 +1,9 @@
 //! Lists, each of which may be null.
 
-ghost use Rattle.std.specs.Prelude.{◌≡◌, ◌<◌, ◌^◌, List, length, Option, Some, None, option_map, IfSome, IfOk, is_none};
+ghost use Rattle.std.specs.Prelude.{◌≡◌, ◌<◌, ◌^◌, List, length, Option, Some, None, option_map, IfSome, is_none};
 ghost use Rattle.std.specs.Vec.{vec_len};
 
-use crate::copyable::Copyable;
+use crate::copyable::{Copyable, copy_all};
 use std::alloc::{AllocError, Global};
 use std::marker::Model;
 
@@ -76,23 +76,11 @@ impl<T: Drop> Drop for Array<T> {
     }
 }
 
-/// Copies of these elements, in order.
-fn copied<T: Copyable>(items: &[T], alloc: Global) -> Result<Vec<T>, AllocError>
-    ensures items { IfOk result (λ copies. copies.items ≡ items.now) }
-    ensures len { IfOk result (λ copies. vec_len copies ≡ length items.now) }
-{
-    let mut copies = Vec::with_capacity(alloc, items.len())?;
-    for item in items {
-        copies.push(item.copy(alloc)?)?;
-    }
-    Ok(copies)
-}
-
 impl<T: Copyable> Copyable for Array<T> {
     fn copy(&self, alloc: Global) -> Result<Array<T>, AllocError> {
         match self.as_slice() {
             None => Ok(Array::null()),
-            Some(items) => Ok(Array::new(copied(items, alloc)?)),
+            Some(items) => Ok(Array::new(copy_all(alloc, items)?)),
         }
     }
 }

@@ -1,6 +1,7 @@
 //! Copies of values that hold memory of their own.
 
-ghost use Rattle.std.specs.Prelude.{◌≡◌, IfOk};
+ghost use Rattle.std.specs.Prelude.{◌≡◌, length, IfOk};
+ghost use Rattle.std.specs.Vec.{vec_len};
 
 use crate::duration::Duration;
 use crate::guid::Guid;
@@ -13,6 +14,18 @@ pub trait Copyable: Drop {
     /// An equal value. An `Err` leaves nothing behind.
     fn copy(&self, alloc: Global) -> Result<Self, AllocError>
         ensures { IfOk result (λ copy. copy ≡ self.now) };
+}
+
+/// Copies of these elements, in order.
+pub fn copy_all<T: Copyable>(alloc: Global, items: &[T]) -> Result<Vec<T>, AllocError>
+    ensures items { IfOk result (λ copies. copies.items ≡ items.now) }
+    ensures len { IfOk result (λ copies. vec_len copies ≡ length items.now) }
+{
+    let mut copies = Vec::with_capacity(alloc, items.len())?;
+    for item in items {
+        copies.push(item.copy(alloc)?)?;
+    }
+    Ok(copies)
 }
 
 impl Copyable for bool {

@@ -60,6 +60,21 @@ fn codes_are_those_of_the_standard(rt: HostRuntime) {
     }
 }
 
+// The numbers of the standard (IEC 62541-3, section 8).
+#[test]
+fn node_classes_are_those_of_the_standard(rt: HostRuntime) {
+    for (class, number) in [
+        (NodeClass::Object, 1u8),
+        (NodeClass::Variable, 2),
+        (NodeClass::ObjectType, 8),
+        (NodeClass::VariableType, 16),
+        (NodeClass::ReferenceType, 32),
+        (NodeClass::DataType, 64),
+    ] {
+        assert_eq!(rt; class.number(), number);
+    }
+}
+
 #[test]
 fn null_comes_first(rt: HostRuntime) -> Result<(), Fail> {
     let alloc = rt.alloc();

@@ -1,6 +1,6 @@
 //! Lists with dimensions.
 
-ghost use Rattle.std.specs.Prelude.{◌≡◌, ℕ, ◌<◌, ◌^◌, List, length, IfOk, refl};
+ghost use Rattle.std.specs.Prelude.{◌≡◌, ℕ, ◌<◌, ◌^◌, List, length, refl};
 ghost use Rattle.std.specs.Cmp.{partial_equiv_from_equiv, po};
 ghost use Rattle.std.specs.Ordering.{as_partial_cmp};
 ghost use Rattle.std.specs.Vec.{vec_len};
@@ -10,7 +10,7 @@ ghost use Rattle.ua_values.specs.Shapes.{IsShaped, is_shape};
 use std::alloc::{AllocError, Global};
 use std::cmp::Ordering;
 use std::marker::Model;
-use ua_types::Copyable;
+use ua_types::{Copyable, copy_all};
 
 /// Whether so many elements lie in these dimensions: each is below 2^31, and their product is the
 /// number of elements. The product of no dimensions is 1.
@@ -85,21 +85,9 @@ impl<T: Drop> Drop for Matrix<T> {
     }
 }
 
-// Copies of these elements, in order.
-fn copied<T: Copyable>(elements: &[T], alloc: Global) -> Result<Vec<T>, AllocError>
-    ensures items { IfOk result (λ copies. copies.items ≡ elements.now) }
-    ensures len { IfOk result (λ copies. vec_len copies ≡ length elements.now) }
-{
-    let mut copies = Vec::with_capacity(alloc, elements.len())?;
-    for element in elements {
-        copies.push(element.copy(alloc)?)?;
-    }
-    Ok(copies)
-}
-
 impl<T: Copyable> Copyable for Matrix<T> {
     fn copy(&self, alloc: Global) -> Result<Matrix<T>, AllocError> {
-        let elements = copied(self.elements(), alloc)?;
+        let elements = copy_all(alloc, self.elements())?;
         let dimensions = Vec::from_slice(alloc, self.dimensions())?;
         Ok(Matrix::new(elements, dimensions))
     }

@@ -1,6 +1,6 @@
 use Rattle.std.proofs.Common.{◌≡◌, take}
 use Rattle.std.specs.Vec.{vec_len}
-use Rattle.ua_types.proofs.array.copied.Given as goal
+use Rattle.ua_types.proofs.copyable.copy_all.Given as goal
 
 -- the elements so far are copied
 abbrev pub invariant-loop-item : goal.invariant-loop-item
