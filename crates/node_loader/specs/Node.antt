@@ -4,11 +4,11 @@ use Rattle.std.specs.Str.{bytes_eq}
 use Rattle.toml.specs.Data.{Members}
 use Rattle.ua_types.specs.NodeIds.{numeric_id}
 use Rattle.ua_types.specs.declared.moment.Moment.{Moment}
+use Rattle.ua_types.specs.declared.node_class.NodeClass.{NodeClass}
+use Rattle.ua_types.specs.declared.node_class.NodeClass.TheVariants as classes
 use Rattle.ua_types.specs.declared.node_id.NodeId.{NodeId}
 use Rattle.ua_values.specs.declared.data_value.DataValue.{DataValue}
 use Rattle.ua_values.specs.declared.variant.Variant.{Variant}
-use Rattle.ua_space.specs.declared.node.NodeClass.{NodeClass}
-use Rattle.ua_space.specs.declared.node.NodeClass.TheVariants as classes
 use Rattle.ua_space.specs.declared.node.NodeDetails.TheVariants as details
 use Rattle.ua_space.specs.declared.node.ValueRank.TheVariants as ranks
 use Rattle.ua_space.specs.declared.node.Variable.{Variable}

@@ -18,8 +18,8 @@ use crate::keys::{
 use crate::value::{ValueType, type_of, value_of};
 use std::alloc::{AllocError, Global};
 use toml::{Table, Value};
-use ua_space::{Node, NodeClass, NodeDetails, Part, Triple, ValueRank, Variable};
-use ua_types::{Copyable, LocalizedText, Moment, NodeId, QualifiedName, Status, Text};
+use ua_space::{Node, NodeDetails, Part, Triple, ValueRank, Variable};
+use ua_types::{Copyable, LocalizedText, Moment, NodeClass, NodeId, QualifiedName, Status, Text};
 use ua_values::{DataValue, Variant};
 
 /// What the server's table says that nodes depend on.

@@ -1,6 +1,7 @@
 //! How long it takes to build a space of the largest size: 100,000 nodes and 400,000 references, with
-//! a chain of 50,000 types that are subtypes of each other, and a ladder of 10,000 steps with two types
-//! each, both of them subtypes of both types of the step above. There are 2^9,999 ways down that ladder.
+//! a comb and a ladder among them. The comb is a chain of 50,000 types, each of which has a second
+//! supertype beside the one above it. The ladder has 10,000 steps with two types each, both of them
+//! subtypes of both types of the step above, so there are 2^9,999 ways down.
 //!
 //! The counts go to standard output, where the gate compares them; the times go to standard error.
 #![tactic(auto)]
@@ -55,7 +56,7 @@ fn reference_type() -> NodeDetails {
     }
 }
 
-// The types of the chain and of the ladder, and then objects.
+// The types of the comb and of the ladder, and then objects.
 fn nodes(alloc: Global) -> Result<Vec<Node>, AllocError> {
     let mut nodes = Vec::new(alloc);
     for number in 0..FIRST {
@@ -76,6 +77,25 @@ fn triple(source: NodeId, kind: u32, target: NodeId, place: u64) -> Triple {
     }
 }
 
+// The comb's references, the lowest type first. The second supertype is the ladder's first type; it is
+// declared before the other one at each second type.
+fn add_comb(triples: &mut Vec<Triple>) -> Result<(), AllocError> {
+    for number in (1..TYPES).rev() {
+        let place = triples.len() as u64;
+        let (one, two) = if number % 2 == 0 {
+            (LADDER, number - 1)
+        } else {
+            (number - 1, LADDER)
+        };
+        for upper in [one, two] {
+            let source = NodeId::numeric(1, upper);
+            let target = NodeId::numeric(1, number);
+            triples.push(triple(source, 45, target, place))?;
+        }
+    }
+    Ok(())
+}
+
 // The ladder's references, each step's four.
 fn add_ladder(triples: &mut Vec<Triple>) -> Result<(), AllocError> {
     for step in 1..STEPS {
@@ -91,15 +111,10 @@ fn add_ladder(triples: &mut Vec<Triple>) -> Result<(), AllocError> {
     Ok(())
 }
 
-// A chain of HasSubtype references, the lowest first, the ladder, and then each object organizes those
-// after it.
+// The comb, the ladder, and then each object organizes those after it.
 fn triples(alloc: Global) -> Result<Vec<Triple>, AllocError> {
     let mut triples = Vec::new(alloc);
-    for number in (1..TYPES).rev() {
-        let place = triples.len() as u64;
-        let upper = NodeId::numeric(1, number - 1);
-        triples.push(triple(upper, 45, NodeId::numeric(1, number), place))?;
-    }
+    add_comb(&mut triples)?;
     add_ladder(&mut triples)?;
     for step in 1..12u32 {
         for number in 0..OBJECTS {
@@ -158,16 +173,45 @@ fn ladder(rt: &HostRuntime, space: &Space) -> Result<(usize, usize), AllocError>
     Ok((below(rt, space, 0)?, below(rt, space, STEPS / 2)?))
 }
 
-fn run(rt: &HostRuntime, space: &Space) -> Result<(), io::Error> {
-    let lowest = NodeId::numeric(1, TYPES - 1);
-    let highest = NodeId::numeric(1, 0);
+// Whether the one type is a subtype of the other, asked once.
+fn asked(rt: &HostRuntime, space: &Space, name: &str, lower: u32, upper: u32) -> bool {
+    let lower = NodeId::numeric(1, lower);
+    let upper = NodeId::numeric(1, upper);
     let start = Instant::now(rt);
-    let chained = space.is_subtype(&lowest, &highest);
-    report(rt, "is_subtype over 49,999 steps", start);
+    let answer = space.is_subtype(&lower, &upper);
+    report(rt, name, start);
+    answer
+}
+
+// How many of 20,000 questions about the base set are answered by yes: every second one.
+fn short(rt: &HostRuntime, space: &Space) -> usize {
+    let lower = NodeId::numeric(0, 47);
+    let start = Instant::now(rt);
+    let mut count = 0usize;
+    for _ in 0..10_000 {
+        for upper in [44, 35] {
+            if space.is_subtype(&lower, &NodeId::numeric(0, upper)) {
+                count = count.saturating_add(1);
+            }
+        }
+    }
+    report(rt, "20,000 times is_subtype, one step", start);
+    count
+}
+
+fn run(rt: &HostRuntime, space: &Space) -> Result<(), io::Error> {
     let nodes = space.node_count();
     let triples = space.triple_count();
     let mut out = rt.stdout();
-    writeln!(out, "{nodes} nodes, {triples} references, {chained}")?;
+    writeln!(out, "{nodes} nodes, {triples} references")?;
+    let up = asked(rt, space, "is_subtype up the comb", TYPES - 1, 0);
+    let aside = asked(rt, space, "is_subtype, comb aside", TYPES - 1, LADDER + 1);
+    writeln!(out, "comb: {up} and {aside}")?;
+    let up = asked(rt, space, "is_subtype up the ladder", FIRST - 1, LADDER);
+    let aside = asked(rt, space, "is_subtype, ladder aside", FIRST - 1, 1);
+    writeln!(out, "ladder: {up} and {aside}")?;
+    let count = short(rt, space);
+    writeln!(out, "one step: {count}")?;
     match ladder(rt, space) {
         Ok((all, half)) => writeln!(out, "{all} and {half} subtypes"),
         Err(_) => writeln!(out, "memory"),

@@ -18,7 +18,7 @@ has_from_contains [] t k lt e = absurd (omega arith)
 has_from_contains (x ∷ xs) t zero lt e = inl e
 has_from_contains (x ∷ xs) t (suc k) lt e = inr (has_from_contains xs t k (omega arith) e)
 
-contains_from_has : (xs : List Triple) (t : Triple) → Has xs t → Contains xs t
+pub contains_from_has : (xs : List Triple) (t : Triple) → Has xs t → Contains xs t
 contains_from_has [] t h = absurd h
 contains_from_has (x ∷ xs) t (inl e) = (0, omega arith, e)
 contains_from_has (x ∷ xs) t (inr h) = let c = contains_from_has xs t h in (suc c.0, omega (arith, c.1), c.2)

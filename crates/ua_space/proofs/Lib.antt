@@ -1,9 +1,12 @@
 pub mod Building
 pub mod Chains
 pub mod Indexing
-pub mod Climbing
+pub mod Places
+pub mod Counting
 pub mod Ranking
+pub mod Marking
 pub mod Soundness
 pub mod Walking
 pub mod Referring
 pub mod Making
+pub mod Few

@@ -10,7 +10,7 @@ use Rattle.ua_space.specs.declared.triple.Triple.{Triple}
 use Rattle.ua_space.specs.Indexes.{stands_under}
 use Rattle.ua_space.specs.Nodes.{Directed, outwards, inwards, is_defining, type_definition_of}
 use Rattle.ua_space.specs.Spaces.{most_triples}
-use Rattle.ua_space.proofs.Climbing.{under}
+use Rattle.ua_space.proofs.Places.{under}
 
 no_more : (p : Triple → Bool) (ts : List Triple) → length (filter p ts) ≤ length ts
 no_more p [] = omega arith

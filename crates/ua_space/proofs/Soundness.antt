@@ -92,7 +92,7 @@ pub bind_ok : {A B : Type 0} (r : Result A SpaceFault) (f : A → Result B Space
 bind_ok (Ok x) f y e = (x, refl, e)
 bind_ok (Err fault) f y e = absurd cc
 
-all_sound : (base nodes : List Node) (made : Nodes) → all_named base nodes ≡ Ok made → Own made × (length made ≤ length base + length nodes)
+pub all_sound : (base nodes : List Node) (made : Nodes) → all_named base nodes ≡ Ok made → Own made × (length made ≤ length base + length nodes)
 unfolding all_named
 all_sound base nodes made e =
     let both = bind_ok (named 0 [] base) (λ known. named 1 known nodes) made e in
@@ -136,7 +136,7 @@ linked_step nodes before ts t e =
           ]
     ]
 
-linked_fits : (nodes : Nodes) (before ts : List Triple) → linked nodes before ts ≡ Ok tt → (t : Triple) → Has ts t → fits nodes t ≡ true
+pub linked_fits : (nodes : Nodes) (before ts : List Triple) → linked nodes before ts ≡ Ok tt → (t : Triple) → Has ts t → fits nodes t ≡ true
 linked_fits nodes before [] e t h = absurd h
 linked_fits nodes before (x ∷ ts) e t (inl is) = ap (fits nodes) (sym is) ∙ (linked_step nodes before ts x e).fit
 linked_fits nodes before (x ∷ ts) e t (inr h) = linked_fits nodes (before ++ x ∷ []) ts (linked_step nodes before ts x e).rest t h
@@ -185,7 +185,7 @@ both_false : (a b : Bool) → (a || b) ≡ false → (a ≡ false) × (b ≡ fal
 both_false false b h = (refl, h)
 both_false true b h = absurd (false≢true (sym h))
 
-within : (base nodes : List Node) (triples : List Triple) → within_limits base nodes triples ≡ Ok tt → (length base + length nodes ≤ most_nodes) × (length base_triples + length triples ≤ most_triples)
+pub within : (base nodes : List Node) (triples : List Triple) → within_limits base nodes triples ≡ Ok tt → (length base + length nodes ≤ most_nodes) × (length base_triples + length triples ≤ most_triples)
 within base nodes triples e =
     elim (cases_Bool (is_too_much most_nodes (length base) (length nodes) || is_too_much most_triples (length base_triples) (length triples))) [
       | inl over ↦ absurd (let none : Err _ ≡ Ok tt = rw over at e in cc)

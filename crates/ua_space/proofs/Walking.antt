@@ -18,7 +18,7 @@ use Rattle.ua_space.specs.Subtypes.{is_subtyping, is_subtype}
 use Rattle.ua_space.specs.Walks.{has_id, lent, met_after, IsSetOf}
 use Rattle.ua_space.proofs.Chains.{Has, Walk, walk_found, walk_taken}
 use Rattle.ua_space.proofs.Building.{either_way}
-use Rattle.ua_space.proofs.Climbing.{under, at_get}
+use Rattle.ua_space.proofs.Places.{under, at_get}
 
 -- ---- the types met
 
@@ -98,7 +98,7 @@ from_before met (x ∷ ts) q h =
 
 -- ---- the references from a type
 
-in_filter : (p : Triple → Bool) (ts : List Triple) (t : Triple) → Has (filter p ts) t → Has ts t × (p t ≡ true)
+pub in_filter : (p : Triple → Bool) (ts : List Triple) (t : Triple) → Has (filter p ts) t → Has ts t × (p t ≡ true)
 in_filter p [] t h = absurd h
 in_filter p (x ∷ xs) t h =
     elim (cases_Bool (p x)) [
@@ -109,7 +109,7 @@ in_filter p (x ∷ xs) t h =
       | inr fails ↦ let r = in_filter p xs t (rw fails at h) in (inr r.0, r.1)
     ]
 
-to_filter : (p : Triple → Bool) (ts : List Triple) (t : Triple) → Has ts t → p t ≡ true → Has (filter p ts) t
+pub to_filter : (p : Triple → Bool) (ts : List Triple) (t : Triple) → Has ts t → p t ≡ true → Has (filter p ts) t
 to_filter p [] t h pass = absurd h
 to_filter p (x ∷ xs) t (inl e) pass = rw (ap p e ∙ pass) (inl e)
 to_filter p (x ∷ xs) t (inr h) pass =
@@ -189,7 +189,7 @@ all_below ts upper i met done le (suc n) q w =
     let above = all_below ts upper i met done le n t.source w.3 in
     same_met met t.target q ends.1 (done.closed t w.1 ends.0 (rw (take_all i met le) above))
 
-both_ways : (a b : Bool) → (a ≡ true → b ≡ true) → (b ≡ true → a ≡ true) → a ≡ b
+pub both_ways : (a b : Bool) → (a ≡ true → b ≡ true) → (b ≡ true → a ≡ true) → a ≡ b
 both_ways true b f g = sym (f refl)
 both_ways false true f g = g refl
 both_ways false false f g = refl

@@ -10,4 +10,6 @@ pub mod Indexes
 pub mod Indexed
 pub mod Walks
 pub mod Ranks
+pub mod Numbers
+pub mod Marks
 pub mod Made

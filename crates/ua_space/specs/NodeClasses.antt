@@ -1,7 +1,7 @@
 -- The class of a node, which its details show.
+use Rattle.ua_types.specs.declared.node_class.NodeClass.{NodeClass}
+use Rattle.ua_types.specs.declared.node_class.NodeClass.TheVariants as classes
 use Rattle.ua_space.specs.declared.node.Node.{Node}
-use Rattle.ua_space.specs.declared.node.NodeClass.{NodeClass}
-use Rattle.ua_space.specs.declared.node.NodeClass.TheVariants as classes
 use Rattle.ua_space.specs.declared.node.NodeDetails.{NodeDetails}
 use Rattle.ua_space.specs.declared.node.NodeDetails.TheVariants as details
 

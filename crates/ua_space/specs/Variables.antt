@@ -1,11 +1,11 @@
 -- Variables: what they have beside the attributes of all nodes, and which values they take (IEC 62541-3, 5.6.2).
 use Rattle.std.specs.Prelude.{◌≡◌, ℕ, ◌≤◌, ◌<◌, Bool, true, false, ◌==◌, ◌&&◌, Option, Some, None}
 use Rattle.ua_values.specs.TypeNumbers.{type_number}
-use Rattle.ua_values.specs.declared.content.Content.{Content}
-use Rattle.ua_values.specs.declared.content.Content.TheVariants as content
+use Rattle.ua_values.specs.ValueShapes.{shape_of}
 use Rattle.ua_values.specs.declared.data_value.DataValue.{DataValue}
+use Rattle.ua_values.specs.declared.shape.Shape.{Shape}
+use Rattle.ua_values.specs.declared.shape.Shape.TheVariants as shapes
 use Rattle.ua_values.specs.declared.variant.Variant.{Variant}
-use Rattle.ua_values.specs.declared.variant.Variant.TheVariants as variants
 use Rattle.ua_space.specs.declared.node.ValueRank.{ValueRank}
 use Rattle.ua_space.specs.declared.node.ValueRank.TheVariants as ranks
 
@@ -25,35 +25,14 @@ is_list ranks.Scalar = false
 is_list ranks.List = true
 
 -- one value, or a list without dimensions, which may be null; a list with dimensions is neither
-abbrev pub content_has_rank : {A : Type 0} → ValueRank → Content A → Bool
-content_has_rank rank (content.Scalar x) = is_scalar rank
-content_has_rank rank (content.Array xs) = is_list rank
-content_has_rank rank (content.Matrix m) = false
+abbrev pub shape_has_rank : ValueRank → Shape → Bool
+shape_has_rank rank shapes.Null = false
+shape_has_rank rank shapes.Scalar = is_scalar rank
+shape_has_rank rank shapes.List = is_list rank
+shape_has_rank rank shapes.Matrix = false
 
 unfoldable pub has_rank : ValueRank → Variant → Bool
-has_rank rank variants.Null = false
-has_rank rank (variants.Boolean c) = content_has_rank rank c
-has_rank rank (variants.SByte c) = content_has_rank rank c
-has_rank rank (variants.Byte c) = content_has_rank rank c
-has_rank rank (variants.Int16 c) = content_has_rank rank c
-has_rank rank (variants.UInt16 c) = content_has_rank rank c
-has_rank rank (variants.Int32 c) = content_has_rank rank c
-has_rank rank (variants.UInt32 c) = content_has_rank rank c
-has_rank rank (variants.Int64 c) = content_has_rank rank c
-has_rank rank (variants.UInt64 c) = content_has_rank rank c
-has_rank rank (variants.Float c) = content_has_rank rank c
-has_rank rank (variants.Double c) = content_has_rank rank c
-has_rank rank (variants.String c) = content_has_rank rank c
-has_rank rank (variants.DateTime c) = content_has_rank rank c
-has_rank rank (variants.Guid c) = content_has_rank rank c
-has_rank rank (variants.ByteString c) = content_has_rank rank c
-has_rank rank (variants.XmlElement c) = content_has_rank rank c
-has_rank rank (variants.NodeId c) = content_has_rank rank c
-has_rank rank (variants.ExpandedNodeId c) = content_has_rank rank c
-has_rank rank (variants.StatusCode c) = content_has_rank rank c
-has_rank rank (variants.QualifiedName c) = content_has_rank rank c
-has_rank rank (variants.LocalizedText c) = content_has_rank rank c
-has_rank rank (variants.ExtensionObject c) = content_has_rank rank c
+has_rank rank value = shape_has_rank rank (shape_of value)
 
 -- a value of this type, one or a list as the rank says
 abbrev pub is_of : ℕ → ValueRank → Variant → Bool

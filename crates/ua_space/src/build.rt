@@ -8,9 +8,11 @@ ghost use Rattle.ua_space.specs.declared.fault.SpaceFault.TheVariants.{Memory};
 
 use crate::base::{TRIPLES, base_nodes, base_triples};
 use crate::fault::SpaceFault;
+use crate::hints::Hints;
 use crate::index::Indexes;
 use crate::loops::no_loop;
 use crate::node::{Node, NodeDetails};
+use crate::numbering::Numbering;
 use crate::space::Space;
 use crate::triple::{Part, Triple};
 use std::alloc::Global;
@@ -155,7 +157,9 @@ impl Space {
         let all = with_base(alloc, triples)?;
         linked(alloc, &known, all.as_slice())?;
         let indexes = Indexes::new(alloc, all.as_slice())?;
-        no_loop(alloc, all.as_slice(), &indexes.supertypes)?;
-        Ok(Space::new(known, all, indexes))
+        let hints = Hints::new(alloc, all.as_slice())?;
+        let numbering = Numbering::new(alloc, all.as_slice(), hints.order())?;
+        no_loop(all.as_slice(), &indexes.supertypes, &numbering, &hints)?;
+        Ok(Space::new(known, all, indexes, numbering))
     }
 }

@@ -1,6 +1,7 @@
 //! A guess at where loops of HasSubtype references are, in time that grows with their number.
 //!
-//! Nothing is proved of the guess itself: whoever uses it tests it (`loops`). It numbers the strongly
+//! Nothing is proved of the guess itself: whoever uses it tests it (`loops`), or only goes by it in the
+//! order of its work (`numbering`). It numbers the strongly
 //! connected components of the types, supertypes first: each type is numbered, a walk down the
 //! references gives the order in which types are left, and walks up, from the type that was left last
 //! on, each reach one component (Kosaraju's and Sharir's algorithm).
@@ -25,6 +26,8 @@ pub(crate) struct Hints {
     // The places of HasSubtype references, each leading to the source of the one before, from the
     // source of the first one that seems to lie on a loop up to its target.
     path: Vec<usize>,
+    // The places of HasSubtype references, one that goes out from each supertype, supertypes first.
+    order: Vec<usize>,
 }
 
 // A HasSubtype reference between two numbered types, and its place among all references.
@@ -148,8 +151,13 @@ impl Graph {
     }
 }
 
-// The component of each type, supertypes first.
-fn components(alloc: Global, types: usize, edges: &[Edge]) -> Result<Vec<usize>, AllocError> {
+// The component of each type, and the place of a reference that goes out from each supertype; both with
+// supertypes first.
+fn components(
+    alloc: Global,
+    types: usize,
+    edges: &[Edge],
+) -> Result<(Vec<usize>, Vec<usize>), AllocError> {
     let down = Graph::new(alloc, types, edges, true)?;
     let up = Graph::new(alloc, types, edges, false)?;
     let mut marks = zeros(alloc, types)?;
@@ -163,7 +171,11 @@ fn components(alloc: Global, types: usize, edges: &[Edge]) -> Result<Vec<usize>,
     let mut ranks = zeros(alloc, types)?;
     let mut component = Vec::new(alloc);
     let mut rank = 0usize;
+    let mut places = Vec::with_capacity(alloc, types)?;
     for start in order.iter().rev() {
+        if let Some(edge) = edges.get(at(down.first.as_slice(), *start).wrapping_sub(1)) {
+            places.push(edge.place)?;
+        }
         if at(marks.as_slice(), *start) == UNSEEN {
             component.clear();
             up.walk(alloc, edges, *start, &mut marks, &mut component)?;
@@ -173,7 +185,7 @@ fn components(alloc: Global, types: usize, edges: &[Edge]) -> Result<Vec<usize>,
             }
         }
     }
-    Ok(ranks)
+    Ok((ranks, places))
 }
 
 // The way from the upper end of an edge down to the lower end of another, from below.
@@ -207,7 +219,7 @@ impl Hints {
         let mut numbers = BTreeMap::new(alloc);
         let edges = edges(alloc, &mut numbers, triples)?;
         let types = numbers.len();
-        let ranks = components(alloc, types, edges.as_slice())?;
+        let (ranks, order) = components(alloc, types, edges.as_slice())?;
         let mut path = Vec::new(alloc);
         for edge in edges.as_slice() {
             if at(ranks.as_slice(), edge.upper) == at(ranks.as_slice(), edge.lower) {
@@ -219,6 +231,7 @@ impl Hints {
             numbers,
             ranks,
             path,
+            order,
         })
     }
 
@@ -238,5 +251,10 @@ impl Hints {
     /// The way round a loop.
     pub(crate) fn path(&self) -> &[usize] {
         self.path.as_slice()
+    }
+
+    /// The places of HasSubtype references, in an order in which the supertypes come first.
+    pub(crate) fn order(&self) -> &[usize] {
+        self.order.as_slice()
     }
 }

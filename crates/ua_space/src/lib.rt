@@ -19,6 +19,7 @@ mod index;
 pub mod laws;
 mod loops;
 mod node;
+mod numbering;
 mod references;
 mod space;
 mod subtype_set;
@@ -26,7 +27,7 @@ mod subtypes;
 mod triple;
 
 pub use fault::SpaceFault;
-pub use node::{Node, NodeClass, NodeDetails, ValueRank, Variable};
+pub use node::{Node, NodeDetails, ValueRank, Variable};
 pub use references::{Direction, Reference, References};
 pub use space::Space;
 pub use subtype_set::Subtypes;

@@ -1,20 +1,22 @@
 //! The first reference on a loop of HasSubtype references.
 
-ghost use Rattle.std.specs.Prelude.{◌≡◌, true, IsTrue};
+ghost use Rattle.std.specs.Prelude.{◌≡◌, ◌≤◌, true, IsTrue, length};
 ghost use Rattle.std.specs.List.{list_all, find};
 ghost use Rattle.std.specs.Option.{option_copied};
-ghost use Rattle.ua_space.specs.Build.{Makes, no_loop};
+ghost use Rattle.ua_space.specs.Build.{no_loop};
 ghost use Rattle.ua_space.specs.Indexes.{IsIndex, items, stands_under};
 ghost use Rattle.ua_space.specs.declared.index.Key.TheVariants as keys;
+ghost use Rattle.ua_space.specs.Numbers.{AreNumbered};
+ghost use Rattle.ua_space.specs.Spaces.{most_nodes};
 ghost use Rattle.ua_space.specs.Ranks.{rank_at, keeps_rank, raises_rank};
 ghost use Rattle.ua_space.specs.Subtypes.{is_subtype, leads_to, lies_on_loop};
 
 use crate::fault::SpaceFault;
 use crate::hints::Hints;
 use crate::index::{Index, is_subtyping};
-use crate::subtypes::reaches;
+use crate::numbering::Numbering;
+use crate::subtypes::is_subtype;
 use crate::triple::Triple;
-use std::alloc::Global;
 use ua_types::NodeId;
 
 // It is no HasSubtype reference, or leads to a number that isn't lower.
@@ -62,17 +64,25 @@ fn follows(triples: &[Triple], path: &[usize], lower: &NodeId, upper: &NodeId) -
     reached == upper
 }
 
-// The path is a quick way to see a loop; where it is none, each chain is tried.
-fn lies_on_loop(triples: &[Triple], supertypes: &Index, path: &[usize], triple: &Triple) -> bool
-    requires { IsIndex items (stands_under keys.Subtype) triples.now supertypes.now.entries }
+// The path is a quick way to see a loop; where it is none, the supertypes are walked.
+fn lies_on_loop(
+    triples: &[Triple],
+    supertypes: &Index,
+    numbering: &Numbering,
+    path: &[usize],
+    triple: &Triple,
+) -> bool
+    requires index { IsIndex items (stands_under keys.Subtype) triples.now supertypes.now.entries }
+    requires numbered { AreNumbered triples.now numbering.now.types.items numbering.now.numbers.entries }
+    requires few { length numbering.now.types.items ≤ most_nodes }
     ensures { result ≡ lies_on_loop triples.now triple.now }
 {
     is_subtyping(triple)
         && (follows(triples, path, &triple.source, &triple.target)
-            || reaches(
+            || is_subtype(
                 triples,
                 supertypes,
-                triples.len(),
+                numbering,
                 &triple.source,
                 &triple.target,
             ))
@@ -82,32 +92,38 @@ fn lies_on_loop(triples: &[Triple], supertypes: &Index, path: &[usize], triple: 
 fn is_looped(
     triples: &[Triple],
     supertypes: &Index,
+    numbering: &Numbering,
     hints: &Hints,
     sound: bool,
     triple: &Triple,
 ) -> bool
     requires index { IsIndex items (stands_under keys.Subtype) triples.now supertypes.now.entries }
+    requires numbered { AreNumbered triples.now numbering.now.types.items numbering.now.numbers.entries }
+    requires few { length numbering.now.types.items ≤ most_nodes }
     requires sound { sound ≡ list_all (keeps_rank (rank_at hints.now.numbers.entries hints.now.ranks.items)) triples.now }
     ensures { result ≡ lies_on_loop triples.now triple.now }
 {
     if sound && raises_rank(hints, triple) {
         return false;
     }
-    lies_on_loop(triples, supertypes, hints.path(), triple)
+    lies_on_loop(triples, supertypes, numbering, hints.path(), triple)
 }
 
 /// The first reference that lies on a loop. The hints make it quick, and can't make it wrong.
 pub(crate) fn first_on_loop<'a>(
     triples: &'a [Triple],
     supertypes: &Index,
+    numbering: &Numbering,
     hints: &Hints,
 ) -> Option<&'a Triple>
-    requires { IsIndex items (stands_under keys.Subtype) triples.now supertypes.now.entries }
+    requires index { IsIndex items (stands_under keys.Subtype) triples.now supertypes.now.entries }
+    requires numbered { AreNumbered triples.now numbering.now.types.items numbering.now.numbers.entries }
+    requires few { length numbering.now.types.items ≤ most_nodes }
     ensures { option_copied result ≡ find (lies_on_loop triples.entry.now) triples.entry.now }
 {
     let sound = is_sound(hints, triples);
     for triple in triples {
-        if is_looped(triples, supertypes, hints, sound, triple) {
+        if is_looped(triples, supertypes, numbering, hints, sound, triple) {
             return Some(triple);
         }
     }
@@ -116,15 +132,17 @@ pub(crate) fn first_on_loop<'a>(
 
 /// No reference lies on a loop.
 pub(crate) fn no_loop(
-    alloc: Global,
     triples: &[Triple],
     supertypes: &Index,
+    numbering: &Numbering,
+    hints: &Hints,
 ) -> Result<(), SpaceFault>
-    requires { IsIndex items (stands_under keys.Subtype) triples.now supertypes.now.entries }
-    ensures { Makes (λ x. x) result (no_loop (find (lies_on_loop triples.now) triples.now)) }
+    requires index { IsIndex items (stands_under keys.Subtype) triples.now supertypes.now.entries }
+    requires numbered { AreNumbered triples.now numbering.now.types.items numbering.now.numbers.entries }
+    requires few { length numbering.now.types.items ≤ most_nodes }
+    ensures { result ≡ no_loop (find (lies_on_loop triples.now) triples.now) }
 {
-    let hints = Hints::new(alloc, triples)?;
-    match first_on_loop(triples, supertypes, &hints) {
+    match first_on_loop(triples, supertypes, numbering, hints) {
         None => Ok(()),
         Some(triple) => Err(SpaceFault::SubtypeLoop(triple.part)),
     }

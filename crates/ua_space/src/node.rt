@@ -2,30 +2,20 @@
 
 ghost use Rattle.std.specs.Prelude.{◌≡◌, true};
 ghost use Rattle.ua_space.specs.NodeClasses.{class_of};
-ghost use Rattle.ua_space.specs.Variables.{content_has_rank, has_rank, takes, takes_if_any};
+ghost use Rattle.ua_space.specs.Variables.{has_rank, takes, takes_if_any};
 
 use std::marker::Model;
-use ua_types::{LocalizedText, NodeId, QualifiedName};
-use ua_values::{Content, DataValue, Variant};
+use ua_types::{LocalizedText, NodeClass, NodeId, QualifiedName};
+use ua_values::{DataValue, Shape, Variant};
 
-/// The classes of nodes that the server has (NodeClass, IEC 62541-3, 8.29), with their numbers.
-#[derive(Clone, Copy, Debug, PartialEq, Eq)]
-pub enum NodeClass {
-    Object = 1,
-    Variable = 2,
-    ObjectType = 8,
-    VariableType = 16,
-    ReferenceType = 32,
-    DataType = 64,
-}
-
-/// Whether a variable holds one value or a list (ValueRank, IEC 62541-3, 5.6.2).
+/// Whether a variable holds one value or a list (ValueRank, IEC 62541-3, 5.6.2), with the standard's
+/// numbers.
 #[derive(Clone, Copy, Debug, PartialEq, Eq)]
 pub enum ValueRank {
-    /// One value; as a number -1.
-    Scalar,
-    /// A list, of one dimension; as a number 1.
-    List,
+    /// One value.
+    Scalar = -1,
+    /// A list, of one dimension.
+    List = 1,
 }
 
 /// What a Variable node has beside the attributes of all nodes (IEC 62541-3, 5.6.2).
@@ -57,44 +47,14 @@ impl Model for Variable {
 }
 
 // Whether it is one value, or a list without dimensions, as the rank says.
-fn content_has_rank<T>(content: &Content<T>, rank: ValueRank) -> bool
-    ensures { result ≡ content_has_rank rank content.now }
-{
-    match content {
-        Content::Scalar(_) => matches!(rank, ValueRank::Scalar),
-        Content::Array(_) => matches!(rank, ValueRank::List),
-        Content::Matrix(_) => false,
-    }
-}
-
 #[tactic(auto, unfolding(crate::specs::Variables::has_rank))]
 fn has_rank(value: &Variant, rank: ValueRank) -> bool
     ensures { result ≡ has_rank rank value.now }
 {
-    match value {
-        Variant::Null => false,
-        Variant::Boolean(content) => content_has_rank(content, rank),
-        Variant::SByte(content) => content_has_rank(content, rank),
-        Variant::Byte(content) => content_has_rank(content, rank),
-        Variant::Int16(content) => content_has_rank(content, rank),
-        Variant::UInt16(content) => content_has_rank(content, rank),
-        Variant::Int32(content) => content_has_rank(content, rank),
-        Variant::UInt32(content) => content_has_rank(content, rank),
-        Variant::Int64(content) => content_has_rank(content, rank),
-        Variant::UInt64(content) => content_has_rank(content, rank),
-        Variant::Float(content) => content_has_rank(content, rank),
-        Variant::Double(content) => content_has_rank(content, rank),
-        Variant::String(content) => content_has_rank(content, rank),
-        Variant::DateTime(content) => content_has_rank(content, rank),
-        Variant::Guid(content) => content_has_rank(content, rank),
-        Variant::ByteString(content) => content_has_rank(content, rank),
-        Variant::XmlElement(content) => content_has_rank(content, rank),
-        Variant::NodeId(content) => content_has_rank(content, rank),
-        Variant::ExpandedNodeId(content) => content_has_rank(content, rank),
-        Variant::StatusCode(content) => content_has_rank(content, rank),
-        Variant::QualifiedName(content) => content_has_rank(content, rank),
-        Variant::LocalizedText(content) => content_has_rank(content, rank),
-        Variant::ExtensionObject(content) => content_has_rank(content, rank),
+    match value.shape() {
+        Shape::Scalar => rank == ValueRank::Scalar,
+        Shape::List => rank == ValueRank::List,
+        Shape::Null | Shape::Matrix => false,
     }
 }
 

@@ -1,14 +1,28 @@
 //! Chains of HasSubtype references, walked from a type up to its supertypes.
+//!
+//! Each supertype is marked by its number (`numbering`). The walk goes down through the numbers and follows
+//! the references to each marked type. Where that marks a higher number, which the order of the numbers
+//! rules out in a space, it goes back there.
 
-ghost use Rattle.std.specs.Prelude.{◌≡◌, ◌≤◌, filter};
+ghost use Rattle.std.specs.Prelude.{◌≡◌, ◌≤◌, ◌<◌, ℕ, Some, false, filter, length, slice_index_or};
+ghost use Rattle.std.specs.List.{All};
+ghost use Rattle.ua_types.specs.declared.node_id.NodeId.{NodeId};
 ghost use Rattle.ua_space.specs.Indexes.{IsIndex, items, stands_under};
 ghost use Rattle.ua_space.specs.declared.index.Key.TheVariants as keys;
-ghost use Rattle.ua_space.specs.Subtypes.{reaches};
+ghost use Rattle.ua_space.specs.Marks.{is_marked, marked};
+ghost use Rattle.ua_space.specs.Numbers.{number_at, AreNumbered};
+ghost use Rattle.ua_space.specs.Spaces.{most_nodes};
+ghost use Rattle.ua_space.specs.Subtypes.{is_subtype};
 
 use crate::index::{Index, places_at};
+use crate::numbering::Numbering;
 use crate::references::TripleList;
 use crate::triple::Triple;
+use std::collections::BTreeMap;
 use ua_types::NodeId;
+
+// The most types that can be marked: as many as a space has nodes.
+const MAX_TYPES: usize = 100_000;
 
 // The HasSubtype references that lead to a type.
 fn above<'a>(triples: &'a [Triple], supertypes: &'a Index, lower: &NodeId) -> TripleList<'a>
@@ -18,64 +32,105 @@ fn above<'a>(triples: &'a [Triple], supertypes: &'a Index, lower: &NodeId) -> Tr
     TripleList::new(triples, places_at(supertypes, lower))
 }
 
-// Goes up while there is one supertype: how many references may still follow, and the type reached.
-fn climb<'a>(
-    triples: &'a [Triple],
-    supertypes: &'a Index,
-    most: usize,
-    lower: &'a NodeId,
-    upper: &NodeId,
-) -> (usize, &'a NodeId)
-    requires { IsIndex items (stands_under keys.Subtype) triples.now supertypes.now.entries }
-    ensures same { reaches triples.entry.now result.0 result.1.now upper.now ≡ reaches triples.entry.now most lower.entry.now upper.now }
-    ensures fewer { result.0 ≤ most }
+// Marks the sources of these references. The number that is given back is `next`, or one more than the
+// highest number that wasn't marked before.
+fn mark(
+    numbers: &BTreeMap<NodeId, usize>,
+    list: &TripleList<'_>,
+    marks: &mut [bool],
+    next: usize,
+) -> usize
+    requires { (id : NodeId) (n : ℕ) → number_at numbers.now.entries id ≡ Some n → n < length marks.old }
+    ensures { (marks.new, result) ≡ marked (number_at numbers.now.entries) (marks.old, next) list.now }
 {
-    let mut most = most;
-    let mut lower = lower;
-    while most > 0 && lower != upper {
-        let list = above(triples, supertypes, lower);
-        if list.len() != 1 {
-            return (most, lower);
-        }
-        match list.get(0) {
-            None => return (most, lower),
-            Some(triple) => {
-                lower = &triple.source;
-                most -= 1;
-            }
-        }
-    }
-    (most, lower)
-}
-
-/// Whether a chain of at most so many references leads from `upper` down to `lower`.
-pub(crate) fn reaches(
-    triples: &[Triple],
-    supertypes: &Index,
-    most: usize,
-    lower: &NodeId,
-    upper: &NodeId,
-) -> bool
-    requires { IsIndex items (stands_under keys.Subtype) triples.now supertypes.now.entries }
-    ensures { result ≡ reaches triples.now most lower.now upper.now }
-{
-    let (left, reached) = climb(triples, supertypes, most, lower, upper);
-    if reached == upper {
-        return true;
-    }
-    if left == 0 {
-        return false;
-    }
-    let list = above(triples, supertypes, reached);
+    let mut next = next;
     for place in 0..list.len() {
         match list.get(place) {
             None => {}
-            Some(triple) => {
-                if reaches(triples, supertypes, left - 1, &triple.source, upper) {
-                    return true;
+            Some(triple) => match numbers.get(&triple.source) {
+                None => {}
+                Some(number) => {
+                    if !marks[*number] {
+                        marks[*number] = true;
+                        next = next.max(*number + 1);
+                    }
                 }
-            }
+            },
         }
     }
-    false
+    next
+}
+
+// Marks supertypes until the upper type is marked, or there are no more. The references to the marked
+// types from `next` on are followed.
+fn walk_up(
+    triples: &[Triple],
+    supertypes: &Index,
+    numbering: &Numbering,
+    marks: &mut [bool],
+    lower: &NodeId,
+    upper: usize,
+) -> bool
+    requires index { IsIndex items (stands_under keys.Subtype) triples.now supertypes.now.entries }
+    requires numbered { AreNumbered triples.now numbering.now.types.items numbering.now.numbers.entries }
+    requires enough { length numbering.now.types.items ≤ length marks.old }
+    requires unmarked { (n : ℕ) → is_marked marks.old n ≡ false }
+    requires upper { upper < length numbering.now.types.items }
+    ensures { (id : NodeId) → number_at numbering.now.numbers.entries id ≡ Some upper → (lower.now ≡ id → ⊥) → result ≡ is_subtype triples.now lower.now id }
+{
+    let mut next = mark(
+        &numbering.numbers,
+        &above(triples, supertypes, lower),
+        marks,
+        0,
+    );
+    while next > 0 && !marks[upper] {
+        next -= 1;
+        if marks[next] {
+            let list = above(triples, supertypes, &numbering.types[next]);
+            next = mark(&numbering.numbers, &list, marks, next);
+        }
+    }
+    marks[upper]
+}
+
+// The same, with the marks on the stack. They are made here, so that a question that needs no walk doesn't
+// pay for them.
+fn reaches(
+    triples: &[Triple],
+    supertypes: &Index,
+    numbering: &Numbering,
+    lower: &NodeId,
+    upper: usize,
+) -> bool
+    requires index { IsIndex items (stands_under keys.Subtype) triples.now supertypes.now.entries }
+    requires numbered { AreNumbered triples.now numbering.now.types.items numbering.now.numbers.entries }
+    requires few { length numbering.now.types.items ≤ most_nodes }
+    requires upper { upper < length numbering.now.types.items }
+    ensures { (id : NodeId) → number_at numbering.now.numbers.entries id ≡ Some upper → (lower.now ≡ id → ⊥) → result ≡ is_subtype triples.now lower.now id }
+{
+    let mut marks = [false; MAX_TYPES];
+    walk_up(triples, supertypes, numbering, &mut marks, lower, upper)
+}
+
+/// Whether the one type is the other or one of its subtypes.
+pub(crate) fn is_subtype(
+    triples: &[Triple],
+    supertypes: &Index,
+    numbering: &Numbering,
+    lower: &NodeId,
+    upper: &NodeId,
+) -> bool
+    requires index { IsIndex items (stands_under keys.Subtype) triples.now supertypes.now.entries }
+    requires numbered { AreNumbered triples.now numbering.now.types.items numbering.now.numbers.entries }
+    requires few { length numbering.now.types.items ≤ most_nodes }
+    ensures { result ≡ is_subtype triples.now lower.now upper.now }
+{
+    if lower == upper {
+        return true;
+    }
+    match numbering.numbers.get(upper) {
+        None => false,
+        Some(number) => reaches(triples, supertypes, numbering, lower, *number),
+    }
 }

@@ -6,7 +6,9 @@ ghost use Rattle.ua_values.specs.declared.variant.Variant.TheVariants as variant
 use super::*;
 use std::alloc::Global;
 use std::test::*;
-use ua_types::{Array, Config, LocalizedText, Moment, NodeId, QualifiedName, Status, Text};
+use ua_types::{
+    Array, Config, LocalizedText, Moment, NodeClass, NodeId, QualifiedName, Status, Text,
+};
 use ua_values::{Content, DataValue, Variant};
 
 fn node(alloc: Global, number: u32, details: NodeDetails) -> Result<Node, Fail> {
@@ -355,7 +357,9 @@ fn values(rt: HostRuntime) -> Result<(), Fail> {
     assert!(rt; space.value(&base(84)).is_none());
     let found = space.node(&one).expect(&rt, "a node");
     assert!(rt; found.class() == NodeClass::Variable);
-    assert_eq!(rt; NodeClass::ReferenceType as u32, 32);
+    // the standard's numbers (IEC 62541-3, 5.6.2)
+    assert_eq!(rt; ValueRank::Scalar as i32, -1);
+    assert_eq!(rt; ValueRank::List as i32, 1);
     Ok(())
 }
 

@@ -6,7 +6,7 @@ use Rattle.std.specs.Ordering.{is_eq}
 use Rattle.ua_types.specs.NodeIdOrder.{id_cmp}
 use Rattle.ua_types.specs.declared.node_id.NodeId.{NodeId}
 use Rattle.ua_space.specs.Walks.{has_id, lent}
-use Rattle.ua_space.proofs.Climbing.{none_past}
+use Rattle.ua_space.proofs.Places.{none_past}
 use Rattle.ua_space.proofs.Walking.{with_id, after_none, after_more, set_grows, newly_added, not_added, lent_more}
 use Rattle.ua_space.proofs.subtype_set.meet.Goals as goal
 use Rattle.ua_space.proofs.subtype_set.meet.Goals.{in-None, in-Some+then-not-contains+in_ok-copy-in-Some+in_ok-insert-in-Some+in_ok-push-in-Some, in-Some+else-not-contains}
