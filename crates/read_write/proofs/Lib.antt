@@ -1,0 +1,4 @@
+pub mod Plain
+pub mod Prefixes
+pub mod WrittenNodes
+pub mod ReadAfterwards
