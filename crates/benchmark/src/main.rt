@@ -1,20 +1,55 @@
 //! How long parts of the server take.
 //!
-//! `benchmark encoding ROUNDS` writes and reads lists of 1,000 elements, each ROUNDS times. The counts go
-//! to standard output, where the gate compares them; the times go to standard error: of an element, in
-//! the fastest round.
+//! `benchmark encoding ROUNDS` writes and reads lists of 1,000 elements, each ROUNDS times, and tells the
+//! time of an element in the fastest round. `benchmark requests ROUNDS` hands requests to a whole server,
+//! each ROUNDS times, and tells how many are answered in a second. `benchmark all ROUNDS` does both. The
+//! counts go to standard output, where the gate compares them; the times go to standard error.
 #![tactic(auto)]
 
 mod encoding;
+mod requests;
 
-use std::env;
 use std::process::ExitCode;
+use std::{env, io};
 
-// The rounds of the words `encoding ROUNDS`.
-fn rounds(words: &[String]) -> Option<u32> {
+/// What is to be timed.
+#[derive(Clone, Copy)]
+enum Mode {
+    Encoding,
+    Requests,
+    All,
+}
+
+impl Mode {
+    fn named(word: &str) -> Option<Mode> {
+        match word {
+            "encoding" => Some(Mode::Encoding),
+            "requests" => Some(Mode::Requests),
+            "all" => Some(Mode::All),
+            _ => None,
+        }
+    }
+}
+
+// The mode and the rounds of the words `MODE ROUNDS`.
+fn parsed(words: &[String]) -> Option<(Mode, u32)> {
     match words {
-        [_, mode, rounds] if mode.as_str() == "encoding" => rounds.as_str().parse::<u32>().ok(),
+        [_, mode, rounds] => Some((
+            Mode::named(mode.as_str())?,
+            rounds.as_str().parse::<u32>().ok()?,
+        )),
         _ => None,
+    }
+}
+
+fn run(rt: &HostRuntime, mode: Mode, rounds: u32) -> io::Result<()> {
+    match mode {
+        Mode::Encoding => encoding::run(rt, rounds),
+        Mode::Requests => requests::run(rt, rounds),
+        Mode::All => {
+            encoding::run(rt, rounds)?;
+            requests::run(rt, rounds)
+        }
     }
 }
 
@@ -26,10 +61,10 @@ fn main(rt: HostRuntime) -> ExitCode {
     let Ok(words) = words.collect::<Vec<String>>(alloc) else {
         return ExitCode::from(5);
     };
-    let Some(rounds) = rounds(words.as_slice()) else {
+    let Some((mode, rounds)) = parsed(words.as_slice()) else {
         return ExitCode::from(2);
     };
-    match encoding::run(&rt, rounds) {
+    match run(&rt, mode, rounds) {
         Ok(()) => ExitCode::SUCCESS,
         Err(_) => ExitCode::from(1),
     }

@@ -21,7 +21,7 @@ use Rattle.ua_connections.specs.Connecting.{turned, taking_by, taking_of, break_
 use Rattle.ua_connections.specs.Delivering.{said_by, too_large_sent, reply_sent, delivered_to, delivered, delivery_of}
 use Rattle.ua_connections.specs.Apart.{unsent_channel, unsent_phase, unsent, with_known, KeepsOthers}
 use Rattle.ua_connections.proofs.CoherentLemmas.{at_insert_at}
-use Rattle.ua_connections.proofs.MapLemmas.{get_inserted_elsewhere}
+use Rattle.ua_types.proofs.NumberMaps.{get_inserted_elsewhere}
 use Rattle.ua_types.proofs.NumberMaps.{get_inserted}
 
 -- ---- frames

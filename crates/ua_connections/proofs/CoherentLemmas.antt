@@ -34,7 +34,7 @@ use Rattle.ua_connections.specs.Connecting.{Taking, is_known, is_new, is_above_a
 use Rattle.ua_connections.specs.Delivering.{Delivery, said_by, reply_sent, delivered_on, delivered_to, delivered, delivery_of}
 use Rattle.ua_connections.specs.Coherent.{IsAgreed, IsAgreedIn, IsAgreedAt, AreAgreed, is_talking, has_channel, Talks, IsFresh, is_going_on, is_open_at, is_open}
 use Rattle.ua_connections.proofs.AgreedLemmas.{of_unchanged, of_taken, good_frame, IsGood, reply_unchanged, granted_unchanged}
-use Rattle.ua_connections.proofs.MapLemmas.{get_inserted_elsewhere, get_removed_elsewhere}
+use Rattle.ua_types.proofs.NumberMaps.{get_inserted_elsewhere, get_removed_elsewhere}
 use Rattle.ua_types.proofs.NumberMaps.{get_inserted}
 
 -- ---- one connection set

@@ -1,4 +1,3 @@
-pub mod MapLemmas
 pub mod AgreedLemmas
 pub mod CoherentLemmas
 pub mod ApartLemmas

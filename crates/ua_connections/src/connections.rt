@@ -100,7 +100,7 @@ impl Connections {
     }
 
     /// Does what a frame asks for, up to a request, and says what is left to do.
-    #[tactic(auto, using(crate::proofs::MapLemmas::insert_removed), unfolding(crate::specs::Connecting::taking_of))]
+    #[tactic(auto, using(ua_types::proofs::NumberMaps::insert_removed), unfolding(crate::specs::Connecting::taking_of))]
     pub fn take(
         &mut self,
         alloc: Global,
@@ -132,7 +132,7 @@ impl Connections {
     }
 
     /// Closes a connection on which comes what can be no frame.
-    #[tactic(auto, using(crate::proofs::MapLemmas::insert_removed), unfolding(crate::specs::Connecting::break_of))]
+    #[tactic(auto, using(ua_types::proofs::NumberMaps::insert_removed), unfolding(crate::specs::Connecting::break_of))]
     pub fn break_off(
         &mut self,
         alloc: Global,
@@ -152,7 +152,7 @@ impl Connections {
     }
 
     // Sends one reply.
-    #[tactic(auto, using(crate::proofs::MapLemmas::insert_removed), unfolding(crate::specs::Delivering::delivered))]
+    #[tactic(auto, using(ua_types::proofs::NumberMaps::insert_removed), unfolding(crate::specs::Delivering::delivered))]
     fn deliver_one(
         &mut self,
         alloc: Global,

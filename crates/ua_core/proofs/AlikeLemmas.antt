@@ -18,7 +18,7 @@ use Rattle.ua_connections.specs.declared.asked.Asked.TheVariants as asked
 use Rattle.ua_connections.specs.declared.connections.Connections.{Connections}
 use Rattle.ua_connections.specs.declared.out.Out.{Out}
 use Rattle.ua_connections.proofs.AlikeLemmas.{IsOf, taking_is_of, TakesAlike, taking_alike, break_alike, delivery_alike}
-use Rattle.ua_services.specs.ServicesState.{ServicesState}
+use Rattle.ua_services.specs.declared.services.Services.{Services}
 use Rattle.ua_services.specs.Services.{serving_of}
 use Rattle.ua_services.proofs.OwingLemmas.{serving_only}
 use Rattle.ua_core.specs.Apart.{IsAlike, IsAlikeTo}
@@ -33,12 +33,12 @@ record DoesAlike (conn : ℕ) (d e : Done Core Effect) : Type 0 where
   effects : d.outs ≡ e.outs
   goes_on : d.goes_on ≡ e.goes_on
 
-abbrev core_of : Setting → ServicesState → Connections → Core
+abbrev core_of : Setting → Services → Connections → Core
 core_of setting services connections = record { setting = setting; connections = connections; services = services }
 
 -- ---- frames
 
-module _ (conn : ℕ) (setting : Setting) (services : ServicesState) where
+module _ (conn : ℕ) (setting : Setting) (services : Services) where
   asked_alike : (a b : Connections) (outs : List Out) (found : Asked) → IsOf conn found → SeesAlike conn a b →
       DoesAlike conn (asked_for conn (core_of setting services a) outs found) (asked_for conn (core_of setting services b) outs found)
   asked_alike a b outs asked.Nothing o p = record { state = record { setting = refl; sees = p; services = refl }; effects = refl; goes_on = refl }
@@ -72,7 +72,7 @@ module _ (conn : ℕ) (setting : Setting) (services : ServicesState) where
 
 -- the same, where setting and services are the same by what is said of them
 same_core : (conn : ℕ) (a b : Core) → IsAlike conn a b → core_of a.setting a.services b.connections ≡ b
-same_core conn a b p = ap (λ (s : Setting). core_of s a.services b.connections) p.setting ∙ ap (λ (k : ServicesState). core_of b.setting k b.connections) p.services
+same_core conn a b p = ap (λ (s : Setting). core_of s a.services b.connections) p.setting ∙ ap (λ (k : Services). core_of b.setting k b.connections) p.services
 
 handled_alike : (conn : ℕ) (a b : Core) (frame : Frame) → IsAlike conn a b → DoesAlike conn (handled conn a frame) (handled conn b frame)
 handled_alike conn a b frame p =

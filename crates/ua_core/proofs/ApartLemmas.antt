@@ -15,8 +15,8 @@ use Rattle.ua_connections.specs.declared.asked.Asked.TheVariants as asked
 use Rattle.ua_connections.specs.declared.connections.Connections.{Connections}
 use Rattle.ua_connections.specs.declared.out.Out.{Out}
 use Rattle.ua_connections.proofs.ApartLemmas.{taking_apart, break_apart, delivery_apart, then_sent}
-use Rattle.ua_connections.proofs.MapLemmas.{get_inserted_elsewhere, get_removed_elsewhere}
-use Rattle.ua_services.specs.ServicesState.{ServicesState}
+use Rattle.ua_types.proofs.NumberMaps.{get_inserted_elsewhere, get_removed_elsewhere}
+use Rattle.ua_services.specs.declared.services.Services.{Services}
 use Rattle.ua_services.specs.Services.{serving_of}
 use Rattle.ua_core.specs.Apart.{with_parts, KeepsOthers}
 use Rattle.ua_core.specs.Effects.{Effect}
@@ -31,7 +31,7 @@ record IsApart (conn : ℕ) (old new : Core) : Type 0 where
   known : is_known new.connections conn ≡ is_known old.connections conn
   others : (other : ℕ) → other ≢ conn → unsent (get new.connections.known other) ≡ unsent (get old.connections.known other)
 
-next_apart : (conn : ℕ) (old core : Core) (new : Connections) (state : ServicesState) → IsApart conn old core → connections.KeepsOthers conn core.connections new →
+next_apart : (conn : ℕ) (old core : Core) (new : Connections) (state : Services) → IsApart conn old core → connections.KeepsOthers conn core.connections new →
     IsApart conn old (record core { connections = new; services = state })
 next_apart conn old core new state p k =
     let set : Core → Connections → Core = λ x c. record x { connections = c; services = state } in

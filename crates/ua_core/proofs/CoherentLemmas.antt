@@ -27,8 +27,8 @@ use Rattle.ua_connections.specs.declared.connection.Phase.TheVariants.{Greeting,
 use Rattle.ua_connections.specs.declared.connections.Connections.{Connections}
 use Rattle.ua_connections.specs.declared.out.Out.{Out}
 use Rattle.ua_connections.proofs.CoherentLemmas.{FitsAt, IsDelivered, taken_right, broken_right, broken_closes, delivered_right, opened_agreed, opened_talks, opened_open, opened_fresh, gone_agreed, gone_talks, gone_open, gone_fresh, talks_open}
-use Rattle.ua_connections.proofs.MapLemmas.{same_number, numbers_same}
-use Rattle.ua_services.specs.ServicesState.{ServicesState}
+use Rattle.ua_types.proofs.NumberMaps.{same_number, numbers_same}
+use Rattle.ua_services.specs.declared.services.Services.{Services}
 use Rattle.ua_space.specs.Nodes.{SpaceState}
 use Rattle.ua_services.specs.Owing.{OwesOnly, ServesOnly}
 use Rattle.ua_services.specs.Serving.{Act, Serving}
@@ -41,7 +41,8 @@ use Rattle.ua_core.specs.Coherent.{IsSound, IsCoherent, AnswersFit, lost_of, Los
 use Rattle.ua_core.specs.Effects.{Effect, Do, Acted, Lost, doing, acting, losing, effects_of}
 use Rattle.ua_core.specs.Handling.{answered, asked_for, handled, broken, ticked_core}
 use Rattle.ua_core.specs.Stepping as stepping
-use Rattle.ua_core.specs.Stepping.{Served, served, with_held, fed_to, fed, later, step_of}
+use Rattle.ua_core.specs.Stepping.{Served, served, with_held, fed_to, fed, step_of}
+use Rattle.ua_types.specs.Moments.{later}
 use Rattle.ua_core.specs.World.{World, Core, opening}
 use Rattle.ua_core.specs.declared.event.Event.{Event}
 use Rattle.ua_core.specs.declared.event.Event.TheVariants.{Opened, Bytes, Gone, Tick}
@@ -88,7 +89,7 @@ answered_right core outs s ranges agreed fresh numbered only =
     )
 
 -- a connection is forgotten, and all others talk as they did
-forgotten_right : (conn : ℕ) (old new : Connections) (state : ServicesState) → ((other : ℕ) → other ≢ conn → Talks old other → Talks new other) → OwesOnly (Talks old) state → OwesOnly (Talks new) (forgotten state conn)
+forgotten_right : (conn : ℕ) (old new : Connections) (state : Services) → ((other : ℕ) → other ≢ conn → Talks old other → Talks new other) → OwesOnly (Talks old) state → OwesOnly (Talks new) (forgotten state conn)
 forgotten_right conn old new state f p =
     owes_more (λ (other : ℕ). Talks old other × (other ≢ conn)) (Talks new) (λ other q. f other q.1 q.0) (forgotten state conn) (forgotten_only (Talks old) state conn p)
 

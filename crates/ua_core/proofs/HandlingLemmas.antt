@@ -19,7 +19,7 @@ use Rattle.ua_connections.specs.declared.asked.Asked.{Asked}
 use Rattle.ua_connections.specs.declared.asked.Asked.TheVariants as asked
 use Rattle.ua_connections.specs.declared.connections.Connections.{Connections}
 use Rattle.ua_connections.specs.declared.out.Out.{Out}
-use Rattle.ua_services.specs.ServicesState.{ServicesState}
+use Rattle.ua_services.specs.declared.services.Services.{Services}
 use Rattle.ua_services.specs.Serving.{Serving, Given, given, given_of}
 use Rattle.ua_services.specs.Services.{serving_of}
 use Rattle.ua_core.specs.declared.out.Step.{Step}
@@ -31,11 +31,11 @@ use Rattle.ua_core.proofs.EffectLemmas.{after_answered}
 
 -- ---- a request
 
-shape : Core → Connections → ServicesState → Step → Doing
+shape : Core → Connections → Services → Step → Doing
 shape core connections state given = doing_so (record core { connections = connections; services = state }) given true
 
 -- replies that were sent after these outs
-pub sent_shows : (core : Core) (before : Step) (between : List Out) (s : Serving) (state : ServicesState) (served : Served) (replies : List Reply) (connections : Connections) (outs : List Out) (rows : List Fired) →
+pub sent_shows : (core : Core) (before : Step) (between : List Out) (s : Serving) (state : Services) (served : Served) (replies : List Reply) (connections : Connections) (outs : List Out) (rows : List Fired) →
     given state served ≡ given_of s → replies ≡ served.replies →
     sending connections outs ≡ sending_after (before.outs ++ between) (delivery_of core.setting core.connections replies) →
     rows ≡ before.rows ++ served.rows →
@@ -50,7 +50,7 @@ sent_shows core before between s state served replies connections outs rows e g 
     ∙ ap (λ (x : Given). shape core d.connections x.state (step (before.outs ++ between ++ d.outs) (before.rows ++ x.served.rows))) e
     ∙ ap (shape core d.connections s.state) (sym (after_answered before between s.acts d))
 
-pub request_shows : (conn : ℕ) (core : Core) (frame : Frame) (before : Step) (after outs : List Out) (rows : List Fired) (found : Asked) (request : Request) (connections connections' : Connections) (state : ServicesState) (served : Served) (replies : List Reply) →
+pub request_shows : (conn : ℕ) (core : Core) (frame : Frame) (before : Step) (after outs : List Out) (rows : List Fired) (found : Asked) (request : Request) (connections connections' : Connections) (state : Services) (served : Served) (replies : List Reply) →
     taking connections after found ≡ taking_after before.outs (taking_of core.setting conn core.connections frame) → found ≡ asked.Request request →
     given state served ≡ given_of (serving_of core.setting request core.services) → replies ≡ served.replies →
     sending connections' outs ≡ sending_after after (delivery_of core.setting connections replies) →

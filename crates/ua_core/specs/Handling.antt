@@ -55,10 +55,13 @@ broken conn core fault = broken_by conn core (break_of conn core.connections fau
 abbrev pub gone_from : Core → ℕ → Core
 gone_from core conn = record core { connections = gone core.connections conn; services = forgotten core.services conn }
 
+abbrev pub setting_at : Core → Moment → Setting
+setting_at core clock = record core.setting { clock = clock }
+
 -- what is due as time has passed
 abbrev pub ticked_core : Core → Moment → Done Core Effect
 ticked_core core clock =
-    let setting : Setting = record core.setting { clock = clock } in
+    let setting : Setting = setting_at core clock in
     let at : Core = record core { setting = setting } in
     answered at [] (ticking_of setting core.services)
 

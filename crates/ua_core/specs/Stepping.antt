@@ -1,8 +1,9 @@
 -- One event.
-use Rattle.std.specs.Prelude.{◌≡◌, ⊤, ℕ, Bool, true, not, nat_lt, int_lt, List, [], ◌++◌, Option, Some, None, Result, Ok, Err, is_some, if◌then◌else◌}
+use Rattle.std.specs.Prelude.{◌≡◌, ⊤, ℕ, Bool, true, not, nat_lt, List, [], ◌++◌, Option, Some, None, Result, Ok, Err, is_some, if◌then◌else◌}
 use Rattle.std.specs.Ordering.{nat_cmp}
 use Rattle.std.specs.FinMap.{FinMap, get, insert, remove, len}
 use Rattle.ua_types.specs.Answers as answers
+use Rattle.ua_types.specs.Moments.{later}
 use Rattle.ua_types.specs.declared.moment.Moment.{Moment}
 use Rattle.ua_tcp.specs.Feeding.{Framing, unfed, framed_of}
 use Rattle.ua_tcp.specs.Pieces.{Stepped, at_end, all_handled}
@@ -16,7 +17,7 @@ use Rattle.ua_core.specs.declared.out.Step.{Step}
 use Rattle.ua_core.specs.declared.out.StepFault.{StepFault}
 use Rattle.ua_core.specs.declared.out.StepFault.TheVariants.{KnownConnection, UnknownConnection, Memory, Halted, Exhausted}
 use Rattle.ua_core.specs.Effects.{Effect, doing, are_spent, shown}
-use Rattle.ua_core.specs.Handling.{handled, broken, gone_from, ticked_core}
+use Rattle.ua_core.specs.Handling.{setting_at, handled, broken, gone_from, ticked_core}
 use Rattle.ua_core.specs.World.{World, Core}
 
 -- the world after an event, and its effects
@@ -86,10 +87,6 @@ fed_twice world conn a b =
 abbrev pub forgotten : World → ℕ → World
 forgotten world conn = record { links = remove world.links conn; core = gone_from world.core conn }
 
--- the later of two moments
-abbrev pub later : Moment → Moment → Moment
-later a b = if int_lt a.0 b.0 then b else a
-
 abbrev pub ticked : World → Moment → Served
 ticked world now =
     let d = ticked_core world.core (later world.core.setting.clock now) in
@@ -113,7 +110,7 @@ abbrev pub takes_no_memory : World → Event → Bool
 takes_no_memory world (Opened conn key) = not (is_new world.core.connections conn)
 takes_no_memory world (Bytes conn bytes) = not (is_some (get world.links conn))
 takes_no_memory world (Gone conn) = true
-takes_no_memory world (Tick now) = is_idle world.core.services
+takes_no_memory world (Tick now) = is_idle (setting_at world.core (later world.core.setting.clock now)) world.core.services
 
 -- ---- what the code gives of it
 

@@ -4,6 +4,7 @@ use Rattle.std.specs.FinMap.{empty}
 use Rattle.ua_types.specs.Configuration.{Configuration}
 use Rattle.ua_space.specs.Nodes.{SpaceState}
 use Rattle.ua_connections.specs.Connecting.{no_connections}
+use Rattle.ua_services.specs.ServicesState.{no_services_used}
 use Rattle.ua_core.specs.declared.server.Server.{Server}
 pub use Rattle.ua_core.specs.declared.parts.Core.{Core}
 pub use Rattle.ua_core.specs.declared.world.World.{World}
@@ -15,7 +16,7 @@ opening config space = record {
   core = record {
     setting = record { config = config; clock = config.start };
     connections = no_connections;
-    services = record { space = space };
+    services = no_services_used config space;
   };
 }
 

@@ -3,7 +3,7 @@
 ghost use Rattle.std.specs.Prelude.{◌≡◌, true, false, OnOk, IsOk};
 ghost use Rattle.ua_services.specs.Services.{is_idle};
 ghost use Rattle.ua_tcp.specs.Pieces.{all_handled, and_then, refused_if};
-ghost use Rattle.ua_core.specs.Handling.{Handles, Shows, TicksTo, handled, broken, gone_from, ticked_core};
+ghost use Rattle.ua_core.specs.Handling.{setting_at, Handles, Shows, TicksTo, handled, broken, gone_from, ticked_core};
 
 use crate::out::Step;
 use std::alloc::{AllocError, Global};
@@ -131,7 +131,7 @@ impl Core {
     #[tactic(auto, using(crate::proofs::EffectLemmas::shown_effects, crate::proofs::EffectLemmas::spent_effects))]
     pub fn tick(&mut self, alloc: Global, clock: Moment) -> Result<Step, Halt>
         ensures ticks { TicksTo result self.new (ticked_core self.old clock) }
-        ensures idle { is_idle self.old.services ≡ true → IsOk result }
+        ensures idle { is_idle (setting_at self.old clock) self.old.services ≡ true → IsOk result }
     {
         self.setting.clock = clock;
         let served = self.services.tick(alloc, &self.setting)?;

@@ -34,13 +34,14 @@ impl Server {
         ensures { world_of result ≡ Some (opening config space) }
     {
         let clock = config.start;
+        let services = Services::new(alloc, &config, space);
         Server {
             world: Some(World {
                 links: Numbered::new(alloc),
                 core: Core {
                     setting: Setting { config, clock },
                     connections: Connections::new(alloc),
-                    services: Services::new(space),
+                    services,
                 },
             }),
         }

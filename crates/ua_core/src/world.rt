@@ -3,7 +3,7 @@
 ghost use Rattle.std.specs.Prelude.{◌≡◌, [], true, false, None, Err, IsOk, OnOk};
 ghost use Rattle.std.specs.FinMap.{get};
 ghost use Rattle.ua_connections.specs.Connecting.{is_new, is_known};
-ghost use Rattle.ua_core.specs.Stepping.{Feeds, fed, links_kept, greeted, has_room as has_room_lem, opened, step_of, Matches, takes_no_memory, later as later_lem};
+ghost use Rattle.ua_core.specs.Stepping.{Feeds, fed, links_kept, greeted, has_room as has_room_lem, opened, step_of, Matches, takes_no_memory};
 ghost use Rattle.ua_core.specs.declared.out.StepFault.TheVariants as step_fault;
 
 use crate::event::Event;
@@ -13,7 +13,6 @@ use std::alloc::{AllocError, Global};
 use ua_connections::Numbered;
 use ua_requests::Halt;
 use ua_tcp::Framer;
-use ua_types::Moment;
 
 /// The framers of the open connections, and the rest. So nothing but a framer touches the bytes that
 /// are held of a frame.
@@ -21,12 +20,6 @@ use ua_types::Moment;
 pub struct World {
     pub links: Numbered<Framer>,
     pub core: Core,
-}
-
-fn later(a: Moment, b: Moment) -> Moment
-    ensures { result ≡ later_lem a b }
-{
-    if a.0 < b.0 { b } else { a }
 }
 
 impl World {
@@ -112,7 +105,7 @@ impl World {
                 Ok(Step::new(alloc))
             }
             Event::Tick { now } => {
-                let clock = later(self.core.setting.clock, *now);
+                let clock = self.core.setting.clock.later(*now);
                 Ok(self.core.tick(alloc, clock)?)
             }
         }

@@ -1,5 +1,5 @@
 -- The services answer no connections but those that asked them.
-use Rattle.std.proofs.Common.{◌≢◌, ℕ, Bool, true, false, cond, List, Result, Ok, Err}
+use Rattle.std.proofs.Common.{◌≢◌, ℕ, Bool, true, false, cond, List, [], Option, Some, None, Result, Ok, Err}
 use Rattle.ua_types.specs.declared.status.TheConstants.Status as status
 use Rattle.ua_binary.specs.declared.fault.TakeFault.{TakeFault}
 use Rattle.ua_messages.specs.Bodies.{message_id_of, message_of}
@@ -9,10 +9,34 @@ use Rattle.ua_messages.specs.declared.headers.RequestHeader.{RequestHeader}
 use Rattle.ua_messages.specs.declared.get_endpoints.GetEndpointsRequest.{GetEndpointsRequest}
 use Rattle.ua_requests.specs.declared.request.Request.{Request}
 use Rattle.ua_requests.specs.declared.setting.Setting.{Setting}
-use Rattle.ua_services.specs.ServicesState.{ServicesState}
-use Rattle.ua_services.specs.Serving.{Serving, faulted, served_by}
+use Rattle.ua_services.specs.ServicesState.{Services}
+use Rattle.ua_services.specs.Serving.{Act, Serving, faulted, served_by}
 use Rattle.ua_services.specs.Services.{call_of, picked, serving_by, serving_of, ticking_of, forgotten}
+use Rattle.service_messages.specs.Sessions.{create_session_request_reading, activate_session_request_reading, close_session_request_reading}
+use Rattle.service_messages.specs.Reading.{read_request_reading}
+use Rattle.service_messages.specs.Writing.{write_request_reading}
+use Rattle.service_messages.specs.declared.reading.ReadRequest.{ReadRequest}
+use Rattle.service_messages.specs.declared.writing.WriteRequest.{WriteRequest}
+use Rattle.service_messages.specs.declared.writing.WriteValue.{WriteValue}
+use Rattle.ua_messages.specs.declared.read_value_ids.ReadValueId.{ReadValueId}
+use Rattle.read_write.specs.Timestamps.{timestamps_of}
+use Rattle.read_write.specs.declared.timestamps.Timestamps.{Timestamps}
+use Rattle.ua_types.specs.declared.node_id.NodeId.{NodeId}
+use Rattle.ua_services.specs.InSession.{if_found, served_in_session}
+use Rattle.ua_services.specs.Operations.{operations_of}
+use Rattle.ua_services.specs.Read.{read_listed, read_timed, read_meaning}
+use Rattle.ua_services.specs.Write.{write_listed, write_meaning}
+use Rattle.service_messages.specs.declared.sessions.ActivateSessionRequest.{ActivateSessionRequest}
+use Rattle.service_messages.specs.declared.sessions.CloseSessionRequest.{CloseSessionRequest}
+use Rattle.service_messages.specs.declared.sessions.CreateSessionRequest.{CreateSessionRequest}
+use Rattle.ua_session.specs.Sessions.{SessionsState, create_of, activate_of, find_of, close_of}
+use Rattle.ua_types.specs.declared.moment.Moment.{Moment}
+use Rattle.ua_types.specs.declared.status.Status.{Status}
+use Rattle.ua_services.specs.ActivateSession.{is_anonymous, activate_session_body, activate_session_meaning}
+use Rattle.ua_services.specs.CloseSession.{close_session_body, close_session_meaning}
+use Rattle.ua_services.specs.CreateSession.{create_session_body, create_session_meaning}
 use Rattle.ua_services.specs.GetEndpoints.{get_endpoints_meaning}
+use Rattle.ua_services.specs.SessionServing.{spent_by, taken, with_sessions}
 use Rattle.ua_services.specs.Owing.{OwesOnly, ServesOnly}
 use Rattle.ua_services.specs.declared.call.Call.{Call}
 
@@ -21,38 +45,91 @@ module _ (Such : ℕ → Type 0) where
   either true x y p q = p
   either false x y p q = q
 
-  by_fields : {A : Type 0} (meaning : Setting → Call → A → ServicesState → Serving) (setting : Setting) (call : Call) (state : ServicesState) → OwesOnly Such state → Such call.conn →
+  by_fields : {A : Type 0} (meaning : Setting → Call → A → Services → Serving) (setting : Setting) (call : Call) (state : Services) → OwesOnly Such state → Such call.conn →
       ((request : A) → ServesOnly Such (meaning setting call request state)) → (r : Result A TakeFault) → ServesOnly Such (served_by meaning setting call state r)
   by_fields meaning setting call state p q f (Ok request) = f request
   by_fields meaning setting call state p q f (Err fault) = record { state = p; replies = (q, tt) }
 
-  get_endpoints_only : (setting : Setting) (call : Call) (state : ServicesState) → OwesOnly Such state → Such call.conn → (request : GetEndpointsRequest) → ServesOnly Such (get_endpoints_meaning setting call request state)
+  get_endpoints_only : (setting : Setting) (call : Call) (state : Services) → OwesOnly Such state → Such call.conn → (request : GetEndpointsRequest) → ServesOnly Such (get_endpoints_meaning setting call request state)
   get_endpoints_only setting call state p q request = record { state = p; replies = (q, tt) }
 
-  picked_only : (setting : Setting) (call : Call) (body : List ℕ) (state : ServicesState) (id : ℕ) → OwesOnly Such state → Such call.conn → ServesOnly Such (picked setting call body state id)
-  picked_only setting call body state id p q =
-      either _ _ (faulted state call status.BAD_SERVICE_UNSUPPORTED setting.clock)
-      (by_fields get_endpoints_meaning setting call state p q (get_endpoints_only setting call state p q) (message_of get_endpoints_request_reading body))
-      (record { state = p; replies = (q, tt) })
+  taken_only : {A : Type 0} (call : Call) (state : Services) (clock : Moment) (acts : List Act) (body : A → List ℕ) → OwesOnly Such state → Such call.conn → (answer : Result A Status) (sessions : SessionsState) → ServesOnly Such (taken state call clock acts body answer sessions)
+  taken_only call state clock acts body p q (Ok x) sessions = record { state = tt; replies = (q, tt) }
+  taken_only call state clock acts body p q (Err code) sessions = record { state = tt; replies = (q, tt) }
 
-  by_header : (setting : Setting) (request : Request) (state : ServicesState) (id : Result ℕ TakeFault) (header : Result RequestHeader TakeFault) → OwesOnly Such state → Such request.conn →
+  create_session_only : (setting : Setting) (call : Call) (state : Services) → OwesOnly Such state → Such call.conn → (request : CreateSessionRequest) → ServesOnly Such (create_session_meaning setting call request state)
+  create_session_only setting call state p q request =
+      let s = create_of state.sessions call.conn call.key in
+      taken_only call state setting.clock (spent_by state.sessions) (create_session_body setting call) p q s.answer s.state
+
+  activate_session_only : (setting : Setting) (call : Call) (state : Services) → OwesOnly Such state → Such call.conn → (request : ActivateSessionRequest) → ServesOnly Such (activate_session_meaning setting call request state)
+  activate_session_only setting call state p q request =
+      let s = activate_of state.sessions request.request_header.authentication_token call.conn call.key (is_anonymous request.user_identity_token) in
+      taken_only call state setting.clock (spent_by state.sessions) (activate_session_body setting call) p q s.answer s.state
+
+  close_session_only : (setting : Setting) (call : Call) (state : Services) → OwesOnly Such state → Such call.conn → (request : CloseSessionRequest) → ServesOnly Such (close_session_meaning setting call request state)
+  close_session_only setting call state p q request =
+      let s = close_of state.sessions request.request_header.authentication_token call.conn in
+      taken_only call state setting.clock [] (close_session_body setting call) p q s.answer s.state
+
+  if_found_only : (serve : Services → Serving) (setting : Setting) (call : Call) (state : Services) → Such call.conn → ((after : Services) → OwesOnly Such after → ServesOnly Such (serve after)) → (answer : Result ℕ Status) (sessions : SessionsState) →
+      ServesOnly Such (if_found serve setting call state answer sessions)
+  if_found_only serve setting call state q f (Ok number) sessions = f (with_sessions state sessions) tt
+  if_found_only serve setting call state q f (Err code) sessions = record { state = tt; replies = (q, tt) }
+
+  by_session : {A : Type 0} (meaning : Setting → Call → A → Services → Serving) (setting : Setting) (call : Call) (token : NodeId) (state : Services) → OwesOnly Such state → Such call.conn →
+      ((request : A) (after : Services) → OwesOnly Such after → ServesOnly Such (meaning setting call request after)) → (r : Result A TakeFault) → ServesOnly Such (served_in_session meaning setting call token state r)
+  by_session meaning setting call token state p q f (Ok request) =
+      let s = find_of state.sessions token call.conn in
+      if_found_only (meaning setting call request) setting call state q (f request) s.answer s.state
+  by_session meaning setting call token state p q f (Err fault) = record { state = p; replies = (q, tt) }
+
+  read_listed_only : (setting : Setting) (call : Call) (state : Services) (timestamps : Timestamps) → OwesOnly Such state → Such call.conn → (r : Result (List ReadValueId) Status) → ServesOnly Such (read_listed setting call state timestamps r)
+  read_listed_only setting call state timestamps p q (Ok nodes) = record { state = p; replies = (q, tt) }
+  read_listed_only setting call state timestamps p q (Err code) = record { state = p; replies = (q, tt) }
+
+  read_timed_only : (setting : Setting) (call : Call) (state : Services) (nodes : Option (List ReadValueId)) → OwesOnly Such state → Such call.conn → (choice : Option Timestamps) → ServesOnly Such (read_timed setting call state nodes choice)
+  read_timed_only setting call state nodes p q None = record { state = p; replies = (q, tt) }
+  read_timed_only setting call state nodes p q (Some timestamps) = read_listed_only setting call state timestamps p q (operations_of setting.config nodes)
+
+  read_only : (setting : Setting) (call : Call) → Such call.conn → (request : ReadRequest) (state : Services) → OwesOnly Such state → ServesOnly Such (read_meaning setting call request state)
+  read_only setting call q request state p = read_timed_only setting call state request.nodes_to_read p q (timestamps_of request.timestamps_to_return)
+
+  write_listed_only : (setting : Setting) (call : Call) (state : Services) → OwesOnly Such state → Such call.conn → (r : Result (List WriteValue) Status) → ServesOnly Such (write_listed setting call state r)
+  write_listed_only setting call state p q (Ok values) = record { state = p; replies = (q, tt) }
+  write_listed_only setting call state p q (Err code) = record { state = p; replies = (q, tt) }
+
+  write_only : (setting : Setting) (call : Call) → Such call.conn → (request : WriteRequest) (state : Services) → OwesOnly Such state → ServesOnly Such (write_meaning setting call request state)
+  write_only setting call q request state p = write_listed_only setting call state p q (operations_of setting.config request.nodes_to_write)
+
+  picked_only : (setting : Setting) (call : Call) (token : NodeId) (body : List ℕ) (state : Services) (id : ℕ) → OwesOnly Such state → Such call.conn → ServesOnly Such (picked setting call token body state id)
+  picked_only setting call token body state id p q =
+      let none : ServesOnly Such (faulted state call status.BAD_SERVICE_UNSUPPORTED setting.clock) = record { state = p; replies = (q, tt) } in
+      either _ _ _ (by_fields get_endpoints_meaning setting call state p q (get_endpoints_only setting call state p q) (message_of get_endpoints_request_reading body))
+      (either _ _ _ (by_fields create_session_meaning setting call state p q (create_session_only setting call state p q) (message_of create_session_request_reading body))
+      (either _ _ _ (by_fields activate_session_meaning setting call state p q (activate_session_only setting call state p q) (message_of activate_session_request_reading body))
+      (either _ _ _ (by_fields close_session_meaning setting call state p q (close_session_only setting call state p q) (message_of close_session_request_reading body))
+      (either _ _ _ (by_session read_meaning setting call token state p q (read_only setting call q) (message_of read_request_reading body))
+      (either _ _ _ (by_session write_meaning setting call token state p q (write_only setting call q) (message_of write_request_reading body)) none)))))
+
+  by_header : (setting : Setting) (request : Request) (state : Services) (id : Result ℕ TakeFault) (header : Result RequestHeader TakeFault) → OwesOnly Such state → Such request.conn →
       ServesOnly Such (serving_by setting request state id header)
-  by_header setting request state (Ok id) (Ok header) p q = picked_only setting (call_of request header.request_handle) request.body state id p q
+  by_header setting request state (Ok id) (Ok header) p q = picked_only setting (call_of request header.request_handle) header.authentication_token request.body state id p q
   by_header setting request state (Ok id) (Err fault) p q = record { state = p; replies = (q, tt) }
   by_header setting request state (Err fault) header p q = record { state = p; replies = (q, tt) }
 
-  pub serving_only : (setting : Setting) (request : Request) (state : ServicesState) → OwesOnly Such state → Such request.conn → ServesOnly Such (serving_of setting request state)
+  pub serving_only : (setting : Setting) (request : Request) (state : Services) → OwesOnly Such state → Such request.conn → ServesOnly Such (serving_of setting request state)
   unfolding serving_of
   serving_only setting request state p q = by_header setting request state (message_id_of request.body) (message_of request_header_reading request.body) p q
 
-  pub ticking_only : (setting : Setting) (state : ServicesState) → OwesOnly Such state → ServesOnly Such (ticking_of setting state)
+  pub ticking_only : (setting : Setting) (state : Services) → OwesOnly Such state → ServesOnly Such (ticking_of setting state)
   ticking_only setting state p = record { state = tt; replies = tt }
 
   -- a connection that is forgotten waits for nothing
-  pub forgotten_only : (state : ServicesState) (conn : ℕ) → OwesOnly Such state → OwesOnly (λ (other : ℕ). Such other × (other ≢ conn)) (forgotten state conn)
+  pub forgotten_only : (state : Services) (conn : ℕ) → OwesOnly Such state → OwesOnly (λ (other : ℕ). Such other × (other ≢ conn)) (forgotten state conn)
   forgotten_only state conn p = tt
 
 -- what is true of more connections
 module _ (Such More : ℕ → Type 0) (f : (conn : ℕ) → Such conn → More conn) where
-  pub owes_more : (state : ServicesState) → OwesOnly Such state → OwesOnly More state
+  pub owes_more : (state : Services) → OwesOnly Such state → OwesOnly More state
   owes_more state p = tt

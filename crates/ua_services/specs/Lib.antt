@@ -1,6 +1,14 @@
 pub mod EndpointList
 pub mod ServicesState
 pub mod Serving
+pub mod SessionServing
+pub mod InSession
+pub mod Operations
 pub mod GetEndpoints
+pub mod CreateSession
+pub mod ActivateSession
+pub mod CloseSession
+pub mod Read
+pub mod Write
 pub mod Services
 pub mod Owing

@@ -2,11 +2,11 @@
 use Rattle.std.specs.Prelude.{⊤, ℕ, List}
 use Rattle.std.specs.List.{AllByRecursion}
 use Rattle.ua_requests.specs.declared.reply.Reply.{Reply}
-use Rattle.ua_services.specs.ServicesState.{ServicesState}
+use Rattle.ua_services.specs.ServicesState.{Services}
 use Rattle.ua_services.specs.Serving.{Serving}
 
 -- Every connection that waits for a reply is such a one. No request waits yet
-abbrev pub OwesOnly : (ℕ → Type 0) → ServicesState → Type 0
+abbrev pub OwesOnly : (ℕ → Type 0) → Services → Type 0
 OwesOnly Such state = ⊤
 
 abbrev pub RepliesOnly : (ℕ → Type 0) → List Reply → Type 0

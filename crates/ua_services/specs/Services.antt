@@ -1,16 +1,27 @@
 -- All services.
-use Rattle.std.specs.Prelude.{ℕ, ◌==◌, Bool, true, List, [], Result, Ok, if◌then◌else◌}
+use Rattle.std.specs.Prelude.{ℕ, ◌==◌, Bool, true, false, List, [], ◌∷◌, Result, Ok, if◌then◌else◌}
+use Rattle.ua_types.specs.declared.node_id.NodeId.{NodeId}
 use Rattle.ua_types.specs.declared.status.TheConstants.Status as status
 use Rattle.ua_binary.specs.declared.fault.TakeFault.{TakeFault}
 use Rattle.ua_messages.specs.Bodies.{message_id_of, message_of}
 use Rattle.ua_messages.specs.GetEndpoints.{get_endpoints_request_reading}
 use Rattle.ua_messages.specs.Headers.{request_header_reading}
 use Rattle.ua_messages.specs.declared.headers.RequestHeader.{RequestHeader}
-use Rattle.ua_messages.specs.declared.type_ids.TheConstants.{GET_ENDPOINTS_REQUEST}
+use Rattle.ua_messages.specs.declared.type_ids.TheConstants.{GET_ENDPOINTS_REQUEST, CREATE_SESSION_REQUEST, ACTIVATE_SESSION_REQUEST, CLOSE_SESSION_REQUEST, READ_REQUEST, WRITE_REQUEST}
 use Rattle.ua_requests.specs.declared.request.Request.{Request}
 use Rattle.ua_requests.specs.declared.setting.Setting.{Setting}
+use Rattle.service_messages.specs.Reading.{read_request_reading}
+use Rattle.service_messages.specs.Writing.{write_request_reading}
+use Rattle.service_messages.specs.Sessions.{create_session_request_reading, activate_session_request_reading, close_session_request_reading}
+use Rattle.ua_session.specs.Sessions.{ticked, ended_by}
+use Rattle.ua_services.specs.ActivateSession.{activate_session_meaning}
+use Rattle.ua_services.specs.CloseSession.{close_session_meaning}
+use Rattle.ua_services.specs.CreateSession.{create_session_meaning}
 use Rattle.ua_services.specs.GetEndpoints.{get_endpoints_meaning}
-use Rattle.ua_services.specs.ServicesState.{ServicesState}
+use Rattle.ua_services.specs.InSession.{served_in_session}
+use Rattle.ua_services.specs.Read.{read_meaning}
+use Rattle.ua_services.specs.Write.{write_meaning}
+use Rattle.ua_services.specs.ServicesState.{Services}
 use Rattle.ua_services.specs.Serving.{Serving, faulted, served_by}
 use Rattle.ua_services.specs.declared.call.Call.{Call}
 
@@ -18,28 +29,37 @@ abbrev pub call_of : Request → ℕ → Call
 call_of request handle = record { conn = request.conn; key = request.key; id = request.id; handle = handle }
 
 -- by its type id
-abbrev pub picked : Setting → Call → List ℕ → ServicesState → ℕ → Serving
-picked setting call body state id =
+abbrev pub picked : Setting → Call → NodeId → List ℕ → Services → ℕ → Serving
+picked setting call token body state id =
     if id == GET_ENDPOINTS_REQUEST then served_by get_endpoints_meaning setting call state (message_of get_endpoints_request_reading body)
+    else if id == CREATE_SESSION_REQUEST then served_by create_session_meaning setting call state (message_of create_session_request_reading body)
+    else if id == ACTIVATE_SESSION_REQUEST then served_by activate_session_meaning setting call state (message_of activate_session_request_reading body)
+    else if id == CLOSE_SESSION_REQUEST then served_by close_session_meaning setting call state (message_of close_session_request_reading body)
+    else if id == READ_REQUEST then served_in_session read_meaning setting call token state (message_of read_request_reading body)
+    else if id == WRITE_REQUEST then served_in_session write_meaning setting call token state (message_of write_request_reading body)
     else faulted state call status.BAD_SERVICE_UNSUPPORTED setting.clock
 
-abbrev pub serving_by : Setting → Request → ServicesState → Result ℕ TakeFault → Result RequestHeader TakeFault → Serving
-serving_by setting request state (Ok id) (Ok header) = picked setting (call_of request header.request_handle) request.body state id
+abbrev pub serving_by : Setting → Request → Services → Result ℕ TakeFault → Result RequestHeader TakeFault → Serving
+serving_by setting request state (Ok id) (Ok header) = picked setting (call_of request header.request_handle) header.authentication_token request.body state id
 serving_by setting request state id header = faulted state (call_of request 0) status.BAD_DECODING_ERROR setting.clock
 
 -- The order in which a request is judged: its type id and header, whether the type is served, its fields, the service
-unfoldable pub serving_of : Setting → Request → ServicesState → Serving
+unfoldable pub serving_of : Setting → Request → Services → Serving
 serving_of setting request state =
     serving_by setting request state (message_id_of request.body) (message_of request_header_reading request.body)
 
--- what is due as time passes: nothing yet
-abbrev pub ticking_of : Setting → ServicesState → Serving
-ticking_of setting state = record { state = state; replies = []; acts = [] }
+-- what is due as time passes: sessions end
+abbrev pub ticking_of : Setting → Services → Serving
+ticking_of setting state = record { state = record state { sessions = ticked state.sessions setting.clock }; replies = []; acts = [] }
+
+abbrev pub is_none : List ℕ → Bool
+is_none [] = true
+is_none (number ∷ numbers) = false
 
 -- whether nothing is due at a tick
-abbrev pub is_idle : ServicesState → Bool
-is_idle state = true
+abbrev pub is_idle : Setting → Services → Bool
+is_idle setting state = is_none (ended_by state.sessions setting.clock)
 
 -- what is kept once a connection is closed or gone: nothing waits for one yet
-abbrev pub forgotten : ServicesState → ℕ → ServicesState
+abbrev pub forgotten : Services → ℕ → Services
 forgotten state conn = state

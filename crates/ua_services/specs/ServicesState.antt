@@ -1,6 +1,8 @@
 -- What the services keep.
+use Rattle.ua_types.specs.Configuration.{Configuration}
+use Rattle.ua_session.specs.Sessions.{no_sessions}
 use Rattle.ua_space.specs.Nodes.{SpaceState}
+pub use Rattle.ua_services.specs.declared.services.Services.{Services}
 
--- the nodes of the server and the references between them
-pub record ServicesState : Type 0 where
-  pub space : SpaceState
+abbrev pub no_services_used : Configuration → SpaceState → Services
+no_services_used config space = record { space = space; sessions = no_sessions config }

@@ -12,7 +12,7 @@ use Rattle.ua_requests.specs.declared.halt.Halt.TheVariants.{Memory, Exhausted}
 use Rattle.ua_requests.specs.declared.reply.Reply.{Reply}
 use Rattle.ua_requests.specs.declared.served.Served.{Served}
 use Rattle.ua_requests.specs.declared.setting.Setting.{Setting}
-use Rattle.ua_services.specs.ServicesState.{ServicesState}
+use Rattle.ua_services.specs.ServicesState.{Services}
 use Rattle.ua_services.specs.declared.call.Call.{Call}
 
 -- What is said of a service beside its replies: a row of the subscriptions' state table fired, or a serial of 64 bits has
@@ -23,7 +23,7 @@ pub data Act : Type 0 where
 
 -- what is kept after it, the replies, and the acts
 pub record Serving : Type 0 where
-  pub state : ServicesState
+  pub state : Services
   pub replies : List Reply
   pub acts : List Act
 
@@ -31,14 +31,14 @@ abbrev pub reply_of : Call → List ℕ → Reply
 reply_of call body = record { conn = call.conn; id = call.id; handle = call.handle; body = body }
 
 -- a request that is answered at once, and changes nothing
-abbrev pub answered : ServicesState → Call → List ℕ → Serving
+abbrev pub answered : Services → Call → List ℕ → Serving
 answered state call body = record { state = state; replies = reply_of call body ∷ []; acts = [] }
 
-abbrev pub faulted : ServicesState → Call → Status → Moment → Serving
+abbrev pub faulted : Services → Call → Status → Moment → Serving
 faulted state call code clock = answered state call (fault_body call.handle code clock)
 
 -- every service: a request whose fields can't be read is answered by a fault
-abbrev pub served_by : {A : Type 0} → (Setting → Call → A → ServicesState → Serving) → Setting → Call → ServicesState → Result A TakeFault → Serving
+abbrev pub served_by : {A : Type 0} → (Setting → Call → A → Services → Serving) → Setting → Call → Services → Result A TakeFault → Serving
 served_by meaning setting call state (Ok request) = meaning setting call request state
 served_by meaning setting call state (Err fault) = faulted state call status.BAD_DECODING_ERROR setting.clock
 
@@ -59,17 +59,17 @@ replied reply = record { replies = reply ∷ []; rows = [] }
 
 -- what is kept, and what is given
 pub record Given : Type 0 where
-  pub state : ServicesState
+  pub state : Services
   pub served : Served
 
-abbrev pub given : ServicesState → Served → Given
+abbrev pub given : Services → Served → Given
 given state served = record { state = state; served = served }
 
 abbrev pub given_of : Serving → Given
 given_of s = given s.state (record { replies = s.replies; rows = rows_of s.acts })
 
 -- a call does what is said of it, unless memory ran out, or a serial that is said to be spent
-abbrev pub Serves : Result Served Halt → ServicesState → Serving → Type 0
+abbrev pub Serves : Result Served Halt → Services → Serving → Type 0
 Serves (Ok served) new said = given new served ≡ given_of said
 Serves (Err Memory) new said = ⊤
 Serves (Err Exhausted) new said = list_any is_spent said.acts ≡ true

@@ -4,17 +4,26 @@
 //! as time passes; [`Services::forget`] drops what a closed connection still waited for. Nothing here
 //! knows of frames, channels and sizes.
 //!
-//! Each service is a type that is a [`Service`], in a file of its own, and its meaning is a file of
-//! `specs/` with the same name. `specs/Serving` has what all of them share, `Services` the order in
-//! which a request is judged, and `Owing` to whom replies go.
+//! Each service is a type that is a [`Service`], or a [`SessionService`] where it is one of a session, in a
+//! file of its own, and its meaning is a file of `specs/` with the same name. `specs/Serving` has what
+//! all of them share, `InSession` what those of a session begin with, `Services` the order in which a
+//! request is judged, and `Owing` to whom replies go.
 #![tactic(auto)]
 
+mod activate_session;
 mod call;
+mod close_session;
+mod create_session;
 mod endpoint_list;
 mod get_endpoints;
+mod operations;
+mod read;
 mod service;
 mod services;
+mod session_service;
+mod write;
 
 pub use call::Call;
 pub use service::Service;
 pub use services::Services;
+pub use session_service::SessionService;

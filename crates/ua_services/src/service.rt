@@ -4,7 +4,7 @@ ghost use Rattle.std.specs.Prelude.{◌≡◌, ℕ, List, IfOk, ◌∷◌, []};
 ghost use Rattle.ua_messages.specs.Bodies.{message_of};
 ghost use Rattle.ua_messages.specs.ServiceFaults.{fault_body};
 ghost use Rattle.ua_requests.specs.declared.setting.Setting.{Setting};
-ghost use Rattle.ua_services.specs.ServicesState.{ServicesState};
+ghost use Rattle.ua_services.specs.ServicesState.{Services};
 ghost use Rattle.ua_services.specs.Serving.{Serving, Serves, served_by, reply_of, replied};
 ghost use Rattle.ua_services.specs.declared.call.Call.{Call};
 
@@ -56,7 +56,7 @@ pub trait Service {
     type Request: Wire;
 
     /// What a request comes to.
-    ghost meaning: { Setting → Call → Self.Request → ServicesState → Serving };
+    ghost meaning: { Setting → Call → Self.Request → Services → Serving };
 
     /// Does what a request asks for.
     fn serve(

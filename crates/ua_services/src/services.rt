@@ -2,50 +2,57 @@
 
 ghost use Rattle.std.specs.Prelude.{◌≡◌, true, IsOk};
 ghost use Rattle.ua_services.specs.Serving.{Serves};
+ghost use Rattle.ua_services.specs.ServicesState.{no_services_used};
 ghost use Rattle.ua_services.specs.Services.{serving_of, ticking_of, is_idle, forgotten};
 
+use crate::activate_session::ActivateSession;
 use crate::call::Call;
+use crate::close_session::CloseSession;
+use crate::create_session::CreateSession;
 use crate::get_endpoints::GetEndpoints;
+use crate::read::Read;
 use crate::service::{Service, refuse};
+use crate::session_service::SessionService;
+use crate::write::Write;
 use std::alloc::Global;
-use std::marker::Model;
 use ua_binary::TakeFault;
 use ua_messages::{RequestHeader, message, message_id, type_ids};
 use ua_requests::{Halt, Listed, Request, Served, Setting};
+use ua_session::Sessions;
 use ua_space::Space;
-use ua_types::Status;
+use ua_types::{Config, Status};
 
-/// The services, and what they keep: the address space. Contracts see a record of it.
+/// The services, and what they keep.
 ///
 /// Each request is judged in this order, and the first that is wrong is answered by a fault with that
 /// status (IEC 62541-4, "ServiceFault"): its type id or its header can't be read,
 /// `BAD_DECODING_ERROR` under the handle 0; its type isn't served, `BAD_SERVICE_UNSUPPORTED`; its
-/// fields can't be read, `BAD_DECODING_ERROR`. At an `Err` nothing is known of what is left.
+/// fields can't be read, `BAD_DECODING_ERROR`; what the service itself finds wrong. At an `Err` nothing is
+/// known of what is left.
 #[derive(Drop)]
 pub struct Services {
-    space: Space,
-}
+    /// The nodes of the server and the references between them.
+    pub space: Space,
 
-impl Model for Services {
-    ghost use Rattle.ua_services.specs.ServicesState.{ServicesState};
-
-    ghost Value = { ServicesState };
-
-    ghost view = { λ s. record { space = s.space } };
+    /// The sessions of its clients.
+    pub sessions: Sessions,
 }
 
 impl Services {
     /// Nothing was served yet, over this address space. Takes no memory.
-    pub fn new(space: Space) -> Services
-        ensures { result ≡ record { space = space } }
+    pub fn new(alloc: Global, config: &Config, space: Space) -> Services
+        ensures { result ≡ no_services_used config.now space }
     {
-        Services { space }
+        Services {
+            space,
+            sessions: Sessions::new(alloc, config),
+        }
     }
 
     /// Does what a request asks for. The replies may be for it and for others that waited.
     ///
-    /// `Memory` comes only where a growth was refused. No serial is counted yet, so `Exhausted` never
-    /// comes.
+    /// `Memory` comes only where a growth was refused, `Exhausted` only where the serials of nonces are
+    /// used up.
     #[tactic(auto, unfolding(crate::specs::Services::serving_of))]
     pub fn serve(
         &mut self,
@@ -73,19 +80,33 @@ impl Services {
             }
         };
         call.handle = header.request_handle;
+        let token = &header.authentication_token;
         match type_id {
             type_ids::GET_ENDPOINTS_REQUEST => {
                 GetEndpoints::take(alloc, setting, &call, body, self)
             }
+            type_ids::CREATE_SESSION_REQUEST => {
+                CreateSession::take(alloc, setting, &call, body, self)
+            }
+            type_ids::ACTIVATE_SESSION_REQUEST => {
+                ActivateSession::take(alloc, setting, &call, body, self)
+            }
+            type_ids::CLOSE_SESSION_REQUEST => {
+                CloseSession::take(alloc, setting, &call, body, self)
+            }
+            type_ids::READ_REQUEST => Read::take(alloc, setting, &call, token, body, self),
+            type_ids::WRITE_REQUEST => Write::take(alloc, setting, &call, token, body, self),
             _ => Ok(refuse(alloc, &call, Status::BAD_SERVICE_UNSUPPORTED, setting.clock)?),
         }
     }
 
-    /// Does what is due as time passes, which is nothing yet. Takes no memory where nothing is due.
-    pub fn tick(&mut self, alloc: Global, _setting: &Setting) -> Result<Served, Halt>
-        ensures ticks { Serves result self.new (ticking_of _setting.now self.old) }
-        ensures idle { is_idle self.old ≡ true → IsOk result }
+    /// Does what is due as time passes: the sessions end whose deadline the clock has reached. Takes no
+    /// memory where there is none.
+    pub fn tick(&mut self, alloc: Global, setting: &Setting) -> Result<Served, Halt>
+        ensures ticks { Serves result self.new (ticking_of setting.now self.old) }
+        ensures idle { is_idle setting.now self.old ≡ true → IsOk result }
     {
+        self.sessions.tick(alloc, setting.clock)?;
         Ok(Served {
             replies: Listed::new(alloc),
             rows: Listed::new(alloc),

@@ -10,7 +10,7 @@ use std::test::Fail;
 use ua_tcp::Tap;
 
 /// A small plant: an object and a variable, and limits that an Acknowledge shows.
-const PLANT: &str = "version = 1
+pub const PLANT: &str = "version = 1
 
 [server]
 max_message = 2048

@@ -1,6 +1,6 @@
 use Rattle.std.proofs.Common.{◌∙◌, ap}
 use Rattle.std.specs.FinMap as map
-use Rattle.ua_connections.proofs.MapLemmas.{count_is}
+use Rattle.ua_types.proofs.NumberMaps.{count_is}
 use Rattle.ua_connections.proofs.numbered.Numbered.len.Goals as goal
 
 pub returns : goal.returns

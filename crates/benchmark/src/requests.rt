@@ -1,0 +1,206 @@
+//! Requests to a whole server, handed in as the bytes of one connection.
+
+use bytes::Bytes;
+use node_loader::load;
+use std::alloc::{AllocError, Global};
+use std::io::{self, ErrorKind, Write};
+use std::time::Instant;
+use ua_core::{Event, Out, Server};
+use ua_space::Space;
+
+/// A variable that is read and written.
+const NODES: &str = "version = 1
+
+[[node]]
+id = \"ns=1;i=1\"
+class = \"Variable\"
+name = \"Count\"
+parent = \"i=85\"
+type = \"UInt16\"
+value = 0
+access = 3
+";
+
+// Hello of protocol version 0, with buffers of 65536 bytes and no limits; OpenSecureChannel of the mode
+// None for an hour, as the request 1.
+const HELLO: &[u8] =
+    b"HELF\x38\0\0\0\0\0\0\0\0\0\x01\0\0\0\x01\0\0\0\0\0\0\0\0\0\x18\0\0\0opc.tcp://localhost:4840";
+
+const OPEN: &[u8] =
+    b"OPNF\x84\0\0\0\0\0\0\0\x2f\0\0\0http://opcfoundation.org/UA/SecurityPolicy#None\xff\xff\xff\xff\xff\xff\xff\xff\x01\0\0\0\x01\0\0\0\x01\0\xbe\x01\0\0\0\0\0\0\0\0\0\0\x01\0\0\0\0\0\0\0\xff\xff\xff\xff\0\0\0\0\0\0\0\0\0\0\0\0\0\0\0\x01\0\0\0\xff\xff\xff\xff\x80\xee\x36\0";
+
+// The type ids of CreateSession, ActivateSession, Read and Write.
+const CREATE: [u8; 4] = [0x01, 0x00, 0xcd, 0x01];
+
+const ACTIVATE: [u8; 4] = [0x01, 0x00, 0xd3, 0x01];
+
+const READ: [u8; 4] = [0x01, 0x00, 0x77, 0x02];
+
+const WRITE: [u8; 4] = [0x01, 0x00, 0xa1, 0x02];
+
+// No token, and that of the first session on a connection with a key of zeros.
+const NO_TOKEN: &[u8] = b"\0\0";
+
+const TOKEN: &[u8] = b"\x05\0\0\x14\0\0\0\0\0\0\0\0\0\0\0\0\0\0\0\0\0\0\0\x01\0\0\0";
+
+// What a request's header has behind the token.
+const HEADER: &[u8] = b"\0\0\0\0\0\0\0\0\x07\0\0\0\0\0\0\0\xff\xff\xff\xff\0\0\0\0\0\0\0";
+
+// The fields of CreateSession and ActivateSession, with nothing said.
+const NO_CLIENT: &[u8] =
+    b"\xff\xff\xff\xff\xff\xff\xff\xff\0\x01\0\0\0\xff\xff\xff\xff\xff\xff\xff\xff\xff\xff\xff\xff\xff\xff\xff\xff\xff\xff\xff\xff\xff\xff\xff\xff\xff\xff\xff\xff\xff\xff\xff\xff\0\0\0\0\0\0\0\0\0\0\0\0";
+
+const NO_USER: &[u8] =
+    b"\xff\xff\xff\xff\xff\xff\xff\xff\xff\xff\xff\xff\xff\xff\xff\xff\0\0\0\xff\xff\xff\xff\xff\xff\xff\xff";
+
+// A Read without times, up to its list; the variable's value, to be read; and a list of one, in which it
+// is written with the number 258.
+const NO_TIMES: &[u8] = b"\0\0\0\0\0\0\0\0\x03\0\0\0";
+
+const VALUE: &[u8] = b"\x01\x01\x01\0\x0d\0\0\0\xff\xff\xff\xff\0\0\xff\xff\xff\xff";
+
+const WRITTEN: &[u8] = b"\x01\0\0\0\x01\x01\x01\0\x0d\0\0\0\xff\xff\xff\xff\x01\x05\x02\x01";
+
+fn failed() -> io::Error {
+    io::Error::from(ErrorKind::Other)
+}
+
+fn joined(alloc: Global, parts: &[&[u8]]) -> Result<Vec<u8>, AllocError> {
+    let mut out = Vec::new(alloc);
+    for part in parts {
+        out.extend_from_slice(part)?;
+    }
+    Ok(out)
+}
+
+// Hands bytes to the server, and says how many it sends.
+fn hand_in(alloc: Global, server: &mut Server, bytes: Vec<u8>) -> io::Result<usize> {
+    let bytes = Bytes::from_vec(bytes)?;
+    let Ok(step) = server.step(alloc, &Event::Bytes { conn: 1, bytes }) else {
+        return Err(failed());
+    };
+    let mut sent = 0usize;
+    for out in step.outs.as_slice() {
+        match out {
+            Out::Send { conn: _, bytes } => sent = sent.saturating_add(bytes.len()),
+            Out::Close { conn: _ } => return Err(failed()),
+        }
+    }
+    Ok(sent)
+}
+
+// A request in one chunk of the first channel.
+fn request(
+    alloc: Global,
+    number: u32,
+    type_id: &[u8; 4],
+    token: &[u8],
+    fields: &[u8],
+) -> Result<Vec<u8>, AllocError> {
+    let rest = token.len().saturating_add(fields.len());
+    let size = u32::try_from(rest).unwrap_or(0).saturating_add(55);
+    let mut out = Vec::new(alloc);
+    out.extend_from_slice(b"MSGF".as_slice())?;
+    out.extend_from_slice(size.to_le_bytes().as_slice())?;
+    out.extend_from_slice(b"\x01\0\0\0\x01\0\0\0".as_slice())?;
+    out.extend_from_slice(number.to_le_bytes().as_slice())?;
+    out.extend_from_slice(number.to_le_bytes().as_slice())?;
+    out.extend_from_slice(type_id.as_slice())?;
+    out.extend_from_slice(token)?;
+    out.extend_from_slice(HEADER)?;
+    out.extend_from_slice(fields)?;
+    Ok(out)
+}
+
+// A server that has the variable and one session, and was told of two requests in its channel.
+fn server(alloc: Global) -> io::Result<Server> {
+    let Ok(loaded) = load(alloc, NODES) else {
+        return Err(failed());
+    };
+    let nodes = loaded.nodes.into_vec();
+    let triples = loaded.triples.into_vec();
+    let config = loaded.config;
+    let Ok(space) = Space::build(alloc, &config, nodes, triples) else {
+        return Err(failed());
+    };
+    let mut server = Server::new(alloc, config, space);
+    let opened = Event::Opened {
+        conn: 1,
+        key: [0; 32],
+    };
+    if server.step(alloc, &opened).is_err() {
+        return Err(failed());
+    }
+    hand_in(alloc, &mut server, joined(alloc, &[HELLO, OPEN])?)?;
+    let create = request(alloc, 2, &CREATE, NO_TOKEN, NO_CLIENT)?;
+    hand_in(alloc, &mut server, create)?;
+    let activate = request(alloc, 3, &ACTIVATE, TOKEN, NO_USER)?;
+    hand_in(alloc, &mut server, activate)?;
+    Ok(server)
+}
+
+// Hands in a request so many times, and tells how many are answered in a second, and how long an answer is.
+fn time_requests(
+    rt: &HostRuntime,
+    server: &mut Server,
+    name: &str,
+    type_id: &[u8; 4],
+    fields: &[u8],
+    first: u32,
+    rounds: u32,
+) -> io::Result<()> {
+    let alloc = rt.alloc();
+    let start = Instant::now(rt);
+    let mut sent = 0;
+    for round in 0..rounds {
+        let number = first.saturating_add(round);
+        sent = hand_in(
+            alloc,
+            server,
+            request(alloc, number, type_id, TOKEN, fields)?,
+        )?;
+    }
+    let time = match start {
+        Ok(start) => start.elapsed(rt).map_or(u128::MAX, |time| time.as_nanos()),
+        Err(_) => u128::MAX,
+    };
+    let each_second = u128::from(rounds) * 1_000_000_000 / time.max(1);
+    let mut errors = rt.stderr();
+    let _ = writeln!(errors, "{name}: {each_second} a second");
+    let mut out = rt.stdout();
+    writeln!(out, "{name}: {rounds}, each answered in {sent} bytes")
+}
+
+/// Reads one value and 1,000 values, and writes one, each so many times.
+pub fn run(rt: &HostRuntime, rounds: u32) -> io::Result<()> {
+    let alloc = rt.alloc();
+    let rounds = rounds.min(1_000_000_000);
+    let mut server = server(alloc)?;
+    let one = joined(alloc, &[NO_TIMES, b"\x01\0\0\0".as_slice(), VALUE])?;
+    let mut many = joined(alloc, &[NO_TIMES, b"\xe8\x03\0\0".as_slice()])?;
+    for _ in 0..1000 {
+        many.extend_from_slice(VALUE)?;
+    }
+    let (one, many) = (one.as_slice(), many.as_slice());
+    time_requests(rt, &mut server, "reads of one value", &READ, one, 4, rounds)?;
+    let next = 4 + rounds;
+    time_requests(
+        rt,
+        &mut server,
+        "reads of 1000 values",
+        &READ,
+        many,
+        next,
+        rounds,
+    )?;
+    let next = next + rounds;
+    time_requests(
+        rt,
+        &mut server,
+        "writes of one value",
+        &WRITE,
+        WRITTEN,
+        next,
+        rounds,
+    )
+}

@@ -1,0 +1,37 @@
+-- The service Read.
+use Rattle.std.specs.Prelude.{ℕ, List, Option, Some, None, Result, Ok, Err}
+use Rattle.ua_types.specs.declared.status.Status.{Status}
+use Rattle.ua_types.specs.declared.status.TheConstants.Status as status
+use Rattle.ua_binary.specs.DataValues.{data_value_encoding}
+use Rattle.ua_messages.specs.Bodies.{body_encoding}
+use Rattle.ua_messages.specs.Headers.{plain_header}
+use Rattle.ua_messages.specs.ResultLists.{results_encoding, results_of}
+use Rattle.ua_messages.specs.declared.read_value_ids.ReadValueId.{ReadValueId}
+use Rattle.ua_messages.specs.declared.type_ids.TheConstants.{READ_RESPONSE}
+use Rattle.service_messages.specs.declared.reading.ReadRequest.{ReadRequest}
+use Rattle.read_write.specs.Reading.{all_read}
+use Rattle.read_write.specs.Timestamps.{timestamps_of}
+use Rattle.read_write.specs.declared.timestamps.Timestamps.{Timestamps}
+use Rattle.ua_requests.specs.declared.setting.Setting.{Setting}
+use Rattle.ua_services.specs.Operations.{operations_of}
+use Rattle.ua_services.specs.ServicesState.{Services}
+use Rattle.ua_services.specs.Serving.{Serving, answered, faulted}
+use Rattle.ua_services.specs.declared.call.Call.{Call}
+
+-- the value of each attribute, in the order of the request
+abbrev pub read_response_body : Setting → Call → Services → Timestamps → List ReadValueId → List ℕ
+read_response_body setting call state timestamps nodes =
+    body_encoding (results_encoding data_value_encoding) READ_RESPONSE
+    (results_of (plain_header call.handle (record { 0 = 0 }) setting.clock) (all_read state.space.nodes setting.clock timestamps nodes))
+
+abbrev pub read_listed : Setting → Call → Services → Timestamps → Result (List ReadValueId) Status → Serving
+read_listed setting call state timestamps (Ok nodes) = answered state call (read_response_body setting call state timestamps nodes)
+read_listed setting call state timestamps (Err code) = faulted state call code setting.clock
+
+abbrev pub read_timed : Setting → Call → Services → Option (List ReadValueId) → Option Timestamps → Serving
+read_timed setting call state nodes None = faulted state call status.BAD_TIMESTAMPS_TO_RETURN_INVALID setting.clock
+read_timed setting call state nodes (Some timestamps) = read_listed setting call state timestamps (operations_of setting.config nodes)
+
+-- the times that are wanted are judged first, then the list, then each attribute
+abbrev pub read_meaning : Setting → Call → ReadRequest → Services → Serving
+read_meaning setting call request state = read_timed setting call state request.nodes_to_read (timestamps_of request.timestamps_to_return)

@@ -1,0 +1,83 @@
+//! The service ActivateSession (IEC 62541-4, "ActivateSession").
+
+ghost use Rattle.std.specs.Prelude.{◌≡◌, IfOk};
+ghost use Rattle.ua_services.specs.ActivateSession.{activate_session_meaning, activate_session_response, is_anonymous as is_anonymous_lem};
+
+use crate::call::Call;
+use crate::service::{Service, refuse, reply};
+use crate::services::Services;
+use service_messages::{ActivateSessionRequest, ActivateSessionResponse, AnonymousIdentityToken};
+use std::alloc::{AllocError, Global};
+use ua_messages::{DiagnosticInfos, ResponseHeader, StructureFault, body, structure, type_ids};
+use ua_requests::{Halt, Served, Setting};
+use ua_types::{Array, ByteString, ExtensionObject, ExtensionObjectBody, Refusal, Status};
+
+// Whether the user stays unnamed.
+fn is_anonymous(alloc: Global, identity: &ExtensionObject) -> Result<bool, AllocError>
+    ensures { IfOk result (λ is. is ≡ is_anonymous_lem identity.now) }
+{
+    if matches!(&identity.body, ExtensionObjectBody::Absent) {
+        return Ok(true);
+    }
+    match structure::<AnonymousIdentityToken>(alloc, type_ids::ANONYMOUS_IDENTITY_TOKEN, identity) {
+        Ok(_) => Ok(true),
+        Err(StructureFault::Memory) => Err(AllocError),
+        Err(_) => Ok(false),
+    }
+}
+
+fn response(
+    alloc: Global,
+    setting: &Setting,
+    handle: u32,
+    nonce: &[u8; 32],
+) -> Result<ActivateSessionResponse, AllocError>
+    ensures { IfOk result (λ response. response ≡ activate_session_response setting.now.clock handle nonce.now) }
+{
+    Ok(ActivateSessionResponse {
+        response_header: ResponseHeader::new(handle, Status(0), setting.clock),
+        server_nonce: ByteString::from_slice(alloc, &nonce[..])?,
+        results: Array::new(Vec::new(alloc)),
+        diagnostic_infos: DiagnosticInfos,
+    })
+}
+
+/// Says who the user is, and moves the session to the connection that the request came by.
+///
+/// The faults, in this order: `BAD_SESSION_ID_INVALID` where no session has the token,
+/// `BAD_SECURE_CHANNEL_ID_INVALID` for a session that was never activated, on another connection than
+/// that it was made on, and `BAD_IDENTITY_TOKEN_REJECTED` for any user but an unnamed one.
+pub struct ActivateSession;
+
+impl Service for ActivateSession {
+    type Request = ActivateSessionRequest;
+
+    ghost meaning = { activate_session_meaning };
+
+    fn serve(
+        alloc: Global,
+        setting: &Setting,
+        call: &Call,
+        request: ActivateSessionRequest,
+        services: &mut Services,
+    ) -> Result<Served, Halt> {
+        let is_anonymous = is_anonymous(alloc, &request.user_identity_token)?;
+        let token = &request.request_header.authentication_token;
+        match services
+            .sessions
+            .activate(token, call.conn, &call.key, is_anonymous)
+        {
+            Ok(nonce) => {
+                let response = response(alloc, setting, call.handle, &nonce)?;
+                Ok(reply(
+                    alloc,
+                    call,
+                    body(alloc, type_ids::ACTIVATE_SESSION_RESPONSE, &response)?,
+                )?)
+            }
+            Err(Refusal::Service(status)) => Ok(refuse(alloc, call, status, setting.clock)?),
+            Err(Refusal::Memory) => Err(Halt::Memory),
+            Err(Refusal::Exhausted) => Err(Halt::Exhausted),
+        }
+    }
+}

@@ -1,0 +1,54 @@
+//! The service Read (IEC 62541-4, "Read").
+
+ghost use Rattle.ua_services.specs.Read.{read_meaning};
+
+use crate::call::Call;
+use crate::operations::operations;
+use crate::service::{refuse, reply};
+use crate::services::Services;
+use crate::session_service::SessionService;
+use read_write::{Timestamps, read_body};
+use service_messages::ReadRequest;
+use std::alloc::Global;
+use ua_messages::ResponseHeader;
+use ua_requests::{Halt, Served, Setting};
+use ua_types::Status;
+
+/// Reads attributes of nodes.
+///
+/// The faults, in this order: `BAD_TIMESTAMPS_TO_RETURN_INVALID` where the choice of times is none of the
+/// four, `BAD_NOTHING_TO_DO`, `BAD_TOO_MANY_OPERATIONS`. What is wrong with one attribute is told in its
+/// result ([`read_write::read`]).
+pub struct Read;
+
+impl SessionService for Read {
+    type Request = ReadRequest;
+
+    ghost meaning = { read_meaning };
+
+    fn serve(
+        alloc: Global,
+        setting: &Setting,
+        call: &Call,
+        request: ReadRequest,
+        services: &mut Services,
+    ) -> Result<Served, Halt> {
+        let Some(timestamps) = Timestamps::chosen(request.timestamps_to_return) else {
+            return Ok(refuse(
+                alloc,
+                call,
+                Status::BAD_TIMESTAMPS_TO_RETURN_INVALID,
+                setting.clock,
+            )?);
+        };
+        match operations(&setting.config, &request.nodes_to_read) {
+            Ok(nodes) => {
+                let header = ResponseHeader::new(call.handle, Status(0), setting.clock);
+                let space = &services.space;
+                let body = read_body(alloc, space, setting.clock, timestamps, &header, nodes)?;
+                Ok(reply(alloc, call, body)?)
+            }
+            Err(status) => Ok(refuse(alloc, call, status, setting.clock)?),
+        }
+    }
+}

@@ -1,0 +1,5 @@
+pub mod Nonces
+pub mod Tokens
+pub mod Codes
+pub mod SessionTables
+pub mod Sessions
