@@ -7,6 +7,7 @@ use std::io::{self, ErrorKind, Write};
 use std::time::Instant;
 use ua_core::{Event, Out, Server};
 use ua_space::Space;
+use ua_types::Config;
 
 /// A variable that is read and written.
 const NODES: &str = "version = 1
@@ -112,18 +113,22 @@ fn request(
     Ok(out)
 }
 
-// A server that has the variable and one session, and was told of two requests in its channel.
-fn server(alloc: Global) -> io::Result<Server> {
+// The configuration and the address space of the file.
+fn plant(alloc: Global) -> io::Result<(Config, Space)> {
     let Ok(loaded) = load(alloc, NODES) else {
         return Err(failed());
     };
     let nodes = loaded.nodes.into_vec();
     let triples = loaded.triples.into_vec();
     let config = loaded.config;
-    let Ok(space) = Space::build(alloc, &config, nodes, triples) else {
-        return Err(failed());
-    };
-    let mut server = Server::new(alloc, config, space);
+    match Space::build(alloc, &config, nodes, triples) {
+        Ok(space) => Ok((config, space)),
+        Err(_) => Err(failed()),
+    }
+}
+
+// Opens the connection with its channel, and a session on it, by two requests.
+fn greet(alloc: Global, server: &mut Server) -> io::Result<()> {
     let opened = Event::Opened {
         conn: 1,
         key: [0; 32],
@@ -131,12 +136,12 @@ fn server(alloc: Global) -> io::Result<Server> {
     if server.step(alloc, &opened).is_err() {
         return Err(failed());
     }
-    hand_in(alloc, &mut server, joined(alloc, &[HELLO, OPEN])?)?;
+    hand_in(alloc, server, joined(alloc, &[HELLO, OPEN])?)?;
     let create = request(alloc, 2, &CREATE, NO_TOKEN, NO_CLIENT)?;
-    hand_in(alloc, &mut server, create)?;
+    hand_in(alloc, server, create)?;
     let activate = request(alloc, 3, &ACTIVATE, TOKEN, NO_USER)?;
-    hand_in(alloc, &mut server, activate)?;
-    Ok(server)
+    hand_in(alloc, server, activate)?;
+    Ok(())
 }
 
 // Hands in a request so many times, and tells how many are answered in a second, and how long an answer is.
@@ -171,36 +176,36 @@ fn time_requests(
     writeln!(out, "{name}: {rounds}, each answered in {sent} bytes")
 }
 
+// The fields of a Read of the variable's value so many times.
+fn reads(alloc: Global, many: u32) -> Result<Vec<u8>, AllocError> {
+    let mut fields = Vec::new(alloc);
+    fields.extend_from_slice(NO_TIMES)?;
+    fields.extend_from_slice(many.to_le_bytes().as_slice())?;
+    for _ in 0..many {
+        fields.extend_from_slice(VALUE)?;
+    }
+    Ok(fields)
+}
+
+fn time_all(rt: &HostRuntime, server: &mut Server, rounds: u32) -> io::Result<()> {
+    let alloc = rt.alloc();
+    greet(alloc, server)?;
+    let one = reads(alloc, 1)?;
+    let name = "reads of one value";
+    time_requests(rt, server, name, &READ, one.as_slice(), 4, rounds)?;
+    let many = reads(alloc, 1000)?;
+    let next = rounds.saturating_add(4);
+    let name = "reads of 1000 values";
+    time_requests(rt, server, name, &READ, many.as_slice(), next, rounds)?;
+    let next = next.saturating_add(rounds);
+    let name = "writes of one value";
+    time_requests(rt, server, name, &WRITE, WRITTEN, next, rounds)
+}
+
 /// Reads one value and 1,000 values, and writes one, each so many times.
 pub fn run(rt: &HostRuntime, rounds: u32) -> io::Result<()> {
     let alloc = rt.alloc();
-    let rounds = rounds.min(1_000_000_000);
-    let mut server = server(alloc)?;
-    let one = joined(alloc, &[NO_TIMES, b"\x01\0\0\0".as_slice(), VALUE])?;
-    let mut many = joined(alloc, &[NO_TIMES, b"\xe8\x03\0\0".as_slice()])?;
-    for _ in 0..1000 {
-        many.extend_from_slice(VALUE)?;
-    }
-    let (one, many) = (one.as_slice(), many.as_slice());
-    time_requests(rt, &mut server, "reads of one value", &READ, one, 4, rounds)?;
-    let next = 4 + rounds;
-    time_requests(
-        rt,
-        &mut server,
-        "reads of 1000 values",
-        &READ,
-        many,
-        next,
-        rounds,
-    )?;
-    let next = next + rounds;
-    time_requests(
-        rt,
-        &mut server,
-        "writes of one value",
-        &WRITE,
-        WRITTEN,
-        next,
-        rounds,
-    )
+    let (config, space) = plant(alloc)?;
+    let mut server = Server::new(alloc, config, space);
+    time_all(rt, &mut server, rounds.min(1_000_000_000))
 }

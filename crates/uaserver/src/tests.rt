@@ -4,9 +4,6 @@
 mod commands;
 mod conversations;
 mod events;
-mod large_answers;
 mod messages;
 mod node_files;
-mod scene;
-mod sessions;
 mod streams;
