@@ -6,4 +6,6 @@ mod conversations;
 mod events;
 mod messages;
 mod node_files;
+mod scene;
+mod sessions;
 mod streams;
