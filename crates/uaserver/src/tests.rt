@@ -4,6 +4,7 @@
 mod commands;
 mod conversations;
 mod events;
+mod large_answers;
 mod messages;
 mod node_files;
 mod scene;
