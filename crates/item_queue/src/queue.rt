@@ -11,8 +11,11 @@ use std::marker::Model;
 /// The values of a monitored item that wait to be sent, oldest first: at most as many as its size.
 #[derive(Debug)]
 pub struct ItemQueue<T> {
+    // The values that wait, the oldest first: at most `size` of them.
     entries: VecDeque<Entry<T>>,
+    // How many values may wait, at least one.
     size: usize,
+    // Which value is lost where the queue is full: the oldest one, or the newest.
     discard_oldest: bool,
 }
 

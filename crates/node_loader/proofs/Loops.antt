@@ -15,7 +15,8 @@ use Rattle.node_loader.specs.declared.node.Entry.{Entry}
 use Rattle.node_loader.specs.declared.node.Setting.{Setting}
 use Rattle.node_loader.specs.File.{entries_of, nodes_of}
 use Rattle.node_loader.specs.Node.{triples_of}
-use Rattle.node_loader.specs.Answers.{◌>>=◌, each, after}
+use Rattle.ua_types.specs.Answers.{◌>>=◌}
+use Rattle.node_loader.specs.Lists.{each, after}
 
 pub begins : {A F : Type 0} (o : Result (List A) F) → after [] o ≡ o
 begins (Err e) = refl

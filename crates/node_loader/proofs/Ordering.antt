@@ -7,7 +7,8 @@ use Rattle.ua_space.specs.declared.node.Node.{Node}
 use Rattle.ua_space.specs.declared.triple.Part.{Part}
 use Rattle.ua_space.specs.declared.triple.Part.TheVariants as part
 use Rattle.ua_space.specs.declared.triple.Triple.{Triple}
-use Rattle.node_loader.specs.Answers.{◌>>=◌, each}
+use Rattle.ua_types.specs.Answers.{◌>>=◌}
+use Rattle.node_loader.specs.Lists.{each}
 use Rattle.node_loader.specs.File.{in_part, entries_of, nodes_of}
 use Rattle.node_loader.specs.Node.{entry_of, triples_of}
 use Rattle.node_loader.specs.Ordered.{NodesAreInOrder}

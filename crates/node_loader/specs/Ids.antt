@@ -5,7 +5,7 @@ use Rattle.ua_types.specs.IdTexts.{id_of}
 use Rattle.ua_types.specs.NodeIds.{numeric_id}
 use Rattle.ua_types.specs.declared.id_texts.IdFault.{IdFault}
 use Rattle.ua_types.specs.declared.node_id.NodeId.{NodeId}
-use Rattle.node_loader.specs.Answers.{◌>>=◌}
+use Rattle.ua_types.specs.Answers.{◌>>=◌}
 use Rattle.node_loader.specs.declared.fault.Cause.{Cause}
 use Rattle.node_loader.specs.declared.fault.Cause.TheVariants.{BadId, OutOfRange}
 use Rattle.node_loader.specs.Keys.{word_at, required_word}

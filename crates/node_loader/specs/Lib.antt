@@ -1,4 +1,4 @@
-pub mod Answers
+pub mod Lists
 pub mod Keys
 pub mod Server
 pub mod Ids

@@ -14,7 +14,7 @@ use Rattle.ua_space.specs.declared.node.ValueRank.TheVariants as ranks
 use Rattle.ua_space.specs.declared.node.Variable.{Variable}
 use Rattle.ua_space.specs.declared.triple.Part.{Part}
 use Rattle.ua_space.specs.declared.triple.Triple.{Triple}
-use Rattle.node_loader.specs.Answers.{◌>>=◌}
+use Rattle.ua_types.specs.Answers.{◌>>=◌}
 use Rattle.node_loader.specs.Ids.{id_at, id_or, id_if_any}
 use Rattle.node_loader.specs.Keys.{only, boolean_at, number_at, required_text, required_word, text_at, text_or}
 use Rattle.node_loader.specs.Value.{type_of, number_of, value_of}

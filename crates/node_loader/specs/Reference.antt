@@ -3,7 +3,7 @@ use Rattle.std.specs.Prelude.{ℕ, [], ◌∷◌, codes, Option, Some, None, Res
 use Rattle.toml.specs.Data.{Members}
 use Rattle.ua_space.specs.declared.triple.Part.{Part}
 use Rattle.ua_space.specs.declared.triple.Triple.{Triple}
-use Rattle.node_loader.specs.Answers.{◌>>=◌}
+use Rattle.ua_types.specs.Answers.{◌>>=◌}
 use Rattle.node_loader.specs.Ids.{id_at}
 use Rattle.node_loader.specs.Keys.{only}
 use Rattle.node_loader.specs.declared.fault.Cause.{Cause}

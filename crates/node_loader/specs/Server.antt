@@ -5,7 +5,8 @@ use Rattle.hex.specs.Hex.{decode_sized}
 use Rattle.hex.specs.declared.error.FromHexError.{FromHexError}
 use Rattle.ua_types.specs.Configuration.{Configuration, IsWithin}
 use Rattle.ua_types.specs.declared.duration.Duration.{Duration}
-use Rattle.node_loader.specs.Answers.{◌>>=◌, each}
+use Rattle.ua_types.specs.Answers.{◌>>=◌}
+use Rattle.node_loader.specs.Lists.{each}
 use Rattle.node_loader.specs.declared.fault.Cause.{Cause}
 use Rattle.node_loader.specs.declared.fault.Cause.TheVariants.{WrongKind, OutOfRange}
 use Rattle.node_loader.specs.Keys.{only, of_kind, word_at, text_or, number_at}

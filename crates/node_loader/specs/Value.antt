@@ -10,7 +10,7 @@ use Rattle.ua_types.specs.declared.guid.Guid.{Guid}
 use Rattle.ua_values.specs.declared.content.Content.TheVariants.{Scalar}
 use Rattle.ua_values.specs.declared.variant.Variant.{Variant}
 use Rattle.ua_values.specs.declared.variant.Variant.TheVariants as variants
-use Rattle.node_loader.specs.Answers.{◌>>=◌}
+use Rattle.ua_types.specs.Answers.{◌>>=◌}
 use Rattle.node_loader.specs.Ids.{id_at}
 use Rattle.node_loader.specs.Keys.{required_boolean, required_integer, required_text, required_word, signed_at, unsigned_at}
 use Rattle.node_loader.specs.declared.fault.Cause.{Cause}

@@ -3,7 +3,9 @@
 ghost use Rattle.std.specs.Prelude.{◌≡◌, ◌++◌, ◌∷◌, [], codes, OnOk};
 ghost use Rattle.toml.specs.Data.{get_member, no_members};
 ghost use Rattle.toml.specs.View.{items_view, table_view};
-ghost use Rattle.node_loader.specs.Answers.{Gives, after};
+ghost use Rattle.ua_types.specs.Answers.{Gives, GivesAs};
+ghost use Rattle.node_loader.specs.Lists.{after};
+ghost use Rattle.node_loader.specs.declared.fault.Cause.TheVariants.{Memory};
 ghost use Rattle.node_loader.specs.File.{Loads, version_of, table_at, list_at, parts_of, setting_of, nodes_of, references_of, contents_of, meaning_of};
 ghost use Rattle.node_loader.specs.Node.{listed, triples_of};
 
@@ -11,15 +13,14 @@ use crate::fault::{Cause, LoadFault};
 use crate::keys::{only, value_at};
 use crate::node::{Entry, Setting, entry_at};
 use crate::reference::reference;
-use crate::sequence::Sequence;
 use crate::server::server;
 use std::alloc::{AllocError, AllocFailed, Global};
 use toml::{Table, Value};
 use ua_space::{Node, Part, Triple};
-use ua_types::Config;
+use ua_types::{Config, Listed};
 
 fn version(table: &Table) -> Result<(), Cause>
-    ensures { Gives (λ x. x) result (version_of (get_member (codes "version") (table_view table.now))) }
+    ensures { Gives Memory result (version_of (get_member (codes "version") (table_view table.now))) }
 {
     match value_at(table, "version") {
         None => Err(Cause::Version),
@@ -33,7 +34,7 @@ fn version(table: &Table) -> Result<(), Cause>
 // The entries of a list, none where the key is absent.
 #[tactic(auto, unfolding(crate::specs::File::list_at))]
 fn list_at<'a>(table: &'a Table, key: &str) -> Result<&'a [Value], Cause>
-    ensures { Gives (λ vs. items_view vs.now) result (list_at key.now (table_view table.now)) }
+    ensures { GivesAs Memory (λ vs. items_view vs.now) result (list_at key.now (table_view table.now)) }
 {
     let Some(value) = value_at(table, key) else {
         return Ok(&[]);
@@ -48,7 +49,7 @@ fn list_at<'a>(table: &'a Table, key: &str) -> Result<&'a [Value], Cause>
 #[tactic(auto, unfolding(crate::specs::File::table_at))]
 fn table_at<'a>(table: &'a Table, key: &str, empty: &'a Table) -> Result<&'a Table, Cause>
     requires { table_view empty.now ≡ no_members }
-    ensures { Gives (λ t. table_view t.now) result (table_at key.now (table_view table.now)) }
+    ensures { GivesAs Memory (λ t. table_view t.now) result (table_at key.now (table_view table.now)) }
 {
     let Some(value) = value_at(table, key) else {
         return Ok(empty);
@@ -66,7 +67,7 @@ fn parts<'a>(
     empty: &'a Table,
 ) -> Result<(&'a Table, &'a [Value], &'a [Value]), Cause>
     requires { table_view empty.now ≡ no_members }
-    ensures { Gives (λ p. record { server = table_view p.0.now; nodes = items_view p.1.now; references = items_view p.2.now }) result (parts_of (table_view table.now)) }
+    ensures { GivesAs Memory (λ p. record { server = table_view p.0.now; nodes = items_view p.1.now; references = items_view p.2.now }) result (parts_of (table_view table.now)) }
 {
     version(table)?;
     only(&["version", "server", "node", "reference"], table)?;
@@ -164,12 +165,14 @@ fn with_references(
 #[derive(Debug, Drop)]
 pub struct Loaded {
     pub config: Config,
+
     /// The nodes of the file, in its order.
-    pub nodes: Sequence<Node>,
+    pub nodes: Listed<Node>,
+
     /// The references: first those that come with the nodes, node by node, from the parent and then
     /// to the type definition, and then those of the list `reference`. Each has the part that
     /// declares it.
-    pub triples: Sequence<Triple>,
+    pub triples: Listed<Triple>,
 }
 
 #[tactic(auto, unfolding(crate::specs::File::contents_of))]
@@ -200,8 +203,8 @@ fn contents(alloc: Global, table: &Table) -> Result<Loaded, LoadFault>
     let triples = with_references(alloc, own, setting.highest, reference_list)?;
     Ok(Loaded {
         config,
-        nodes: Sequence::new(nodes),
-        triples: Sequence::new(triples),
+        nodes: Listed::from_vec(nodes),
+        triples: Listed::from_vec(triples),
     })
 }
 

@@ -3,7 +3,8 @@
 ghost use Rattle.std.specs.Prelude.{◌≡◌, ◌≤◌, IfOk};
 ghost use Rattle.toml.specs.View.{table_view};
 ghost use Rattle.ua_types.specs.NodeIds.{numeric_id};
-ghost use Rattle.node_loader.specs.Answers.{Gives};
+ghost use Rattle.ua_types.specs.Answers.{Gives};
+ghost use Rattle.node_loader.specs.declared.fault.Cause.TheVariants.{Memory};
 ghost use Rattle.node_loader.specs.Ids.{id_within, id_at, id_or, id_if_any};
 
 use crate::fault::Cause;
@@ -13,7 +14,7 @@ use toml::Table;
 use ua_types::{IdFault, Identifier, NodeId};
 
 /// The id with this number in namespace 0.
-pub fn standard_id(number: u32) -> NodeId
+pub(crate) fn standard_id(number: u32) -> NodeId
     ensures { result ≡ numeric_id 0 number }
 {
     NodeId {
@@ -24,8 +25,8 @@ pub fn standard_id(number: u32) -> NodeId
 
 /// The id that a text says, of a namespace up to the highest.
 #[tactic(auto, unfolding(crate::specs::Ids::id_within))]
-pub fn id_within(alloc: Global, highest: u16, text: &str) -> Result<NodeId, Cause>
-    ensures given { Gives (λ id. id) result (id_within highest text.now) }
+pub(crate) fn id_within(alloc: Global, highest: u16, text: &str) -> Result<NodeId, Cause>
+    ensures given { Gives Memory result (id_within highest text.now) }
     ensures served { IfOk result (λ id. id.namespace ≤ highest) }
 {
     match NodeId::parse(alloc, text) {
@@ -43,8 +44,8 @@ pub fn id_within(alloc: Global, highest: u16, text: &str) -> Result<NodeId, Caus
 
 /// The id at a key that the part must have.
 #[tactic(auto, unfolding(crate::specs::Ids::id_at))]
-pub fn id_at(alloc: Global, highest: u16, table: &Table, key: &str) -> Result<NodeId, Cause>
-    ensures given { Gives (λ id. id) result (id_at highest key.now (table_view table.now)) }
+pub(crate) fn id_at(alloc: Global, highest: u16, table: &Table, key: &str) -> Result<NodeId, Cause>
+    ensures given { Gives Memory result (id_at highest key.now (table_view table.now)) }
     ensures served { IfOk result (λ id. id.namespace ≤ highest) }
 {
     let text = required_word(table, key)?;
@@ -53,14 +54,14 @@ pub fn id_at(alloc: Global, highest: u16, table: &Table, key: &str) -> Result<No
 
 /// The id at a key, or the standard's id with this number.
 #[tactic(auto, unfolding(crate::specs::Ids::id_or))]
-pub fn id_or(
+pub(crate) fn id_or(
     alloc: Global,
     highest: u16,
     table: &Table,
     key: &str,
     fallback: u32,
 ) -> Result<NodeId, Cause>
-    ensures { Gives (λ id. id) result (id_or highest key.now fallback (table_view table.now)) }
+    ensures { Gives Memory result (id_or highest key.now fallback (table_view table.now)) }
 {
     match word_at(table, key)? {
         None => Ok(standard_id(fallback)),
@@ -70,13 +71,13 @@ pub fn id_or(
 
 /// The id at a key, if the part has it.
 #[tactic(auto, unfolding(crate::specs::Ids::id_if_any))]
-pub fn id_if_any(
+pub(crate) fn id_if_any(
     alloc: Global,
     highest: u16,
     table: &Table,
     key: &str,
 ) -> Result<Option<NodeId>, Cause>
-    ensures { Gives (λ id. id) result (id_if_any highest key.now (table_view table.now)) }
+    ensures { Gives Memory result (id_if_any highest key.now (table_view table.now)) }
 {
     match word_at(table, key)? {
         None => Ok(None),

@@ -6,7 +6,8 @@ ghost use Rattle.std.specs.Map.{keys_of};
 ghost use Rattle.std.specs.Str.{bytes_eq};
 ghost use Rattle.toml.specs.Data.{get_member, as_bool};
 ghost use Rattle.toml.specs.View.{table_view, view};
-ghost use Rattle.node_loader.specs.Answers.{Gives};
+ghost use Rattle.ua_types.specs.Answers.{Gives, GivesAs};
+ghost use Rattle.node_loader.specs.declared.fault.Cause.TheVariants.{Memory};
 ghost use Rattle.node_loader.specs.Keys.{of_kind, required_word, required_text, required_boolean, boolean_at, required_integer, unsigned_at, signed_at, all_keys, word_at, text_at, integer_at, number_at, text_or};
 
 use crate::fault::Cause;
@@ -15,15 +16,15 @@ use toml::{Table, Value};
 use ua_types::Text;
 
 /// The value at a key.
-pub fn value_at<'a>(table: &'a Table, key: &str) -> Option<&'a Value>
+pub(crate) fn value_at<'a>(table: &'a Table, key: &str) -> Option<&'a Value>
     ensures { option_map (λ v. view v.now) result ≡ get_member key.now (table_view table.now) }
 {
     table.get(key)
 }
 
 /// The characters at a key, however many, if the part has it.
-pub fn word_at<'a>(table: &'a Table, key: &str) -> Result<Option<&'a str>, Cause>
-    ensures { Gives (option_map (λ t. t.now)) result (word_at key.now (table_view table.now)) }
+pub(crate) fn word_at<'a>(table: &'a Table, key: &str) -> Result<Option<&'a str>, Cause>
+    ensures { GivesAs Memory (option_map (λ t. t.now)) result (word_at key.now (table_view table.now)) }
 {
     match value_at(table, key) {
         None => Ok(None),
@@ -36,8 +37,8 @@ pub fn word_at<'a>(table: &'a Table, key: &str) -> Result<Option<&'a str>, Cause
 
 /// The text at a key, if the part has it: fewer than 2^31 bytes.
 #[tactic(auto, unfolding(crate::specs::Keys::text_at))]
-pub fn text_at<'a>(table: &'a Table, key: &str) -> Result<Option<&'a str>, Cause>
-    ensures given { Gives (option_map (λ t. t.now)) result (text_at key.now (table_view table.now)) }
+pub(crate) fn text_at<'a>(table: &'a Table, key: &str) -> Result<Option<&'a str>, Cause>
+    ensures given { GivesAs Memory (option_map (λ t. t.now)) result (text_at key.now (table_view table.now)) }
     ensures short { IfOk result (λ t. IfSome t (λ s. length s.now < 2 ^ 31)) }
 {
     match word_at(table, key)? {
@@ -53,8 +54,8 @@ pub fn text_at<'a>(table: &'a Table, key: &str) -> Result<Option<&'a str>, Cause
 }
 
 /// The integer at a key, if the part has it.
-pub fn integer_at(table: &Table, key: &str) -> Result<Option<i64>, Cause>
-    ensures { Gives (λ n. n) result (integer_at key.now (table_view table.now)) }
+pub(crate) fn integer_at(table: &Table, key: &str) -> Result<Option<i64>, Cause>
+    ensures { Gives Memory result (integer_at key.now (table_view table.now)) }
 {
     match value_at(table, key) {
         None => Ok(None),
@@ -67,8 +68,14 @@ pub fn integer_at(table: &Table, key: &str) -> Result<Option<i64>, Cause>
 
 /// The number at a key within its range, or the default.
 #[tactic(auto, unfolding(crate::specs::Keys::number_at))]
-pub fn number_at(table: &Table, key: &str, fallback: u64, low: u64, high: u64) -> Result<u64, Cause>
-    ensures given { Gives (λ n. n) result (number_at key.now fallback low high (table_view table.now)) }
+pub(crate) fn number_at(
+    table: &Table,
+    key: &str,
+    fallback: u64,
+    low: u64,
+    high: u64,
+) -> Result<u64, Cause>
+    ensures given { Gives Memory result (number_at key.now fallback low high (table_view table.now)) }
     ensures range { low ≤ fallback → fallback ≤ high → IfOk result (λ n. (low ≤ n) × (n ≤ high)) }
 {
     let Some(number) = integer_at(table, key)? else {
@@ -87,9 +94,14 @@ pub fn number_at(table: &Table, key: &str, fallback: u64, low: u64, high: u64) -
 
 /// A copy of the text at a key, or of the default.
 #[tactic(auto, unfolding(crate::specs::Keys::text_or))]
-pub fn text_or(alloc: Global, table: &Table, key: &str, fallback: &str) -> Result<Text, Cause>
+pub(crate) fn text_or(
+    alloc: Global,
+    table: &Table,
+    key: &str,
+    fallback: &str,
+) -> Result<Text, Cause>
     requires { length fallback.now < 2 ^ 31 }
-    ensures given { Gives (λ t. t) result (text_or key.now fallback.now (table_view table.now)) }
+    ensures given { Gives Memory result (text_or key.now fallback.now (table_view table.now)) }
     ensures there { IfOk result (λ t. IsSome t) }
 {
     let text = text_at(table, key)?.unwrap_or(fallback);
@@ -112,8 +124,8 @@ fn all_known(keys: &[&str], table: &Table) -> bool
 
 /// The part has no other keys than these.
 #[tactic(auto, using(crate::proofs::Tables::all_keys_are))]
-pub fn only(keys: &[&str], table: &Table) -> Result<(), Cause>
-    ensures { Gives (λ x. x) result (if all_keys (λ key. list_any (λ k. bytes_eq k.now key) keys.now) (table_view table.now) then Ok tt else Err Cause.UnknownKey) }
+pub(crate) fn only(keys: &[&str], table: &Table) -> Result<(), Cause>
+    ensures { Gives Memory result (if all_keys (λ key. list_any (λ k. bytes_eq k.now key) keys.now) (table_view table.now) then Ok tt else Err Cause.UnknownKey) }
 {
     if all_known(keys, table) {
         Ok(())
@@ -124,8 +136,8 @@ pub fn only(keys: &[&str], table: &Table) -> Result<(), Cause>
 
 /// The characters at a key that the part must have.
 #[tactic(auto, unfolding(crate::specs::Keys::required_word))]
-pub fn required_word<'a>(table: &'a Table, key: &str) -> Result<&'a str, Cause>
-    ensures { Gives (λ t. t.now) result (required_word key.now (table_view table.now)) }
+pub(crate) fn required_word<'a>(table: &'a Table, key: &str) -> Result<&'a str, Cause>
+    ensures { GivesAs Memory (λ t. t.now) result (required_word key.now (table_view table.now)) }
 {
     match word_at(table, key)? {
         Some(text) => Ok(text),
@@ -135,8 +147,8 @@ pub fn required_word<'a>(table: &'a Table, key: &str) -> Result<&'a str, Cause>
 
 /// The text at a key that the part must have: fewer than 2^31 bytes.
 #[tactic(auto, unfolding(crate::specs::Keys::required_text))]
-pub fn required_text<'a>(table: &'a Table, key: &str) -> Result<&'a str, Cause>
-    ensures given { Gives (λ t. t.now) result (required_text key.now (table_view table.now)) }
+pub(crate) fn required_text<'a>(table: &'a Table, key: &str) -> Result<&'a str, Cause>
+    ensures given { GivesAs Memory (λ t. t.now) result (required_text key.now (table_view table.now)) }
     ensures short { IfOk result (λ t. length t.now < 2 ^ 31) }
 {
     match text_at(table, key)? {
@@ -146,8 +158,8 @@ pub fn required_text<'a>(table: &'a Table, key: &str) -> Result<&'a str, Cause>
 }
 
 /// A copy of the text at a key, or null.
-pub fn text_or_null(alloc: Global, table: &Table, key: &str) -> Result<Text, Cause>
-    ensures { Gives (λ t. t) result (text_at key.now (table_view table.now)) }
+pub(crate) fn text_or_null(alloc: Global, table: &Table, key: &str) -> Result<Text, Cause>
+    ensures { Gives Memory result (text_at key.now (table_view table.now)) }
 {
     match text_at(table, key)? {
         Some(text) => Ok(Text::from_str(alloc, text)?),
@@ -157,7 +169,7 @@ pub fn text_or_null(alloc: Global, table: &Table, key: &str) -> Result<Text, Cau
 
 // The truth value at a key, if the part has it.
 fn truth_at(table: &Table, key: &str) -> Result<Option<bool>, Cause>
-    ensures { Gives (λ b. b) result (of_kind as_bool (get_member key.now (table_view table.now))) }
+    ensures { Gives Memory result (of_kind as_bool (get_member key.now (table_view table.now))) }
 {
     match value_at(table, key) {
         None => Ok(None),
@@ -170,8 +182,8 @@ fn truth_at(table: &Table, key: &str) -> Result<Option<bool>, Cause>
 
 /// The truth value at a key that the part must have.
 #[tactic(auto, unfolding(crate::specs::Keys::required_boolean))]
-pub fn required_boolean(table: &Table, key: &str) -> Result<bool, Cause>
-    ensures { Gives (λ b. b) result (required_boolean key.now (table_view table.now)) }
+pub(crate) fn required_boolean(table: &Table, key: &str) -> Result<bool, Cause>
+    ensures { Gives Memory result (required_boolean key.now (table_view table.now)) }
 {
     match truth_at(table, key)? {
         Some(truth) => Ok(truth),
@@ -181,16 +193,16 @@ pub fn required_boolean(table: &Table, key: &str) -> Result<bool, Cause>
 
 /// The truth value at a key, or false.
 #[tactic(auto, unfolding(crate::specs::Keys::boolean_at))]
-pub fn boolean_at(table: &Table, key: &str) -> Result<bool, Cause>
-    ensures { Gives (λ b. b) result (boolean_at key.now (table_view table.now)) }
+pub(crate) fn boolean_at(table: &Table, key: &str) -> Result<bool, Cause>
+    ensures { Gives Memory result (boolean_at key.now (table_view table.now)) }
 {
     Ok(truth_at(table, key)?.unwrap_or(false))
 }
 
 /// The integer at a key that the part must have.
 #[tactic(auto, unfolding(crate::specs::Keys::required_integer))]
-pub fn required_integer(table: &Table, key: &str) -> Result<i64, Cause>
-    ensures { Gives (λ n. n) result (required_integer key.now (table_view table.now)) }
+pub(crate) fn required_integer(table: &Table, key: &str) -> Result<i64, Cause>
+    ensures { Gives Memory result (required_integer key.now (table_view table.now)) }
 {
     match integer_at(table, key)? {
         Some(number) => Ok(number),
@@ -200,8 +212,8 @@ pub fn required_integer(table: &Table, key: &str) -> Result<i64, Cause>
 
 /// The number at a key that the part must have, up to the highest.
 #[tactic(auto, unfolding(crate::specs::Keys::unsigned_at))]
-pub fn unsigned_at(table: &Table, key: &str, high: u64) -> Result<u64, Cause>
-    ensures given { Gives (λ n. n) result (unsigned_at key.now high (table_view table.now)) }
+pub(crate) fn unsigned_at(table: &Table, key: &str, high: u64) -> Result<u64, Cause>
+    ensures given { Gives Memory result (unsigned_at key.now high (table_view table.now)) }
     ensures range { IfOk result (λ n. n ≤ high) }
 {
     let number = required_integer(table, key)?;
@@ -218,8 +230,8 @@ pub fn unsigned_at(table: &Table, key: &str, high: u64) -> Result<u64, Cause>
 
 /// The integer at a key that the part must have, within its range.
 #[tactic(auto, unfolding(crate::specs::Keys::signed_at))]
-pub fn signed_at(table: &Table, key: &str, low: i64, high: i64) -> Result<i64, Cause>
-    ensures given { Gives (λ n. n) result (signed_at key.now low high (table_view table.now)) }
+pub(crate) fn signed_at(table: &Table, key: &str, low: i64, high: i64) -> Result<i64, Cause>
+    ensures given { Gives Memory result (signed_at key.now low high (table_view table.now)) }
     ensures range { IfOk result (λ n. (low ≤ℤ n) × (n ≤ℤ high)) }
 {
     let number = required_integer(table, key)?;

@@ -20,13 +20,11 @@ mod keys;
 pub mod laws;
 mod node;
 mod reference;
-mod sequence;
 mod server;
 mod value;
 
 pub use fault::{Cause, LoadFault};
 pub use file::{Loaded, load};
-pub use sequence::Sequence;
 
 #[cfg(test)]
 mod tests;

@@ -5,7 +5,8 @@ ghost use Rattle.toml.specs.Data.{as_table};
 ghost use Rattle.toml.specs.View.{table_view, view};
 ghost use Rattle.ua_space.specs.Variables.{is_of};
 ghost use Rattle.ua_space.specs.declared.node.ValueRank.TheVariants as ranks;
-ghost use Rattle.node_loader.specs.Answers.{Gives};
+ghost use Rattle.ua_types.specs.Answers.{Gives};
+ghost use Rattle.node_loader.specs.declared.fault.Cause.TheVariants.{Memory};
 ghost use Rattle.node_loader.specs.Keys.{only};
 ghost use Rattle.node_loader.specs.Value.{number_of};
 ghost use Rattle.node_loader.specs.Node.{class_of, keys_of, names_of, place_of, parent_triple, definition_triple, entry_from, value_since, type_at, variable_with, variable_of, object_of, variable_node_of, object_type_of, variable_type_of, reference_type_of, data_type_of, kind_of, rest_of, node_of, entry_of};
@@ -24,7 +25,7 @@ use ua_values::{DataValue, Variant};
 
 /// What the server's table says that nodes depend on.
 #[derive(Clone, Copy, Debug)]
-pub struct Setting {
+pub(crate) struct Setting {
     /// The highest namespace that the server has.
     pub highest: u16,
     /// The moment that values have.
@@ -34,7 +35,7 @@ pub struct Setting {
 // The class that a word names.
 #[tactic(auto, unfolding(crate::specs::Node::class_of))]
 fn class_of(word: &str) -> Result<NodeClass, Cause>
-    ensures { Gives (λ c. c) result (class_of word.now) }
+    ensures { Gives Memory result (class_of word.now) }
 {
     if word == "Object" {
         return Ok(NodeClass::Object);
@@ -59,7 +60,7 @@ fn class_of(word: &str) -> Result<NodeClass, Cause>
 
 // The part has no other keys than those of its class.
 fn known(class: NodeClass, table: &Table) -> Result<(), Cause>
-    ensures { Gives (λ x. x) result (only (keys_of class) (table_view table.now)) }
+    ensures { Gives Memory result (only (keys_of class) (table_view table.now)) }
 {
     match class {
         NodeClass::Object => only(
@@ -167,7 +168,7 @@ struct Names {
 #[tactic(auto, unfolding(crate::specs::Node::names_of))]
 fn names_in(alloc: Global, highest: u16, namespace: u16, table: &Table) -> Result<Names, Cause>
     requires { namespace ≤ highest }
-    ensures { Gives (λ n. n) result (names_of highest namespace (table_view table.now)) }
+    ensures { Gives Memory result (names_of highest namespace (table_view table.now)) }
 {
     let name = required_text(table, "name")?;
     let name_ns = number_at(table, "name_ns", namespace as u64, 0, highest as u64)?;
@@ -199,7 +200,7 @@ struct Place {
 
 #[tactic(auto, unfolding(crate::specs::Node::place_of))]
 fn place_in(alloc: Global, highest: u16, table: &Table) -> Result<Place, Cause>
-    ensures { Gives (λ p. p) result (place_of highest (table_view table.now)) }
+    ensures { Gives Memory result (place_of highest (table_view table.now)) }
 {
     let parent = id_if_any(alloc, highest, table, "parent")?;
     let via = id_or(alloc, highest, table, "via", 35)?;
@@ -227,7 +228,7 @@ fn value_since(start: Moment, value: Variant) -> DataValue
 
 #[tactic(auto, unfolding(crate::specs::Node::type_at))]
 fn type_at(table: &Table) -> Result<ValueType, Cause>
-    ensures { Gives (λ t. t) result (type_at (table_view table.now)) }
+    ensures { Gives Memory result (type_at (table_view table.now)) }
 {
     let word = required_word(table, "type")?;
     type_of(word)
@@ -256,7 +257,7 @@ fn variable_with(
 
 #[tactic(auto, unfolding(crate::specs::Node::variable_of))]
 fn variable_in(alloc: Global, setting: &Setting, table: &Table) -> Result<Variable, Cause>
-    ensures { Gives (λ v. v) result (variable_of setting.now (table_view table.now)) }
+    ensures { Gives Memory result (variable_of setting.now (table_view table.now)) }
 {
     let value_type = type_at(table)?;
     let value = value_of(alloc, value_type, setting.highest, table)?;
@@ -267,7 +268,7 @@ fn variable_in(alloc: Global, setting: &Setting, table: &Table) -> Result<Variab
 
 #[tactic(auto, unfolding(crate::specs::Node::object_of))]
 fn object_in(alloc: Global, setting: &Setting, table: &Table) -> Result<Kind, Cause>
-    ensures { Gives (λ k. k) result (object_of setting.now (table_view table.now)) }
+    ensures { Gives Memory result (object_of setting.now (table_view table.now)) }
 {
     let definition = id_or(alloc, setting.highest, table, "definition", 58)?;
     Ok(Kind {
@@ -278,7 +279,7 @@ fn object_in(alloc: Global, setting: &Setting, table: &Table) -> Result<Kind, Ca
 
 #[tactic(auto, unfolding(crate::specs::Node::variable_node_of))]
 fn variable_node_in(alloc: Global, setting: &Setting, table: &Table) -> Result<Kind, Cause>
-    ensures { Gives (λ k. k) result (variable_node_of setting.now (table_view table.now)) }
+    ensures { Gives Memory result (variable_node_of setting.now (table_view table.now)) }
 {
     let definition = id_or(alloc, setting.highest, table, "definition", 63)?;
     let variable = variable_in(alloc, setting, table)?;
@@ -290,7 +291,7 @@ fn variable_node_in(alloc: Global, setting: &Setting, table: &Table) -> Result<K
 
 #[tactic(auto, unfolding(crate::specs::Node::object_type_of))]
 fn object_type_in(table: &Table) -> Result<Kind, Cause>
-    ensures { Gives (λ k. k) result (object_type_of (table_view table.now)) }
+    ensures { Gives Memory result (object_type_of (table_view table.now)) }
 {
     let is_abstract = boolean_at(table, "abstract")?;
     Ok(Kind {
@@ -301,7 +302,7 @@ fn object_type_in(table: &Table) -> Result<Kind, Cause>
 
 #[tactic(auto, unfolding(crate::specs::Node::variable_type_of))]
 fn variable_type_in(table: &Table) -> Result<Kind, Cause>
-    ensures { Gives (λ k. k) result (variable_type_of (table_view table.now)) }
+    ensures { Gives Memory result (variable_type_of (table_view table.now)) }
 {
     let value_type = type_at(table)?;
     let is_abstract = boolean_at(table, "abstract")?;
@@ -317,7 +318,7 @@ fn variable_type_in(table: &Table) -> Result<Kind, Cause>
 
 #[tactic(auto, unfolding(crate::specs::Node::reference_type_of))]
 fn reference_type_in(alloc: Global, table: &Table) -> Result<Kind, Cause>
-    ensures { Gives (λ k. k) result (reference_type_of (table_view table.now)) }
+    ensures { Gives Memory result (reference_type_of (table_view table.now)) }
 {
     let is_abstract = boolean_at(table, "abstract")?;
     let symmetric = boolean_at(table, "symmetric")?;
@@ -337,7 +338,7 @@ fn reference_type_in(alloc: Global, table: &Table) -> Result<Kind, Cause>
 
 #[tactic(auto, unfolding(crate::specs::Node::data_type_of))]
 fn data_type_in(table: &Table) -> Result<Kind, Cause>
-    ensures { Gives (λ k. k) result (data_type_of (table_view table.now)) }
+    ensures { Gives Memory result (data_type_of (table_view table.now)) }
 {
     let is_abstract = boolean_at(table, "abstract")?;
     Ok(Kind {
@@ -348,7 +349,7 @@ fn data_type_in(table: &Table) -> Result<Kind, Cause>
 
 // What the class has beside the names.
 fn kind_in(alloc: Global, class: NodeClass, setting: &Setting, table: &Table) -> Result<Kind, Cause>
-    ensures { Gives (λ k. k) result (kind_of class setting.now (table_view table.now)) }
+    ensures { Gives Memory result (kind_of class setting.now (table_view table.now)) }
 {
     match class {
         NodeClass::Object => object_in(alloc, setting, table),
@@ -362,7 +363,7 @@ fn kind_in(alloc: Global, class: NodeClass, setting: &Setting, table: &Table) ->
 
 /// A node of the file, with the references that come with it.
 #[derive(Drop)]
-pub struct Entry {
+pub(crate) struct Entry {
     pub node: Node,
     /// The reference from the parent.
     pub parent: Option<Triple>,
@@ -455,7 +456,7 @@ fn rest_in(
     table: &Table,
 ) -> Result<Entry, Cause>
     requires { id.namespace ≤ setting.now.highest }
-    ensures { Gives (λ e. e) result (rest_of setting.now part id class (table_view table.now)) }
+    ensures { Gives Memory result (rest_of setting.now part id class (table_view table.now)) }
 {
     known(class, table)?;
     let names = names_in(alloc, setting.highest, id.namespace, table)?;
@@ -467,7 +468,7 @@ fn rest_in(
 // A node: its id and its class before the rest.
 #[tactic(auto, unfolding(crate::specs::Node::node_of))]
 fn node_in(alloc: Global, setting: &Setting, part: Part, table: &Table) -> Result<Entry, Cause>
-    ensures { Gives (λ e. e) result (node_of setting.now part (table_view table.now)) }
+    ensures { Gives Memory result (node_of setting.now part (table_view table.now)) }
 {
     let id = id_at(alloc, setting.highest, table, "id")?;
     let class = class_of(required_word(table, "class")?)?;
@@ -475,8 +476,13 @@ fn node_in(alloc: Global, setting: &Setting, part: Part, table: &Table) -> Resul
 }
 
 /// One entry of the list.
-pub fn entry_at(alloc: Global, setting: &Setting, part: Part, value: &Value) -> Result<Entry, Cause>
-    ensures { Gives (λ e. e) result (entry_of setting.now part (as_table (view value.now))) }
+pub(crate) fn entry_at(
+    alloc: Global,
+    setting: &Setting,
+    part: Part,
+    value: &Value,
+) -> Result<Entry, Cause>
+    ensures { Gives Memory result (entry_of setting.now part (as_table (view value.now))) }
 {
     match value.as_table() {
         Some(table) => node_in(alloc, setting, part, table),

@@ -3,7 +3,8 @@
 ghost use Rattle.std.specs.Prelude.{◌≡◌};
 ghost use Rattle.toml.specs.Data.{as_table};
 ghost use Rattle.toml.specs.View.{table_view, view};
-ghost use Rattle.node_loader.specs.Answers.{Gives};
+ghost use Rattle.ua_types.specs.Answers.{Gives};
+ghost use Rattle.node_loader.specs.declared.fault.Cause.TheVariants.{Memory};
 ghost use Rattle.node_loader.specs.Reference.{reference_of, listed_reference_of};
 
 use crate::fault::Cause;
@@ -15,7 +16,7 @@ use ua_space::{Part, Triple};
 
 #[tactic(auto, unfolding(crate::specs::Reference::reference_of))]
 fn reference_in(alloc: Global, highest: u16, part: Part, table: &Table) -> Result<Triple, Cause>
-    ensures { Gives (λ t. t) result (reference_of highest part (table_view table.now)) }
+    ensures { Gives Memory result (reference_of highest part (table_view table.now)) }
 {
     only(&["from", "type", "to"], table)?;
     let source = id_at(alloc, highest, table, "from")?;
@@ -30,8 +31,13 @@ fn reference_in(alloc: Global, highest: u16, part: Part, table: &Table) -> Resul
 }
 
 /// One entry of the list.
-pub fn reference(alloc: Global, highest: u16, part: Part, value: &Value) -> Result<Triple, Cause>
-    ensures { Gives (λ t. t) result (listed_reference_of highest part (as_table (view value.now))) }
+pub(crate) fn reference(
+    alloc: Global,
+    highest: u16,
+    part: Part,
+    value: &Value,
+) -> Result<Triple, Cause>
+    ensures { Gives Memory result (listed_reference_of highest part (as_table (view value.now))) }
 {
     match value.as_table() {
         Some(table) => reference_in(alloc, highest, part, table),

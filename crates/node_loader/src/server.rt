@@ -5,7 +5,9 @@ ghost use Rattle.std.specs.List.{list_all};
 ghost use Rattle.toml.specs.Data.{as_str};
 ghost use Rattle.std.specs.Vec.{vec_len};
 ghost use Rattle.toml.specs.View.{items_view, table_view, view};
-ghost use Rattle.node_loader.specs.Answers.{Gives, each};
+ghost use Rattle.ua_types.specs.Answers.{Gives, GivesAs};
+ghost use Rattle.node_loader.specs.Lists.{each};
+ghost use Rattle.node_loader.specs.declared.fault.Cause.TheVariants.{Memory};
 ghost use Rattle.node_loader.specs.Server.{text_of, few_texts, texts_at, duration_at, names_of, durations_of, server_of, server_keys, AreNames, sizes_of, AreSizes, tables_of, AreTables, messages_of, AreMessages, pages_of, ArePages, times_of, AreTimes};
 ghost use Rattle.node_loader.specs.Keys.{only};
 
@@ -18,7 +20,7 @@ use ua_types::{Array, Config, Duration, Moment, Text};
 
 // An element of a list of texts.
 fn text_of(alloc: Global, value: &Value) -> Result<Text, Cause>
-    ensures { Gives (λ t. t) result (text_of (view value.now)) }
+    ensures { Gives Memory result (text_of (view value.now)) }
 {
     match value.as_str() {
         None => Err(Cause::WrongKind),
@@ -33,7 +35,7 @@ fn text_of(alloc: Global, value: &Value) -> Result<Text, Cause>
 }
 
 fn texts_of(alloc: Global, values: &[Value]) -> Result<Vec<Text>, Cause>
-    ensures given { Gives (λ ts. ts.items) result (each (λ _ d. text_of d) 1 (items_view values.now)) }
+    ensures given { GivesAs Memory (λ ts. ts.items) result (each (λ _ d. text_of d) 1 (items_view values.now)) }
     ensures count { IfOk result (λ ts. vec_len ts ≡ length values.now) }
 {
     let mut texts = Vec::new(alloc);
@@ -55,7 +57,7 @@ fn all_texts(values: &[Value]) -> bool
 // At most so many texts.
 #[tactic(auto, using(crate::proofs::Tables::all_texts_are, crate::proofs::Tables::count_is))]
 fn few_texts(alloc: Global, values: &[Value], most: usize) -> Result<Vec<Text>, Cause>
-    ensures given { Gives (λ ts. ts.items) result (few_texts most (items_view values.now)) }
+    ensures given { GivesAs Memory (λ ts. ts.items) result (few_texts most (items_view values.now)) }
     ensures few { IfOk result (λ ts. vec_len ts ≤ most) }
 {
     if !all_texts(values) {
@@ -70,7 +72,7 @@ fn few_texts(alloc: Global, values: &[Value], most: usize) -> Result<Vec<Text>, 
 // At most so many texts, none where the key is absent.
 #[tactic(auto, unfolding(crate::specs::Server::texts_at))]
 fn texts_at(alloc: Global, table: &Table, key: &str, most: usize) -> Result<Vec<Text>, Cause>
-    ensures given { Gives (λ ts. ts.items) result (texts_at key.now most (table_view table.now)) }
+    ensures given { GivesAs Memory (λ ts. ts.items) result (texts_at key.now most (table_view table.now)) }
     ensures few { IfOk result (λ ts. vec_len ts ≤ most) }
 {
     let Some(value) = value_at(table, key) else {
@@ -85,7 +87,7 @@ fn texts_at(alloc: Global, table: &Table, key: &str, most: usize) -> Result<Vec<
 // The eight bytes that hex digits spell, or the default.
 #[tactic(auto, unfolding(crate::specs::Server::duration_at))]
 fn duration_at(table: &Table, key: &str, fallback: [u8; 8]) -> Result<Duration, Cause>
-    ensures { Gives (λ d. d) result (duration_at key.now fallback (table_view table.now)) }
+    ensures { Gives Memory result (duration_at key.now fallback (table_view table.now)) }
 {
     let Some(text) = word_at(table, key)? else {
         return Ok(Duration(fallback));
@@ -107,7 +109,7 @@ struct Names {
 
 #[tactic(auto, unfolding(crate::specs::Server::names_of))]
 fn names_in(alloc: Global, table: &Table) -> Result<Names, Cause>
-    ensures given { Gives (λ n. n) result (names_of (table_view table.now)) }
+    ensures given { Gives Memory result (names_of (table_view table.now)) }
     ensures good { IfOk result (λ n. AreNames n) }
 {
     let uri = text_or(alloc, table, "uri", "urn:uaserver")?;
@@ -134,7 +136,7 @@ struct Sizes {
 
 #[tactic(auto, unfolding(crate::specs::Server::sizes_of))]
 fn sizes_in(table: &Table) -> Result<Sizes, Cause>
-    ensures given { Gives (λ s. s) result (sizes_of (table_view table.now)) }
+    ensures given { Gives Memory result (sizes_of (table_view table.now)) }
     ensures ranges { IfOk result (λ s. AreSizes s) }
 {
     let receive_size = number_at(table, "receive_size", 65536, 1024, 1048576)? as u32;
@@ -163,7 +165,7 @@ struct Tables {
 
 #[tactic(auto, unfolding(crate::specs::Server::tables_of))]
 fn tables_in(table: &Table) -> Result<Tables, Cause>
-    ensures given { Gives (λ s. s) result (tables_of (table_view table.now)) }
+    ensures given { Gives Memory result (tables_of (table_view table.now)) }
     ensures ranges { IfOk result (λ s. AreTables s) }
 {
     let connections = number_at(table, "connections", 100, 1, 10000)? as u32;
@@ -191,7 +193,7 @@ struct Messages {
 
 #[tactic(auto, unfolding(crate::specs::Server::messages_of))]
 fn messages_in(table: &Table) -> Result<Messages, Cause>
-    ensures given { Gives (λ s. s) result (messages_of (table_view table.now)) }
+    ensures given { Gives Memory result (messages_of (table_view table.now)) }
     ensures ranges { IfOk result (λ s. AreMessages s) }
 {
     let publish_queue = number_at(table, "publish_queue", 10, 1, 100000)? as u32;
@@ -217,7 +219,7 @@ struct Pages {
 
 #[tactic(auto, unfolding(crate::specs::Server::pages_of))]
 fn pages_in(table: &Table) -> Result<Pages, Cause>
-    ensures given { Gives (λ s. s) result (pages_of (table_view table.now)) }
+    ensures given { Gives Memory result (pages_of (table_view table.now)) }
     ensures ranges { IfOk result (λ s. ArePages s) }
 {
     let references = number_at(table, "references", 1000, 1, 100000)? as u32;
@@ -241,7 +243,7 @@ struct Times {
 
 #[tactic(auto, unfolding(crate::specs::Server::times_of))]
 fn times_in(table: &Table) -> Result<Times, Cause>
-    ensures given { Gives (λ s. s) result (times_of (table_view table.now)) }
+    ensures given { Gives Memory result (times_of (table_view table.now)) }
     ensures ranges { IfOk result (λ s. AreTimes s) }
 {
     let session_time = number_at(table, "session_time", 600000000, 1, 1000000000000000)?;
@@ -262,7 +264,7 @@ struct Durations {
 
 #[tactic(auto, unfolding(crate::specs::Server::durations_of))]
 fn durations_in(table: &Table) -> Result<Durations, Cause>
-    ensures { Gives (λ d. d) result (durations_of (table_view table.now)) }
+    ensures { Gives Memory result (durations_of (table_view table.now)) }
 {
     let session_duration = duration_at(
         table,
@@ -284,8 +286,8 @@ fn durations_in(table: &Table) -> Result<Durations, Cause>
 
 /// The configuration that the table `server` says.
 #[tactic(auto, unfolding(crate::specs::Server::server_of))]
-pub fn server(alloc: Global, table: &Table) -> Result<Config, Cause>
-    ensures { Gives (λ c. c) result (server_of (table_view table.now)) }
+pub(crate) fn server(alloc: Global, table: &Table) -> Result<Config, Cause>
+    ensures { Gives Memory result (server_of (table_view table.now)) }
 {
     known(table)?;
     let names = names_in(alloc, table)?;
@@ -330,7 +332,7 @@ pub fn server(alloc: Global, table: &Table) -> Result<Config, Cause>
 
 // The keys of the table, in the order in which they are judged.
 fn known(table: &Table) -> Result<(), Cause>
-    ensures { Gives (λ x. x) result (only server_keys (table_view table.now)) }
+    ensures { Gives Memory result (only server_keys (table_view table.now)) }
 {
     only(
         &[

@@ -32,19 +32,19 @@ fn says(rt: &impl Abort, alloc: Global, text: &str, words: &str) {
     }
 }
 
-// The same of a file with these lines in its table `server`.
+// What is wrong with a file that has the lines in its table `server`.
 fn server_says(rt: &impl Abort, alloc: Global, lines: &str, words: &str) {
     let text = format!(in alloc; "version = 1\n[server]\n{lines}\n").expect(rt, "room");
     says(rt, alloc, text.as_str(), words);
 }
 
-// The same of a file with one node of these lines.
+// What is wrong with a file of one node, which has the lines.
 fn node_says(rt: &impl Abort, alloc: Global, lines: &str, words: &str) {
     let text = format!(in alloc; "version = 1\n[[node]]\n{lines}\n").expect(rt, "room");
     says(rt, alloc, text.as_str(), words);
 }
 
-// The same of a variable with this type and value.
+// What is wrong with a file of one variable, which has the type and the value.
 fn value_says(rt: &impl Abort, alloc: Global, kind: &str, value: &str, words: &str) {
     let lines = format!(in alloc;
         "id = 'i=7000'\nclass = 'Variable'\nname = 'a'\ntype = '{kind}'\nvalue = {value}"
@@ -52,7 +52,7 @@ fn value_says(rt: &impl Abort, alloc: Global, kind: &str, value: &str, words: &s
     node_says(rt, alloc, lines.as_str(), words);
 }
 
-// The same of a number's key in the table `server`.
+// What is wrong with a file whose table `server` has a number at the key.
 fn number_says(rt: &impl Abort, alloc: Global, key: &str, number: u64, words: &str) {
     let line = format!(in alloc; "{key} = {number}").expect(rt, "room");
     server_says(rt, alloc, line.as_str(), words);

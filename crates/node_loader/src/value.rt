@@ -4,7 +4,8 @@ ghost use Rattle.std.specs.Prelude.{◌≡◌, ◌≤◌};
 ghost use Rattle.hex.specs.Hex.{decode_of};
 ghost use Rattle.toml.specs.View.{table_view};
 ghost use Rattle.ua_types.specs.IdTexts.{guid_of};
-ghost use Rattle.node_loader.specs.Answers.{Gives};
+ghost use Rattle.ua_types.specs.Answers.{Gives};
+ghost use Rattle.node_loader.specs.declared.fault.Cause.TheVariants.{Memory};
 ghost use Rattle.node_loader.specs.Value.{type_of, number_of, bytes_of, guid_at, bytes_at, text_value, value_of};
 
 use crate::fault::Cause;
@@ -20,7 +21,7 @@ use uuid::Uuid;
 
 /// The types that a value in a file may have, under the words that name them there.
 #[derive(Clone, Copy, Debug, PartialEq, Eq)]
-pub enum ValueType {
+pub(crate) enum ValueType {
     Boolean,
     SByte,
     Byte,
@@ -67,8 +68,8 @@ impl ValueType {
 
 /// The type that a word names.
 #[tactic(auto, unfolding(crate::specs::Value::type_of))]
-pub fn type_of(word: &str) -> Result<ValueType, Cause>
-    ensures { Gives (λ t. t) result (type_of word.now) }
+pub(crate) fn type_of(word: &str) -> Result<ValueType, Cause>
+    ensures { Gives Memory result (type_of word.now) }
 {
     if word == "Boolean" {
         return Ok(ValueType::Boolean);
@@ -133,7 +134,7 @@ fn guid_of(uuid: &Uuid) -> Guid
 
 #[tactic(auto, unfolding(crate::specs::Value::guid_at))]
 fn guid_at(table: &Table, key: &str) -> Result<Guid, Cause>
-    ensures { Gives (λ g. g) result (guid_at key.now (table_view table.now)) }
+    ensures { Gives Memory result (guid_at key.now (table_view table.now)) }
 {
     let text = required_word(table, key)?;
     match Uuid::try_parse(text) {
@@ -144,7 +145,7 @@ fn guid_at(table: &Table, key: &str) -> Result<Guid, Cause>
 
 // The bytes that hex digits stand for.
 fn bytes_of(alloc: Global, digits: &str) -> Result<ByteString, Cause>
-    ensures { Gives (λ b. b) result (bytes_of (decode_of digits.now)) }
+    ensures { Gives Memory result (bytes_of (decode_of digits.now)) }
 {
     match hex::decode(alloc, digits) {
         Ok(bytes) => {
@@ -161,7 +162,7 @@ fn bytes_of(alloc: Global, digits: &str) -> Result<ByteString, Cause>
 
 #[tactic(auto, unfolding(crate::specs::Value::bytes_at))]
 fn bytes_at(alloc: Global, table: &Table, key: &str) -> Result<ByteString, Cause>
-    ensures { Gives (λ b. b) result (bytes_at key.now (table_view table.now)) }
+    ensures { Gives Memory result (bytes_at key.now (table_view table.now)) }
 {
     let digits = required_word(table, key)?;
     bytes_of(alloc, digits)
@@ -169,7 +170,7 @@ fn bytes_at(alloc: Global, table: &Table, key: &str) -> Result<ByteString, Cause
 
 #[tactic(auto, unfolding(crate::specs::Value::text_value))]
 fn text_value(alloc: Global, table: &Table) -> Result<Text, Cause>
-    ensures { Gives (λ t. t) result (text_value (table_view table.now)) }
+    ensures { Gives Memory result (text_value (table_view table.now)) }
 {
     let text = required_text(table, "value")?;
     Ok(Text::from_str(alloc, text)?)
@@ -177,13 +178,13 @@ fn text_value(alloc: Global, table: &Table) -> Result<Text, Cause>
 
 /// The value of a type at the key `value`.
 #[tactic(auto, unfolding(crate::specs::Value::value_of))]
-pub fn value_of(
+pub(crate) fn value_of(
     alloc: Global,
     kind: ValueType,
     highest: u16,
     table: &Table,
 ) -> Result<Variant, Cause>
-    ensures { Gives (λ v. v) result (value_of kind highest (table_view table.now)) }
+    ensures { Gives Memory result (value_of kind highest (table_view table.now)) }
 {
     match kind {
         ValueType::Boolean => {

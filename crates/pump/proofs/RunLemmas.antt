@@ -70,7 +70,7 @@ Fed-trans conn a b c r s x y p q =
       server = q.server ∙ sym (ap (λ (j : Joined). j.server) e);
     }
 
--- the same, where all that the server sends is out
+-- fed piece after piece, where all that the server sends is out
 Fed-after : (conn : ℕ) (a b c : Scene) (r s : List ℕ) → Fed conn a b r (sends_to conn a.server r) → Fed conn b c s (sends_to conn b.server s)
     → Fed conn a c (r ++ s) (sends_to conn a.server (r ++ s))
 Fed-after conn a b c r s p q =

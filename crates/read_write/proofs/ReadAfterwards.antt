@@ -3,7 +3,8 @@ use Rattle.std.proofs.Common.{◌≡◌, true, Option, Some, None, ap, subst, �
 use Rattle.std.specs.Prelude.{option_map}
 use Rattle.ua_types.specs.declared.moment.Moment.{Moment}
 use Rattle.ua_values.specs.declared.data_value.DataValue.{DataValue}
-use Rattle.ua_space.specs.Nodes.{node_at, variable_in, variable_of, holding}
+use Rattle.ua_space.specs.Nodes.{node_at}
+use Rattle.ua_space.specs.Values.{variable_in, variable_of, holding}
 use Rattle.ua_space.specs.Variables.{VariableAttributes}
 use Rattle.ua_space.specs.declared.node.Node.{Node}
 use Rattle.ua_space.specs.declared.node.NodeDetails.{NodeDetails}

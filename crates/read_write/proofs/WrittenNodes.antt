@@ -16,7 +16,8 @@ use Rattle.ua_types.specs.declared.status.Status.{Status}
 use Rattle.ua_types.proofs.SameIds.{same_id_true}
 use Rattle.ua_values.specs.declared.data_value.DataValue.{DataValue}
 use Rattle.service_messages.specs.declared.writing.WriteValue.{WriteValue}
-use Rattle.ua_space.specs.Nodes.{Nodes, node_at, holding, put}
+use Rattle.ua_space.specs.Nodes.{Nodes, node_at}
+use Rattle.ua_space.specs.Values.{holding, put}
 use Rattle.ua_space.specs.Variables.{VariableAttributes}
 use Rattle.ua_space.specs.declared.node.Node.{Node}
 use Rattle.ua_space.specs.declared.node.NodeDetails.{NodeDetails}

@@ -7,7 +7,8 @@ use Rattle.ua_types.specs.declared.status.TheConstants.Status as status
 use Rattle.ua_values.specs.declared.data_value.DataValue.{DataValue}
 use Rattle.ua_values.specs.declared.variant.Variant.{Variant}
 use Rattle.service_messages.specs.declared.writing.WriteValue.{WriteValue}
-use Rattle.ua_space.specs.Nodes.{Nodes, node_at, with_value}
+use Rattle.ua_space.specs.Nodes.{Nodes, node_at}
+use Rattle.ua_space.specs.Values.{with_value}
 use Rattle.ua_space.specs.Variables.{VariableAttributes, takes}
 use Rattle.ua_space.specs.declared.node.Node.{Node}
 use Rattle.read_write.specs.Attributes.{Attributed, ValueOf, Plain, attribute_at, is_given}

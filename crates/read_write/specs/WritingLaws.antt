@@ -6,7 +6,8 @@ use Rattle.ua_types.specs.declared.moment.Moment.{Moment}
 use Rattle.ua_types.specs.declared.node_id.NodeId.{NodeId}
 use Rattle.ua_values.specs.declared.data_value.DataValue.{DataValue}
 use Rattle.service_messages.specs.declared.writing.WriteValue.{WriteValue}
-use Rattle.ua_space.specs.Nodes.{Nodes, node_at, variable_at, holding}
+use Rattle.ua_space.specs.Nodes.{Nodes, node_at}
+use Rattle.ua_space.specs.Values.{variable_at, holding}
 use Rattle.ua_space.specs.Variables.{VariableAttributes}
 use Rattle.ua_space.specs.declared.node.Node.{Node}
 use Rattle.read_write.specs.Attributes.{ValueOf}

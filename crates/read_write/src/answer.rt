@@ -24,8 +24,11 @@ use ua_values::{Content, DataValue, Variant};
 /// makes a data value of its own. Contracts see it as that [`DataValue`].
 #[derive(Debug, Drop)]
 pub struct Answer<'a> {
+    // What stands in the node, or why it isn't told.
     attribute: Result<Attribute<'a>, Status>,
+    // The server's clock, which is the server time of what is told.
     clock: Moment,
+    // Which times the client wants.
     timestamps: Timestamps,
 }
 

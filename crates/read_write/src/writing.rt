@@ -1,7 +1,7 @@
 //! The service Write.
 
 ghost use Rattle.std.specs.Prelude.{◌≡◌, ◌⊎◌, ◌++◌, true, length, IfOk, OnOk, OnErr};
-ghost use Rattle.ua_space.specs.Nodes.{takes_at};
+ghost use Rattle.ua_space.specs.Values.{takes_at};
 ghost use Rattle.read_write.specs.Writing.{stored_of, is_writable, judged, status_of, nodes_after, changes_of, write_of, WroteSome};
 
 use crate::attributes::{Attribute, attribute_at, is_given};

@@ -45,14 +45,19 @@ impl Enumeration for BrowseDirection {
 #[derive(Debug, Drop)]
 pub struct BrowseDescription {
     pub node_id: NodeId,
+
     pub browse_direction: BrowseDirection,
+
     /// The type of the references, or null for all types.
     pub reference_type_id: NodeId,
+
     /// Whether subtypes of that type count too.
     pub include_subtypes: bool,
+
     /// The classes of the nodes at the other end, as the sum of their numbers (`ua_types::NodeClass`); 0
     /// is all.
     pub node_class_mask: u32,
+
     /// Which fields of a [`ReferenceDescription`] are wanted: the sum of the constants of this type.
     pub result_mask: u32,
 }

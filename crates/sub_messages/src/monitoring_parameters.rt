@@ -55,9 +55,11 @@ impl Wire for MonitoringParameters {
 #[derive(Clone, Copy, Debug, PartialEq, Eq)]
 pub struct DataChangeFilter {
     pub trigger: DataChangeTrigger,
+
     /// What a deadband is measured in: 0 where there is none ([`DataChangeFilter::NO_DEADBAND`]), 1
     /// for the value itself, 2 for a part of its range in percent.
     pub deadband_type: u32,
+
     /// The least change that is queued, its eight bytes as they stand. It is ignored where the type
     /// is 0.
     pub deadband_value: Double,

@@ -79,8 +79,10 @@ pub struct NotificationMessage {
     /// The message's number in its subscription, from 1. A keep-alive message has the number that
     /// the next message with notifications will have.
     pub sequence_number: u32,
+
     /// When the message was made.
     pub publish_time: Moment,
+
     /// Each a [`DataChangeNotification`] or a [`StatusChangeNotification`]. A keep-alive message
     /// has none.
     pub notification_data: Array<ExtensionObject>,

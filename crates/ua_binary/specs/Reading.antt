@@ -30,7 +30,7 @@ abbrev pub Reads : {A : Type 0} → Result A TakeFault → List ℕ → Result (
 Reads (Ok v) rest reading = reading ≡ Ok (v, rest)
 Reads (Err e) rest reading = e ≢ Memory → reading ≡ Err e
 
--- the same of a value that is seen by a view
+-- what a function returned, seen by a view, and the bytes left after it
 abbrev pub ReadsAs : {A B : Type 0} → (A → B) → Result A TakeFault → List ℕ → Result (B × List ℕ) TakeFault → Type 0
 ReadsAs view (Ok v) rest reading = reading ≡ Ok (view v, rest)
 ReadsAs view (Err e) rest reading = e ≢ Memory → reading ≡ Err e

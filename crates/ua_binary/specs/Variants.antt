@@ -7,7 +7,7 @@ use Rattle.ua_values.specs.declared.content.Content.{Content}
 use Rattle.ua_values.specs.declared.content.Content.TheVariants.{Scalar, Array, Matrix}
 use Rattle.ua_values.specs.declared.variant.Variant.{Variant}
 use Rattle.ua_values.specs.declared.variant.Variant.TheVariants as variants
-use Rattle.ua_values.specs.Shapes.{is_shape}
+use Rattle.ua_values.specs.Matrices.{is_shape}
 use Rattle.ua_binary.specs.declared.fault.TakeFault.TheVariants.{Form, Kind}
 use Rattle.ua_binary.specs.Reading.{Reading, ◌>>=◌, done, refuse}
 use Rattle.ua_binary.specs.Numbers.{boolean_reading, boolean_encoding, byte_reading, byte_encoding, sbyte_reading, sbyte_encoding, number_reading, number_encoding, signed_reading, signed_encoding}

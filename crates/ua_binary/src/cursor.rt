@@ -16,6 +16,7 @@ use ua_types::Guid;
 /// No call on it takes memory.
 #[derive(Debug, Drop)]
 pub struct Cursor<'a> {
+    // The bytes from the place on.
     rest: &'a [u8],
 }
 

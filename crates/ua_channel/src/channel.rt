@@ -9,18 +9,19 @@ ghost use Rattle.ua_channel.specs.ChannelStates.{new_channel, token_after, grant
 ghost use Rattle.ua_channel.specs.Acceptance.{admission_of, comes_by_channel as comes_by_channel_lem, acceptance_of, take_of, message_taken, close_taken, opening_taken};
 ghost use Rattle.ua_channel.specs.Cutting.{send_of, send_opening_of};
 
-use crate::cutting::{Chunks, cut, is_opening_too_large, is_too_large, opening_chunk, room};
+use crate::cutting::{cut, is_opening_too_large, is_too_large, opening_chunk, room};
 use crate::headers::{ChunkHeader, OpeningHeader};
 use crate::messages::{Unfinished, join};
 use crate::openings::{is_policy_none, opening_request, renewal};
 use crate::send_fault::SendFault;
 use crate::sequence_numbers::{may_follow, sequence_number_after};
 use crate::taken::Taken;
+use bytes::Bytes;
 use std::alloc::Global;
 use std::marker::Model;
 use ua_binary::{Cursor, TakeFault, Wire};
 use ua_tcp::{Agreed, ChunkType, Frame, MessageType};
-use ua_types::{Refusal, Status};
+use ua_types::{Listed, Refusal, Status};
 
 /// The secure channel of a connection, as the server has it (IEC 62541-6, "OPC UA Secure
 /// Conversation").
@@ -36,25 +37,20 @@ use ua_types::{Refusal, Status};
 /// message has come is always within the server's `max_message` and `max_chunks`.
 #[derive(Debug, Drop)]
 pub struct Channel {
+    // What the Hello and its Acknowledge settled, for good.
     agreed: Agreed,
-
     // The channel's number, once it is open.
     channel_id: Option<u32>,
-
-    // The token that the client used last, which answers have too, and the one that was granted
-    // last. 0 before the first.
+    // The token that the client used last, which answers have too. 0 before the first.
     used_token: u32,
+    // The token that was granted last, which the client may use from then on. 0 before the first.
     newest_token: u32,
-
     // The sequence number of the last chunk that was taken.
     received: Option<u32>,
-
     // The sequence number of the last chunk that was sent, 0 before the first.
     sent: u32,
-
     // What has come of a message, until its last chunk comes.
     unfinished: Option<Unfinished>,
-
     // With what a frame was refused. Every later frame is refused with it.
     refused: Option<Status>,
 }
@@ -154,7 +150,7 @@ impl Channel {
         taken
     }
 
-    // The same of a channel that refused nothing yet. A refusal leaves it as it was.
+    // Judges the frame where none was refused before. A refusal leaves the channel as it was.
     fn accept(&mut self, alloc: Global, frame: &Frame) -> Result<Taken, Refusal>
         ensures { TakesOrRefuses result self.old self.new (acceptance_of self.old frame.now) }
     {
@@ -279,7 +275,7 @@ impl Channel {
     /// The fault is `TooLarge` where the body is longer than the client's largest message, or has
     /// more chunks than the client takes, and `Memory` where a growth was refused. The channel is
     /// then as it was.
-    pub fn send(&mut self, alloc: Global, id: u32, body: &[u8]) -> Result<Chunks, SendFault>
+    pub fn send(&mut self, alloc: Global, id: u32, body: &[u8]) -> Result<Listed<Bytes>, SendFault>
         ensures { Takes send_fault.Memory result self.old self.new (send_of self.old id body.now) }
     {
         if is_too_large(&self.agreed, body.len()) {
@@ -302,7 +298,12 @@ impl Channel {
     /// The fault is `TooLarge` where the body is longer than the client's largest message, or the
     /// frame is longer than the agreed send size, and `Memory` where a growth was refused. The channel
     /// is then as it was.
-    pub fn send_opening(&mut self, alloc: Global, id: u32, body: &[u8]) -> Result<Chunks, SendFault>
+    pub fn send_opening(
+        &mut self,
+        alloc: Global,
+        id: u32,
+        body: &[u8],
+    ) -> Result<Listed<Bytes>, SendFault>
         ensures { Takes send_fault.Memory result self.old self.new (send_opening_of self.old id body.now) }
     {
         if is_opening_too_large(&self.agreed, body) {
@@ -313,7 +314,7 @@ impl Channel {
         let mut chunks = Vec::new(alloc);
         chunks.push(opening_chunk(alloc, channel_id, sent, id, body)?)?;
         self.sent = sent;
-        Ok(Chunks::new(chunks))
+        Ok(Listed::from_vec(chunks))
     }
 }
 

@@ -9,49 +9,12 @@ use crate::openings::SECURITY_POLICY_NONE;
 use crate::sequence_numbers::sequence_number_after;
 use bytes::Bytes;
 use std::alloc::{AllocError, Global};
-use std::marker::Model;
 use ua_binary::Wire;
 use ua_tcp::{Agreed, ChunkType};
-use ua_types::{ByteString, Text};
-
-/// The chunks of an answer, each a frame to be sent, in their order. Contracts see their list.
-#[derive(Debug, Drop)]
-pub struct Chunks {
-    items: Vec<Bytes>,
-}
-
-impl Model for Chunks {
-    ghost use Rattle.std.specs.Prelude.{ℕ, List};
-
-    ghost Value = { List (List ℕ) };
-
-    ghost view = { λ c. c.items.items };
-}
-
-impl Chunks {
-    /// These frames.
-    pub fn new(frames: Vec<Bytes>) -> Chunks
-        ensures { result ≡ frames.items }
-    {
-        Chunks { items: frames }
-    }
-
-    pub fn as_slice(&self) -> &[Bytes]
-        ensures { result.now ≡ self.now }
-    {
-        self.items.as_slice()
-    }
-
-    /// The frames themselves. Takes no memory.
-    pub fn into_vec(self) -> Vec<Bytes>
-        ensures { result.items ≡ self }
-    {
-        self.items
-    }
-}
+use ua_types::{ByteString, Listed, Text};
 
 // How many bytes of a body a chunk holds.
-pub fn room(agreed: &Agreed) -> usize
+pub(crate) fn room(agreed: &Agreed) -> usize
     ensures value { result + 24 ≡ agreed.now.send_size }
     ensures some { 0 < result }
     ensures small { result + 24 < 2 ^ 32 }
@@ -60,7 +23,7 @@ pub fn room(agreed: &Agreed) -> usize
 }
 
 // Whether the client doesn't take a body of this length.
-pub fn is_too_large(agreed: &Agreed, len: usize) -> bool
+pub(crate) fn is_too_large(agreed: &Agreed, len: usize) -> bool
     ensures { result ≡ is_too_large_lem agreed.now len }
 {
     let chunk_count = len.saturating_sub(1) / room(agreed) + 1;
@@ -68,19 +31,19 @@ pub fn is_too_large(agreed: &Agreed, len: usize) -> bool
 }
 
 // A limit of 0 is none.
-pub fn exceeds(limit: u32, n: usize) -> bool
+pub(crate) fn exceeds(limit: u32, n: usize) -> bool
     ensures { result ≡ exceeds_lem limit n }
 {
     limit != 0 && n > limit as usize
 }
 
 // The chunks of a body, and the sequence number of the last of them.
-pub fn cut(
+pub(crate) fn cut(
     alloc: Global,
     first: ChunkHeader,
     room: usize,
     body: &[u8],
-) -> Result<(Chunks, u32), AllocError>
+) -> Result<(Listed<Bytes>, u32), AllocError>
     requires some { 0 < room }
     requires small { room + 24 < 2 ^ 32 }
     requires first { first.sequence_number ≤ 4294966272 }
@@ -97,7 +60,7 @@ pub fn cut(
         rest = behind;
     }
     chunks.push(chunk(alloc, &header, ChunkType::Final, rest)?)?;
-    Ok((Chunks::new(chunks), header.sequence_number))
+    Ok((Listed::from_vec(chunks), header.sequence_number))
 }
 
 fn letter(chunk_type: ChunkType) -> u8
@@ -133,7 +96,7 @@ fn chunk(
 
 // Whether the client doesn't take this body in one OPN, or the agreed send size doesn't hold it.
 #[tactic(auto, using(crate::proofs::HeaderLemmas::opening_length))]
-pub fn is_opening_too_large(agreed: &Agreed, body: &[u8]) -> bool
+pub(crate) fn is_opening_too_large(agreed: &Agreed, body: &[u8]) -> bool
     ensures large { (channel_id sequence_number request_id : ℕ) → result ≡ is_opening_too_large_lem agreed.now
         (opening_frame (opening_header_by channel_id sequence_number request_id) body.now) (length body.now) }
     ensures fits { result ≡ false → length body.now + 79 ≤ agreed.now.send_size }
@@ -148,7 +111,7 @@ pub fn is_opening_too_large(agreed: &Agreed, body: &[u8]) -> bool
 
 // The OPN with this body.
 #[tactic(auto, using(crate::proofs::HeaderLemmas::opening_length))]
-pub fn opening_chunk(
+pub(crate) fn opening_chunk(
     alloc: Global,
     channel_id: u32,
     sequence_number: u32,

@@ -7,15 +7,15 @@ use ua_binary::{Cursor, TakeFault, Wire};
 use ua_types::{ByteString, Text};
 
 /// How many bytes a [`ChunkHeader`] has.
-pub const HEADER_SIZE: usize = 16;
+pub(crate) const HEADER_SIZE: usize = 16;
 
 /// How many bytes stand before the part of the message in a MSG frame, the first eight of each frame
 /// counted too.
-pub const FRAME_HEADER_SIZE: u32 = 24;
+pub(crate) const FRAME_HEADER_SIZE: u32 = 24;
 
 /// How many bytes stand before the body in an OPN frame that is sent: the first eight of each frame,
 /// three numbers, the policy's URI of 47 bytes behind its length, and two nulls.
-pub const OPENING_FRAME_HEADER_SIZE: u32 = 79;
+pub(crate) const OPENING_FRAME_HEADER_SIZE: u32 = 79;
 
 /// What stands between the first eight bytes of a MSG or CLO frame and its part of the message:
 /// the symmetric security header and the sequence header of IEC 62541-6, "MessageChunk structure".
@@ -23,13 +23,10 @@ pub const OPENING_FRAME_HEADER_SIZE: u32 = 79;
 pub struct ChunkHeader {
     /// The number of the secure channel.
     pub channel_id: u32,
-
     /// The number of the token under which the chunk is sent.
     pub token_id: u32,
-
     /// The number of the chunk, counted over all that one side sends by the channel.
     pub sequence_number: u32,
-
     /// The number of the request, which all chunks of it and of its answer have.
     pub request_id: u32,
 }
@@ -64,19 +61,14 @@ impl Wire for ChunkHeader {
 pub struct OpeningHeader {
     /// The number of the secure channel, 0 where there is none yet.
     pub channel_id: u32,
-
     /// By which algorithms messages are signed and encrypted.
     pub security_policy_uri: Text,
-
     /// The sender's certificate, null where messages aren't signed.
     pub sender_certificate: ByteString,
-
     /// Which of the receiver's certificates the message is encrypted for, null where it isn't.
     pub receiver_certificate_thumbprint: ByteString,
-
     /// The number of the chunk, counted over all that one side sends by the channel.
     pub sequence_number: u32,
-
     /// The number of the request, which its answer has too.
     pub request_id: u32,
 }

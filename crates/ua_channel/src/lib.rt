@@ -5,7 +5,7 @@
 //! [`Channel::take`] judges the frame, joins the chunks of a message, and gives what the server is to
 //! do about it, a [`Taken`], or refuses the frame, after which the connection is closed. What the
 //! server answers goes out by [`Channel::send`] and [`Channel::send_opening`], which cut it into
-//! [`Chunks`]. A request to open or renew the channel is answered by [`Channel::grant`], which gives
+//! chunks. A request to open or renew the channel is answered by [`Channel::grant`], which gives
 //! the token.
 //!
 //! Here is no clock and no socket: tokens don't end by time, and frames come in as values and go out
@@ -27,7 +27,6 @@ mod sequence_numbers;
 mod taken;
 
 pub use channel::Channel;
-pub use cutting::Chunks;
 pub use headers::{ChunkHeader, OpeningHeader};
 pub use openings::SECURITY_POLICY_NONE;
 pub use send_fault::SendFault;

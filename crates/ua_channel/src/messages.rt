@@ -14,11 +14,12 @@ use ua_types::{Refusal, Status};
 
 /// A message of which not all chunks have come.
 #[derive(Debug, Drop)]
-pub struct Unfinished {
+pub(crate) struct Unfinished {
+    // The request that the chunks belong to.
     request_id: u32,
+    // How many chunks of it have come.
     chunk_count: u32,
-
-    // It grows by what comes of it, to twice its size at a time.
+    // Their bodies, joined. It grows by what comes of it, to twice its size at a time.
     body: BytesMut,
 }
 
@@ -126,7 +127,7 @@ fn finish(unfinished: &mut Option<Unfinished>, frame: &Frame) -> Result<Bytes, A
 
 // Joins a chunk to what has come of its message.
 #[tactic(auto, unfolding(crate::specs::Messages::joining_of))]
-pub fn join(
+pub(crate) fn join(
     alloc: Global,
     limits: &Limits,
     unfinished: &mut Option<Unfinished>,

@@ -15,7 +15,7 @@ use ua_types::{Refusal, Status, Text};
 // The security policy of a channel whose messages are neither signed nor encrypted.
 pub const SECURITY_POLICY_NONE: &str = "http://opcfoundation.org/UA/SecurityPolicy#None";
 
-pub fn is_policy_none(uri: &Text) -> bool
+pub(crate) fn is_policy_none(uri: &Text) -> bool
     ensures { result ≡ is_policy_none_lem uri.now }
 {
     match uri.as_str() {
@@ -26,7 +26,7 @@ pub fn is_policy_none(uri: &Text) -> bool
 
 /// What of an OpenSecureChannelRequest the channel needs.
 #[derive(Clone, Copy)]
-pub struct OpeningRequest {
+pub(crate) struct OpeningRequest {
     /// The handle in the request's header.
     pub handle: u32,
     pub request_type: SecurityTokenRequestType,
@@ -34,7 +34,7 @@ pub struct OpeningRequest {
 }
 
 // The request that the body of an OPN is.
-pub fn opening_request(alloc: Global, body: &[u8]) -> Result<OpeningRequest, Refusal>
+pub(crate) fn opening_request(alloc: Global, body: &[u8]) -> Result<OpeningRequest, Refusal>
     ensures { GivesOrRefuses result (opening_request_of body.now) }
 {
     match message_id(body) {
@@ -54,7 +54,7 @@ pub fn opening_request(alloc: Global, body: &[u8]) -> Result<OpeningRequest, Ref
 }
 
 // Whether a request that came with this channel number renews the token of the open channel.
-pub fn renewal(
+pub(crate) fn renewal(
     channel_id: Option<u32>,
     number: u32,
     request: &OpeningRequest,

@@ -5,7 +5,7 @@ ghost use Rattle.ua_channel.specs.SequenceNumbers.{may_follow as may_follow_lem,
 
 // Whether a chunk with this sequence number may come after the last one. The first is free; near the
 // end of the numbers the client may begin again.
-pub fn may_follow(received: Option<u32>, sequence_number: u32) -> bool
+pub(crate) fn may_follow(received: Option<u32>, sequence_number: u32) -> bool
     ensures { result ≡ may_follow_lem received sequence_number }
 {
     match received {
@@ -18,7 +18,7 @@ pub fn may_follow(received: Option<u32>, sequence_number: u32) -> bool
 }
 
 // The sequence number of the next chunk that is sent.
-pub fn sequence_number_after(sent: u32) -> u32
+pub(crate) fn sequence_number_after(sent: u32) -> u32
     requires { sent ≤ 4294966272 }
     ensures value { result ≡ sequence_number_after_lem sent }
     ensures small { result ≤ 4294966272 }

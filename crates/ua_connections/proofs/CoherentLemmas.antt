@@ -47,7 +47,7 @@ at_insert P m conn c q new old = subst P (sym (get-insert nat_cmp_total m conn c
     by true = new
     by false = old
 
--- the same, where the new connection has that number
+-- what holds of a connection under a number that may be the new connection's
 pub at_insert_at : (P : Option Connection → Type 0) (m : FinMap nat_cmp Connection) (conn : ℕ) (c : Connection) (q : ℕ) → (q ≡ conn → P (Some c)) → P (get m q) → P (get (insert m conn c) q)
 at_insert_at P m conn c q new old = subst P (sym (get-insert nat_cmp_total m conn c q)) (by (nat_cmp q conn) refl)
   where

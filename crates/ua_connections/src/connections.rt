@@ -13,9 +13,9 @@ use crate::sending::say;
 use crate::turns::{break_off, frame_turn, put_refusal};
 use std::alloc::{AllocError, Global};
 use std::mem;
-use ua_requests::{Listed, Reply, Setting};
+use ua_requests::{Reply, Setting};
 use ua_tcp::{Frame, FrameFault};
-use ua_types::Status;
+use ua_types::{Listed, Status};
 
 /// Who is connected, and what was agreed with each.
 ///
@@ -26,10 +26,8 @@ use ua_types::Status;
 pub struct Connections {
     /// The connections that aren't gone.
     pub known: Numbered<Connection>,
-
     /// The greatest number of a connection that was opened so far.
     pub greatest: Option<u64>,
-
     /// The number of the secure channel that was opened last, 0 before the first.
     pub channels: u32,
 }

@@ -10,6 +10,7 @@ use std::marker::Model;
 /// Values by their numbers, found in logarithmic time. Contracts see a finite map.
 #[derive(Debug, Drop)]
 pub struct Numbered<V> {
+    // By rising number.
     entries: BTreeMap<u64, V>,
 }
 

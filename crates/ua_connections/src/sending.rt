@@ -6,11 +6,12 @@ ghost use Rattle.ua_connections.specs.Delivering.{too_large_sent, reply_sent, sa
 use crate::connection::Phase;
 use crate::out::Out;
 use crate::turns::send_all;
+use bytes::Bytes;
 use std::alloc::{AllocError, Global};
-use ua_channel::{Channel, Chunks, SendFault};
+use ua_channel::{Channel, SendFault};
 use ua_messages::fault;
-use ua_requests::{Listed, Reply, Setting};
-use ua_types::{Moment, Status};
+use ua_requests::{Reply, Setting};
+use ua_types::{Listed, Moment, Status};
 
 // The fault that is sent in the place of a reply that is too large for the client.
 #[tactic(auto, unfolding(crate::specs::Delivering::too_large_sent))]
@@ -20,13 +21,13 @@ fn too_large(
     id: u32,
     handle: u32,
     clock: Moment,
-) -> Result<Chunks, AllocError>
+) -> Result<Listed<Bytes>, AllocError>
     ensures { IfOk result (λ chunks. record { frames = chunks; channel = channel.new } ≡ too_large_sent channel.old id handle clock) }
 {
     let body = fault(alloc, handle, Status::BAD_RESPONSE_TOO_LARGE, clock)?;
     match channel.send(alloc, id, body.as_slice()) {
         Ok(chunks) => Ok(chunks),
-        Err(SendFault::TooLarge) => Ok(Chunks::new(Vec::new(alloc))),
+        Err(SendFault::TooLarge) => Ok(Listed::new(alloc)),
         Err(SendFault::Memory) => Err(AllocError),
     }
 }
@@ -38,7 +39,7 @@ fn reply_chunks(
     channel: &mut Channel,
     reply: &Reply,
     clock: Moment,
-) -> Result<Chunks, AllocError>
+) -> Result<Listed<Bytes>, AllocError>
     ensures { IfOk result (λ chunks. record { frames = chunks; channel = channel.new }
         ≡ reply_sent channel.old reply.now clock) }
 {
@@ -50,7 +51,7 @@ fn reply_chunks(
 }
 
 /// Sends a reply on its connection, in this phase. Only one that talks has a channel to send it by.
-pub fn say(
+pub(crate) fn say(
     alloc: Global,
     setting: &Setting,
     phase: Phase,

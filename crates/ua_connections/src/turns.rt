@@ -6,17 +6,20 @@ ghost use Rattle.ua_connections.specs.Turns.{turn, turn_after, counted, counted_
 use crate::asked::Asked;
 use crate::connection::Phase;
 use crate::out::Out;
+use bytes::Bytes;
 use std::alloc::{AllocError, Global};
-use ua_channel::{Channel, Chunks, SendFault, Taken};
+use ua_channel::{Channel, SendFault, Taken};
 use ua_messages::{OpenSecureChannelResponse, ResponseHeader, body, type_ids};
-use ua_requests::{Listed, Request, Setting};
+use ua_requests::{Request, Setting};
 use ua_tcp::{Agreed, Frame, FrameFault, Limits, MessageType, ack, err, hello};
-use ua_types::{ByteString, Refusal, Status};
+use ua_types::{ByteString, Listed, Refusal, Status};
 
 /// What a frame leaves of its connection, and what is left to do about it.
 #[derive(Debug, Drop)]
-pub struct Turned {
+pub(crate) struct Turned {
+    /// How far the connection is after the frame.
     pub phase: Phase,
+    /// What the frame asks of the services.
     pub asked: Asked,
 }
 
@@ -44,7 +47,7 @@ fn close(conn: u64, outs: &mut Listed<Out>) -> Result<Turned, AllocError>
 
 /// The client is told this status, to be followed by the end of the connection.
 #[tactic(auto, unfolding(crate::specs::Turns::refusal))]
-pub fn put_refusal(
+pub(crate) fn put_refusal(
     alloc: Global,
     conn: u64,
     status: Status,
@@ -120,7 +123,11 @@ fn greet(
 }
 
 /// Sends frames on a connection.
-pub fn send_all(conn: u64, chunks: Chunks, outs: &mut Listed<Out>) -> Result<(), AllocError>
+pub(crate) fn send_all(
+    conn: u64,
+    chunks: Listed<Bytes>,
+    outs: &mut Listed<Out>,
+) -> Result<(), AllocError>
     ensures { OnOk result (outs.new ≡ outs.old ++ sends conn chunks) }
 {
     for bytes in chunks.into_vec() {
@@ -160,14 +167,14 @@ fn grant(
     id: u32,
     handle: u32,
     number: u32,
-) -> Result<Chunks, AllocError>
+) -> Result<Listed<Bytes>, AllocError>
     ensures { IfOk result (λ chunks. record { frames = chunks; channel = channel.new } ≡ granted setting.now channel.old id handle number) }
 {
     let token_id = channel.grant(number);
     let body = opening_response(alloc, setting, handle, number, token_id)?;
     match channel.send_opening(alloc, id, body.as_slice()) {
         Ok(chunks) => Ok(chunks),
-        Err(SendFault::TooLarge) => Ok(Chunks::new(Vec::new(alloc))),
+        Err(SendFault::TooLarge) => Ok(Listed::new(alloc)),
         Err(SendFault::Memory) => Err(AllocError),
     }
 }
@@ -239,7 +246,7 @@ fn talk(
 }
 
 /// A frame of a connection in this phase.
-pub fn frame_turn(
+pub(crate) fn frame_turn(
     alloc: Global,
     setting: &Setting,
     channels: &mut u32,
@@ -265,7 +272,7 @@ pub fn frame_turn(
 }
 
 /// What is no frame ends a connection.
-pub fn break_off(
+pub(crate) fn break_off(
     alloc: Global,
     conn: u64,
     fault: FrameFault,

@@ -70,7 +70,7 @@ module _ (conn : ℕ) (setting : Setting) (services : Services) where
       let k = break_alike conn a b fault p in
       record { state = record { setting = refl; sees = k.sees; services = refl }; effects = ap doing k.outs; goes_on = refl }
 
--- the same, where setting and services are the same by what is said of them
+-- cores that are alike differ in their connections alone
 same_core : (conn : ℕ) (a b : Core) → IsAlike conn a b → core_of a.setting a.services b.connections ≡ b
 same_core conn a b p = ap (λ (s : Setting). core_of s a.services b.connections) p.setting ∙ ap (λ (k : Services). core_of b.setting k b.connections) p.services
 

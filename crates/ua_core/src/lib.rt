@@ -40,4 +40,5 @@ pub use event::Event;
 pub use out::{Ran, Step, StepFault};
 pub use server::Server;
 pub use ua_connections::Out;
-pub use ua_requests::{Fired, Listed};
+pub use ua_requests::Fired;
+pub use ua_types::Listed;

@@ -7,7 +7,8 @@ ghost use Rattle.ua_core.specs.Faults.{fault_of};
 use std::alloc::{AllocError, AllocFailed, Global};
 use thiserror::Error;
 use ua_connections::Out;
-use ua_requests::{Fired, Halt, Listed};
+use ua_requests::{Fired, Halt};
+use ua_types::Listed;
 
 /// The server's answer to an event.
 #[derive(Debug, Drop)]
@@ -90,7 +91,6 @@ impl From<Halt> for StepFault {
 pub struct Ran {
     /// The answers, up to the first event that had none.
     pub steps: Listed<Step>,
-
     /// Why that event had none.
     pub fault: Option<StepFault>,
 }

@@ -18,10 +18,8 @@ use ua_types::Moment;
 pub struct Core {
     /// What every part may read.
     pub setting: Setting,
-
     /// Who is connected.
     pub connections: Connections,
-
     /// What is served.
     pub services: Services,
 }

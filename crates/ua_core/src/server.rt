@@ -12,10 +12,10 @@ use crate::parts::Core;
 use crate::world::World;
 use std::alloc::Global;
 use ua_connections::{Connections, Numbered};
-use ua_requests::{Listed, Setting};
+use ua_requests::Setting;
 use ua_services::Services;
 use ua_space::Space;
-use ua_types::Config;
+use ua_types::{Config, Listed};
 
 /// An OPC UA server without a socket, a clock and a source of random numbers.
 ///

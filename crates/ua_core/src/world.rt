@@ -18,7 +18,9 @@ use ua_tcp::Framer;
 /// are held of a frame.
 #[derive(Drop)]
 pub struct World {
+    /// The framer of each open connection. A closed one has none, so its bytes go nowhere.
     pub links: Numbered<Framer>,
+    /// Everything else.
     pub core: Core,
 }
 

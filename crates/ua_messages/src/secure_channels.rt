@@ -13,7 +13,7 @@ use ua_types::{ByteString, Moment};
 #[derive(Debug, Drop)]
 pub struct OpenSecureChannelRequest {
     pub request_header: RequestHeader,
-    /// The same number as in the Hello of the connection.
+    /// The version of the protocol that the Hello of the connection named.
     pub client_protocol_version: u32,
     pub request_type: SecurityTokenRequestType,
     pub security_mode: MessageSecurityMode,

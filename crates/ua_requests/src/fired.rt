@@ -9,16 +9,12 @@ use sub_table::{RowId, TableEvent, Vars};
 pub struct Fired {
     /// The subscription's number, 0 for one that was refused.
     pub subscription: u32,
-
     /// What happened to it.
     pub event: TableEvent,
-
     /// Its variables before the row.
     pub before: Vars,
-
     /// The row.
     pub row: RowId,
-
     /// Its variables after the row.
     pub after: Vars,
 }

@@ -12,7 +12,6 @@ pub enum Halt {
     /// A growth was refused.
     #[error("out of memory")]
     Memory,
-
     /// A serial of 64 bits is at its last value.
     #[error("out of serial numbers")]
     Exhausted,

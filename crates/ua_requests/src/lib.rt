@@ -8,7 +8,6 @@
 
 mod fired;
 mod halt;
-mod listed;
 mod reply;
 mod request;
 mod served;
@@ -16,7 +15,6 @@ mod setting;
 
 pub use fired::Fired;
 pub use halt::Halt;
-pub use listed::Listed;
 pub use reply::Reply;
 pub use request::Request;
 pub use served::Served;

@@ -1,8 +1,8 @@
 //! What services give.
 
 use crate::fired::Fired;
-use crate::listed::Listed;
 use crate::reply::Reply;
+use ua_types::Listed;
 
 /// What a request or a tick came to, beside what the services keep.
 #[derive(Debug, Drop)]

@@ -14,8 +14,8 @@ use bytes::Bytes;
 use std::alloc::{AllocError, Global};
 use ua_binary::{TakeFault, Wire};
 use ua_messages::{fault, message};
-use ua_requests::{Halt, Listed, Reply, Served, Setting};
-use ua_types::{Moment, Status};
+use ua_requests::{Halt, Reply, Served, Setting};
+use ua_types::{Listed, Moment, Status};
 
 /// The reply to a call, with this body.
 pub fn reply(alloc: Global, call: &Call, body: Vec<u8>) -> Result<Served, AllocError>

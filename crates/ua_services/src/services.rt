@@ -17,10 +17,10 @@ use crate::write::Write;
 use std::alloc::Global;
 use ua_binary::TakeFault;
 use ua_messages::{RequestHeader, message, message_id, type_ids};
-use ua_requests::{Halt, Listed, Request, Served, Setting};
+use ua_requests::{Halt, Request, Served, Setting};
 use ua_session::Sessions;
 use ua_space::Space;
-use ua_types::{Config, Status};
+use ua_types::{Config, Listed, Status};
 
 /// The services, and what they keep.
 ///

@@ -31,7 +31,7 @@ added {V} items entries new id q old w i was grows step =
           ap (given items) (step ∙ ap (λ b. cond b (Some w) (lookup (is_at (id_cmp q)) entries)) (sym tie ∙ apart)) ∙ ap (λ b. cond b (places_at items q entries ++ i ∷ []) (places_at items q entries)) (sym apart)
     ]
 
--- the same under an id that had no place
+-- a place is added under an id that had none
 pub added_first : {V : Type 0} (items : V → List ℕ) (entries before new : List (NodeId × V)) (id copied q : NodeId) (w : V) (i : ℕ)
     → before ≡ entries → copied ≡ id → None ≡ lookup (is_at (id_cmp id)) entries → items w ≡ i ∷ []
     → lookup (is_at (id_cmp q)) new ≡ cond (is_at (id_cmp copied) q) (Some w) (lookup (is_at (id_cmp q)) before)

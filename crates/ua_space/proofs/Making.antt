@@ -13,7 +13,8 @@ use Rattle.ua_types.proofs.SameIds.{same_id_itself}
 use Rattle.ua_space.specs.declared.node.Node.{Node}
 use Rattle.ua_space.specs.declared.fault.SpaceFault.{SpaceFault}
 use Rattle.ua_space.specs.BaseNodes.{base_nodes, base_triples}
-use Rattle.ua_space.specs.Build.{◌>>=◌, within_limits, named, all_named, linked, no_loop, space_of}
+use Rattle.ua_types.specs.Answers.{◌>>=◌}
+use Rattle.ua_space.specs.Build.{within_limits, named, all_named, linked, no_loop, space_of}
 use Rattle.ua_space.specs.Made.{IsMadeOf, SpacesAreMade}
 use Rattle.ua_space.specs.Nodes.{Nodes, SpaceState, node_at}
 use Rattle.ua_space.specs.Subtypes.{lies_on_loop}

@@ -8,7 +8,7 @@ use Rattle.ua_types.specs.declared.node_id.NodeId.{NodeId}
 use Rattle.ua_space.specs.declared.index.Key.TheVariants as keys
 use Rattle.ua_space.specs.declared.triple.Triple.{Triple}
 use Rattle.ua_space.specs.Indexes.{stands_under}
-use Rattle.ua_space.specs.Nodes.{Directed, outwards, inwards, is_defining, type_definition_of}
+use Rattle.ua_space.specs.References.{Directed, outwards, inwards, is_defining, type_definition_of}
 use Rattle.ua_space.specs.Spaces.{most_triples}
 use Rattle.ua_space.proofs.Places.{under}
 

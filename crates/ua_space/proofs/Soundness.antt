@@ -20,12 +20,14 @@ use Rattle.ua_space.specs.declared.node.NodeDetails.{NodeDetails}
 use Rattle.ua_space.specs.declared.node.NodeDetails.TheVariants as details
 use Rattle.ua_space.specs.declared.triple.Triple.{Triple}
 use Rattle.ua_space.specs.declared.fault.SpaceFault.{SpaceFault}
-use Rattle.ua_space.specs.Nodes.{Nodes, node_at, holding, put, with_value}
+use Rattle.ua_space.specs.Nodes.{Nodes, node_at}
+use Rattle.ua_space.specs.Values.{holding, put, with_value}
 use Rattle.ua_space.specs.Spaces.{most_nodes, most_triples, fits, has_reference_details, is_reference_type, IsSpace, HasNoLoop, AreDistinct, StandUnderTheirIds}
 use Rattle.ua_space.specs.Subtypes.{has_subtype, is_subtyping, Chain, IsSubtype, lies_on_loop}
 use Rattle.ua_space.specs.TripleOrder.{same_triple, same_triple_equiv}
 use Rattle.ua_space.specs.BaseNodes.{base_triples}
-use Rattle.ua_space.specs.Build.{◌>>=◌, is_too_much, within_limits, named, all_named, linked, no_loop}
+use Rattle.ua_types.specs.Answers.{◌>>=◌}
+use Rattle.ua_space.specs.Build.{is_too_much, within_limits, named, all_named, linked, no_loop}
 use Rattle.ua_space.proofs.Chains.{Has, has_from_contains, any_has, subtype_found}
 
 -- ---- ids

@@ -1,30 +1,20 @@
 -- The space that nodes and references make, or the first thing that is wrong with them.
-use Rattle.std.specs.Prelude.{◌≡◌, ◌≢◌, ℕ, ◌+◌, List, [], ◌∷◌, ◌++◌, Bool, not, ◌||◌, nat_lt, length, Option, Some, None, is_some, Result, Ok, Err, if◌then◌else◌}
+use Rattle.std.specs.Prelude.{◌≡◌, ℕ, ◌+◌, List, [], ◌∷◌, ◌++◌, Bool, not, ◌||◌, nat_lt, length, Option, Some, None, is_some, Result, Ok, Err, if◌then◌else◌}
 use Rattle.std.specs.List.{list_any, find}
 use Rattle.std.specs.BTreeMap.{insert_entry}
+use Rattle.ua_types.specs.Answers.{◌>>=◌}
 use Rattle.ua_types.specs.Configuration.{Configuration}
 use Rattle.ua_types.specs.NodeIdOrder.{id_cmp}
 use Rattle.ua_space.specs.declared.node.Node.{Node}
 use Rattle.ua_space.specs.declared.triple.Triple.{Triple}
 use Rattle.ua_space.specs.declared.triple.Part.TheVariants as part
 use Rattle.ua_space.specs.declared.fault.SpaceFault.{SpaceFault}
-use Rattle.ua_space.specs.declared.fault.SpaceFault.TheVariants.{Duplicate, DanglingReference, SubtypeLoop, Limit, Memory}
+use Rattle.ua_space.specs.declared.fault.SpaceFault.TheVariants.{Duplicate, DanglingReference, SubtypeLoop, Limit}
 use Rattle.ua_space.specs.Nodes.{Nodes, SpaceState, node_at}
 use Rattle.ua_space.specs.TripleOrder.{same_triple}
 use Rattle.ua_space.specs.Spaces.{most_nodes, most_triples, fits}
 use Rattle.ua_space.specs.Subtypes.{lies_on_loop}
 use Rattle.ua_space.specs.BaseNodes.{base_nodes, base_triples}
-
--- a call gives what is said of it, seen in its way, unless memory ran out
-abbrev pub Makes : {A B : Type 0} → (A → B) → Result A SpaceFault → Result B SpaceFault → Type 0
-Makes seen (Ok x) said = said ≡ Ok (seen x)
-Makes seen (Err e) said = e ≢ Memory → said ≡ Err e
-
--- one step after another, up to the first fault
-infixl 10 ◌>>=◌
-abbrev pub ◌>>=◌ : {A B : Type 0} → Result A SpaceFault → (A → Result B SpaceFault) → Result B SpaceFault
-(Ok x) >>= f = f x
-(Err e) >>= f = Err e
 
 -- what is given comes beside the base set
 abbrev pub is_too_much : ℕ → ℕ → ℕ → Bool

@@ -9,7 +9,7 @@ use Rattle.ua_types.specs.NodeIdOrder.{id_cmp, same_id}
 use Rattle.ua_space.specs.declared.triple.Triple.{Triple}
 use Rattle.ua_space.specs.declared.index.Key.{Key}
 use Rattle.ua_space.specs.declared.index.Key.TheVariants as keys
-use Rattle.ua_space.specs.Nodes.{is_defining}
+use Rattle.ua_space.specs.References.{is_defining}
 use Rattle.ua_space.specs.Subtypes.{is_subtyping}
 
 -- the id under which a reference stands

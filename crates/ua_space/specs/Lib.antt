@@ -1,6 +1,8 @@
 pub mod NodeClasses
 pub mod Variables
 pub mod Nodes
+pub mod Values
+pub mod References
 pub mod Spaces
 pub mod TripleOrder
 pub mod Subtypes

@@ -2,7 +2,8 @@
 
 ghost use Rattle.std.specs.Prelude.{◌≡◌, ◌≤◌, ◌<◌, ◌^◌, ◌+◌, ◌++◌, [], length, vec_len, IfOk, IfErr, OnOk};
 ghost use Rattle.ua_space.specs.BaseNodes.{base_triples};
-ghost use Rattle.ua_space.specs.Build.{Makes, is_too_much, within_limits, named, all_named, linked};
+ghost use Rattle.ua_types.specs.Answers.{Gives, GivesAs};
+ghost use Rattle.ua_space.specs.Build.{is_too_much, within_limits, named, all_named, linked};
 ghost use Rattle.ua_space.specs.Spaces.{fits};
 ghost use Rattle.ua_space.specs.declared.fault.SpaceFault.TheVariants.{Memory};
 
@@ -55,7 +56,7 @@ fn named(
     nodes: Vec<Node>,
 ) -> Result<BTreeMap<NodeId, Node>, SpaceFault>
     requires { first + vec_len nodes < 2 ^ 64 }
-    ensures { Makes (λ m. m.entries) result (named first known.entries nodes.items) }
+    ensures { GivesAs Memory (λ m. m.entries) result (named first known.entries nodes.items) }
 {
     let mut known = known;
     let mut number = first;
@@ -88,7 +89,7 @@ fn linked(
     nodes: &BTreeMap<NodeId, Node>,
     triples: &[Triple],
 ) -> Result<(), SpaceFault>
-    ensures { Makes (λ x. x) result (linked nodes.now.entries [] triples.now) }
+    ensures { Gives Memory result (linked nodes.now.entries [] triples.now) }
 {
     let mut seen = BTreeSet::new(alloc);
     for triple in triples {
@@ -123,7 +124,7 @@ fn all_named(
 ) -> Result<BTreeMap<NodeId, Node>, SpaceFault>
     requires few_base { vec_len base < 2 ^ 32 }
     requires few { vec_len nodes < 2 ^ 32 }
-    ensures { Makes (λ m. m.entries) result (all_named base.items nodes.items) }
+    ensures { GivesAs Memory (λ m. m.entries) result (all_named base.items nodes.items) }
 {
     match named(alloc, BTreeMap::new(alloc), 0, base) {
         Err(fault) => Err(fault),

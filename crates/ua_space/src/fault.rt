@@ -13,10 +13,10 @@ pub enum SpaceFault {
     /// The id of this node, or this reference, was given before.
     #[error("Duplicate {0}")]
     Duplicate(Part),
-    /// An end of this reference is no node, or its type is no ReferenceType node.
+    /// An end of a reference is no node, or its type is no ReferenceType node.
     #[error("DanglingReference {0}")]
     DanglingReference(Part),
-    /// This reference lies on a loop of HasSubtype references.
+    /// A reference lies on a loop of HasSubtype references.
     #[error("SubtypeLoop {0}")]
     SubtypeLoop(Part),
     /// More than 100,000 nodes or 400,000 references, the base set included.

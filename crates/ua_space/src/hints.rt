@@ -21,11 +21,14 @@ use ua_types::{Copyable, NodeId};
 pub(crate) struct Hints {
     // The place of each type that a HasSubtype reference has as an end.
     numbers: BTreeMap<NodeId, usize>,
+
     // The component of the type at each place.
     ranks: Vec<usize>,
+
     // The places of HasSubtype references, each leading to the source of the one before, from the
     // source of the first one that seems to lie on a loop up to its target.
     path: Vec<usize>,
+
     // The places of HasSubtype references, one that goes out from each supertype, supertypes first.
     order: Vec<usize>,
 }

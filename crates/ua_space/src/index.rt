@@ -4,7 +4,7 @@ ghost use Rattle.std.specs.Prelude.{◌≡◌, ◌<◌, ◌^◌, ◌++◌, ◌�
 ghost use Rattle.std.specs.Option.{option_copied};
 ghost use Rattle.ua_types.specs.NodeIdOrder.{same_id};
 ghost use Rattle.ua_types.specs.declared.node_id.NodeId.{NodeId};
-ghost use Rattle.ua_space.specs.Nodes.{is_defining};
+ghost use Rattle.ua_space.specs.References.{is_defining};
 ghost use Rattle.ua_space.specs.Subtypes.{is_subtyping};
 ghost use Rattle.ua_space.specs.Indexes.{IsIndex, items, places_at, key_of, stands_under};
 
@@ -107,7 +107,9 @@ pub(crate) fn places_at<'a>(index: &'a Index, id: &NodeId) -> &'a [u32]
 /// The indexes that a space keeps.
 #[derive(Drop)]
 pub(crate) struct Indexes {
+    /// All references, under their sources.
     pub by_source: Index,
+    /// All references, under their targets.
     pub by_target: Index,
     /// The references to type definitions, under the nodes that they define.
     pub definitions: Index,

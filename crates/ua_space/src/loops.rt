@@ -88,7 +88,7 @@ fn lies_on_loop(
             ))
 }
 
-// The same, without a search where the numbers show that there is no loop.
+// Whether a reference lies on a loop, without a search where the numbers show that it doesn't.
 fn is_looped(
     triples: &[Triple],
     supertypes: &Index,

@@ -26,12 +26,16 @@ pub enum ValueRank {
 pub struct Variable {
     /// The number of the values' type (IEC 62541-6, 5.1.2), 1 to 22.
     pub data_type: u8,
+
     pub value_rank: ValueRank,
+
     /// The value as it stands.
     pub value: DataValue,
+
     /// AccessLevel, 0 to 15: bit 0 readable, bit 1 writable, bit 2 readable history, bit 3 writable
     /// history.
     pub access: u8,
+
     /// Whether the server keeps the history of the value.
     pub historizing: bool,
 }
@@ -80,16 +84,20 @@ impl Variable {
 #[derive(Debug)]
 pub enum NodeDetails {
     Object,
+
     Variable(Variable),
+
     ObjectType {
         is_abstract: bool,
     },
+
     VariableType {
         /// The number of the values' type (IEC 62541-6, 5.1.2), 1 to 22.
         data_type: u8,
         value_rank: ValueRank,
         is_abstract: bool,
     },
+
     ReferenceType {
         is_abstract: bool,
         /// Whether it means the same seen from either end.
@@ -97,6 +105,7 @@ pub enum NodeDetails {
         /// What it is called seen from its target, or null.
         inverse_name: LocalizedText,
     },
+
     DataType {
         is_abstract: bool,
     },

@@ -16,6 +16,7 @@ use ua_types::{Copyable, NodeId};
 /// proved of that, and no answer rests on it.
 #[derive(Drop)]
 pub(crate) struct Numbering {
+    /// The number of each type that has subtypes.
     pub numbers: BTreeMap<NodeId, usize>,
     /// The type that has each number.
     pub types: Vec<NodeId>,

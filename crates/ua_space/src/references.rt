@@ -7,7 +7,9 @@ use ua_types::NodeId;
 // Some of a space's references, in declared order. No call on them takes memory.
 #[derive(Debug, Drop)]
 pub(crate) struct TripleList<'a> {
+    // All references of the space.
     triples: &'a [Triple],
+    // Where among them those of the list stand, by rising place.
     places: &'a [u32],
 }
 
@@ -74,7 +76,7 @@ pub struct Reference<'a> {
 }
 
 impl<'a> Model for Reference<'a> {
-    ghost use Rattle.ua_space.specs.Nodes.{Directed};
+    ghost use Rattle.ua_space.specs.References.{Directed};
 
     ghost Value = { Directed };
 
@@ -83,7 +85,7 @@ impl<'a> Model for Reference<'a> {
 
 impl<'a> Reference<'a> {
     ghost use Rattle.std.specs.Prelude.{◌≡◌};
-    ghost use Rattle.ua_space.specs.Nodes.{end_of};
+    ghost use Rattle.ua_space.specs.References.{end_of};
 
     /// The id of the node at its other end.
     pub fn end(&self) -> &'a NodeId
@@ -103,13 +105,15 @@ impl<'a> Reference<'a> {
 /// takes the same time at each place. No call on them takes memory.
 #[derive(Debug, Drop)]
 pub struct References<'a> {
+    // Those whose source the node is. They come first.
     outgoing: TripleList<'a>,
+    // Those whose target the node is.
     incoming: TripleList<'a>,
 }
 
 impl<'a> Model for References<'a> {
     ghost use Rattle.std.specs.Prelude.{◌<◌, ◌^◌, ◌++◌, List, length, map};
-    ghost use Rattle.ua_space.specs.Nodes.{Directed, outwards, inwards};
+    ghost use Rattle.ua_space.specs.References.{Directed, outwards, inwards};
 
     ghost Value = { List Directed };
 
@@ -120,9 +124,9 @@ impl<'a> Model for References<'a> {
 
 impl<'a> References<'a> {
     ghost use Rattle.std.specs.Prelude.{◌≡◌, ◌<◌, ◌^◌, ◌++◌, length, map, slice_get};
-    ghost use Rattle.ua_space.specs.Nodes.{outwards, inwards};
+    ghost use Rattle.ua_space.specs.References.{outwards, inwards};
 
-    // These forward ones, and then these inverse ones.
+    // References of a node: the outgoing ones, and then the incoming ones.
     pub(crate) fn new(outgoing: TripleList<'a>, incoming: TripleList<'a>) -> References<'a>
         requires outgoing { length outgoing < 2 ^ 32 }
         requires incoming { length incoming < 2 ^ 32 }

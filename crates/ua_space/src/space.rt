@@ -1,7 +1,7 @@
 //! The address space.
 
 ghost use Rattle.std.specs.Prelude.{◌≡◌, true};
-ghost use Rattle.ua_space.specs.Nodes.{takes_at, with_value};
+ghost use Rattle.ua_space.specs.Values.{takes_at, with_value};
 
 use crate::index::{Indexes, places_at};
 use crate::node::{Node, NodeDetails, Variable};
@@ -24,9 +24,13 @@ use ua_values::DataValue;
 /// references (`IsSpace`).
 #[derive(Drop)]
 pub struct Space {
+    // Each node under its own id.
     nodes: BTreeMap<NodeId, Node>,
+    // The references in declared order, those of the base set first.
     triples: Vec<Triple>,
+    // Which references each node has. They never change.
     indexes: Indexes,
+    // Numbers for the types that have subtypes, by which types are marked on a walk.
     numbering: Numbering,
 }
 
@@ -68,7 +72,9 @@ impl Space {
     ghost use Rattle.ua_types.specs.NodeIdOrder.{same_id};
     ghost use Rattle.ua_types.specs.declared.node_id.NodeId.{NodeId};
     ghost use Rattle.std.specs.Option.{option_copied};
-    ghost use Rattle.ua_space.specs.Nodes.{node_at, variable_at, value_at, takes_at, references_of, type_definition_of, with_value};
+    ghost use Rattle.ua_space.specs.Nodes.{node_at};
+    ghost use Rattle.ua_space.specs.Values.{variable_at, value_at, takes_at, with_value};
+    ghost use Rattle.ua_space.specs.References.{references_of, type_definition_of};
     ghost use Rattle.ua_space.specs.Spaces.{IsSpace};
     ghost use Rattle.ua_space.specs.Subtypes.{IsSubtype, is_subtype};
     ghost use Rattle.ua_space.specs.Indexed.{AreIndexes};

@@ -94,8 +94,8 @@ fn walk_up(
     marks[upper]
 }
 
-// The same, with the marks on the stack. They are made here, so that a question that needs no walk doesn't
-// pay for them.
+// Whether a walk up from a type reaches another. The marks lie on the stack and are made here, so that a
+// question that needs no walk doesn't pay for them.
 fn reaches(
     triples: &[Triple],
     supertypes: &Index,

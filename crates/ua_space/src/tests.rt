@@ -247,7 +247,7 @@ fn is_base_variable(
     }
 }
 
-// This one, seen from its source or from its target.
+// Whether a reference was found that is the expected one, seen from its source or from its target.
 fn is_reference(found: Option<Reference<'_>>, direction: Direction, e: &(u32, u32, u32)) -> bool {
     let (kind, source, target) = e;
     match found {

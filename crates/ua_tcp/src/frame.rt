@@ -12,19 +12,14 @@ use thiserror::Error;
 pub enum MessageType {
     /// `HEL`, with which a client opens a connection.
     Hello,
-
     /// `ACK`, the server's answer to it.
     Acknowledge,
-
     /// `ERR`, with which either side says why it closes the connection.
     Error,
-
     /// `OPN`, a chunk of an OpenSecureChannel message.
     OpenSecureChannel,
-
     /// `MSG`, a chunk of a message that the secure channel carries.
     Message,
-
     /// `CLO`, a chunk of a CloseSecureChannel message.
     CloseSecureChannel,
 }
@@ -35,10 +30,8 @@ pub enum MessageType {
 pub enum ChunkType {
     /// `C`: more chunks of the message follow.
     Intermediate,
-
     /// `F`: the last chunk of the message, or all of it.
     Final,
-
     /// `A`: the sender gives the message up.
     Aborted,
 }
@@ -66,24 +59,22 @@ pub enum FrameFault {
 pub struct Frame {
     pub message_type: MessageType,
     pub chunk_type: ChunkType,
-
     /// What stands behind the first eight bytes.
     pub body: Bytes,
 }
 
 // What a frame's first eight bytes say.
 #[derive(Clone, Copy)]
-pub struct Header {
+pub(crate) struct Header {
     pub message_type: MessageType,
     pub chunk_type: ChunkType,
-
     // Of the whole frame, these eight bytes too.
     pub size: u32,
 }
 
 // What the bytes from a frame's first on say of it.
 #[derive(Clone, Copy)]
-pub enum Judgement {
+pub(crate) enum Judgement {
     Incomplete,
     Faulty(FrameFault),
     Whole(Header),
@@ -134,7 +125,7 @@ fn comes_in(message_type: MessageType, chunk_type: ChunkType) -> bool
 
 #[tactic(auto, unfolding(crate::specs::Header::header_of))]
 // The header that these bytes are, and its first fault otherwise.
-pub fn read_header(limit: u32, bytes: &[u8; 8]) -> Result<Header, FrameFault>
+pub(crate) fn read_header(limit: u32, bytes: &[u8; 8]) -> Result<Header, FrameFault>
     ensures { result ≡ header_of limit bytes.now }
 {
     let (Some(message_type), Some(chunk_type)) = (
@@ -159,7 +150,7 @@ pub fn read_header(limit: u32, bytes: &[u8; 8]) -> Result<Header, FrameFault>
 
 #[tactic(auto, unfolding(crate::specs::Header::judgement_of))]
 // Judges the frame that these bytes begin, once eight are there.
-pub fn judge(limit: u32, bytes: &[u8]) -> Judgement
+pub(crate) fn judge(limit: u32, bytes: &[u8]) -> Judgement
     ensures { result ≡ judgement_of limit bytes.now }
 {
     let Some(head) = bytes.first_chunk::<8>() else {

@@ -10,45 +10,7 @@ use crate::frame::{Frame, FrameFault, Judgement, judge, read_header};
 use bytes::Bytes;
 use std::alloc::{AllocError, Global};
 use std::marker::Model;
-use ua_types::Memory;
-
-/// Frames in the order of the stream. Contracts see their list.
-#[derive(Debug, Drop)]
-pub struct Frames {
-    items: Vec<Frame>,
-}
-
-impl Model for Frames {
-    ghost use Rattle.std.specs.Prelude.{List};
-    ghost use Rattle.ua_tcp.specs.declared.frame.Frame.{Frame};
-
-    ghost Value = { List Frame };
-
-    ghost view = { λ f. f.items.items };
-}
-
-impl Frames {
-    /// These frames.
-    pub fn new(frames: Vec<Frame>) -> Frames
-        ensures { result ≡ frames.items }
-    {
-        Frames { items: frames }
-    }
-
-    /// The frames.
-    pub fn as_slice(&self) -> &[Frame]
-        ensures { result.now ≡ self.now }
-    {
-        self.items.as_slice()
-    }
-
-    /// The frames themselves. Takes no memory.
-    pub fn into_vec(self) -> Vec<Frame>
-        ensures { result.items ≡ self }
-    {
-        self.items
-    }
-}
+use ua_types::{Listed, Memory};
 
 // The start of a frame. It grows by what comes of it, so that a large frame in small pieces costs
 // no more than the frame's size; no room is taken before the bytes are there.
@@ -106,9 +68,8 @@ impl Held {
 /// What a piece of the stream brought.
 #[derive(Debug, Drop)]
 pub struct Fed {
-    /// The frames that are whole with this piece.
-    pub frames: Frames,
-
+    /// The frames that are whole with this piece, in the order of the stream.
+    pub frames: Listed<Frame>,
     /// What stands behind them, where it can begin no frame.
     pub fault: Option<FrameFault>,
 }
@@ -118,7 +79,7 @@ impl Fed {
         ensures { result ≡ record { frames = []; fault = fault } }
     {
         Fed {
-            frames: Frames::new(Vec::new(alloc)),
+            frames: Listed::new(alloc),
             fault,
         }
     }
@@ -135,8 +96,8 @@ impl Fed {
 /// Contracts see the limit, and the bytes held, or none after a fault.
 #[derive(Debug, Drop)]
 pub struct Framer {
+    // How long a frame may be, its first eight bytes included. It never changes.
     limit: u32,
-
     // The start of a frame, until the rest of it comes. None for good once a header was at fault.
     held: Option<Held>,
 }
@@ -162,6 +123,14 @@ impl Framer {
     }
 
     /// Takes the next piece of the stream, and gives the frames that are whole with it, in order.
+    ///
+    /// ```text
+    ///  held from before    the piece
+    /// ├──────────────────┼────────────────────────────────────────────┤
+    /// │ MSGF size body ..│.. body │ MSGC size body │ MSGF size body ..│
+    /// ├───────────────────────────┼────────────────┼──────────────────┤
+    ///  first frame given           second one       held from now on
+    /// ```
     ///
     /// A frame's body is a part of a buffer that it shares with the other frames of this feed. The
     /// error is want of memory, and the framer is then as it was: the same piece may be fed again.
@@ -223,7 +192,7 @@ fn cut_frames(alloc: Global, limit: u32, bytes: Bytes) -> Result<(Fed, Option<He
     let held = kept(alloc, rest.as_slice(), fault)?;
     Ok((
         Fed {
-            frames: Frames::new(frames),
+            frames: Listed::from_vec(frames),
             fault,
         },
         held,

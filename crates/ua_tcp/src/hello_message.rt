@@ -11,19 +11,14 @@ use ua_types::Text;
 pub struct Hello {
     /// The latest version of the protocol that the client knows. Any is good.
     pub protocol_version: u32,
-
     /// The largest frame that the client can receive, in bytes.
     pub receive_size: u32,
-
     /// The largest frame that the client will send, in bytes.
     pub send_size: u32,
-
     /// The largest answer that the client takes, in bytes of its body, or 0 for no limit.
     pub max_message_size: u32,
-
     /// The most chunks of an answer that the client takes, or 0 for no limit.
     pub max_chunk_count: u32,
-
     /// The URL of the endpoint that the client wants.
     pub endpoint_url: Text,
 }

@@ -24,7 +24,7 @@ mod limits;
 mod tap;
 
 pub use frame::{ChunkType, Frame, FrameFault, MessageType};
-pub use framer::{Fed, Framer, Frames};
+pub use framer::{Fed, Framer};
 pub use handshake::{Agreed, ack, err, hello};
 pub use hello_message::Hello;
 pub use limits::Limits;

@@ -12,13 +12,10 @@ use ua_types::Config;
 pub struct Limits {
     /// The largest frame that is read, in bytes: 1024 to 1048576.
     pub receive_size: u32,
-
     /// The largest frame that is sent, in bytes: 1024 to 1048576.
     pub send_size: u32,
-
     /// The largest request that is put together, in bytes: 1024 to 16777216.
     pub max_message: u32,
-
     /// The most chunks of a request: 1 to 65535.
     pub max_chunks: u32,
 }

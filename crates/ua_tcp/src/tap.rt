@@ -19,6 +19,7 @@ use std::marker::Model;
 #[derive(Debug, Drop)]
 pub struct Tap<S> {
     stream: S,
+    // How many calls on the stream failed. It stays at its last value.
     failures: u64,
 }
 

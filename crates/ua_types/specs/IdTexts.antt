@@ -8,18 +8,13 @@ use Rattle.std.specs.Fmt.{decimal}
 use Rattle.uuid.specs.Text.{parsed, hyphenated_text, lower}
 use Rattle.hex.specs.Hex.{decode_of, encode_lower, IsBytes}
 use Rattle.hex.specs.declared.error.FromHexError.{FromHexError}
+use Rattle.ua_types.specs.Answers.{◌>>=◌}
 use Rattle.ua_types.specs.declared.guid.Guid.{Guid}
 use Rattle.ua_types.specs.declared.node_id.NodeId.{NodeId}
 use Rattle.ua_types.specs.declared.node_id.Identifier.{Identifier}
 use Rattle.ua_types.specs.declared.node_id.Identifier.TheVariants as identifier
 use Rattle.ua_types.specs.declared.id_texts.IdFault.{IdFault}
 use Rattle.ua_types.specs.declared.id_texts.IdFault.TheVariants as fault
-
--- one step after another, up to the first fault
-infixl 10 ◌>>=◌
-abbrev pub ◌>>=◌ : {A B : Type 0} → Result A IdFault → (A → Result B IdFault) → Result B IdFault
-(Ok x) >>= f = f x
-(Err e) >>= f = Err e
 
 abbrev pub or_fault : {A : Type 0} → IdFault → Option A → Result A IdFault
 or_fault f None = Err f

@@ -12,6 +12,7 @@ use std::marker::Model;
 /// Null differs from the empty list.
 #[derive(Debug)]
 pub struct Array<T> {
+    // None is null, which differs from empty.
     inside: Option<Vec<T>>,
 }
 

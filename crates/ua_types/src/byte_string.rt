@@ -20,6 +20,7 @@ use std::marker::Model;
 /// Null differs from the empty byte string, and comes first in the order.
 #[derive(Debug)]
 pub struct ByteString {
+    // None is null, which differs from empty.
     inside: Option<Vec<u8>>,
 }
 

@@ -23,16 +23,20 @@ pub enum IdFault {
     /// No identifier begins where one should: `i=`, `s=`, `g=` or `b=`.
     #[error("no identifier where one should begin")]
     Prefix,
+
     /// What follows `ns=` or `i=` isn't decimal digits, at least one, of a number that fits.
     #[error("not a number that fits")]
     Number,
+
     /// What follows `g=` isn't a Guid.
     #[error("not a Guid")]
     Guid,
+
     /// What follows `b=` isn't pairs of hex digits, or what follows `s=` or `b=` has 2^31 bytes
     /// or more.
     #[error("not the bytes of an identifier")]
     Bytes,
+
     /// A growth was refused. Nothing is said of the text.
     #[error("out of memory")]
     Memory,

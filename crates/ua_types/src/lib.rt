@@ -7,6 +7,7 @@
 //! - `Text`, `ByteString` and `Array` are optional lists, where null is `None` and differs from empty;
 //! - `NodeId`, `ExtensionObject` and the other structures are the records of their fields;
 //! - the text of a node id is read by a grammar and written in one way ([`NodeId::parse`], [`write_id`]);
+//! - `Listed` is a list, whatever room it has;
 //! - `Config` is a record whose numbers always lie in their ranges (`IsConfigured`).
 //!
 //! Memory is always taken from an allocator that is passed in, and a refusal is answered as
@@ -23,6 +24,7 @@ mod duration;
 mod extension_object;
 mod guid;
 mod id_texts;
+mod listed;
 mod localized_text;
 mod moment;
 mod node_class;
@@ -40,6 +42,7 @@ pub use duration::Duration;
 pub use extension_object::{ExtensionObject, ExtensionObjectBody};
 pub use guid::Guid;
 pub use id_texts::{IdFault, write_id};
+pub use listed::Listed;
 pub use localized_text::LocalizedText;
 pub use moment::Moment;
 pub use node_class::NodeClass;

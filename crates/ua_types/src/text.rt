@@ -20,6 +20,7 @@ use std::marker::Model;
 /// Null differs from the empty text. Null comes first in the order, and texts go by their bytes.
 #[derive(Debug)]
 pub struct Text {
+    // None is null, which differs from empty.
     inside: Option<String>,
 }
 

@@ -2,7 +2,7 @@
 use Rattle.std.proofs.Common.{◌≡◌, ℕ, zero, suc, ◌+◌, ◌*◌, ◌≤◌, List, [], ◌∷◌, ◌++◌, min, refl, sym, ap, ◌∙◌, arith, inl, inr}
 use Rattle.std.proofs.Math.Nat.{mul_assoc, mul_comm, mul-suc}
 use Rattle.std.proofs.lemmas.Bool.{cases_lt}
-use Rattle.ua_values.specs.Shapes.{product}
+use Rattle.ua_values.specs.Matrices.{product}
 
 pub product_last : (ds : List ℕ) (d : ℕ) → product (ds ++ d ∷ []) ≡ product ds * d
 product_last [] d = mul_comm d 1

@@ -1,5 +1,4 @@
+pub mod Matrices
+pub mod Variants
 pub mod Shapes
-pub mod TypeNumbers
-pub mod ValueShapes
-pub mod MatrixOrders
-pub mod ContentOrders
+pub mod Contents

@@ -1,18 +1,37 @@
--- Dimensions of lists.
-use Rattle.std.specs.Prelude.{◌≡◌, ℕ, ◌*◌, ◌<◌, ◌^◌, List, [], ◌∷◌, length, Bool, true, nat_lt, ◌==◌, ◌&&◌}
-use Rattle.std.specs.List.{list_all}
+-- What a value is made of: one value, a list, or a list with dimensions.
+use Rattle.ua_values.specs.declared.content.Content.{Content}
+use Rattle.ua_values.specs.declared.content.Content.TheVariants as contents
+use Rattle.ua_values.specs.declared.shape.Shape.{Shape}
+use Rattle.ua_values.specs.declared.shape.Shape.TheVariants.{Null, Scalar, List, Matrix}
+use Rattle.ua_values.specs.declared.variant.Variant.{Variant}
+use Rattle.ua_values.specs.declared.variant.Variant.TheVariants as variants
 
--- of no dimensions it is 1
-abbrev pub product : List ℕ → ℕ
-product [] = 1
-product (d ∷ ds) = d * product ds
+abbrev pub shape_in : {A : Type 0} → Content A → Shape
+shape_in (contents.Scalar x) = Scalar
+shape_in (contents.Array elements) = List
+shape_in (contents.Matrix m) = Matrix
 
--- no dimension is negative, which as an unsigned number is 2 ^ 31 or more, and the product is the number of elements
-abbrev pub is_shape : List ℕ → ℕ → Bool
-is_shape dimensions count = list_all (λ d. nat_lt d (2 ^ 31)) dimensions && (product dimensions == count)
-
--- the elements lie in the dimensions, and both are lists that can be written
-pub record IsShaped {A : Type 0} (elements : List A) (dimensions : List ℕ) : Type 0 where
-  pub few : length elements < 2 ^ 31
-  pub rank : length dimensions < 2 ^ 31
-  pub shape : is_shape dimensions (length elements) ≡ true
+abbrev pub shape_of : Variant → Shape
+shape_of variants.Null = Null
+shape_of (variants.Boolean content) = shape_in content
+shape_of (variants.SByte content) = shape_in content
+shape_of (variants.Byte content) = shape_in content
+shape_of (variants.Int16 content) = shape_in content
+shape_of (variants.UInt16 content) = shape_in content
+shape_of (variants.Int32 content) = shape_in content
+shape_of (variants.UInt32 content) = shape_in content
+shape_of (variants.Int64 content) = shape_in content
+shape_of (variants.UInt64 content) = shape_in content
+shape_of (variants.Float content) = shape_in content
+shape_of (variants.Double content) = shape_in content
+shape_of (variants.String content) = shape_in content
+shape_of (variants.DateTime content) = shape_in content
+shape_of (variants.Guid content) = shape_in content
+shape_of (variants.ByteString content) = shape_in content
+shape_of (variants.XmlElement content) = shape_in content
+shape_of (variants.NodeId content) = shape_in content
+shape_of (variants.ExpandedNodeId content) = shape_in content
+shape_of (variants.StatusCode content) = shape_in content
+shape_of (variants.QualifiedName content) = shape_in content
+shape_of (variants.LocalizedText content) = shape_in content
+shape_of (variants.ExtensionObject content) = shape_in content

@@ -3,7 +3,7 @@
 ghost use Rattle.std.specs.Prelude.{◌≡◌, option_map, refl};
 ghost use Rattle.std.specs.Cmp.{partial_equiv_from_equiv, po};
 ghost use Rattle.std.specs.Ordering.{as_partial_cmp};
-ghost use Rattle.ua_values.specs.ContentOrders.{place_of, scalar_of, elements_of, dimensions_of, same_content, content_cmp, same_content_equiv, content_cmp_total, content_ties};
+ghost use Rattle.ua_values.specs.Contents.{place_of, scalar_of, elements_of, dimensions_of, same_content, content_cmp, same_content_equiv, content_cmp_total, content_ties};
 
 use crate::matrix::Matrix;
 use crate::shape::Shape;
@@ -25,7 +25,7 @@ pub enum Content<T> {
 }
 
 impl<T> Content<T> {
-    ghost use Rattle.ua_values.specs.ValueShapes.{shape_in};
+    ghost use Rattle.ua_values.specs.Shapes.{shape_in};
 
     /// What it is, whatever its elements.
     pub fn shape(&self) -> Shape

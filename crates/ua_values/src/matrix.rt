@@ -4,8 +4,7 @@ ghost use Rattle.std.specs.Prelude.{◌≡◌, ℕ, ◌<◌, ◌^◌, List, leng
 ghost use Rattle.std.specs.Cmp.{partial_equiv_from_equiv, po};
 ghost use Rattle.std.specs.Ordering.{as_partial_cmp};
 ghost use Rattle.std.specs.Vec.{vec_len};
-ghost use Rattle.ua_values.specs.MatrixOrders.{same_matrix, matrix_cmp, same_matrix_equiv, matrix_cmp_total, matrix_ties};
-ghost use Rattle.ua_values.specs.Shapes.{IsShaped, is_shape};
+ghost use Rattle.ua_values.specs.Matrices.{IsShaped, is_shape, same_matrix, matrix_cmp, same_matrix_equiv, matrix_cmp_total, matrix_ties};
 
 use std::alloc::{AllocError, Global};
 use std::cmp::Ordering;
@@ -35,7 +34,9 @@ pub fn has_shape(dimensions: &[u32], count: usize) -> bool
 /// go first, then the dimensions.
 #[derive(Debug)]
 pub struct Matrix<T> {
+    // With the last dimension running fastest.
     elements: Vec<T>,
+    // The slowest first; their product is the number of elements.
     dimensions: Vec<u32>,
 }
 
@@ -48,7 +49,7 @@ impl<T> Model for Matrix<T> {
 }
 
 impl<T> Matrix<T> {
-    /// These elements in these dimensions. [`has_shape`] says whether they fit.
+    /// A list of elements in dimensions. [`has_shape`] says whether they fit.
     pub fn new(elements: Vec<T>, dimensions: Vec<u32>) -> Matrix<T>
         requires { IsShaped elements.items dimensions.items }
         ensures { result ≡ (elements.items, dimensions.items) }

@@ -1,8 +1,8 @@
 //! Values of any type.
 
 ghost use Rattle.std.specs.Prelude.{◌≡◌, ◌<◌};
-ghost use Rattle.ua_values.specs.TypeNumbers.{type_number};
-ghost use Rattle.ua_values.specs.ValueShapes.{shape_of};
+ghost use Rattle.ua_values.specs.Variants.{type_number};
+ghost use Rattle.ua_values.specs.Shapes.{shape_of};
 
 use crate::content::Content;
 use crate::float::{Double, Float};

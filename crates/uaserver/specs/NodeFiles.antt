@@ -29,6 +29,6 @@ made_by (Err fault) = None
 abbrev pub made_in : List ℕ → Option Made
 made_in text = made_by (meaning_of text)
 
--- the same of no file: the standard configuration and the base set
+-- what is served where no file is given: the standard configuration and the base set
 abbrev pub made_of_none : Option Made
 made_of_none = built standard (space_of standard [] [])

@@ -25,7 +25,7 @@ fn server_of(alloc: Global, connections: u32) -> Result<Server, Fail> {
     Ok(Server::new(alloc, config, space))
 }
 
-/// These bytes of a connection.
+/// The event that bytes of a connection come.
 fn bytes_of(alloc: Global, conn: u64, bytes: &[u8]) -> Result<Event, Fail> {
     let bytes = Bytes::copy_from_slice(alloc, bytes)?;
     Ok(Event::Bytes { conn, bytes })

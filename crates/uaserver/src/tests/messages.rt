@@ -21,7 +21,7 @@ const ENDPOINTS_BODY: &[u8] =
 /// How long the answer to it is, in one chunk.
 pub const ENDPOINTS_ANSWER_SIZE: usize = 323;
 
-/// These bytes, one behind the other.
+/// The parts, one behind the other.
 pub fn joined(alloc: Global, parts: &[&[u8]]) -> Result<Vec<u8>, AllocError> {
     let mut out = Vec::new(alloc);
     for part in parts {
@@ -99,7 +99,7 @@ pub fn chunk(
     )
 }
 
-/// The same chunk of another channel.
+/// A chunk, sent on another channel.
 pub fn of_channel(mut chunk: Vec<u8>, channel: u8) -> Vec<u8> {
     if let Some(number) = chunk.get_mut(8) {
         *number = channel;

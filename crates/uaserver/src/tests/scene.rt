@@ -76,7 +76,7 @@ fn connect(
     Ok(())
 }
 
-/// This server, whose connections 1 and 2 are opened with this Hello, and have channels.
+/// A server whose connections 1 and 2 are opened with a Hello, and have channels.
 pub fn scene_of(alloc: Global, mut server: Server, hello: &[u8]) -> Result<Scene, Fail> {
     connect(alloc, &mut server, 1, [0; 32], hello)?;
     connect(alloc, &mut server, 2, [2; 32], hello)?;

@@ -2,7 +2,7 @@ use Rattle.std.proofs.Common.{◌≡◌, ◌+◌, drop}
 use Rattle.toml.specs.Data.{as_table}
 use Rattle.toml.specs.View.{items_view}
 use Rattle.ua_space.specs.declared.triple.Part.TheVariants as part
-use Rattle.node_loader.specs.Answers.{each}
+use Rattle.node_loader.specs.Lists.{each}
 use Rattle.node_loader.specs.File.{in_part, nodes_of}
 use Rattle.node_loader.specs.Node.{entry_of}
 use Rattle.node_loader.proofs.Loops.{joined}

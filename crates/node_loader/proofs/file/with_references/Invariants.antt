@@ -2,7 +2,7 @@ use Rattle.std.proofs.Common.{◌≡◌, ◌+◌, drop}
 use Rattle.toml.specs.Data.{as_table}
 use Rattle.toml.specs.View.{items_view}
 use Rattle.ua_space.specs.declared.triple.Part.TheVariants as part
-use Rattle.node_loader.specs.Answers.{each, after}
+use Rattle.node_loader.specs.Lists.{each, after}
 use Rattle.node_loader.specs.File.{in_part, references_of}
 use Rattle.node_loader.specs.Reference.{listed_reference_of}
 use Rattle.node_loader.proofs.file.with_references.Given as goal

@@ -1,7 +1,7 @@
 use Rattle.std.proofs.Common.{◌≡◌, ◌+◌, drop}
 use Rattle.std.specs.Vec.{vec_len}
 use Rattle.toml.specs.View.{items_view}
-use Rattle.node_loader.specs.Answers.{each, after}
+use Rattle.node_loader.specs.Lists.{each, after}
 use Rattle.node_loader.specs.Server.{text_of}
 use Rattle.node_loader.proofs.server.texts_of.Given as goal
 

@@ -3,7 +3,7 @@ use Rattle.std.specs.List.{list_all}
 use Rattle.std.proofs.lemmas.Bool.{lt-ltb}
 use Rattle.std.proofs.lemmas.List.{take_more}
 use Rattle.std.proofs.lemmas.List.Folds.{list_all-append}
-use Rattle.ua_values.specs.Shapes.{product}
+use Rattle.ua_values.specs.Matrices.{product}
 use Rattle.ua_values.proofs.Products.{product_last, min_times}
 use Rattle.ua_values.proofs.matrix.has_shape.Goals as goal
 

@@ -1,6 +1,6 @@
 use Rattle.std.proofs.Common.{◌≡◌, ◌-◌, ◌^◌, true, min, take, ltb}
 use Rattle.std.specs.List.{list_all}
-use Rattle.ua_values.specs.Shapes.{product}
+use Rattle.ua_values.specs.Matrices.{product}
 use Rattle.ua_values.proofs.matrix.has_shape.Given as goal
 
 abbrev pub invariant-loop-dimension : goal.invariant-loop-dimension

@@ -1,7 +1,8 @@
 use Rattle.std.proofs.Common.{◌≡◌, ◌∙◌, ap, filter}
 use Rattle.std.specs.Option.{option_map}
 use Rattle.ua_space.specs.Indexes.{stands_under}
-use Rattle.ua_space.specs.Nodes.{SpaceState, type_definition_of}
+use Rattle.ua_space.specs.Nodes.{SpaceState}
+use Rattle.ua_space.specs.References.{type_definition_of}
 use Rattle.ua_space.specs.declared.index.Key.TheVariants as keys
 use Rattle.ua_space.specs.declared.triple.Triple.{Triple}
 use Rattle.ua_space.proofs.Referring.{definition_found}

@@ -6,8 +6,11 @@ use std::alloc::{AllocError, Global};
 use std::marker::Model;
 
 /// A list that grows at its end. Contracts see the list of its elements, and nothing of its room.
+///
+/// Unlike [`Array`](crate::Array) it is no value of the wire: it is never null, and its length has no bound of its own.
 #[derive(Debug, Drop)]
 pub struct Listed<T> {
+    // In the order in which they were added.
     items: Vec<T>,
 }
 
@@ -27,6 +30,13 @@ impl<T> Listed<T> {
         Listed {
             items: Vec::new(alloc),
         }
+    }
+
+    /// A list of these elements. Takes no memory.
+    pub fn from_vec(items: Vec<T>) -> Listed<T>
+        ensures { result ≡ items.items }
+    {
+        Listed { items }
     }
 
     /// The elements.

@@ -1,9 +1,28 @@
--- How lists with dimensions are compared: element by element, and then by the dimensions.
-use Rattle.std.specs.Prelude.{◌≡◌, ℕ, ◌==◌, ◌&&◌, Bool, List}
+-- Lists with dimensions: which elements fit in which dimensions, and how such lists are compared, element
+-- by element, and then by the dimensions.
+use Rattle.std.specs.Prelude.{◌≡◌, ℕ, ◌*◌, ◌<◌, ◌^◌, List, [], ◌∷◌, length, Bool, true, nat_lt, ◌==◌, ◌&&◌}
+use Rattle.std.specs.List.{list_all}
 use Rattle.std.specs.declared.cmp.Ordering.{Ordering}
 use Rattle.std.specs.Cmp.{IsEquivalence, IsTotalOrder, on_equiv, and_equiv, on_total, then_total, both_tied}
 use Rattle.std.specs.Cmp.Lexicographic.{pointwise, slice_cmp, lists_equiv, lists_total, lists_ties, nat_list_cmp_total, nat_list_eq_equiv, texts_ties}
 use Rattle.std.specs.Ordering.{nat_cmp, ordering_then, eq_by_cmp}
+
+-- of no dimensions it is 1
+abbrev pub product : List ℕ → ℕ
+product [] = 1
+product (d ∷ ds) = d * product ds
+
+-- no dimension is negative, which as an unsigned number is 2 ^ 31 or more, and the product is the number of elements
+abbrev pub is_shape : List ℕ → ℕ → Bool
+is_shape dimensions count = list_all (λ d. nat_lt d (2 ^ 31)) dimensions && (product dimensions == count)
+
+-- the elements lie in the dimensions, and both are lists that can be written
+pub record IsShaped {A : Type 0} (elements : List A) (dimensions : List ℕ) : Type 0 where
+  pub few : length elements < 2 ^ 31
+  pub rank : length dimensions < 2 ^ 31
+  pub shape : is_shape dimensions (length elements) ≡ true
+
+-- ---- how they are compared
 
 abbrev pub same_matrix : {A : Type 0} → (A → A → Bool) → List A × List ℕ → List A × List ℕ → Bool
 same_matrix same x y = pointwise same x.0 y.0 && pointwise ◌==◌ x.1 y.1
