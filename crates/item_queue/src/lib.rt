@@ -1,4 +1,4 @@
-//! The queue of a monitored item (IEC 62541-4, 5.12: queue size, discardOldest and the Overflow bit), and
+//! The queue of a monitored item (IEC 62541-4, 5.12.1.5: queue size, discardOldest and the Overflow bit), and
 //! what becomes of the values in it.
 //!
 //! An [`ItemQueue`] holds values of any type. What each call does to it is one deed of

@@ -1,4 +1,4 @@
-//! Reading and writing the attributes of nodes (IEC 62541-4, "Attribute Service Set"), over the address
+//! Reading and writing the attributes of nodes (IEC 62541-4, 5.10), over the address
 //! space and without the services round them: no session, no request's header and no limit is known
 //! here.
 //!

@@ -1,4 +1,4 @@
-//! The state table of a subscription (modelled on the Subscription state table of IEC 62541-4, 5.13).
+//! The state table of a subscription (modelled on the Subscription state table of IEC 62541-4, 5.13.1.2).
 //!
 //! Whatever happens to a subscription, a Publish request, a tick of its timer, a call of its client,
 //! fires exactly one row of one written table. The row says what is done ([`actions_of`]) and where the

@@ -1,7 +1,6 @@
 //! Texts and byte strings.
 
-ghost use Rattle.std.specs.Prelude.{◌≡◌, ◌≢◌, ◌<◌, ◌^◌, ◌++◌, length, option_map, Ok, Err, IfOk, IfErr, IfSome, OnOk, OnErr};
-ghost use Rattle.std.specs.Option.{ForSome};
+ghost use Rattle.std.specs.Prelude.{◌≡◌, ◌≢◌, ◌<◌, ◌^◌, ◌++◌, length, Ok, Err, Some, None, IfOk, IfErr, IfSome, OnOk, OnErr};
 ghost use Rattle.ua_binary.specs.declared.fault.TakeFault.TheVariants.{Memory};
 ghost use Rattle.ua_binary.specs.Reading.{Extends, IsReadAgain};
 ghost use Rattle.ua_binary.specs.Texts.{text_reading, byte_string_reading, text_encoding, byte_string_encoding, ClaimsTooMany};
@@ -15,22 +14,28 @@ use ua_types::{ByteString, Text};
 /// The length that is written for null: -1 as an Int32.
 pub(crate) const NULL: u32 = 0xffff_ffff;
 
-// Writes bytes behind their length, or the length of null.
-#[tactic(auto, using(crate::proofs::Extending::extends_more, crate::proofs::Again::byte_string_again), unfolding(crate::specs::Texts::byte_string_encoding, crate::specs::Texts::byte_string_reading))]
-fn encode_sized(bytes: Option<&[u8]>, out: &mut Vec<u8>) -> Result<(), AllocError>
-    requires { ForSome bytes (λ b. length b.now < 2 ^ 31) }
-    ensures ok { OnOk result (out.new.items ≡ out.old.items ++ byte_string_encoding (option_map (λ b. b.now) bytes.entry)) }
+// Writes bytes behind their length.
+#[tactic(auto, using(crate::proofs::Extending::extends_more, crate::proofs::Again::byte_string_again), unfolding(crate::specs::Texts::byte_string_encoding))]
+fn encode_sized(bytes: &[u8], out: &mut Vec<u8>) -> Result<(), AllocError>
+    requires { length bytes.now < 2 ^ 31 }
+    ensures ok { OnOk result (out.new.items ≡ out.old.items ++ byte_string_encoding (Some bytes.now)) }
     ensures err { OnErr result (Extends out.old.items out.new.items) }
-    ensures again { OnOk result (IsReadAgain byte_string_reading byte_string_encoding (option_map (λ b. b.now) bytes.entry)) }
-    ensures some { OnOk result (0 < length (byte_string_encoding (option_map (λ b. b.now) bytes.entry))) }
+    ensures again { OnOk result (IsReadAgain byte_string_reading byte_string_encoding (Some bytes.now)) }
+    ensures some { OnOk result (0 < length (byte_string_encoding (Some bytes.now))) }
 {
-    match bytes {
-        None => NULL.encode(out),
-        Some(bytes) => {
-            (bytes.len() as u32).encode(out)?;
-            out.extend_from_slice(bytes)
-        }
-    }
+    (bytes.len() as u32).encode(out)?;
+    out.extend_from_slice(bytes)
+}
+
+// Writes the length of null.
+#[tactic(auto, unfolding(crate::specs::Texts::byte_string_encoding, crate::specs::Texts::byte_string_reading))]
+fn encode_null(out: &mut Vec<u8>) -> Result<(), AllocError>
+    ensures ok { OnOk result (out.new.items ≡ out.old.items ++ byte_string_encoding None) }
+    ensures err { OnErr result (Extends out.old.items out.new.items) }
+    ensures again { OnOk result (IsReadAgain byte_string_reading byte_string_encoding None) }
+    ensures some { OnOk result (0 < length (byte_string_encoding None)) }
+{
+    NULL.encode(out)
 }
 
 #[tactic(auto, using(crate::proofs::Again::text_again, crate::proofs::Again::overclaim_is_short), unfolding(crate::specs::Texts::text_reading))]
@@ -53,8 +58,8 @@ impl Wire for Text {
 
     fn encode(&self, out: &mut Vec<u8>) -> Result<(), AllocError> {
         match self.as_str() {
-            None => encode_sized(None, out),
-            Some(text) => encode_sized(Some(text.as_bytes()), out),
+            None => encode_null(out),
+            Some(text) => encode_sized(text.as_bytes(), out),
         }
     }
 }
@@ -78,6 +83,9 @@ impl Wire for ByteString {
     }
 
     fn encode(&self, out: &mut Vec<u8>) -> Result<(), AllocError> {
-        encode_sized(self.as_slice(), out)
+        match self.as_slice() {
+            None => encode_null(out),
+            Some(bytes) => encode_sized(bytes, out),
+        }
     }
 }

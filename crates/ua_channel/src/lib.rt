@@ -1,5 +1,5 @@
-//! The messages of an OPC UA secure channel, out of chunks and into chunks (IEC 62541-6, "OPC UA
-//! Secure Conversation"), with SecurityPolicy None.
+//! The messages of a secure channel, out of chunks (MessageChunk) and into chunks (IEC 62541-6, 6.7, OPC
+//! UA Secure Conversation), with SecurityPolicy None.
 //!
 //! A [`Channel`] is driven from both sides. What comes from the client goes in frame by frame:
 //! [`Channel::take`] judges the frame, joins the chunks of a message, and gives what the server is to

@@ -26,7 +26,7 @@ pub(crate) fn is_policy_none(uri: &Text) -> bool
 
 /// What of an OpenSecureChannelRequest the channel needs.
 #[derive(Clone, Copy)]
-pub(crate) struct OpeningRequest {
+pub struct OpeningRequest {
     /// The handle in the request's header.
     pub handle: u32,
     pub request_type: SecurityTokenRequestType,

@@ -1,4 +1,5 @@
-//! Who is connected: connections, their secure channels, and what goes out by them.
+//! Who is connected: connections (TransportConnection, IEC 62541-6, 7.1), their secure channels
+//! (SecureChannel, IEC 62541-4, 5.5), and what goes out by them.
 //!
 //! [`Connections::take`] makes requests of frames: it answers a Hello, opens and renews secure
 //! channels, joins chunks and refuses what has to be refused. [`Connections::deliver`] sends replies,

@@ -1,4 +1,5 @@
-//! What the parts of the server say to each other: requests one way, replies the other.
+//! What the parts of the server say to each other: requests one way, replies (responses and
+//! ServiceFaults) the other.
 //!
 //! `ua_connections` makes a [`Request`] of what comes by a secure channel, `ua_services` answers it
 //! with what was [`Served`], now or at a later event, and `ua_connections` sends each [`Reply`].

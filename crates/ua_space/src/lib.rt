@@ -1,5 +1,5 @@
-//! The address space (IEC 62541-3): nodes, the references between them, and the base set that every
-//! server has.
+//! The address space (IEC 62541-3, 4 and 5): nodes, the references between them, each a triple of source,
+//! ReferenceType and target, and the base set that every server has.
 //!
 //! A [`Space`] is built once, by [`Space::build`], from the nodes and references of a node file. The
 //! base set stands before them. From then on only values change ([`Space::set_value`]). There are

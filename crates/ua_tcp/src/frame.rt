@@ -65,7 +65,7 @@ pub struct Frame {
 
 // What a frame's first eight bytes say.
 #[derive(Clone, Copy)]
-pub(crate) struct Header {
+pub struct Header {
     pub message_type: MessageType,
     pub chunk_type: ChunkType,
     // Of the whole frame, these eight bytes too.
@@ -74,7 +74,7 @@ pub(crate) struct Header {
 
 // What the bytes from a frame's first on say of it.
 #[derive(Clone, Copy)]
-pub(crate) enum Judgement {
+pub enum Judgement {
     Incomplete,
     Faulty(FrameFault),
     Whole(Header),

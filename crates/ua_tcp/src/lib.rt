@@ -1,5 +1,5 @@
-//! Frames of an OPC UA byte stream, and the messages that open and end a connection (IEC 62541-6,
-//! "OPC UA Connection Protocol").
+//! Frames of an OPC UA byte stream, and the messages that open and end a connection (IEC 62541-6, 7.1,
+//! OPC UA Connection Protocol). A frame is one message of that protocol, or one chunk of a secure channel.
 //!
 //! A server over TCP receives bytes in pieces of any size. [`Framer`] is fed the pieces and gives the
 //! [`Frame`]s that are whole by then, and at the first header that is no good a [`FrameFault`]. Where

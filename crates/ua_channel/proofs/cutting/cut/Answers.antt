@@ -19,6 +19,6 @@ loop-rest-preserved c =
 pub returns-clause-cut : goal.returns-clause-cut
 returns-clause-cut c =
     let rest = c.loop-rest.rest.now in
-    rw (c.new.ensures, c.in_ok-push-2.ensures.items, c.in_ok-chunk-2.ensures)
+    rw (c.from_vec.ensures, c.in_ok-push-2.ensures.items, c.in_ok-chunk-2.ensures)
     (ap (cut_after c.loop-rest.chunks.items) (sym (cut_last c.loop-rest.header c.args.room rest c.requires.some c.loop-rest-test.false))
     ∙ c.loop-rest.invariant.cut)

@@ -9,7 +9,7 @@ held_is c = rw c.as_slice.ensures at c.in_ok-held.ensures
 pub returns-clause-fed : goal.returns-clause-fed
 returns-clause-fed c =
     let taken : c.split_frames.new.taken.items ≡ (frames c.args.limit c.args.bytes).frames = rw c.new-frames.ensures.items at c.in_ok-fault.ensures.taken in
-    rw c.new.ensures (feeding_taken c.args.limit (frames c.args.limit c.args.bytes) c.split_frames.new.taken.items c.split_frames.new.rest c.in_ok-fault.fault c.in_ok-held.held taken c.in_ok-fault.ensures.end (held_is c))
+    rw c.from_vec.ensures (feeding_taken c.args.limit (frames c.args.limit c.args.bytes) c.split_frames.new.taken.items c.split_frames.new.rest c.in_ok-fault.fault c.in_ok-held.held taken c.in_ok-fault.ensures.end (held_is c))
 
 pub returns-clause-bounded : goal.returns-clause-bounded
 returns-clause-bounded c = taken_short c.args.limit c.args.bytes c.split_frames.new.rest c.in_ok-fault.fault c.in_ok-held.held c.in_ok-fault.ensures.end (held_is c)
