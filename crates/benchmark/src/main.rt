@@ -2,10 +2,12 @@
 //!
 //! `benchmark encoding ROUNDS` writes and reads lists of 1,000 elements, each ROUNDS times, and tells the
 //! time of an element in the fastest round. `benchmark requests ROUNDS` hands requests to a whole server,
-//! each ROUNDS times, and tells how many are answered in a second. `benchmark all ROUNDS` does both. The
+//! each ROUNDS times, and tells how many are answered in a second. `benchmark browse ROUNDS` browses a node
+//! of 3 references, ROUNDS times, and one of 99,000 by pages of 1,000, once. `benchmark all ROUNDS` does all. The
 //! counts go to standard output, where the gate compares them; the times go to standard error.
 #![tactic(auto)]
 
+mod browse;
 mod encoding;
 mod requests;
 
@@ -17,6 +19,7 @@ use std::{env, io};
 enum Mode {
     Encoding,
     Requests,
+    Browse,
     All,
 }
 
@@ -25,6 +28,7 @@ impl Mode {
         match word {
             "encoding" => Some(Mode::Encoding),
             "requests" => Some(Mode::Requests),
+            "browse" => Some(Mode::Browse),
             "all" => Some(Mode::All),
             _ => None,
         }
@@ -46,9 +50,11 @@ fn run(rt: &HostRuntime, mode: Mode, rounds: u32) -> io::Result<()> {
     match mode {
         Mode::Encoding => encoding::run(rt, rounds),
         Mode::Requests => requests::run(rt, rounds),
+        Mode::Browse => browse::run(rt, rounds),
         Mode::All => {
             encoding::run(rt, rounds)?;
-            requests::run(rt, rounds)
+            requests::run(rt, rounds)?;
+            browse::run(rt, rounds)
         }
     }
 }

@@ -1,5 +1,5 @@
 -- The services answer no connections but those that asked them.
-use Rattle.std.proofs.Common.{◌≢◌, ℕ, Bool, true, false, cond, List, [], Option, Some, None, Result, Ok, Err}
+use Rattle.std.proofs.Common.{◌≢◌, ℕ, Bool, true, false, not, cond, List, [], Option, Some, None, Result, Ok, Err}
 use Rattle.ua_types.specs.declared.status.TheConstants.Status as status
 use Rattle.ua_binary.specs.declared.fault.TakeFault.{TakeFault}
 use Rattle.ua_messages.specs.Bodies.{message_id_of, message_of}
@@ -13,6 +13,10 @@ use Rattle.ua_services.specs.ServicesState.{Services}
 use Rattle.ua_services.specs.Serving.{Act, Serving, faulted, served_by}
 use Rattle.ua_services.specs.Services.{call_of, picked, serving_by, serving_of, ticking_of, forgotten}
 use Rattle.service_messages.specs.Sessions.{create_session_request_reading, activate_session_request_reading, close_session_request_reading}
+use Rattle.service_messages.specs.Browsing.{browse_request_reading, browse_next_request_reading}
+use Rattle.service_messages.specs.declared.browsing.BrowseDescription.{BrowseDescription}
+use Rattle.service_messages.specs.declared.browsing.BrowseNextRequest.{BrowseNextRequest}
+use Rattle.service_messages.specs.declared.browsing.BrowseRequest.{BrowseRequest}
 use Rattle.service_messages.specs.Reading.{read_request_reading}
 use Rattle.service_messages.specs.Writing.{write_request_reading}
 use Rattle.service_messages.specs.declared.reading.ReadRequest.{ReadRequest}
@@ -22,6 +26,9 @@ use Rattle.ua_messages.specs.declared.read_value_ids.ReadValueId.{ReadValueId}
 use Rattle.read_write.specs.Timestamps.{timestamps_of}
 use Rattle.read_write.specs.declared.timestamps.Timestamps.{Timestamps}
 use Rattle.ua_types.specs.declared.node_id.NodeId.{NodeId}
+use Rattle.ua_types.specs.NodeIds.{is_null_id}
+use Rattle.ua_services.specs.Browse.{browse_listed, browse_meaning}
+use Rattle.ua_services.specs.BrowseNext.{browse_next_listed, browse_next_meaning}
 use Rattle.ua_services.specs.InSession.{if_found, served_in_session}
 use Rattle.ua_services.specs.Operations.{operations_of}
 use Rattle.ua_services.specs.Read.{read_listed, read_timed, read_meaning}
@@ -72,16 +79,16 @@ module _ (Such : ℕ → Type 0) where
       let s = close_of state.sessions request.request_header.authentication_token call.conn in
       taken_only call state setting.clock [] (close_session_body setting call) p q s.answer s.state
 
-  if_found_only : (serve : Services → Serving) (setting : Setting) (call : Call) (state : Services) → Such call.conn → ((after : Services) → OwesOnly Such after → ServesOnly Such (serve after)) → (answer : Result ℕ Status) (sessions : SessionsState) →
+  if_found_only : (serve : ℕ → Services → Serving) (setting : Setting) (call : Call) (state : Services) → Such call.conn → ((number : ℕ) (after : Services) → OwesOnly Such after → ServesOnly Such (serve number after)) → (answer : Result ℕ Status) (sessions : SessionsState) →
       ServesOnly Such (if_found serve setting call state answer sessions)
-  if_found_only serve setting call state q f (Ok number) sessions = f (with_sessions state sessions) tt
+  if_found_only serve setting call state q f (Ok number) sessions = f number (with_sessions state sessions) tt
   if_found_only serve setting call state q f (Err code) sessions = record { state = tt; replies = (q, tt) }
 
-  by_session : {A : Type 0} (meaning : Setting → Call → A → Services → Serving) (setting : Setting) (call : Call) (token : NodeId) (state : Services) → OwesOnly Such state → Such call.conn →
-      ((request : A) (after : Services) → OwesOnly Such after → ServesOnly Such (meaning setting call request after)) → (r : Result A TakeFault) → ServesOnly Such (served_in_session meaning setting call token state r)
+  by_session : {A : Type 0} (meaning : Setting → Call → ℕ → A → Services → Serving) (setting : Setting) (call : Call) (token : NodeId) (state : Services) → OwesOnly Such state → Such call.conn →
+      ((number : ℕ) (request : A) (after : Services) → OwesOnly Such after → ServesOnly Such (meaning setting call number request after)) → (r : Result A TakeFault) → ServesOnly Such (served_in_session meaning setting call token state r)
   by_session meaning setting call token state p q f (Ok request) =
       let s = find_of state.sessions token call.conn in
-      if_found_only (meaning setting call request) setting call state q (f request) s.answer s.state
+      if_found_only (λ number. meaning setting call number request) setting call state q (λ number. f number request) s.answer s.state
   by_session meaning setting call token state p q f (Err fault) = record { state = p; replies = (q, tt) }
 
   read_listed_only : (setting : Setting) (call : Call) (state : Services) (timestamps : Timestamps) → OwesOnly Such state → Such call.conn → (r : Result (List ReadValueId) Status) → ServesOnly Such (read_listed setting call state timestamps r)
@@ -92,15 +99,33 @@ module _ (Such : ℕ → Type 0) where
   read_timed_only setting call state nodes p q None = record { state = p; replies = (q, tt) }
   read_timed_only setting call state nodes p q (Some timestamps) = read_listed_only setting call state timestamps p q (operations_of setting.config nodes)
 
-  read_only : (setting : Setting) (call : Call) → Such call.conn → (request : ReadRequest) (state : Services) → OwesOnly Such state → ServesOnly Such (read_meaning setting call request state)
-  read_only setting call q request state p = read_timed_only setting call state request.nodes_to_read p q (timestamps_of request.timestamps_to_return)
+  read_only : (setting : Setting) (call : Call) → Such call.conn → (session : ℕ) (request : ReadRequest) (state : Services) → OwesOnly Such state → ServesOnly Such (read_meaning setting call session request state)
+  read_only setting call q session request state p = read_timed_only setting call state request.nodes_to_read p q (timestamps_of request.timestamps_to_return)
 
   write_listed_only : (setting : Setting) (call : Call) (state : Services) → OwesOnly Such state → Such call.conn → (r : Result (List WriteValue) Status) → ServesOnly Such (write_listed setting call state r)
   write_listed_only setting call state p q (Ok values) = record { state = p; replies = (q, tt) }
   write_listed_only setting call state p q (Err code) = record { state = p; replies = (q, tt) }
 
-  write_only : (setting : Setting) (call : Call) → Such call.conn → (request : WriteRequest) (state : Services) → OwesOnly Such state → ServesOnly Such (write_meaning setting call request state)
-  write_only setting call q request state p = write_listed_only setting call state p q (operations_of setting.config request.nodes_to_write)
+  write_only : (setting : Setting) (call : Call) → Such call.conn → (session : ℕ) (request : WriteRequest) (state : Services) → OwesOnly Such state → ServesOnly Such (write_meaning setting call session request state)
+  write_only setting call q session request state p = write_listed_only setting call state p q (operations_of setting.config request.nodes_to_write)
+
+  browse_listed_only : (setting : Setting) (call : Call) (session requested : ℕ) (state : Services) → OwesOnly Such state → Such call.conn → (r : Result (List BrowseDescription) Status) → ServesOnly Such (browse_listed setting call session requested state r)
+  browse_listed_only setting call session requested state p q (Ok descriptions) = record { state = tt; replies = (q, tt) }
+  browse_listed_only setting call session requested state p q (Err code) = record { state = p; replies = (q, tt) }
+
+  browse_only : (setting : Setting) (call : Call) → Such call.conn → (session : ℕ) (request : BrowseRequest) (state : Services) → OwesOnly Such state → ServesOnly Such (browse_meaning setting call session request state)
+  browse_only setting call q session request state p =
+      either (not (is_null_id request.view_id)) _ _ (record { state = p; replies = (q, tt) })
+      (browse_listed_only setting call session request.requested_max_references_per_node state p q (operations_of setting.config request.nodes_to_browse))
+
+  browse_next_listed_only : (setting : Setting) (call : Call) (session : ℕ) (is_release : Bool) (state : Services) → OwesOnly Such state → Such call.conn → (r : Result (List (Option (List ℕ))) Status) →
+      ServesOnly Such (browse_next_listed setting call session is_release state r)
+  browse_next_listed_only setting call session is_release state p q (Ok points) = record { state = tt; replies = (q, tt) }
+  browse_next_listed_only setting call session is_release state p q (Err code) = record { state = p; replies = (q, tt) }
+
+  browse_next_only : (setting : Setting) (call : Call) → Such call.conn → (session : ℕ) (request : BrowseNextRequest) (state : Services) → OwesOnly Such state → ServesOnly Such (browse_next_meaning setting call session request state)
+  browse_next_only setting call q session request state p =
+      browse_next_listed_only setting call session request.release_continuation_points state p q (operations_of setting.config request.continuation_points)
 
   picked_only : (setting : Setting) (call : Call) (token : NodeId) (body : List ℕ) (state : Services) (id : ℕ) → OwesOnly Such state → Such call.conn → ServesOnly Such (picked setting call token body state id)
   picked_only setting call token body state id p q =
@@ -110,7 +135,9 @@ module _ (Such : ℕ → Type 0) where
       (either _ _ _ (by_fields activate_session_meaning setting call state p q (activate_session_only setting call state p q) (message_of activate_session_request_reading body))
       (either _ _ _ (by_fields close_session_meaning setting call state p q (close_session_only setting call state p q) (message_of close_session_request_reading body))
       (either _ _ _ (by_session read_meaning setting call token state p q (read_only setting call q) (message_of read_request_reading body))
-      (either _ _ _ (by_session write_meaning setting call token state p q (write_only setting call q) (message_of write_request_reading body)) none)))))
+      (either _ _ _ (by_session write_meaning setting call token state p q (write_only setting call q) (message_of write_request_reading body))
+      (either _ _ _ (by_session browse_meaning setting call token state p q (browse_only setting call q) (message_of browse_request_reading body))
+      (either _ _ _ (by_session browse_next_meaning setting call token state p q (browse_next_only setting call q) (message_of browse_next_request_reading body)) none)))))))
 
   by_header : (setting : Setting) (request : Request) (state : Services) (id : Result ℕ TakeFault) (header : Result RequestHeader TakeFault) → OwesOnly Such state → Such request.conn →
       ServesOnly Such (serving_by setting request state id header)

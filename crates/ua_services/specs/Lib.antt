@@ -10,5 +10,8 @@ pub mod ActivateSession
 pub mod CloseSession
 pub mod Read
 pub mod Write
+pub mod Paging
+pub mod Browse
+pub mod BrowseNext
 pub mod Services
 pub mod Owing

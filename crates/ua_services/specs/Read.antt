@@ -33,5 +33,5 @@ read_timed setting call state nodes None = faulted state call status.BAD_TIMESTA
 read_timed setting call state nodes (Some timestamps) = read_listed setting call state timestamps (operations_of setting.config nodes)
 
 -- the times that are wanted are judged first, then the list, then each attribute
-abbrev pub read_meaning : Setting → Call → ReadRequest → Services → Serving
-read_meaning setting call request state = read_timed setting call state request.nodes_to_read (timestamps_of request.timestamps_to_return)
+abbrev pub read_meaning : Setting → Call → ℕ → ReadRequest → Services → Serving
+read_meaning setting call session request state = read_timed setting call state request.nodes_to_read (timestamps_of request.timestamps_to_return)

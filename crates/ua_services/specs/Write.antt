@@ -31,5 +31,5 @@ write_listed setting call state (Ok values) =
 write_listed setting call state (Err code) = faulted state call code setting.clock
 
 -- the list is judged first, and then each value is judged and stored
-abbrev pub write_meaning : Setting → Call → WriteRequest → Services → Serving
-write_meaning setting call request state = write_listed setting call state (operations_of setting.config request.nodes_to_write)
+abbrev pub write_meaning : Setting → Call → ℕ → WriteRequest → Services → Serving
+write_meaning setting call session request state = write_listed setting call state (operations_of setting.config request.nodes_to_write)

@@ -11,12 +11,15 @@
 #![tactic(auto)]
 
 mod activate_session;
+mod browse;
+mod browse_next;
 mod call;
 mod close_session;
 mod create_session;
 mod endpoint_list;
 mod get_endpoints;
 mod operations;
+mod paging;
 mod read;
 mod service;
 mod services;

@@ -30,6 +30,7 @@ impl SessionService for Read {
         alloc: Global,
         setting: &Setting,
         call: &Call,
+        _session: u32,
         request: ReadRequest,
         services: &mut Services,
     ) -> Result<Served, Halt> {

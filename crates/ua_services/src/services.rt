@@ -6,6 +6,8 @@ ghost use Rattle.ua_services.specs.ServicesState.{no_services_used};
 ghost use Rattle.ua_services.specs.Services.{serving_of, ticking_of, is_idle, forgotten};
 
 use crate::activate_session::ActivateSession;
+use crate::browse::Browse;
+use crate::browse_next::BrowseNext;
 use crate::call::Call;
 use crate::close_session::CloseSession;
 use crate::create_session::CreateSession;
@@ -51,8 +53,8 @@ impl Services {
 
     /// Does what a request asks for. The replies may be for it and for others that waited.
     ///
-    /// `Memory` comes only where a growth was refused, `Exhausted` only where the serials of nonces are
-    /// used up.
+    /// `Memory` comes only where a growth was refused, `Exhausted` only where the serials of nonces or of a
+    /// session's continuation points are used up.
     #[tactic(auto, unfolding(crate::specs::Services::serving_of))]
     pub fn serve(
         &mut self,
@@ -96,6 +98,10 @@ impl Services {
             }
             type_ids::READ_REQUEST => Read::take(alloc, setting, &call, token, body, self),
             type_ids::WRITE_REQUEST => Write::take(alloc, setting, &call, token, body, self),
+            type_ids::BROWSE_REQUEST => Browse::take(alloc, setting, &call, token, body, self),
+            type_ids::BROWSE_NEXT_REQUEST => {
+                BrowseNext::take(alloc, setting, &call, token, body, self)
+            }
             _ => Ok(refuse(alloc, &call, Status::BAD_SERVICE_UNSUPPORTED, setting.clock)?),
         }
     }

@@ -1,5 +1,6 @@
 //! What every service of a session is.
 
+ghost use Rattle.std.specs.Prelude.{ℕ};
 ghost use Rattle.ua_messages.specs.Bodies.{message_of};
 ghost use Rattle.ua_requests.specs.declared.setting.Setting.{Setting};
 ghost use Rattle.ua_services.specs.InSession.{served_in_session};
@@ -26,17 +27,20 @@ pub trait SessionService {
     type Request: Wire;
 
     /// What a request comes to.
-    ghost meaning: { Setting → Call → Self.Request → Services → Serving };
+    ghost meaning: { Setting → Call → ℕ → Self.Request → Services → Serving };
 
-    /// Does what a request asks for.
+    /// Does what a request asks for. `session` is the number of the session that was found: a service that needs
+    /// its continuation points takes them out, uses them and puts them back
+    /// ([`ua_session::Sessions::take_points`]).
     fn serve(
         alloc: Global,
         setting: &Setting,
         call: &Call,
+        session: u32,
         request: Self::Request,
         services: &mut Services,
     ) -> Result<Served, Halt>
-        ensures { Serves result services.new (meaning setting.now call.now request services.old) };
+        ensures { Serves result services.new (meaning setting.now call.now session request services.old) };
 
     /// Reads a request's fields, finds the session that the token in its header names, and serves it.
     ///
@@ -62,7 +66,7 @@ pub trait SessionService {
             }
         };
         match services.sessions.find(token, call.conn) {
-            Ok(_) => Self::serve(alloc, setting, call, request, services),
+            Ok(session) => Self::serve(alloc, setting, call, session, request, services),
             Err(status) => Ok(refuse(alloc, call, status, setting.clock)?),
         }
     }

@@ -30,6 +30,7 @@ impl SessionService for Write {
         alloc: Global,
         setting: &Setting,
         call: &Call,
+        _session: u32,
         request: WriteRequest,
         services: &mut Services,
     ) -> Result<Served, Halt> {

@@ -8,6 +8,7 @@ use Rattle.std.specs.FinMap.{FinMap, get, insert, remove, entries, empty, get-em
 use Rattle.std.proofs.lemmas.Bool.{false≢true, leb-false, leb-true}
 use Rattle.ua_types.proofs.NumberMaps.{told_apart}
 use Rattle.ua_types.specs.declared.moment.Moment.{Moment}
+use Rattle.ua_session.specs.Points.{PointsState}
 use Rattle.ua_session.specs.SessionTables.{due_in, IsNoneDueBefore}
 use Rattle.ua_session.specs.Sessions.{SessionsState, AreHeld, without, at_clock, ended_at}
 use Rattle.ua_session.specs.declared.session.Session.{Session}
@@ -53,7 +54,7 @@ pub held_anew : (old new : Moment) (made : ℕ) (m less : FinMap nat_cmp Session
 held_anew old new made m less numbers is due h =
     record { due = due; fresh = subst (λ (k : FinMap nat_cmp Session). (q : ℕ) → made < q → get k q ≡ None) (sym is) (held_without_all old made m numbers h).fresh }
 
-nobody : (m : FinMap nat_cmp Session) (numbers : List ℕ) → numbers ≡ [] → without m numbers ≡ m
+nobody : {V : Type 0} (m : FinMap nat_cmp V) (numbers : List ℕ) → numbers ≡ [] → without m numbers ≡ m
 nobody m numbers e = ap (without m) e
 
 is_less : (a b : ℤ) → int_lt a b ≡ true → a <ℤ b
@@ -66,4 +67,6 @@ none_ended earliest made m clock before h = none_due earliest m clock (is_less c
 -- and brings the clock alone
 pub clock_alone : (s : SessionsState) (earliest clock : Moment) → int_lt clock.0 earliest.0 ≡ true → AreHeld earliest s.made s.sessions → record s { clock = clock } ≡ at_clock s clock
 clock_alone s earliest clock before h =
-    ap (λ (m : FinMap nat_cmp Session). record s { clock = clock; sessions = m }) (sym (nobody s.sessions (ended_at s clock) (none_ended earliest s.made s.sessions clock before h)))
+    let none = none_ended earliest s.made s.sessions clock before h in
+    ap (λ (m : FinMap nat_cmp Session). record s { clock = clock; sessions = m }) (sym (nobody s.sessions (ended_at s clock) none))
+    ∙ ap (λ (m : FinMap nat_cmp PointsState). record s { clock = clock; sessions = without s.sessions (ended_at s clock); points = m }) (sym (nobody s.points (ended_at s clock) none))

@@ -3,6 +3,8 @@ use Rattle.std.specs.Prelude.{ℕ, ℤ, Bool, List, refl}
 use Rattle.std.specs.Coded.{Coded, code_by, coded×, coded_ℕ, coded_ℤ, coded_bool, coded_list}
 use Rattle.std.specs.FinMap.{FinMap, code}
 use Rattle.std.specs.Ordering.{nat_cmp}
+use Rattle.ua_session.specs.PointCodes.{points_code}
+use Rattle.ua_session.specs.Points.{PointsState}
 use Rattle.ua_session.specs.Sessions.{SessionsState}
 use Rattle.ua_session.specs.declared.session.Session.{Session}
 
@@ -18,8 +20,17 @@ session_code =
 abbrev pub sessions_code : Coded SessionsState
 sessions_code =
     code_by
-    (ℕ × (ℕ × (ℤ × (FinMap nat_cmp Session × (ℕ × ℕ)))))
-    (coded× coded_ℕ (coded× coded_ℕ (coded× coded_ℤ (coded× (code coded_ℕ session_code) (coded× coded_ℕ coded_ℕ)))))
-    (λ s. (s.most, (s.time, (s.clock.0, (s.sessions, (s.made, s.nonces))))))
-    (λ p. record { most = p.0; time = p.1.0; clock = record { 0 = p.1.1.0 }; sessions = p.1.1.1.0; made = p.1.1.1.1.0; nonces = p.1.1.1.1.1 })
+    (ℕ × (ℕ × (ℤ × (FinMap nat_cmp Session × (ℕ × (ℕ × (ℕ × FinMap nat_cmp PointsState)))))))
+    (coded× coded_ℕ (coded× coded_ℕ (coded× coded_ℤ (coded× (code coded_ℕ session_code) (coded× coded_ℕ (coded× coded_ℕ (coded× coded_ℕ (code coded_ℕ points_code))))))))
+    (λ s. (s.most, (s.time, (s.clock.0, (s.sessions, (s.made, (s.nonces, (s.most_points, s.points))))))))
+    (λ p. record {
+      most = p.0;
+      time = p.1.0;
+      clock = record { 0 = p.1.1.0 };
+      sessions = p.1.1.1.0;
+      made = p.1.1.1.1.0;
+      nonces = p.1.1.1.1.1.0;
+      most_points = p.1.1.1.1.1.1.0;
+      points = p.1.1.1.1.1.1.1;
+    })
     (λ _. refl)

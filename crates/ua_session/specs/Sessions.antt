@@ -1,5 +1,5 @@
 -- The sessions of a server: making them, judging who may use them, and their end.
-use Rattle.std.specs.Prelude.{◌≡◌, ◌+ℤ◌, ℕ, ◌+◌, ◌==◌, ◌-◌, ◌<◌, ◌^◌, pos, Bool, true, false, not, ◌&&◌, ◌||◌, nat_le, List, [], ◌∷◌, take, Option, Some, None, Result, Ok, Err, IsOk, if◌then◌else◌}
+use Rattle.std.specs.Prelude.{◌≡◌, ◌+ℤ◌, ℕ, ◌+◌, ◌==◌, ◌-◌, ◌<◌, ◌^◌, pos, Bool, true, false, not, ◌&&◌, ◌||◌, nat_le, List, [], ◌∷◌, take, Option, Some, None, unwrap_or, Result, Ok, Err, IsOk, if◌then◌else◌}
 use Rattle.std.specs.FinMap.{FinMap, entries, get, insert, remove, empty, len}
 use Rattle.std.specs.Int.{w64, saturate_signed}
 use Rattle.std.specs.Ordering.{nat_cmp}
@@ -14,13 +14,15 @@ use Rattle.ua_types.specs.declared.refusal.Refusal.TheVariants.{Service, Memory,
 use Rattle.ua_types.specs.declared.status.Status.{Status}
 use Rattle.ua_types.specs.declared.status.TheConstants.Status as status
 use Rattle.ua_session.specs.Nonces.{nonce_of}
+use Rattle.ua_session.specs.Points.{PointsState, no_points}
 use Rattle.ua_session.specs.SessionTables.{due_in, IsNoneDueBefore}
 use Rattle.ua_session.specs.Tokens.{parts_of, token_of}
 use Rattle.ua_session.specs.declared.session.Session.{Session}
 use Rattle.ua_session.specs.declared.sessions.Created.{Created}
 
 -- the most sessions that are held at once, how long one lasts without a request, the clock, the sessions by their numbers,
--- the number of the last one, and how many nonces were given
+-- the number of the last one, how many nonces were given, the most continuation points of a session, and the points of
+-- those sessions that have had some
 pub record SessionsState : Type 0 where
   pub most : ℕ
   pub time : ℕ
@@ -28,16 +30,27 @@ pub record SessionsState : Type 0 where
   pub sessions : FinMap nat_cmp Session
   pub made : ℕ
   pub nonces : ℕ
+  pub most_points : ℕ
+  pub points : FinMap nat_cmp PointsState
 
 abbrev pub no_sessions : Configuration → SessionsState
-no_sessions config = record { most = config.sessions; time = config.session_time; clock = config.start; sessions = empty; made = 0; nonces = 0 }
+no_sessions config = record {
+  most = config.sessions;
+  time = config.session_time;
+  clock = config.start;
+  sessions = empty;
+  made = 0;
+  nonces = 0;
+  most_points = config.points;
+  points = empty;
+}
 
 abbrev pub with_session : SessionsState → ℕ → Session → SessionsState
 with_session s number session = record s { sessions = insert s.sessions number session }
 
--- one more session, under the next number
+-- one more session, under the next number, without points
 abbrev pub with_new_session : SessionsState → Session → SessionsState
-with_new_session s session = record s { sessions = insert s.sessions (s.made + 1) session; made = s.made + 1 }
+with_new_session s session = record s { sessions = insert s.sessions (s.made + 1) session; made = s.made + 1; points = remove s.points (s.made + 1) }
 
 -- the moment at which a session ends that is used now
 abbrev pub deadline_of : SessionsState → Moment
@@ -146,7 +159,7 @@ abbrev pub closed : SessionsState → ℕ → Option Named → Step ℕ Status S
 closed s conn None = refused s status.BAD_SESSION_ID_INVALID
 closed s conn (Some n) =
     if not (n.session.conn == conn) then refused s status.BAD_SECURE_CHANNEL_ID_INVALID
-    else step (Ok n.number) (record s { sessions = remove s.sessions n.number })
+    else step (Ok n.number) (record s { sessions = remove s.sessions n.number; points = remove s.points n.number })
 
 unfoldable pub close_of : SessionsState → NodeId → ℕ → Step ℕ Status SessionsState
 close_of s token conn = closed s conn (named s token)
@@ -157,12 +170,12 @@ close_of s token conn = closed s conn (named s token)
 abbrev pub ended_at : SessionsState → Moment → List ℕ
 ended_at s clock = due_in clock (entries s.sessions)
 
-abbrev pub without : FinMap nat_cmp Session → List ℕ → FinMap nat_cmp Session
-without sessions [] = sessions
-without sessions (number ∷ numbers) = without (remove sessions number) numbers
+abbrev pub without : {V : Type 0} → FinMap nat_cmp V → List ℕ → FinMap nat_cmp V
+without m [] = m
+without m (number ∷ numbers) = without (remove m number) numbers
 
 abbrev pub at_clock : SessionsState → Moment → SessionsState
-at_clock s clock = record s { clock = clock; sessions = without s.sessions (ended_at s clock) }
+at_clock s clock = record s { clock = clock; sessions = without s.sessions (ended_at s clock); points = without s.points (ended_at s clock) }
 
 -- what is left once a tick has brought this moment
 abbrev pub ticked : SessionsState → Moment → SessionsState
@@ -171,3 +184,15 @@ ticked s now = at_clock s (later s.clock now)
 -- the sessions that it ends
 abbrev pub ended_by : SessionsState → Moment → List ℕ
 ended_by s now = ended_at s (later s.clock now)
+
+-- ---- continuation points
+
+-- the points of a session
+abbrev pub points_of : SessionsState → ℕ → PointsState
+points_of s number = unwrap_or (get s.points number) (no_points s.most_points)
+
+abbrev pub with_points : SessionsState → ℕ → PointsState → SessionsState
+with_points s number points = record s { points = insert s.points number points }
+
+abbrev pub without_points : SessionsState → ℕ → SessionsState
+without_points s number = record s { points = remove s.points number }

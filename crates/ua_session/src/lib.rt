@@ -17,13 +17,16 @@
 #![tactic(auto)]
 
 mod nonces;
+mod points;
 mod session;
+mod session_points;
 mod session_table;
 mod sessions;
 #[cfg(test)]
 mod tests;
 mod tokens;
 
+pub use points::{BrowsePoint, HistoryPoint, Point, Points, point_bytes, point_serial};
 pub use session::Session;
 pub use sessions::{Created, Sessions};
 pub use tokens::session_id;

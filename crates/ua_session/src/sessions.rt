@@ -3,10 +3,12 @@
 ghost use Rattle.std.specs.Prelude.{◌≡◌, ◌≤ℤ◌, ◌+◌, ◌-◌, ◌^◌, ◌<◌, int_lt, true, false, [], option_map, is_some, IsOk, IfOk, OnOk, OnErr};
 ghost use Rattle.std.specs.FinMap as map;
 ghost use Rattle.ua_types.specs.Answers.{step};
-ghost use Rattle.ua_session.specs.Sessions.{TakesNonce, no_sessions, named as named_lem, with_session, with_new_session, with_nonce, next_nonce as next_nonce_lem, deadline_of, is_spent, create_of, find_of, activate_of, close_of, without, ticked, ended_by};
+ghost use Rattle.ua_session.specs.Sessions.{TakesNonce, no_sessions, named as named_lem, with_session, with_new_session, with_nonce, next_nonce as next_nonce_lem, deadline_of, is_spent, create_of, find_of, activate_of, close_of, without, ticked, ended_by, points_of, with_points, without_points};
 
 use crate::nonces::nonce;
+use crate::points::Points;
 use crate::session::Session;
+use crate::session_points::SessionPoints;
 use crate::session_table::SessionTable;
 use crate::tokens::{session_token, token_parts};
 use std::alloc::{AllocError, Global};
@@ -26,7 +28,7 @@ pub struct Created {
     pub nonce: [u8; 32],
 }
 
-/// The sessions of a server.
+/// The sessions of a server, and the continuation points of each.
 ///
 /// A session belongs to a client and outlives its connection: it may be used on the connection that it
 /// was made or last activated on, and ends where the clock reaches its deadline, which each request that
@@ -47,6 +49,10 @@ pub struct Sessions {
     made: u32,
     // How many nonces were given. The next one's serial is one more.
     nonces: u64,
+    // How many continuation points a session holds at once at most.
+    most_points: u32,
+    // The points of those sessions that have had some.
+    points: SessionPoints,
 }
 
 impl Model for Sessions {
@@ -57,7 +63,7 @@ impl Model for Sessions {
 
     ghost coded = { sessions_code };
 
-    ghost view = { λ s. record { most = s.most; time = s.time; clock = s.clock; sessions = s.table; made = s.made; nonces = s.nonces } };
+    ghost view = { λ s. record { most = s.most; time = s.time; clock = s.clock; sessions = s.table; made = s.made; nonces = s.nonces; most_points = s.most_points; points = s.points } };
 
     ghost invariant = { λ s. AreHeld s.earliest s.made s.table };
 }
@@ -98,6 +104,8 @@ impl Sessions {
             earliest: Moment(i64::MAX),
             made: 0,
             nonces: 0,
+            most_points: config.points,
+            points: SessionPoints::new(alloc),
         }
     }
 
@@ -149,6 +157,7 @@ impl Sessions {
         let number = self.made + 1;
         self.table.insert(number, session)?;
         self.earliest = earlier(self.earliest, session.deadline);
+        self.points.remove(number);
         self.made = number;
         Ok(number)
     }
@@ -273,6 +282,7 @@ impl Sessions {
             return Err(Status::BAD_SECURE_CHANNEL_ID_INVALID);
         }
         self.table.remove(number);
+        self.points.remove(number);
         Ok(number)
     }
 
@@ -294,8 +304,28 @@ impl Sessions {
         }
         let ended = self.table.due(alloc, clock)?;
         remove_all(&mut self.table, &ended);
+        self.points.remove_all(&ended);
         self.earliest = self.table.earliest();
         self.clock = clock;
         Ok(ended)
+    }
+
+    /// Takes the continuation points of a session out, to be used and put back ([`Sessions::put_points`]).
+    /// Takes no memory.
+    pub fn take_points(&mut self, alloc: Global, number: u32) -> Points
+        ensures points { result ≡ points_of self.old number }
+        ensures rest { self.new ≡ without_points self.old number }
+    {
+        match self.points.take(number) {
+            Some(points) => points,
+            None => Points::new(alloc, self.most_points),
+        }
+    }
+
+    /// Gives a session these continuation points.
+    pub fn put_points(&mut self, number: u32, points: Points) -> Result<(), AllocError>
+        ensures { OnOk result (self.new ≡ with_points self.old number points) }
+    {
+        self.points.insert(number, points)
     }
 }

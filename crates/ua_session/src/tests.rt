@@ -1,6 +1,7 @@
 //! The life of a session, its times, and its nonces.
 
 use crate::nonces::nonce;
+use crate::points::{HistoryPoint, Point, Points, point_bytes, point_serial};
 use crate::sessions::Sessions;
 use std::alloc::Global;
 use std::process::Abort;
@@ -161,4 +162,57 @@ fn sessions_end_in_time(rt: HostRuntime) -> Result<(), Fail> {
 fn nonces_are_digests(rt: HostRuntime) {
     assert_eq!(rt; nonce(&KEY, 1), FIRST_NONCE);
     assert_eq!(rt; nonce(&OTHER_KEY, 3), THIRD_NONCE);
+}
+
+/// A point of the history of the node `ns=1;i=11`.
+fn point(last: i64) -> Point {
+    Point::History(HistoryPoint {
+        node_id: NodeId::numeric(1, 11),
+        start: Moment(100),
+        end: Moment(0),
+        count: 2,
+        last: Moment(last),
+    })
+}
+
+/// The last time of the point with this serial.
+fn last_of(points: &Points, serial: u64) -> Option<i64> {
+    match points.get(serial) {
+        Some(Point::History(point)) => Some(point.last.0),
+        _ => None,
+    }
+}
+
+#[test]
+fn points_by_serials(rt: HostRuntime) -> Result<(), Fail> {
+    let alloc = rt.alloc();
+    let mut config = Config::standard(alloc)?;
+    config.points = 2;
+    let mut sessions = Sessions::new(alloc, &config);
+    let number = sessions.create(alloc, 1, &KEY)?.number;
+    let mut points = sessions.take_points(alloc, number);
+    assert_eq!(rt; points.hold(point(100))?, 1);
+    assert_eq!(rt; points.hold(point(200))?, 2);
+    assert_eq!(rt;
+        points.hold(point(300)),
+        Err(Refusal::Service(Status::BAD_NO_CONTINUATION_POINTS))
+    );
+    assert_eq!(rt; points.replace(1, point(400))?, 3);
+    assert_eq!(rt; last_of(&points, 1), None);
+    assert_eq!(rt; last_of(&points, 2), Some(200));
+    assert_eq!(rt; last_of(&points, 3), Some(400));
+    assert!(rt; points.give_up(2).is_some());
+    assert!(rt; points.give_up(2).is_none());
+    sessions.put_points(number, points)?;
+    assert_eq!(rt; last_of(&sessions.take_points(alloc, number), 3), Some(400));
+    assert_eq!(rt; last_of(&sessions.take_points(alloc, number), 3), None);
+    let bytes = point_bytes(alloc, Some(0x0201))?;
+    assert_eq!(rt; bytes.as_slice(), Some(&[1, 2, 0, 0, 0, 0, 0, 0][..]));
+    assert_eq!(rt; point_serial(&bytes), Some(0x0201));
+    assert_eq!(rt;
+        point_serial(&ByteString::from_slice(alloc, &[1; 7])?),
+        None
+    );
+    assert!(rt; point_bytes(alloc, None)?.is_null());
+    Ok(())
 }

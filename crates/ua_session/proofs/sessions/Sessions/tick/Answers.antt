@@ -14,7 +14,7 @@ returns-then-is_before-clause-ended c =
 pub returns-then-is_before-clause-ok : goal.returns-then-is_before-clause-ok
 returns-then-is_before-clause-ok c =
     let before = sym c.is_before.ensures ∙ c.if-is_before.true in
-    let old : SessionsState = record { most = c.self.inside.most; time = c.self.inside.time; clock = c.self.inside.clock; sessions = c.self.inside.table; made = c.self.inside.made; nonces = c.self.inside.nonces } in
+    let old : SessionsState = record { most = c.self.inside.most; time = c.self.inside.time; clock = c.self.inside.clock; sessions = c.self.inside.table; made = c.self.inside.made; nonces = c.self.inside.nonces; most_points = c.self.inside.most_points; points = c.self.inside.points } in
     clock_alone old c.self.inside.earliest c.later-clock.result before c.self.invariant
     ∙ ap (at_clock old) c.later-clock.ensures ∙ ap (λ s. ticked s c.args.now) c.self.view_is
 

@@ -1,0 +1,4 @@
+pub mod Wanted
+pub mod Describing
+pub mod Browsing
+pub mod BrowsingLaws

@@ -1,0 +1,169 @@
+//! The services Browse and BrowseNext.
+
+ghost use Rattle.std.specs.Prelude.{◌≡◌, ◌<◌, ◌^◌, length, Some, IfOk};
+ghost use Rattle.std.specs.Result.{result_map_both};
+ghost use Rattle.ua_types.specs.Answers.{step};
+ghost use Rattle.ua_session.specs.Points.{TakesSerial};
+ghost use Rattle.ua_browse.specs.Browsing.{page_size as page_size_lem, page_of, cut_of, part, browse_of, browse_next_of, release_of};
+
+use crate::pages::{Cut, page_from};
+use crate::wanted::{judged, types_of};
+use service_messages::{BrowseDescription, ReferenceDescription};
+use std::alloc::{AllocError, Global};
+use ua_session::{BrowsePoint, Point, Points};
+use ua_space::Space;
+use ua_types::{Array, Copyable, Refusal, Status};
+
+/// References of a node, and the serial of the point by which BrowseNext gives more of them.
+#[derive(Debug, Drop)]
+pub struct Page {
+    pub references: Array<ReferenceDescription>,
+    /// None where no more are left.
+    pub point: Option<u64>,
+}
+
+/// How many references a page has at most: so many as are asked for, where 0 asks for all, and never more than
+/// `most`.
+pub fn page_size(most: u32, requested: u32) -> u32
+    ensures { result ≡ page_size_lem most requested }
+{
+    if requested == 0 || requested > most {
+        most
+    } else {
+        requested
+    }
+}
+
+fn page_cut(
+    alloc: Global,
+    space: &Space,
+    description: &BrowseDescription,
+    size: u32,
+    start: usize,
+) -> Result<Cut, AllocError>
+    ensures part { IfOk result (λ cut. cut_of cut ≡ part space.now description.now size start) }
+    ensures few { IfOk result (λ cut. length cut.references.items < 2 ^ 31) }
+{
+    let types = types_of(alloc, space, description)?;
+    page_from(alloc, space, &types, description, size, start)
+}
+
+// The page that goes on at a point, where one could be held.
+fn paged(
+    references: Vec<ReferenceDescription>,
+    point: Result<u64, Refusal>,
+) -> Result<Page, Refusal>
+    requires { length references.items < 2 ^ 31 }
+    ensures { result ≡ result_map_both (λ serial. page_of references.items (Some serial)) (λ refusal. refusal) point }
+{
+    match point {
+        Ok(serial) => Ok(Page {
+            references: Array::new(references),
+            point: Some(serial),
+        }),
+        Err(refusal) => Err(refusal),
+    }
+}
+
+/// The references of a node that a description asks for, or as many of them as a page has (IEC 62541-4,
+/// "Browse").
+///
+/// It refuses in this order: no node has the id, `BAD_NODE_ID_UNKNOWN`; the reference type is neither null
+/// nor a ReferenceType node, `BAD_REFERENCE_TYPE_ID_INVALID`; the direction is none of the three,
+/// `BAD_BROWSE_DIRECTION_INVALID`; there are more references than the page has, and no room for another
+/// point, `BAD_NO_CONTINUATION_POINTS`. `Exhausted` where no serial is left for the point. At an `Err` the
+/// points are as they were.
+#[tactic(auto, unfolding(crate::specs::Browsing::browse_of), using(crate::proofs::Paging::takes_page))]
+pub fn browse(
+    alloc: Global,
+    space: &Space,
+    points: &mut Points,
+    size: u32,
+    description: BrowseDescription,
+) -> Result<Page, Refusal>
+    ensures { TakesSerial result points.old points.new (browse_of space.now points.old size description) }
+{
+    if let Err(status) = judged(space, &description) {
+        return Err(Refusal::Service(status));
+    }
+    let cut = page_cut(alloc, space, &description, size, 0)?;
+    match cut.next {
+        None => Ok(Page {
+            references: Array::new(cut.references),
+            point: None,
+        }),
+        Some(next) => paged(
+            cut.references,
+            points.hold(Point::Browse(BrowsePoint {
+                description,
+                size,
+                next,
+            })),
+        ),
+    }
+}
+
+fn copied(alloc: Global, description: &BrowseDescription) -> Result<BrowseDescription, AllocError>
+    ensures { IfOk result (λ copy. copy ≡ description.now) }
+{
+    Ok(BrowseDescription {
+        node_id: description.node_id.copy(alloc)?,
+        browse_direction: description.browse_direction,
+        reference_type_id: description.reference_type_id.copy(alloc)?,
+        include_subtypes: description.include_subtypes,
+        node_class_mask: description.node_class_mask,
+        result_mask: description.result_mask,
+    })
+}
+
+/// The next page of the references that a point stands for, which is used up (IEC 62541-4, "BrowseNext").
+/// Where more are left, another point stands for them.
+///
+/// `BAD_CONTINUATION_POINT_INVALID` where no point of Browse has the serial. `Exhausted` where no serial is left
+/// for the new point. At an `Err` the points are as they were.
+#[tactic(auto, unfolding(crate::specs::Browsing::browse_next_of), using(crate::proofs::Paging::takes_page))]
+pub fn browse_next(
+    alloc: Global,
+    space: &Space,
+    points: &mut Points,
+    serial: u64,
+) -> Result<Page, Refusal>
+    ensures { TakesSerial result points.old points.new (browse_next_of space.now points.old serial) }
+{
+    let Some(Point::Browse(point)) = points.get(serial) else {
+        return Err(Refusal::Service(Status::BAD_CONTINUATION_POINT_INVALID));
+    };
+    let size = point.size;
+    let cut = page_cut(alloc, space, &point.description, size, point.next)?;
+    match cut.next {
+        None => {
+            points.give_up(serial);
+            Ok(Page {
+                references: Array::new(cut.references),
+                point: None,
+            })
+        }
+        Some(next) => {
+            let description = copied(alloc, &point.description)?;
+            let further = Point::Browse(BrowsePoint {
+                description,
+                size,
+                next,
+            });
+            paged(cut.references, points.replace(serial, further))
+        }
+    }
+}
+
+/// Gives a point of Browse up. Takes no memory.
+///
+/// `BAD_CONTINUATION_POINT_INVALID` where none has the serial; then nothing changed.
+pub fn release(points: &mut Points, serial: u64) -> Result<(), Status>
+    ensures { step result points.new ≡ release_of points.old serial }
+{
+    if !matches!(points.get(serial), Some(Point::Browse(_))) {
+        return Err(Status::BAD_CONTINUATION_POINT_INVALID);
+    }
+    points.give_up(serial);
+    Ok(())
+}

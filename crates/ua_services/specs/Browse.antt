@@ -1,0 +1,28 @@
+-- The service Browse.
+use Rattle.std.specs.Prelude.{ℕ, not, List, Result, Ok, Err, if◌then◌else◌}
+use Rattle.ua_types.specs.NodeIds.{is_null_id}
+use Rattle.ua_types.specs.declared.status.Status.{Status}
+use Rattle.ua_types.specs.declared.status.TheConstants.Status as status
+use Rattle.ua_messages.specs.declared.type_ids.TheConstants.{BROWSE_RESPONSE}
+use Rattle.service_messages.specs.declared.browsing.BrowseDescription.{BrowseDescription}
+use Rattle.service_messages.specs.declared.browsing.BrowseRequest.{BrowseRequest}
+use Rattle.ua_browse.specs.Browsing.{page_size, browse_of}
+use Rattle.ua_session.specs.Sessions.{points_of}
+use Rattle.ua_requests.specs.declared.setting.Setting.{Setting}
+use Rattle.ua_services.specs.Operations.{operations_of}
+use Rattle.ua_services.specs.Paging.{all_done, browsed}
+use Rattle.ua_services.specs.ServicesState.{Services}
+use Rattle.ua_services.specs.Serving.{Serving, faulted}
+use Rattle.ua_services.specs.declared.call.Call.{Call}
+
+abbrev pub browse_listed : Setting → Call → ℕ → ℕ → Services → Result (List BrowseDescription) Status → Serving
+browse_listed setting call session requested state (Ok descriptions) =
+    browsed setting call session BROWSE_RESPONSE state
+    (all_done (λ points d. browse_of state.space points (page_size setting.config.references requested) d) (points_of state.sessions session) descriptions)
+browse_listed setting call session requested state (Err code) = faulted state call code setting.clock
+
+-- there are no views, which is judged first of all; then the list, then each node
+abbrev pub browse_meaning : Setting → Call → ℕ → BrowseRequest → Services → Serving
+browse_meaning setting call session request state =
+    if not (is_null_id request.view_id) then faulted state call status.BAD_VIEW_ID_UNKNOWN setting.clock
+    else browse_listed setting call session request.requested_max_references_per_node state (operations_of setting.config request.nodes_to_browse)
