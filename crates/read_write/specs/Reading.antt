@@ -66,6 +66,11 @@ readable_of number index_range (Some node) = readable_in index_range (attribute_
 unfoldable pub readable : Nodes → NodeId → ℕ → Option (List ℕ) → Result Attributed Status
 readable nodes id number index_range = readable_of number index_range (node_at id nodes)
 
+-- why an attribute can't be read, if it can't
+abbrev pub refusal_in : Result Attributed Status → Option Status
+refusal_in (Ok attribute) = None
+refusal_in (Err code) = Some code
+
 -- ---- the service
 
 abbrev pub attribute_read : Nodes → Moment → Timestamps → NodeId → ℕ → Option (List ℕ) → DataValue

@@ -23,7 +23,7 @@ mod writing;
 
 pub use answer::Answer;
 pub use attributes::AttributeId;
-pub use reading::{read, read_body, sample};
+pub use reading::{read, read_body, refusal, sample};
 pub use timestamps::Timestamps;
 pub use writing::{Change, Written, write};
 

@@ -8,7 +8,7 @@ ghost use Rattle.ua_messages.specs.Bodies.{body_encoding};
 ghost use Rattle.ua_messages.specs.declared.type_ids.TheConstants.{READ_RESPONSE};
 ghost use Rattle.ua_messages.specs.ResultLists.{results_encoding, results_of};
 ghost use Rattle.read_write.specs.Attributes.{seen};
-ghost use Rattle.read_write.specs.Reading.{is_readable, readable, attribute_read, read_of, all_read};
+ghost use Rattle.read_write.specs.Reading.{is_readable, readable, refusal_in, attribute_read, read_of, all_read};
 ghost use Rattle.read_write.specs.declared.timestamps.Timestamps.TheVariants as timestamp_choices;
 
 use crate::answer::Answer;
@@ -77,6 +77,22 @@ pub fn read<'a>(
         &request.index_range,
     );
     Answer::new(attribute, clock, timestamps)
+}
+
+/// Why [`read`] refuses one of its requests, if it does. Takes no memory.
+pub fn refusal(space: &Space, request: &ReadValueId) -> Option<Status>
+    ensures { result ≡ refusal_in (readable space.now.nodes request.now.node_id request.now.attribute_id request.now.index_range) }
+{
+    let attribute = readable(
+        space,
+        &request.node_id,
+        request.attribute_id,
+        &request.index_range,
+    );
+    match attribute {
+        Ok(_) => None,
+        Err(status) => Some(status),
+    }
 }
 
 /// What [`read`] answers for a whole attribute with both times, as a data value of its own.

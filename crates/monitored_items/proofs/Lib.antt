@@ -1,0 +1,11 @@
+pub mod Firsts
+pub mod Edits
+pub mod Tables
+pub mod Serving
+pub mod Giving
+pub mod Ending
+pub mod Following
+pub mod FollowingEnds
+pub mod Runs
+pub mod Apart
+pub mod FirstNotes

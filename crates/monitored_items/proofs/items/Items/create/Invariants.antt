@@ -1,0 +1,12 @@
+use Rattle.std.proofs.Common.{◌≡◌, ◌++◌}
+use Rattle.std.specs.Vec.Iter.{into_iter_items}
+use Rattle.monitored_items.specs.Items.{create_one, all_served}
+use Rattle.monitored_items.proofs.items.Items.create.Given as goal
+
+-- what was taken so far is served, and the rest is left
+abbrev pub invariant-loop-request : goal.invariant-loop-request
+invariant-loop-request l = record {
+  results : l.results.items ≡ (all_served (create_one l.space.nodes l.clock l.subscription l.timestamps) l.fn.self l.yielded).results;
+  state : l.self ≡ (all_served (create_one l.space.nodes l.clock l.subscription l.timestamps) l.fn.self l.yielded).state;
+  left : l.yielded ++ into_iter_items l.request-iterator ≡ l.fn.requests.items;
+}
