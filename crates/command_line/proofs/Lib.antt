@@ -1,3 +1,4 @@
 pub mod PlainWord
 pub mod ProgramLemmas
+pub mod Digits
 pub mod Examples

@@ -3,7 +3,7 @@ use Rattle.std.proofs.Common.{rules, arith, ◌≡◌, ◌⊎◌, ◌∙◌, tru
 use Rattle.std.specs.Prelude.{slice_index, unwrap_or}
 use Rattle.std.proofs.lemmas.Option.{none-some}
 use Rattle.std.specs.Borrow.{Bor}
-use Rattle.clap.specs.Words.{App, HasMatchesOf, IsAmong, Row, Text, first_value, found_of, is_simple, is_simple_and_free, rows_of, subcommand_name_of, subcommand_rows, subcommand_rows_of}
+use Rattle.clap.specs.Words.{App, HasMatchesOf, IsAmong, Row, Text, first_value, found_of, is_simple, is_simple_and_free, rows_of, subcommand_name_of, subcommand_of, subcommand_rows, subcommand_rows_of}
 use Rattle.clap.specs.declared.error.kind.ErrorKind.{ErrorKind}
 use Rattle.clap.specs.declared.error.kind.ErrorKind.TheVariants.{DisplayHelp, InvalidSubcommand, OutOfMemory}
 use Rattle.clap.specs.declared.parser.matches.ArgMatches.{ArgMatches}
@@ -11,10 +11,10 @@ use Rattle.clap.specs.declared.parser.matches.ArgMatches.TheViews.{out-ArgMatche
 use Rattle.std.specs.Box.{box_value}
 use Rattle.clap.proofs.WalkLemmas.{first_value-rows}
 use Rattle.clap.proofs.OnLiterals.{clap_on_literals}
-use Rattle.command_line.specs.Words.{Answers, Asked, AsksFor, IsNoCommand, IsPlainWord, IsStopOf, StopsBy, asked, asked_of, faults, program, words_of}
+use Rattle.command_line.specs.Words.{Answers, Asked, AsksFor, Found, HasOptions, IsAskedBy, IsNoCommand, IsPlainWord, IsStopOf, StopsBy, asked, asked_of, faults, option_of, port_of, program, turns_of, words_of}
 use Rattle.command_line.proofs.PlainWord.{asked-check, asked-pipe_nodes, faults-check, faults-pipe_nodes}
 use Rattle.command_line.specs.declared.command.Command.{Command}
-use Rattle.command_line.specs.declared.command.Command.TheVariants.{Pipe, Check}
+use Rattle.command_line.specs.declared.command.Command.TheVariants.{Pipe, Check, Serve}
 use Rattle.command_line.specs.declared.stop.Stop.{Stop}
 use Rattle.command_line.specs.declared.stop.Stop.TheVariants.{Help, Usage, Memory}
 
@@ -36,9 +36,9 @@ unfolding clap_on_literals
 asked-pipe = refl
 
 -- the subcommand that the matches have is the one of the words
-pub asked-rows : (a : App) (words : List Text) (m : ArgMatches) → a ≡ program → HasMatchesOf a words m
-    → asked_of (subcommand_rows_of m) ≡ asked words
-asked-rows a words m is matches = ap asked_of ((subst (λ p. HasMatchesOf p words m) is matches program-is_simple).1)
+pub found-rows : (a : App) (words : List Text) (m : ArgMatches) → a ≡ program → HasMatchesOf a words m
+    → subcommand_rows_of m ≡ subcommand_of program words
+found-rows a words m is matches = (subst (λ p. HasMatchesOf p words m) is matches program-is_simple).1
 
 -- the rows of a subcommand, by its name and its rows
 pub rows_met : (m : ArgMatches) (name : Text) (rows : List Row) → Some name ≡ subcommand_name_of m
@@ -61,14 +61,42 @@ asked_met m name given nodes named has is =
     ap asked_of (rows_met m name.now (rows_of (found_of given.now)) named has)
     ∙ ap (λ n. Some (name.now, n)) (sym (is ∙ first_value-rows (found_of given.now) (codes "NODES")))
 
+-- what was read behind an option is what the matches have there
+pub option_met : (m : ArgMatches) (given : Bor ArgMatches) (id : Text) (value : Option (Bor Text)) (name : Bor Text) → Some name.now ≡ subcommand_name_of m
+    → Some (rows_of (found_of given.now)) ≡ option_map (λ p. p.1) (subcommand_rows_of m)
+    → option_map (λ n. n.now) value ≡ first_value (found_of given.now) id
+    → option_of id (subcommand_rows_of m) ≡ option_map (λ n. n.now) value
+option_met m given id value name named has is =
+    ap (option_of id) (rows_met m name.now (rows_of (found_of given.now)) named has)
+    ∙ sym (is ∙ first_value-rows (found_of given.now) id)
+
+first_letter : (a : Option Asked) (x y : Asked) → a ≡ Some x → a ≡ Some y → slice_index x.0 0 ≡ slice_index y.0 0
+first_letter a x y p q = ap (λ (o : Option Asked). slice_index (unwrap_or o ([], None)).0 0) (sym p ∙ q)
+
+nodes_same : (a : Option Asked) (x y : Asked) → a ≡ Some x → a ≡ Some y → x.1 ≡ y.1
+nodes_same a x y p q = ap (λ (o : Option Asked). (unwrap_or o ([], None)).1) (sym p ∙ q)
+
 -- `check` without NODES is no command
-pub no_nodes : (a : Option Asked) → a ≡ Some (codes "check", None) → IsNoCommand a
-no_nodes a is (Pipe nodes) named =
-    let first : ◌≡◌ {A = ℕ} 99 112 = ap (λ (o : Option Asked). slice_index (unwrap_or o ([], None)).0 0) (sym is ∙ named) in
+pub no_nodes : (f : Found) → asked_of f ≡ Some (codes "check", None) → IsNoCommand f
+no_nodes f is (Pipe nodes) (named, _) =
+    let first : ◌≡◌ {A = ℕ} 99 112 = first_letter (asked_of f) _ _ is named in
     absurd (omega (arith, first))
-no_nodes a is (Check nodes) named =
-    let given : None ≡ Some nodes.now = ap (λ (o : Option Asked). (unwrap_or o ([], None)).1) (sym is ∙ named) in
-    absurd (none-some nodes.now given)
+no_nodes f is (Check nodes) (named, _) = absurd (none-some nodes.now (nodes_same (asked_of f) _ _ is named))
+no_nodes f is (Serve nodes port turns) (named, _) =
+    let first : ◌≡◌ {A = ℕ} 99 115 = first_letter (asked_of f) _ _ is named in
+    absurd (omega (arith, first))
+
+-- `serve` is no command where its NODES, its port or its turns are none
+pub no_serve : (f : Found) (nodes : Option Text) → asked_of f ≡ Some (codes "serve", nodes)
+    → ((n : Text) (port turns : ℕ) → nodes ≡ Some n → port_of (option_of (codes "port") f) ≡ Some port → turns_of (option_of (codes "turns") f) ≡ Some turns → ⊥) → IsNoCommand f
+no_serve f nodes is none (Pipe given) (named, _) =
+    let first : ◌≡◌ {A = ℕ} 115 112 = first_letter (asked_of f) _ _ is named in
+    absurd (omega (arith, first))
+no_serve f nodes is none (Check given) (named, _) =
+    let first : ◌≡◌ {A = ℕ} 115 99 = first_letter (asked_of f) _ _ is named in
+    absurd (omega (arith, first))
+no_serve f nodes is none (Serve given port turns) (named, numbers) =
+    none given.now port turns (nodes_same (asked_of f) _ _ is named) numbers.0 numbers.1
 
 -- an error of a kind that may come stops by it
 pub stops_by : (words : List (List ℕ)) (k : ErrorKind) (s : Stop) → (k ≡ OutOfMemory) ⊎ IsAmong k (faults words)
@@ -81,19 +109,19 @@ stops_by words k Memory h is = tt
 
 -- words that name no command stop by it
 pub stops_by_name : (words : List (List ℕ)) (k : ErrorKind) (s : Stop) → k ≡ InvalidSubcommand → faults words ≡ []
-    → IsNoCommand (asked words) → IsStopOf k s → StopsBy words s
+    → IsNoCommand (subcommand_of program words) → IsStopOf k s → StopsBy words s
 stops_by_name words k (Help text) e right none is = absurd (search rules)
 stops_by_name words k (Usage text) e right none is = inr (right, none)
 stops_by_name words k Memory e right none is = tt
 
 -- where nothing is wrong and a command is named, it comes or memory ran out
 pub comes : (words : List Text) (c : Command) (r : Result Command Stop) → IfOk r (AsksFor words) → IfErr r (StopsBy words)
-    → faults words ≡ [] → asked words ≡ Some (words_of c) → Answers (words_of c) r
-comes words c (Ok d) ok err right named = ap (λ (o : Option Asked). unwrap_or o (words_of d)) (sym ok.1 ∙ named)
-comes words c (Err (Help text)) ok err right named = absurd (subst (IsAmong DisplayHelp) right err)
-comes words c (Err (Usage text)) ok (inl (k, among, other)) right named = absurd (subst (IsAmong k) right among)
-comes words c (Err (Usage text)) ok (inr (none_wrong, none)) right named = absurd (none c named)
-comes words c (Err Memory) ok err right named = refl
+    → faults words ≡ [] → asked words ≡ Some (words_of c) → HasOptions (subcommand_of program words) c → Answers (words_of c) r
+comes words c (Ok d) ok err right named has = ap (λ (o : Option Asked). unwrap_or o (words_of d)) (sym ok.1.0 ∙ named)
+comes words c (Err (Help text)) ok err right named has = absurd (subst (IsAmong DisplayHelp) right err)
+comes words c (Err (Usage text)) ok (inl (k, among, other)) right named has = absurd (subst (IsAmong k) right among)
+comes words c (Err (Usage text)) ok (inr (none_wrong, none)) right named has = absurd (none c (named, has))
+comes words c (Err Memory) ok err right named has = refl
 
 -- words have their references
 pub second_word : (ws : List (Bor Text)) (x y : Text) → map (λ w. w.now) ws ≡ x ∷ y ∷ [] → (b : Bor Text) × (b.now ≡ y)
@@ -104,18 +132,18 @@ second_word (v ∷ w ∷ ws) x y is = (w, cc)
 -- so it is for `pipe`, `pipe NODES` and `check NODES`
 module _ (ws : List (Bor Text)) (r : Result Command Stop) (ok : IfOk r (AsksFor (map (λ w. w.now) ws))) (err : IfErr r (StopsBy (map (λ w. w.now) ws))) where
   pub pipe_comes : map (λ w. w.now) ws ≡ codes "pipe" ∷ [] → Answers (codes "pipe", None) r
-  pipe_comes is = comes (map (λ w. w.now) ws) (Pipe None) r ok err (ap faults is ∙ faults-pipe) (ap asked is ∙ asked-pipe)
+  pipe_comes is = comes (map (λ w. w.now) ws) (Pipe None) r ok err (ap faults is ∙ faults-pipe) (ap asked is ∙ asked-pipe) tt
 
   pub pipe_nodes_comes : (nodes : Text) → IsPlainWord nodes → map (λ w. w.now) ws ≡ codes "pipe" ∷ nodes ∷ [] → Answers (codes "pipe", Some nodes) r
   pipe_nodes_comes nodes plain is =
       let b = second_word ws (codes "pipe") nodes is in
       subst (λ n. Answers (codes "pipe", Some n) r) b.1
       (comes (map (λ w. w.now) ws) (Pipe (Some b.0)) r ok err (ap faults is ∙ faults-pipe_nodes nodes plain)
-      (ap asked is ∙ (asked-pipe_nodes nodes plain ∙ ap (λ n. Some (codes "pipe", Some n)) (sym b.1))))
+      (ap asked is ∙ (asked-pipe_nodes nodes plain ∙ ap (λ n. Some (codes "pipe", Some n)) (sym b.1))) tt)
 
   pub check_comes : (nodes : Text) → IsPlainWord nodes → map (λ w. w.now) ws ≡ codes "check" ∷ nodes ∷ [] → Answers (codes "check", Some nodes) r
   check_comes nodes plain is =
       let b = second_word ws (codes "check") nodes is in
       subst (λ n. Answers (codes "check", Some n) r) b.1
       (comes (map (λ w. w.now) ws) (Check b.0) r ok err (ap faults is ∙ faults-check nodes plain)
-      (ap asked is ∙ (asked-check nodes plain ∙ ap (λ n. Some (codes "check", Some n)) (sym b.1))))
+      (ap asked is ∙ (asked-check nodes plain ∙ ap (λ n. Some (codes "check", Some n)) (sym b.1))) tt)

@@ -1,10 +1,14 @@
 -- What the words of the command line ask for.
-use Rattle.std.specs.Prelude.{◌≡◌, ◌≢◌, ◌⊎◌, ⊤, true, List, [], Option, Some, Result, Ok, Err, codes, option_map, slice_get}
+use Rattle.std.specs.Prelude.{◌≡◌, ◌≢◌, ◌⊎◌, ⊤, true, ℕ, ◌^◌, ◌&&◌, nat_lt, List, [], length, Option, Some, None, Result, Ok, Err, codes, option_map, slice_get, if◌then◌else◌}
+use Rattle.std.specs.Prelude.{option_and_then}
+use Rattle.std.specs.Char.{is_ascii_digit}
+use Rattle.std.specs.List.{list_all}
+use Rattle.std.specs.Str.Parse.{digits_value}
 use Rattle.clap.specs.Words.{App, Kinds, IsAmong, Row, Rule, Text, fault_of, first_of, new_app, new_rule, subcommand_of, with_rule, with_subcommand}
 use Rattle.clap.specs.declared.error.kind.ErrorKind.{ErrorKind}
 use Rattle.clap.specs.declared.error.kind.ErrorKind.TheVariants.{DisplayHelp, OutOfMemory}
 use Rattle.command_line.specs.declared.command.Command.{Command}
-use Rattle.command_line.specs.declared.command.Command.TheVariants.{Pipe, Check}
+use Rattle.command_line.specs.declared.command.Command.TheVariants.{Pipe, Check, Serve}
 use Rattle.command_line.specs.declared.stop.Stop.{Stop}
 use Rattle.command_line.specs.declared.stop.Stop.TheVariants.{Help, Usage, Memory}
 
@@ -18,6 +22,15 @@ pipe_app = with_rule (new_app (codes "pipe")) nodes_rule
 abbrev pub check_app : App
 check_app = with_rule (new_app (codes "check")) (record nodes_rule { required = true })
 
+-- an option of this name, which takes a value
+abbrev pub option_rule : Text → Rule
+option_rule name = record (new_rule name) { long = Some name; value_names = 1 }
+
+abbrev pub serve_app : App
+serve_app =
+    with_rule (with_rule (with_rule (new_app (codes "serve")) (record nodes_rule { required = true })) (record (option_rule (codes "port")) { required = true }))
+    (option_rule (codes "turns"))
+
 abbrev pub bare_program : App
 bare_program = record (new_app (codes "uaserver")) {
   top = record (new_app (codes "uaserver")).top {
@@ -28,7 +41,7 @@ bare_program = record (new_app (codes "uaserver")) {
 }
 
 abbrev pub program : App
-program = with_subcommand (with_subcommand bare_program pipe_app.top) check_app.top
+program = with_subcommand (with_subcommand (with_subcommand bare_program pipe_app.top) check_app.top) serve_app.top
 
 -- a command in words: the one that names it, and its NODES
 abbrev pub Asked : Type 0
@@ -37,10 +50,46 @@ Asked = Text × Option Text
 abbrev pub words_of : Command → Asked
 words_of (Pipe nodes) = (codes "pipe", option_map (λ n. n.now) nodes)
 words_of (Check nodes) = (codes "check", Some nodes.now)
+words_of (Serve nodes port turns) = (codes "serve", Some nodes.now)
+
+-- the subcommand of a parse, where there is one, with what its arguments are
+abbrev pub Found : Type 0
+Found = Option (Text × List Row)
 
 -- the word that names a command, and the word that is its NODES, where there are such
-abbrev pub asked_of : Option (Text × List Row) → Option Asked
+abbrev pub asked_of : Found → Option Asked
 asked_of = option_map (λ p. (p.0, first_of (codes "NODES") p.1))
+
+-- the word behind an option
+abbrev pub option_of : Text → Found → Option Text
+option_of name = option_and_then (λ p. first_of name p.1)
+
+-- one or more decimal digits, and nothing else, of a number of 64 bits
+abbrev pub number_of : Text → Option ℕ
+number_of ds =
+    if (list_all is_ascii_digit ds && nat_lt 0 (length ds)) && nat_lt (digits_value 10 ds) (2 ^ 64) then Some (digits_value 10 ds) else None
+
+-- a port from 1 on
+abbrev pub as_port : ℕ → Option ℕ
+as_port n = if nat_lt 0 n && nat_lt n (2 ^ 16) then Some n else None
+
+abbrev pub port_of : Option Text → Option ℕ
+port_of text = option_and_then as_port (option_and_then number_of text)
+
+-- no turns in words are 0, which is no bound
+abbrev pub turns_of : Option Text → Option ℕ
+turns_of None = Some 0
+turns_of (Some digits) = number_of digits
+
+-- the numbers behind the options of a command
+abbrev pub HasOptions : Found → Command → Type 0
+HasOptions found (Serve nodes port turns) =
+    (port_of (option_of (codes "port") found) ≡ Some port) × (turns_of (option_of (codes "turns") found) ≡ Some turns)
+HasOptions found c = ⊤
+
+-- what was found is this command
+abbrev pub IsAskedBy : Found → Command → Type 0
+IsAskedBy found c = (asked_of found ≡ Some (words_of c)) × HasOptions found c
 
 abbrev pub asked : List Text → Option Asked
 asked words = asked_of (subcommand_of program words)
@@ -49,20 +98,20 @@ asked words = asked_of (subcommand_of program words)
 abbrev pub faults : List Text → Kinds
 faults = fault_of program
 
--- nothing is wrong with the words, and they name the command and its NODES
+-- nothing is wrong with the words, and they name the command, its NODES and its numbers
 abbrev pub AsksFor : List Text → Command → Type 0
-AsksFor words c = (faults words ≡ []) × (asked words ≡ Some (words_of c))
+AsksFor words c = (faults words ≡ []) × IsAskedBy (subcommand_of program words) c
 
 -- what the words have, if anything, is none of the commands
-abbrev pub IsNoCommand : Option Asked → Type 0
-IsNoCommand a = (c : Command) → a ≢ Some (words_of c)
+abbrev pub IsNoCommand : Found → Type 0
+IsNoCommand found = (c : Command) → IsAskedBy found c → ⊥
 
 -- help comes where it is asked for, and usage where something else is wrong, or where nothing is and
--- no command is named
+-- no command is named: one with a port or turns that are no such number is none
 abbrev pub StopsBy : List Text → Stop → Type 0
 StopsBy words (Help text) = IsAmong DisplayHelp (faults words)
 StopsBy words (Usage text) = ((k : ErrorKind) × IsAmong k (faults words) × (k ≢ DisplayHelp))
-    ⊎ ((faults words ≡ []) × IsNoCommand (asked words))
+    ⊎ ((faults words ≡ []) × IsNoCommand (subcommand_of program words))
 StopsBy words Memory = ⊤
 
 -- the word does not begin with a hyphen (45), so it is no option

@@ -5,8 +5,20 @@
 pub enum Command<'a> {
     /// `uaserver pipe [NODES]`: one connection over standard input and output, with the
     /// configuration of the node file, or with the standard one where the words name no file.
-    Pipe { nodes: Option<&'a str> },
+    Pipe {
+        nodes: Option<&'a str>,
+    },
 
     /// `uaserver check NODES`: the number of nodes and references of the node file.
-    Check { nodes: &'a str },
+    Check {
+        nodes: &'a str,
+    },
+
+    /// `uaserver serve NODES --port P [--turns N]`: the server of the node file over sockets, at this port
+    /// from 1 on, for so many turns, or without end where the number is 0 or the words have none.
+    Serve {
+        nodes: &'a str,
+        port: u16,
+        turns: u64,
+    },
 }

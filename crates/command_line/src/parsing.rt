@@ -1,14 +1,19 @@
 //! From words to a command.
 
-ghost use Rattle.std.specs.Prelude.{◌≡◌, ◌∷◌, ℕ, List, [], Some, None, IfOk, IfErr, IfSome, IsNone, codes, map};
+ghost use Rattle.std.specs.Prelude.{◌≡◌, ◌∷◌, ℕ, List, [], Some, None, IfOk, IfErr, IfSome, IsNone, codes, map, option_map};
+ghost use Rattle.std.specs.Char.{is_ascii_digit};
+ghost use Rattle.std.specs.List.{list_all};
 ghost use Rattle.clap.specs.Words.{kind_of, subcommand_rows_of};
-ghost use Rattle.command_line.specs.Words.{Answers, AsksFor, IsNoCommand, IsPlainWord, IsStopOf, StopsBy, asked_of, words_of};
+ghost use Rattle.command_line.specs.Words.{Answers, AsksFor, IsAskedBy, IsNoCommand, IsPlainWord, IsStopOf, StopsBy, number_of, port_of as port_in, turns_of as turns_in};
 
 use crate::program::uaserver;
 use crate::{Command, Stop};
 use clap::error::ErrorKind;
 use clap::{ArgMatches, Error};
 use std::alloc::Global;
+
+// Words that clap takes, and that are still no command.
+const NO_NUMBER: &str = "the port is a number from 1 to 65535, and the turns are one below 2^64";
 
 /// Reads the words after the program's name.
 ///
@@ -43,7 +48,7 @@ fn answer<'a>(alloc: Global, words: &'a [&'a str]) -> Result<Command<'a>, Stop>
         Ok(matches) => match command_of(&matches) {
             Some(command) => Ok(command),
             None => {
-                let error = program.error(ErrorKind::InvalidSubcommand, "no such command")?;
+                let error = program.error(ErrorKind::InvalidSubcommand, NO_NUMBER)?;
                 Err(stop_of(alloc, &error))
             }
         },
@@ -53,15 +58,61 @@ fn answer<'a>(alloc: Global, words: &'a [&'a str]) -> Result<Command<'a>, Stop>
 
 // The command whose subcommand was used.
 fn command_of<'a>(matches: &ArgMatches<'a>) -> Option<Command<'a>>
-    ensures some { IfSome result (λ c. asked_of (subcommand_rows_of matches.now) ≡ Some (words_of c)) }
-    ensures none { IsNone result → IsNoCommand (asked_of (subcommand_rows_of matches.now)) }
+    ensures some { IfSome result (IsAskedBy (subcommand_rows_of matches.now)) }
+    ensures none { IsNone result → IsNoCommand (subcommand_rows_of matches.now) }
 {
     let (name, given) = matches.subcommand()?;
     let nodes = given.get_str("NODES");
     match name {
         "pipe" => Some(Command::Pipe { nodes }),
         "check" => Some(Command::Check { nodes: nodes? }),
+        "serve" => Some(Command::Serve {
+            nodes: nodes?,
+            port: port_of(given.get_str("port"))?,
+            turns: turns_of(given.get_str("turns"))?,
+        }),
         _ => None,
+    }
+}
+
+// One or more decimal digits, and the number that they name where it is one of 64 bits.
+fn number(digits: &str) -> Option<u64>
+    ensures { result ≡ number_of digits.now }
+{
+    if !all_digits(digits) {
+        return None;
+    }
+    let Ok(number) = digits.parse::<u64>() else {
+        return None;
+    };
+    Some(number)
+}
+
+fn all_digits(text: &str) -> bool
+    ensures { result ≡ list_all is_ascii_digit text.now }
+{
+    text.as_bytes().iter().all(|byte| byte.is_ascii_digit())
+}
+
+// The port of the words, from 1 on.
+fn port_of(text: Option<&str>) -> Option<u16>
+    ensures { result ≡ port_in (option_map (λ t. t.now) text.entry) }
+{
+    let port = number(text?)?;
+    if 1 <= port && port < 65_536 {
+        Some(port as u16)
+    } else {
+        None
+    }
+}
+
+// The turns of the words, or 0.
+fn turns_of(text: Option<&str>) -> Option<u64>
+    ensures { result ≡ turns_in (option_map (λ t. t.now) text.entry) }
+{
+    match text {
+        Some(digits) => number(digits),
+        None => Some(0),
     }
 }
 

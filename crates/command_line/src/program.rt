@@ -2,7 +2,8 @@
 
 ghost use Rattle.std.specs.Prelude.{◌≡◌, IfOk, false};
 ghost use Rattle.clap.specs.Words.{app_of, rule_of};
-ghost use Rattle.command_line.specs.Words.{nodes_rule, program};
+ghost use Rattle.clap.specs.declared.builder.command.Command.TheViews.{out-Command as fields_of};
+ghost use Rattle.command_line.specs.Words.{nodes_rule, option_rule, program, serve_app};
 
 use clap::{Arg, Command};
 use std::alloc::{AllocError, Global};
@@ -25,13 +26,41 @@ fn with_commands<'a>(alloc: Global) -> Result<Command<'a>, AllocError>
     let check = Command::new(alloc, "check")
         .about("Counts the nodes and references of a node file")
         .arg(nodes(alloc).required(true))?;
+    let serve = serve(alloc)?;
     Command::new(alloc, "uaserver")
         .about("An OPC UA server")
         .no_binary_name(true)
         .subcommand_required(true)
         .arg_required_else_help(true)
         .subcommand(pipe)?
-        .subcommand(check)
+        .subcommand(check)?
+        .subcommand(serve)
+}
+
+fn serve<'a>(alloc: Global) -> Result<Command<'a>, AllocError>
+    ensures { IfOk result (λ c. (app_of c ≡ serve_app) × ((fields_of c).has_globals ≡ false)) }
+{
+    Command::new(alloc, "serve")
+        .about("Serves connections to a port of 127.0.0.1")
+        .arg(nodes(alloc).required(true))?
+        .arg(option(alloc, "port", "P", "the port, from 1 to 65535").required(true))?
+        .arg(option(
+            alloc,
+            "turns",
+            "N",
+            "ends after so many turns of the loop, of at most 100 ms each; 0 never ends",
+        ))
+}
+
+// An option with a value.
+fn option<'a>(alloc: Global, name: &'a str, value: &'a str, help: &'a str) -> Arg<'a>
+    ensures rule { rule_of result ≡ option_rule name.entry.now }
+    ensures local { result.global ≡ false }
+{
+    Arg::new(alloc, name)
+        .long(name)
+        .value_name(value)
+        .help(help)
 }
 
 // NODES, as `pipe` takes it.

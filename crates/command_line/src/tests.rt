@@ -8,6 +8,7 @@ Usage: uaserver <COMMAND>
 Commands:
   pipe   Serves one connection on standard input and standard output
   check  Counts the nodes and references of a node file
+  serve  Serves connections to a port of 127.0.0.1
   help   Print this message or the help of the given subcommand(s)
 
 Options:
@@ -34,6 +35,19 @@ Arguments:
 
 Options:
   -h, --help  Print help
+";
+
+const SERVE_HELP: &str = "Serves connections to a port of 127.0.0.1
+
+Usage: uaserver serve [OPTIONS] --port <P> <NODES>
+
+Arguments:
+  <NODES>  a node file (TOML)
+
+Options:
+      --port <P>   the port, from 1 to 65535
+      --turns <N>  ends after so many turns of the loop, of at most 100 ms each; 0 never ends
+  -h, --help       Print help
 ";
 
 fn help(alloc: Global, words: &[&str]) -> Option<String> {
@@ -78,6 +92,81 @@ fn check(rt: HostRuntime) {
     assert!(rt; hyphen == Some(Command::Check { nodes: "-1.toml" }));
 }
 
+const SERVED: Command<'static> = Command::Serve {
+    nodes: "line.toml",
+    port: 4840,
+    turns: 0,
+};
+
+#[test]
+fn serve(rt: HostRuntime) {
+    let alloc = rt.alloc();
+    let line = parse(alloc, &["serve", "line.toml", "--port", "4840"]).ok();
+    assert!(rt; line == Some(SERVED));
+    let first = parse(
+        alloc,
+        &["serve", "--port=04840", "line.toml", "--turns", "0"],
+    )
+    .ok();
+    assert!(rt; first == Some(SERVED));
+    let last = parse(
+        alloc,
+        &[
+            "serve",
+            "-.toml",
+            "--port",
+            "1",
+            "--turns",
+            "18446744073709551615",
+        ],
+    )
+    .ok();
+    assert!(rt; last.is_none());
+    let last = parse(
+        alloc,
+        &[
+            "serve",
+            "a",
+            "--port",
+            "65535",
+            "--turns",
+            "18446744073709551615",
+        ],
+    )
+    .ok();
+    assert!(rt;
+        last == Some(Command::Serve {
+            nodes: "a",
+            port: 65_535,
+            turns: u64::MAX
+        })
+    );
+}
+
+#[test]
+fn misuse_of_serve(rt: HostRuntime) {
+    let alloc = rt.alloc();
+    let text = usage(alloc, &["serve", "x", "--port", "0"]).expect(&rt, "--port 0");
+    let expected = "error: the port is a number from 1 to 65535, and the turns are one below 2^64
+
+Usage: uaserver <COMMAND>
+
+For more information, try '--help'.
+";
+    assert!(rt; text.as_str() == expected, "{text}");
+    assert!(rt; is_misuse(alloc, &["serve", "x"]));
+    assert!(rt; is_misuse(alloc, &["serve", "--port", "1"]));
+    assert!(rt; is_misuse(alloc, &["serve", "x", "--port"]));
+    assert!(rt; is_misuse(alloc, &["serve", "x", "--port", "65536"]));
+    assert!(rt; is_misuse(alloc, &["serve", "x", "--port", "+1"]));
+    assert!(rt; is_misuse(alloc, &["serve", "x", "--port", " 1"]));
+    assert!(rt; is_misuse(alloc, &["serve", "x", "--port="]));
+    assert!(rt; is_misuse(alloc, &["serve", "x", "--port", "1", "--port", "1"]));
+    assert!(rt; is_misuse(alloc, &["serve", "x", "--port", "1", "--turns", "1e3"]));
+    let more = "18446744073709551616";
+    assert!(rt; is_misuse(alloc, &["serve", "x", "--port", "1", "--turns", more]));
+}
+
 #[test]
 fn help_of_the_program(rt: HostRuntime) {
     let alloc = rt.alloc();
@@ -96,6 +185,8 @@ fn help_of_a_command(rt: HostRuntime) {
     assert!(rt; word.as_str() == PIPE_HELP, "{word}");
     let long = help(alloc, &["pipe", "--help"]).expect(&rt, "pipe --help");
     assert!(rt; long.as_str() == PIPE_HELP, "{long}");
+    let serve = help(alloc, &["serve", "--help"]).expect(&rt, "serve --help");
+    assert!(rt; serve.as_str() == SERVE_HELP, "{serve}");
     let check = help(alloc, &["check", "--help"]).expect(&rt, "check --help");
     assert!(rt; check.as_str() == CHECK_HELP, "{check}");
 }
@@ -153,7 +244,6 @@ fn misuse(rt: HostRuntime) {
     assert!(rt; is_misuse(alloc, &["asm", "x"]));
     assert!(rt; is_misuse(alloc, &["run", "x", "y"]));
     assert!(rt; is_misuse(alloc, &["trace", "x", "y"]));
-    assert!(rt; is_misuse(alloc, &["serve", "x", "--port", "4840"]));
     assert!(rt; is_misuse(alloc, &["help", "frob"]));
     assert!(rt; is_misuse(alloc, &["--port"]));
     assert!(rt; is_misuse(alloc, &["--version"]));

@@ -4,7 +4,7 @@
 //! server sends, before it reads the next. `specs/Pumped` says what a run comes to.
 #![tactic(auto)]
 
-ghost use Rattle.std.specs.Prelude.{◌≡◌, ℕ, ◌+◌, ◌-◌, ◌^◌, ◌<◌, ◌≤◌, length, take, IfOk, IfErr, MatchResult, OnErr, is_err, Err, ◌≢◌, true, false};
+ghost use Rattle.std.specs.Prelude.{◌≡◌, ℕ, ◌+◌, ◌-◌, ◌^◌, ◌<◌, ◌≤◌, length, take, IfOk, IfSome, IfErr, MatchResult, OnErr, is_err, Err, ◌≢◌, true, false};
 ghost use Rattle.std.specs.Bool.{MatchBool};
 ghost use Rattle.std.specs.Io.KnownBytes.{Appends, Consumes, Keeps, IsAtEnd};
 ghost use Rattle.ua_tcp.specs.Tapped.{Rose, counted};
@@ -23,6 +23,9 @@ use ua_tcp::{Tap, put_bytes};
 /// The most bytes of a piece.
 const PIECE: usize = 4096;
 
+/// The most bytes of several sends that are joined for one write.
+const MOST_JOINED: usize = 65_536;
+
 /// The most reads of a run.
 const READS: u64 = 1_000_000_000;
 
@@ -32,15 +35,12 @@ pub enum PumpFault {
     /// A read failed, and was not just interrupted.
     #[error("a read failed")]
     Read,
-
     /// A write or a flush failed. A part of what the server sends may be out.
     #[error("a write failed")]
     Write,
-
     /// The server didn't answer the last piece, or a growth of the pump's own was refused.
     #[error("the server did not answer")]
     Step(StepFault),
-
     /// There were too many reads for one run.
     #[error("too many reads")]
     Turns,
@@ -59,8 +59,51 @@ impl Model for Pump {
     ghost view = { λ p. p.sent };
 }
 
+// The bytes of the sends, one after the other. None where they are many, or for want of memory.
+fn joined_in(alloc: Global, outs: &[Out]) -> Option<Vec<u8>>
+    ensures { IfSome result (λ bytes. bytes.items ≡ joined outs.now) }
+{
+    let mut all = Vec::new(alloc);
+    for out in outs {
+        if let Out::Send { conn: _, bytes } = out {
+            let bytes = bytes.as_slice();
+            if all.len().saturating_add(bytes.len()) > MOST_JOINED {
+                return None;
+            }
+            if all.extend_from_slice(bytes).is_err() {
+                return None;
+            }
+        }
+    }
+    Some(all)
+}
+
 /// Writes the bytes of the sends, and says how many went out, and whether all did. A write failed where not.
-fn put_outs<W: Write>(writer: &mut Tap<W>, outs: &[Out]) -> (u128, bool)
+///
+/// Up to 65,536 bytes of several sends are one write, which is what a pipe takes at once. One send alone is
+/// written as it is.
+fn put_outs<W: Write>(alloc: Global, writer: &mut Tap<W>, outs: &[Out]) -> (u128, bool)
+    ensures count { result.0 ≤ length (joined outs.now) }
+    ensures all { result.1 ≡ true → result.0 ≡ length (joined outs.now) }
+    ensures small { result.0 < 2 ^ 128 }
+    ensures written { Appends (W.contents writer.old.stream) (W.contents writer.new.stream) (take result.0 (joined outs.now)) }
+    ensures failed { result.1 ≡ false → Rose writer.old.failures writer.new.failures }
+    ensures failures { writer.old.failures ≤ writer.new.failures }
+{
+    if outs.len() < 2 {
+        return put_each(writer, outs);
+    }
+    match joined_in(alloc, outs) {
+        Some(bytes) => {
+            let count = put_bytes(writer, bytes.as_slice());
+            (count as u128, count == bytes.len())
+        }
+        None => put_each(writer, outs),
+    }
+}
+
+// Writes the bytes of the sends, with a write for each.
+fn put_each<W: Write>(writer: &mut Tap<W>, outs: &[Out]) -> (u128, bool)
     ensures count { result.0 ≤ length (joined outs.now) }
     ensures all { result.1 ≡ true → result.0 ≡ length (joined outs.now) }
     ensures small { result.0 < 2 ^ 128 }
@@ -129,6 +172,7 @@ impl Pump {
     /// Writes the sends, and says whether the connection is still open.
     fn answer<W: Write>(
         &mut self,
+        alloc: Global,
         conn: u64,
         outs: &[Out],
         writer: &mut Tap<W>,
@@ -138,7 +182,7 @@ impl Pump {
         ensures write { IfErr result (λ fault. (fault ≡ PumpFault.Write) × Rose writer.old.failures writer.new.failures) }
         ensures failures { writer.old.failures ≤ writer.new.failures }
     {
-        let (count, all) = put_outs(writer, outs);
+        let (count, all) = put_outs(alloc, writer, outs);
         self.sent = self.sent.saturating_add(count);
         if !all {
             return Err(PumpFault::Write);
@@ -182,7 +226,7 @@ impl Pump {
         };
         let event = Event::Bytes { conn, bytes };
         match server.step(alloc, &event) {
-            Ok(step) => self.answer(conn, step.outs.as_slice(), writer),
+            Ok(step) => self.answer(alloc, conn, step.outs.as_slice(), writer),
             Err(fault) => Err(PumpFault::Step(fault)),
         }
     }

@@ -1,1 +1,2 @@
 pub mod PipeLemmas
+pub mod ServeLemmas

@@ -9,14 +9,17 @@ use Rattle.pump.specs.Pumped as pump
 use Rattle.pump.specs.Pumped.{State, scene}
 use Rattle.pump.specs.declared.PumpFault.{PumpFault}
 use Rattle.pump.specs.declared.PumpFault.TheVariants as fault
+use Rattle.socket_server.specs.Serving.{IsServed, IsStopped}
+use Rattle.socket_server.specs.declared.serve_fault.ServeFault.{ServeFault}
+use Rattle.socket_server.specs.declared.serve_fault.ServeFault.TheVariants as serve_fault
 use Rattle.command_line.specs.Words.{AsksFor, StopsBy}
 use Rattle.command_line.specs.declared.command.Command.{Command}
-use Rattle.command_line.specs.declared.command.Command.TheVariants.{Pipe, Check}
+use Rattle.command_line.specs.declared.command.Command.TheVariants.{Pipe, Check, Serve}
 use Rattle.command_line.specs.declared.stop.Stop.{Stop}
 use Rattle.command_line.specs.declared.stop.Stop.TheVariants.{Help, Usage as UsageStop, Memory}
 use Rattle.uaserver.specs.NodeFiles.{ReadFile, Made, made_in, made_of_none}
 use Rattle.uaserver.specs.declared.status.Status.{Status}
-use Rattle.uaserver.specs.declared.status.Status.TheVariants.{Done, Usage, File, Nodes, Halted, Stream}
+use Rattle.uaserver.specs.declared.status.Status.TheVariants.{Done, Usage, File, Nodes, Halted, Network, Stream}
 use Rattle.uaserver.specs.declared.commands.Ended.{Ended}
 
 -- ---- check
@@ -62,6 +65,32 @@ abbrev pub IsOfStreams : PumpFault → Type 0
 IsOfStreams (fault.Step step_fault) = ⊥
 IsOfStreams other = ⊤
 
+-- ---- serve
+
+-- how the end of serving ends the program
+abbrev pub status_served : Result (Unit {0}) ServeFault → Status
+status_served (Ok x) = Done
+status_served (Err (serve_fault.Step f)) = Halted
+status_served (Err serve_fault.Memory) = Halted
+status_served (Err serve_fault.Network) = Network
+
+-- The server of what was made serves so many turns, from no connection on. Or it stops before, for the fault that the status tells;
+-- or the program couldn't say that it listens, and served nobody
+abbrev pub ServesBy : Made → ℕ → Status → Type 0
+ServesBy made turns Done = IsServed (Some (opening made.0 made.1)) turns
+ServesBy made turns Stream = ⊤
+ServesBy made turns status = (f : ServeFault) × (status ≡ status_served (Err f)) × IsStopped (Some (opening made.0 made.1)) f
+
+abbrev pub ServesMade : Option Made → ℕ → Status → Type 0
+ServesMade (Some made) turns status = ServesBy made turns status
+ServesMade None turns Nodes = ⊤
+ServesMade None turns Halted = ⊤
+ServesMade None turns status = ⊥
+
+abbrev pub ServesFile : List ℕ → ℕ → Status → Option ReadFile → Type 0
+ServesFile path turns status None = ReadsNone status
+ServesFile path turns status (Some file) = (file.path ≡ path) × ServesMade (made_in file.text) turns status
+
 module _ {R W : Type 0} (remaining : R → Option (List ℕ)) (contents : W → Option (List ℕ)) (input input' : Tapped R) (output output' : Tapped W) where
   -- nothing was read and nothing was written
   abbrev pub Untouched : Type 0
@@ -77,7 +106,7 @@ module _ {R W : Type 0} (remaining : R → Option (List ℕ)) (contents : W → 
   Pipes made Halted = ((f : StepFault) × Pumps made (λ old new. pump.Stopped 1 old new (fault.Step f))) ⊎ Untouched
   Pipes made status = ⊥
 
-  -- the same, of what was made
+  -- what comes of a server that was made
   abbrev pub PipesMade : Option Made → Status → Type 0
   PipesMade None Nodes = Untouched
   PipesMade (Some made) Nodes = ⊥
@@ -97,6 +126,7 @@ module _ {R W : Type 0} (remaining : R → Option (List ℕ)) (contents : W → 
   abbrev pub Commanded : Command → Ended → Type 0
   Commanded (Pipe nodes) e = PipesFile (option_map (λ n. n.now) nodes) e.status e.file
   Commanded (Check nodes) e = ChecksFile nodes.now e.status e.file × (input' ≡ input)
+  Commanded (Serve nodes port turns) e = ServesFile nodes.now turns e.status e.file × (input' ≡ input)
 
   abbrev pub StopsWith : Stop → Ended → Type 0
   StopsWith (Help text) e = ((e.status ≡ Done) ⊎ (e.status ≡ Stream)) × (e.file ≡ None) × (input' ≡ input)

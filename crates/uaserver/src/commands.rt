@@ -4,16 +4,21 @@ ghost use Rattle.std.specs.Prelude.{◌≡◌, ◌⊎◌, Option, None, IfOk, If
 ghost use Rattle.ua_core.specs.World.{world_of};
 ghost use Rattle.ua_space.specs.Build.{space_of};
 ghost use Rattle.uaserver.specs.NodeFiles.{Made, built, made_in, made_of_none};
-ghost use Rattle.uaserver.specs.Commands.{ReadsNone, MadeBy, Checks, ChecksFile, opened, status_of, Pipes, PipesMade, PipesFile, Runs};
+ghost use Rattle.uaserver.specs.Commands.{ReadsNone, MadeBy, Checks, ChecksFile, opened, status_of, status_served, Pipes, PipesMade, PipesFile, ServesBy, ServesMade, ServesFile, Runs};
 
 use crate::node_file::{FileFault, NodeFile};
 use crate::status::Status;
 use command_line::{Command, Stop, parse};
 use node_loader::{Cause, Loaded, load};
 use pump::{Pump, PumpFault};
+use socket_server::{Serve, ServeFault};
 use std::alloc::Global;
 use std::io::{Read, Write};
+use std::net::Net;
+use std::random::RandomSource;
 use std::rt::Files;
+use std::sync::Wait;
+use std::time::Clock;
 use ua_core::{Event, Server, StepFault};
 use ua_space::{Node, Space, SpaceFault, Triple};
 use ua_tcp::Tap;
@@ -40,7 +45,7 @@ impl Ended {
 }
 
 /// Says that memory ran out.
-pub fn no_memory<E: Write>(errors: &mut E) -> Status
+pub(crate) fn no_memory<E: Write>(errors: &mut E) -> Status
     ensures { result ≡ Status.Halted }
 {
     let _ = writeln!(errors, "memory");
@@ -136,7 +141,7 @@ fn no_nodes<E: Write>(alloc: Global, errors: &mut E) -> Result<(Config, Space), 
 
 /// Counts the nodes and the references that the text of a node file means, those that every server has
 /// included.
-pub fn check<O: Write, E: Write>(
+pub(crate) fn check<O: Write, E: Write>(
     alloc: Global,
     text: &str,
     output: &mut O,
@@ -204,7 +209,7 @@ fn pumped<E: Write>(ran: Result<(), PumpFault>, errors: &mut E) -> Status
 
 /// Hands the input to a server of this configuration and address space, as its only connection, and
 /// writes the server's answers.
-pub fn pipe<I: Read, O: Write, E: Write>(
+pub(crate) fn pipe<I: Read, O: Write, E: Write>(
     alloc: Global,
     config: Config,
     space: Space,
@@ -269,6 +274,89 @@ fn pipe_with<R: Files + AllocGlobal, I: Read, O: Write, E: Write>(
     }
 }
 
+// How the end of serving ends the program.
+fn served<E: Write>(ran: Result<(), ServeFault>, errors: &mut E) -> Status
+    ensures { result ≡ status_served ran }
+{
+    match ran {
+        Ok(()) => Status::Done,
+        Err(ServeFault::Step(fault)) => step_fault(fault, errors),
+        Err(ServeFault::Memory) => no_memory(errors),
+        Err(ServeFault::Network) => {
+            let _ = writeln!(errors, "network");
+            Status::Network
+        }
+    }
+}
+
+/// Serves connections to a port of 127.0.0.1 by a server of this configuration and address space, for so
+/// many turns, or without end for 0. Says `listening` and the port once clients can connect.
+pub(crate) fn serve<R: Net + RandomSource + Clock + Wait, O: Write, E: Write>(
+    rt: &R,
+    alloc: Global,
+    config: Config,
+    space: Space,
+    port: u16,
+    turns: u64,
+    output: &mut O,
+    errors: &mut E,
+) -> Status
+    ensures { ServesBy (config, space) turns result }
+{
+    let mut server = Server::new(alloc, config, space);
+    let mut serve = match Serve::bind(rt, alloc, port) {
+        Ok(serve) => serve,
+        Err(fault) => return served(Err(fault), errors),
+    };
+    if writeln!(output, "listening {port}").is_err() || output.flush().is_err() {
+        return stream(errors);
+    }
+    let ran = serve.run(rt, alloc, &mut server, turns);
+    served(ran, errors)
+}
+
+// `serve` of what was made.
+fn serve_made<R: Net + RandomSource + Clock + Wait, O: Write, E: Write>(
+    rt: &R,
+    alloc: Global,
+    made: Result<(Config, Space), Status>,
+    port: u16,
+    turns: u64,
+    output: &mut O,
+    errors: &mut E,
+) -> Status
+    ensures { (said : Option Made) → MadeBy made said → ServesMade said turns result }
+{
+    match made {
+        Ok((config, space)) => serve(rt, alloc, config, space, port, turns, output, errors),
+        Err(status) => status,
+    }
+}
+
+// `serve` of the node file at this path.
+fn serve_at<R: Files + AllocGlobal + Net + RandomSource + Clock + Wait, O: Write, E: Write>(
+    rt: &R,
+    path: &str,
+    port: u16,
+    turns: u64,
+    output: &mut O,
+    errors: &mut E,
+) -> Ended
+    ensures { ServesFile path.now turns result.status result.file }
+{
+    let alloc = rt.alloc();
+    match read_file(rt, path, errors) {
+        Ok(file) => {
+            let made = nodes_in(alloc, file.text(), errors);
+            Ended {
+                status: serve_made(rt, alloc, made, port, turns, output, errors),
+                file: Some(file),
+            }
+        }
+        Err(status) => Ended::by(status),
+    }
+}
+
 // Writes the text of a request for help.
 fn help<O: Write, E: Write>(text: &str, output: &mut O, errors: &mut E) -> Status
     ensures { (result ≡ Status.Done) ⊎ (result ≡ Status.Stream) }
@@ -281,18 +369,20 @@ fn help<O: Write, E: Write>(text: &str, output: &mut O, errors: &mut E) -> Statu
 
 /// Does what these words ask for: the words after the program's name. What is asked for goes to
 /// `output`, what went wrong to `errors`, each as a line.
-pub fn run<R: Files + AllocGlobal, I: Read, O: Write, E: Write>(
-    rt: &R,
-    words: &[&str],
-    input: &mut Tap<I>,
-    output: &mut Tap<O>,
-    errors: &mut E,
-) -> Ended
+pub(crate) fn run<
+    R: Files + AllocGlobal + Net + RandomSource + Clock + Wait,
+    I: Read,
+    O: Write,
+    E: Write,
+>(rt: &R, words: &[&str], input: &mut Tap<I>, output: &mut Tap<O>, errors: &mut E) -> Ended
     ensures { Runs I.remaining O.contents input.old input.new output.old output.new (map (λ w. w.now) words.now) result }
 {
     match parse(rt.alloc(), words) {
         Ok(Command::Pipe { nodes }) => pipe_with(rt, nodes, input, output, errors),
         Ok(Command::Check { nodes }) => check_at(rt, nodes, output, errors),
+        Ok(Command::Serve { nodes, port, turns }) => {
+            serve_at(rt, nodes, port, turns, output, errors)
+        }
         Err(Stop::Help(text)) => Ended::by(help(text.as_str(), output, errors)),
         Err(Stop::Usage(text)) => {
             let _ = write!(errors, "{text}");

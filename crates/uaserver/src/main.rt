@@ -1,7 +1,7 @@
 //! The program `uaserver`: an OPC UA server.
 //!
-//! `uaserver pipe` serves one connection over standard input and output, and `uaserver check` counts
-//! what a node file holds. What a run does stands in [`commands::run`], over words, files and streams,
+//! `uaserver pipe` serves one connection over standard input and output, `uaserver serve` any number over
+//! sockets, and `uaserver check` counts what a node file holds. What a run does stands in [`commands::run`], over words, files and streams,
 //! so that tests can drive it; `main` only hands it the words of the command line and the three
 //! standard streams, and ends with its status.
 #![tactic(auto)]

@@ -31,8 +31,7 @@ impl Model for NodeFile {
 pub enum FileFault {
     /// There is no such file, it can't be read, or it isn't UTF-8.
     Unreadable,
-
-    /// A growth was refused.
+    /// An allocation failed.
     Memory,
 }
 

@@ -16,6 +16,8 @@ pub enum Status {
     Nodes,
     /// Memory ran out, or the server halted.
     Halted,
+    /// The port can't be had, or the network can't be waited for.
+    Network,
     /// Standard input or output failed, or the input had no end.
     Stream,
 }
@@ -31,6 +33,7 @@ impl Status {
             Status::File => 3,
             Status::Nodes => 4,
             Status::Halted => 5,
+            Status::Network => 6,
             Status::Stream => 7,
         }
     }

@@ -106,11 +106,11 @@ const GONE_ON: [u8; 2] = [0x18, 0x02];
 const LINE: &[u8] =
     b"\0\0\0\0\0\0\0\0\0\0\0\0\0\0\x02\0\0\0\x01\0\0\0\x01\x01\x01\0\0\0\0\0\0!\x01\0\0\0\0\x08\0\0\0";
 
-// The same of the empty object.
+// Browse of the empty object, as of the line.
 const EMPTY: &[u8] =
     b"\0\0\0\0\0\0\0\0\0\0\0\0\0\0\x02\0\0\0\x01\0\0\0\x01\x01\x02\0\0\0\0\0\0!\x01\0\0\0\0\x08\0\0\0";
 
-// The same of the line and of Objects.
+// Browse of the line and of Objects, as of the line.
 const BOTH: &[u8] =
     b"\0\0\0\0\0\0\0\0\0\0\0\0\0\0\x02\0\0\0\x02\0\0\0\x01\x01\x01\0\0\0\0\0\0!\x01\0\0\0\0\x08\0\0\0\0U\0\0\0\0\0!\x01\0\0\0\0\x08\0\0\0";
 

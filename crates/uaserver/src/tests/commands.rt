@@ -14,6 +14,7 @@ fn exit_statuses(rt: HostRuntime) -> Result<(), Fail> {
         (Status::File, 3),
         (Status::Nodes, 4),
         (Status::Halted, 5),
+        (Status::Network, 6),
         (Status::Stream, 7),
     ];
     for (status, code) in statuses {

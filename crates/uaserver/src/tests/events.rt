@@ -40,39 +40,26 @@ fn sent_to(number: u64, outs: &[Out]) -> Result<&[u8], Fail> {
 }
 
 #[test]
-fn connections_are_known_and_turned_away(rt: HostRuntime) -> Result<(), Fail> {
+fn a_run_ends_at_its_first_fault(rt: HostRuntime) -> Result<(), Fail> {
     let alloc = rt.alloc();
     let mut server = server_of(alloc, 1)?;
     let events = [
         Event::Opened { conn: 1, key: KEY },
-        Event::Opened { conn: 2, key: KEY },
-        Event::Tick { now: Moment(7) },
-        bytes_of(alloc, 2, HELLO)?,
-        bytes_of(alloc, 1, HELLO)?,
-        Event::Gone { conn: 1 },
-        Event::Opened { conn: 2, key: KEY },
+        Event::Opened { conn: 1, key: KEY },
         Event::Tick { now: Moment(8) },
     ];
     let ran = server.run(alloc, &events);
     assert_eq!(rt; ran.fault, Some(StepFault::KnownConnection));
-    let steps = ran.steps.into_vec();
-    assert_eq!(rt; steps.len(), 6);
-    // The second connection is turned away, and not listened to.
-    let turned_away = steps[1].outs.as_slice();
-    assert_eq!(rt; turned_away.len(), 2);
-    assert_eq!(rt; sent_to(2, turned_away)?, TURNED_AWAY);
-    assert!(rt; matches!(&turned_away[1], Out::Close { conn: 2 }));
-    assert!(rt; steps[3].outs.as_slice().is_empty());
-    assert_eq!(rt; sent_to(1, steps[4].outs.as_slice())?, ACKNOWLEDGE);
-    assert!(rt; steps[4].rows.as_slice().is_empty());
-    let unknown = Event::Gone { conn: 1 };
-    match server.step(alloc, &unknown) {
-        Err(fault) => assert_eq!(rt; fault, StepFault::UnknownConnection),
-        Ok(_) => return Err(Fail::new("answered")),
-    }
-    // The server goes on: the first connection is gone, so another one may open.
-    let step = server.step(alloc, &Event::Opened { conn: 3, key: KEY })?;
-    assert!(rt; step.outs.as_slice().is_empty());
+    assert_eq!(rt; ran.steps.as_slice().len(), 1);
+    Ok(())
+}
+
+#[test]
+fn a_connection_that_never_opened_is_unknown(rt: HostRuntime) -> Result<(), Fail> {
+    let alloc = rt.alloc();
+    let mut server = server_of(alloc, 1)?;
+    let gone = server.step(alloc, &Event::Gone { conn: 1 });
+    assert!(rt; matches!(&gone, Err(StepFault::UnknownConnection)));
     Ok(())
 }
 

@@ -1,18 +1,49 @@
-use Rattle.std.proofs.Common.{◌∙◌, Some, ap, ap₂, option_map}
-use Rattle.command_line.proofs.ProgramLemmas.{asked_met, no_nodes}
+use Rattle.std.proofs.Common.{◌≡◌, ◌∙◌, Option, None, Some, ap, ap₂, sym, codes, option_map}
+use Rattle.std.proofs.lemmas.Option.{none-some}
+use Rattle.clap.specs.Words.{Text, subcommand_rows_of}
+use Rattle.command_line.specs.Words.{asked_of, option_of, port_of, turns_of}
+use Rattle.command_line.proofs.ProgramLemmas.{asked_met, no_nodes, no_serve, option_met}
 use Rattle.command_line.proofs.parsing.command_of.Goals as goal
 
 pub returns-in-pipe-clause-some : goal.returns-in-pipe-clause-some
 returns-in-pipe-clause-some c =
     let met = asked_met c.args.matches.now c.in_ok-name.name c.in_ok-name.given c.get_str-nodes.result c.in_ok-name.ensures.name c.in_ok-name.ensures.rows c.get_str-nodes.ensures in
-    met ∙ ap (λ n. Some (n, option_map (λ n. n.now) c.get_str-nodes.result)) c.in-pipe.is
+    (met ∙ ap (λ n. Some (n, option_map (λ n. n.now) c.get_str-nodes.result)) c.in-pipe.is, tt)
 
 pub returns-in_ok-nodes-in-check-clause-some : goal.returns-in_ok-nodes-in-check-clause-some
 returns-in_ok-nodes-in-check-clause-some c =
     let met = asked_met c.args.matches.now c.in_ok-name.name c.in_ok-name.given c.get_str-nodes.result c.in_ok-name.ensures.name c.in_ok-name.ensures.rows c.get_str-nodes.ensures in
-    met ∙ ap₂ (λ n m. Some (n, option_map (λ n. n.now) m)) c.in-check.is c.in_ok-nodes-in-check.was
+    (met ∙ ap₂ (λ n m. Some (n, option_map (λ n. n.now) m)) c.in-check.is c.in_ok-nodes-in-check.was, tt)
 
 pub returns-in_err-nodes-in-check-clause-none : goal.returns-in_err-nodes-in-check-clause-none
 returns-in_err-nodes-in-check-clause-none c = λ is_none.
     let met = asked_met c.args.matches.now c.in_ok-name.name c.in_ok-name.given c.get_str-nodes.result c.in_ok-name.ensures.name c.in_ok-name.ensures.rows c.get_str-nodes.ensures in
     no_nodes _ (met ∙ ap₂ (λ n m. Some (n, option_map (λ n. n.now) m)) c.in-check.is c.in_err-nodes-in-check.was)
+
+pub returns-in_err-nodes-in-serve-clause-none : goal.returns-in_err-nodes-in-serve-clause-none
+returns-in_err-nodes-in-serve-clause-none c = λ is_none.
+    let met = asked_met c.args.matches.now c.in_ok-name.name c.in_ok-name.given c.get_str-nodes.result c.in_ok-name.ensures.name c.in_ok-name.ensures.rows c.get_str-nodes.ensures in
+    no_serve _ _ (met ∙ ap₂ (λ n m. Some (n, option_map (λ n. n.now) m)) c.in-serve.is c.in_err-nodes-in-serve.was) (λ n port turns is p t. none-some n is)
+
+pub returns-in_err-port_of-in-serve-clause-none : goal.returns-in_err-port_of-in-serve-clause-none
+returns-in_err-port_of-in-serve-clause-none c = λ is_none.
+    let met = asked_met c.args.matches.now c.in_ok-name.name c.in_ok-name.given c.get_str-nodes.result c.in_ok-name.ensures.name c.in_ok-name.ensures.rows c.get_str-nodes.ensures in
+    let there = option_met c.args.matches.now c.in_ok-name.given (codes "port") c.get_str.result c.in_ok-name.name c.in_ok-name.ensures.name c.in_ok-name.ensures.rows c.get_str.ensures in
+    no_serve _ _ (met ∙ ap (λ n. Some (n, option_map (λ n. n.now) c.get_str-nodes.result)) c.in-serve.is)
+    (λ n port turns is p t. none-some port (sym c.in_err-port_of-in-serve.was ∙ c.port_of.ensures ∙ ap port_of (sym there) ∙ p))
+
+pub returns-in_err-turns_of-in-serve-clause-none : goal.returns-in_err-turns_of-in-serve-clause-none
+returns-in_err-turns_of-in-serve-clause-none c = λ is_none.
+    let met = asked_met c.args.matches.now c.in_ok-name.name c.in_ok-name.given c.get_str-nodes.result c.in_ok-name.ensures.name c.in_ok-name.ensures.rows c.get_str-nodes.ensures in
+    let there = option_met c.args.matches.now c.in_ok-name.given (codes "turns") c.get_str-in-serve.result c.in_ok-name.name c.in_ok-name.ensures.name c.in_ok-name.ensures.rows c.get_str-in-serve.ensures in
+    no_serve _ _ (met ∙ ap (λ n. Some (n, option_map (λ n. n.now) c.get_str-nodes.result)) c.in-serve.is)
+    (λ n port turns is p t. none-some turns (sym c.in_err-turns_of-in-serve.was ∙ c.turns_of.ensures ∙ ap turns_of (sym there) ∙ t))
+
+pub returns-in_ok-turns_of-in-serve-clause-some : goal.returns-in_ok-turns_of-in-serve-clause-some
+returns-in_ok-turns_of-in-serve-clause-some c =
+    let met = asked_met c.args.matches.now c.in_ok-name.name c.in_ok-name.given c.get_str-nodes.result c.in_ok-name.ensures.name c.in_ok-name.ensures.rows c.get_str-nodes.ensures in
+    let port_there = option_met c.args.matches.now c.in_ok-name.given (codes "port") c.get_str.result c.in_ok-name.name c.in_ok-name.ensures.name c.in_ok-name.ensures.rows c.get_str.ensures in
+    let turns_there = option_met c.args.matches.now c.in_ok-name.given (codes "turns") c.get_str-in-serve.result c.in_ok-name.name c.in_ok-name.ensures.name c.in_ok-name.ensures.rows c.get_str-in-serve.ensures in (
+      met ∙ ap₂ (λ n m. Some (n, option_map (λ n. n.now) m)) c.in-serve.is c.in_ok-nodes-in-serve.was,
+      (ap port_of port_there ∙ sym c.port_of.ensures ∙ c.in_ok-port_of-in-serve.was, ap turns_of turns_there ∙ sym c.turns_of.ensures ∙ c.in_ok-turns_of-in-serve.was),
+    )

@@ -1,7 +1,7 @@
 use Rattle.std.proofs.Common.{◌≡◌, ◌∙◌, sym, ap, arith}
 use Rattle.ua_core.specs.Running.{sent_bytes}
 use Rattle.pump.proofs.PumpLemmas.{part_put}
-use Rattle.pump.proofs.put_outs.Goals as goal
+use Rattle.pump.proofs.put_each.Goals as goal
 
 pub returns-then-count-bytes-clause-count : goal.returns-then-count-bytes-clause-count
 returns-then-count-bytes-clause-count g c =

@@ -1,7 +1,7 @@
 use Rattle.std.proofs.Common.{take}
 use Rattle.ua_core.specs.Running.{joined}
 use Rattle.pump.proofs.PumpLemmas.{AllPut}
-use Rattle.pump.proofs.put_outs.Given as goal
+use Rattle.pump.proofs.put_each.Given as goal
 
 abbrev pub invariant-loop-out : goal.invariant-loop-out
 invariant-loop-out g l =

@@ -1,0 +1,2 @@
+pub mod PeerLemmas
+pub mod MapLemmas

@@ -1,0 +1,76 @@
+-- What goes out in one write, and in several.
+use Rattle.std.proofs.Common.{◌≡◌, ℕ, ◌+◌, ◌-◌, ◌<◌, ◌≤◌, true, List, [], ◌∷◌, ◌++◌, length, take, drop, map, Option, Some, None, refl, sym, ap, ◌∙◌, subst, suc, slice_index_or, append-nil, append_assoc, take-append-drop, length-append, Bor, arith}
+use lib.Seq.{drop-cons}
+use Rattle.std.proofs.Math.Seq.{take-append_seam, take-add}
+use Rattle.std.proofs.lemmas.List.{drop-drop, length-drop}
+use Rattle.std.proofs.lemmas.List.Folds.{concat-append}
+use Rattle.std.specs.List.{concat}
+use Rattle.std.specs.Io.KnownBytes.{Appends, Keeps}
+use Rattle.std.proofs.KnownBytes.{Appends-nil, Appends-trans, Keeps-refl}
+use Rattle.bytes.specs.Unread.{IsChunkOf, concat_slices}
+use Rattle.socket_peers.specs.Peer.{PeerState, Writes}
+
+-- some bytes at the front
+pub front_part : (xs rest all : List ℕ) → all ≡ xs ++ rest → 0 < length xs → IsChunkOf xs all
+front_part xs rest all is some = record {
+  front = ap (take (length xs)) is ∙ take-append_seam xs rest;
+  fits = let len = ap length is ∙ length-append xs rest in omega arith;
+  some = λ _. some;
+}
+
+map_append : (xs ys : List (Bor (List ℕ))) → concat_slices (xs ++ ys) ≡ concat_slices xs ++ concat_slices ys
+map_append [] ys = refl
+map_append (x ∷ xs) ys = ap (λ l. x.now ++ l) (map_append xs ys) ∙ sym (append_assoc x.now (concat_slices xs) (concat_slices ys))
+
+-- the first of several slices at the front are at the front
+pub first_slices : (slices : List (Bor (List ℕ))) (i : ℕ) (all : List ℕ) → IsChunkOf (concat_slices slices) all → 0 < length (concat_slices (take i slices))
+    → IsChunkOf (concat_slices (take i slices)) all
+first_slices slices i all h some =
+    let n = length (concat_slices slices) in
+    let split : concat_slices slices ≡ concat_slices (take i slices) ++ concat_slices (drop i slices) = ap concat_slices (sym (take-append-drop i slices)) ∙ map_append (take i slices) (drop i slices) in
+    front_part (concat_slices (take i slices)) (concat_slices (drop i slices) ++ drop n all) all
+    (sym (take-append-drop n all) ∙ ap (λ l. l ++ drop n all) (h.front ∙ split) ∙ append_assoc (concat_slices (take i slices)) (concat_slices (drop i slices)) (drop n all)) some
+
+-- one more slice
+pub next_slice : (slices : List (Bor (List ℕ))) (i : ℕ) (other : Bor (List ℕ)) → i < length slices
+    → concat_slices (take (i + 1) slices) ≡ concat_slices (take i slices) ++ (slice_index_or slices i other).now
+next_slice slices i other lt =
+    let x = slice_index_or slices i other in
+    ap concat_slices (take-add i 1 slices ∙ ap (λ l. take i slices ++ take 1 l) (drop-cons slices i other lt))
+    ∙ map_append (take i slices) (x ∷ []) ∙ ap (λ l. concat_slices (take i slices) ++ l) (append-nil x.now)
+
+-- ---- writes
+
+Keeps-again : (a b c : Option (List ℕ)) → Keeps a b → Keeps b c → Keeps a c
+Keeps-again None b c p q = tt
+Keeps-again (Some x) None c p q = absurd p
+Keeps-again (Some x) (Some y) None p q = absurd q
+Keeps-again (Some x) (Some y) (Some z) p q = q ∙ p
+
+module _ {S : Type 0} (remaining contents : S → Option (List ℕ)) where
+  pub writes_none : (p : PeerState S) → Writes remaining contents p p
+  writes_none p = record {
+    count = 0;
+    fits = omega arith;
+    taken = Appends-nil (contents p.stream);
+    read = Keeps-refl (remaining p.stream);
+    owed = refl;
+    closes = refl;
+    failed = λ e. e;
+  }
+
+  pub writes_trans : (a b c : PeerState S) → Writes remaining contents a b → Writes remaining contents b c → Writes remaining contents a c
+  writes_trans a b c p q =
+      let rest : length b.owed ≡ length a.owed - p.count = ap length p.owed ∙ length-drop p.count a.owed in
+      let fits = p.fits in
+      let fits' = q.fits in
+      record {
+        count = p.count + q.count;
+        fits = omega arith;
+        taken = subst (Appends (contents a.stream) (contents c.stream)) (sym (take-add p.count q.count a.owed ∙ ap (λ l. take p.count a.owed ++ take q.count l) (sym p.owed)))
+            (Appends-trans (contents a.stream) (contents b.stream) (contents c.stream) (take p.count a.owed) (take q.count b.owed) p.taken q.taken);
+        read = Keeps-again (remaining a.stream) (remaining b.stream) (remaining c.stream) p.read q.read;
+        owed = q.owed ∙ ap (drop q.count) p.owed ∙ drop-drop q.count p.count a.owed;
+        closes = q.closes ∙ p.closes;
+        failed = λ e. q.failed (p.failed e);
+      }

@@ -1,0 +1,20 @@
+//! The sockets of a server, and the bytes that each is owed.
+//!
+//! A [`Socket`] is any stream whose reads and writes don't wait, so that contracts can name its bytes. A
+//! [`Peer`] is one socket with the queue of what the server sent on its connection and the socket hasn't
+//! taken yet. [`Peers`] are all of them under the numbers of their connections; [`Peers::owe_all`] brings
+//! what a step of the server sends to the right sockets.
+//!
+//! Nothing here waits, and nothing here knows what the bytes mean, or when a socket is ready.
+#![tactic(auto)]
+
+mod peer;
+mod peers;
+mod socket;
+
+pub use peer::{Heard, Peer};
+pub use peers::Peers;
+pub use socket::Socket;
+
+#[cfg(test)]
+mod tests;

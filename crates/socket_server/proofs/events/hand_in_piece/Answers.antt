@@ -1,0 +1,12 @@
+use Rattle.std.proofs.Common.{rules, ◌≡◌, refl, subst}
+use Rattle.ua_core.specs.World.{world_of}
+use Rattle.ua_core.specs.declared.event.Event.TheVariants as happening
+use Rattle.socket_server.specs.Serving.{scene, HandsIn}
+use Rattle.socket_server.proofs.events.hand_in_piece.Goals as goal
+
+pub returns-in-Ok-hand_in : goal.returns-in-Ok-hand_in
+returns-in-Ok-hand_in g c =
+    let same : c.in-Ok.bytes ≡ c.args.piece.items = search rules in (
+      refl,
+      subst (λ l. HandsIn g.S.Socket.remaining g.S.Socket.contents (happening.Bytes c.args.number l) (scene (world_of c.args.server.now) c.args.peers.now) (scene (world_of c.hand_in.new.server) c.hand_in.new.peers)) same c.in-Ok-hand_in.ensures,
+    )

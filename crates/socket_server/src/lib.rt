@@ -1,0 +1,20 @@
+//! The server over sockets: one loop, one thread, and no call that waits but that of the loop itself.
+//!
+//! [`Serve::bind`] listens, and [`Serve::run`] takes turns: it waits until a socket is ready or 100 ms are
+//! over, takes in who connects, hands each piece that is read to the [`ua_core::Server`] as an event,
+//! puts what the server sends into the queues of the sockets, and writes what they take.
+//!
+//! Only `src/serve.rt` knows of `mio`. What a turn is made of stands in `src/events.rt`, over any stream
+//! whose reads and writes don't wait, so that contracts can name the bytes. `docs/SERVE.md` has the loop as
+//! a picture, and says which part of it is proved.
+#![tactic(auto)]
+
+mod events;
+mod serve;
+mod serve_fault;
+
+pub use serve::Serve;
+pub use serve_fault::ServeFault;
+
+#[cfg(test)]
+mod tests;

@@ -1,0 +1,328 @@
+//! The loop over `mio`.
+
+ghost use Rattle.std.specs.Prelude.{◌≡◌, ◌+◌, OnOk, IfOk, IfErr};
+ghost use Rattle.std.specs.FinMap as map;
+ghost use Rattle.socket_peers.specs.Peers.{nobody};
+ghost use Rattle.ua_core.specs.World.{world_of};
+ghost use Rattle.socket_server.specs.Serving.{scene, unknown, IsOutside, Serves, Drawn};
+
+use crate::events::{attend_all, hand_in, welcome};
+use crate::serve_fault::ServeFault;
+use mio::net::{TcpListener, TcpStream};
+use mio::{Events, Interest, Poll, Token};
+use rand::make_rng;
+use rand::rngs::StdRng;
+use rand_core::Rng;
+use socket_peers::Peers;
+use std::alloc::{AllocError, Global};
+use std::io;
+use std::io::ErrorKind;
+use std::marker::Model;
+use std::net::{Ipv4Addr, Net, SocketAddr};
+use std::random::RandomSource;
+use std::sync::Wait;
+use std::time::{Clock, Duration, SystemTime};
+use ua_core::{Event, Server};
+use ua_types::Moment;
+
+// The listening socket. Connections have the numbers from 1 on.
+const LISTENER: Token = Token(0);
+
+// How long a turn waits where no socket is ready, in milliseconds.
+const WAIT: u64 = 100;
+
+// The most sockets that are reported in a turn. Others are reported in the next.
+const REPORTS: usize = 1024;
+
+// The most connections that are taken in within a turn.
+const ACCEPTS: usize = 256;
+
+// The 100 ns units from 1601, where moments begin, to 1970, where the system's clock does.
+const FROM_1601_TO_1970: u128 = 116_444_736_000_000_000;
+
+/// A listening socket on 127.0.0.1, and the sockets of the connections that it took in.
+#[derive(Drop)]
+pub struct Serve {
+    poll: Poll,
+    events: Events,
+    listener: TcpListener,
+    keys: StdRng,
+    // There may be a connection to be taken in.
+    may_accept: bool,
+    peers: Peers<TcpStream>,
+}
+
+impl Model for Serve {
+    ghost use Rattle.mio.specs.declared.net.stream.TcpStream.{TcpStream};
+    ghost use Rattle.mio.specs.contracts.net.stream.TcpStream as tcp_stream;
+    ghost use Rattle.socket_peers.specs.Peers.{PeersState, peers_code};
+
+    ghost Value = { PeersState TcpStream };
+
+    ghost coded = { peers_code tcp_stream.the_row.coded };
+
+    ghost view = { λ s. s.peers };
+}
+
+// Wakes the sockets that are reported as ready, and says whether one may have connected.
+fn report_all(peers: &mut Peers<TcpStream>, events: &Events) -> Result<bool, AllocError>
+    ensures { OnOk result (peers.new ≡ peers.old) }
+{
+    let mut connected = false;
+    for event in events.iter() {
+        if event.token() == LISTENER {
+            connected = true;
+        } else {
+            let Token(number) = event.token();
+            let is_writable = event.is_writable() || event.is_write_closed() || event.is_error();
+            peers.report(number as u64, is_writable)?;
+        }
+    }
+    Ok(connected)
+}
+
+// The key of a new connection: the next bytes of a generator that the system seeded.
+fn fresh_key<K: Rng>(keys: &mut K) -> [u8; 32]
+    ensures { Drawn K.stream keys.old keys.new result }
+{
+    let mut key = [0; 32];
+    keys.fill_bytes(&mut key);
+    key
+}
+
+/// The moment that the system's clock shows: 100 ns units since the year 1601. A clock before 1970 shows
+/// 1970.
+fn moment<R: Clock>(rt: &R) -> io::Result<Moment> {
+    let now = SystemTime::now(rt)?;
+    let since_1970 = match now.duration_since(SystemTime::UNIX_EPOCH) {
+        Ok(since) => since,
+        Err(_) => Duration::ZERO,
+    };
+    let units = since_1970.as_nanos() / 100 + FROM_1601_TO_1970;
+    Ok(Moment(i64::try_from(units).unwrap_or(i64::MAX)))
+}
+
+impl Serve {
+    /// Listens at this port of 127.0.0.1, where port 0 is one that the system chooses. `Network` where the
+    /// port can't be had.
+    pub fn bind<R: Net + RandomSource>(
+        rt: &R,
+        alloc: Global,
+        port: u16,
+    ) -> Result<Serve, ServeFault>
+        ensures ok { IfOk result (λ serve. serve ≡ nobody) }
+        ensures err { IfErr result IsOutside }
+    {
+        let address = SocketAddr::from((Ipv4Addr::LOCALHOST, port));
+        let Ok(mut listener) = TcpListener::bind(rt, address) else {
+            return Err(ServeFault::Network);
+        };
+        let Ok(poll) = Poll::new(rt) else {
+            return Err(ServeFault::Network);
+        };
+        let registry = poll.registry();
+        if registry
+            .register(&mut listener, LISTENER, Interest::READABLE)
+            .is_err()
+        {
+            return Err(ServeFault::Network);
+        }
+        let Ok(keys) = make_rng(rt) else {
+            return Err(ServeFault::Network);
+        };
+        let Ok(events) = Events::with_capacity(alloc, REPORTS) else {
+            return Err(ServeFault::Memory);
+        };
+        Ok(Serve {
+            poll,
+            events,
+            listener,
+            keys,
+            may_accept: true,
+            peers: Peers::new(alloc),
+        })
+    }
+
+    /// The address that it listens at.
+    pub fn address(&self) -> io::Result<SocketAddr> {
+        self.listener.local_addr()
+    }
+
+    /// How many connections there are.
+    pub fn len(&self) -> usize
+        ensures { result ≡ map.len self.now.connected }
+    {
+        self.peers.len()
+    }
+
+    /// Serves for so many turns, or without end for 0. A turn waits until a socket is ready, at most for
+    /// 100 ms; then it tells the server the time, takes in who has connected, and looks at each socket that
+    /// is ready.
+    ///
+    /// The server should know no connection of another's, since numbers count up from 1. At `Step` and
+    /// `Memory` it is as its last step left it, and what was to be sent may be lost.
+    pub fn run<R: Clock + Wait>(
+        &mut self,
+        rt: &R,
+        alloc: Global,
+        server: &mut Server,
+        turns: u64,
+    ) -> Result<(), ServeFault>
+        ensures { Serves unknown unknown turns (scene (world_of server.old) self.old) (scene (world_of server.new) self.new) result }
+    {
+        if turns == 0 {
+            return self.run_on(rt, alloc, server);
+        }
+        for _turn in 0..turns {
+            match self.turn(rt, alloc, server) {
+                Ok(()) => {}
+                Err(fault) => return Err(fault),
+            }
+        }
+        Ok(())
+    }
+
+    // Turns without end.
+    fn run_on<R: Clock + Wait>(
+        &mut self,
+        rt: &R,
+        alloc: Global,
+        server: &mut Server,
+    ) -> Result<(), ServeFault>
+        ensures { Serves unknown unknown 0 (scene (world_of server.old) self.old) (scene (world_of server.new) self.new) result }
+    {
+        for _turn in rt.forever() {
+            match self.turn(rt, alloc, server) {
+                Ok(()) => {}
+                Err(fault) => return Err(fault),
+            }
+        }
+        unreachable!()
+    }
+
+    fn turn<R: Clock>(
+        &mut self,
+        rt: &R,
+        alloc: Global,
+        server: &mut Server,
+    ) -> Result<(), ServeFault>
+        ensures { Serves unknown unknown 1 (scene (world_of server.old) self.old) (scene (world_of server.new) self.new) result }
+    {
+        match self.wait() {
+            Ok(()) => {}
+            Err(fault) => return Err(fault),
+        }
+        match self.tick(rt, alloc, server) {
+            Ok(()) => {}
+            Err(fault) => return Err(fault),
+        }
+        match self.accept_all(alloc, server) {
+            Ok(()) => attend_all(alloc, &mut self.peers, server),
+            Err(fault) => Err(fault),
+        }
+    }
+
+    // Tells the server the time.
+    fn tick<R: Clock>(
+        &mut self,
+        rt: &R,
+        alloc: Global,
+        server: &mut Server,
+    ) -> Result<(), ServeFault>
+        ensures { Serves unknown unknown 1 (scene (world_of server.old) self.old) (scene (world_of server.new) self.new) result }
+    {
+        let Ok(now) = moment(rt) else {
+            return Err(ServeFault::Network);
+        };
+        let tick = Event::Tick { now };
+        hand_in(alloc, &mut self.peers, server, &tick)
+    }
+
+    // Waits until a socket is ready, and wakes those that are.
+    fn wait(&mut self) -> Result<(), ServeFault>
+        ensures ok { OnOk result (self.new ≡ self.old) }
+        ensures outside { IfErr result IsOutside }
+    {
+        let wait = if self.peers.is_any_awake() {
+            Duration::ZERO
+        } else {
+            Duration::from_millis(WAIT)
+        };
+        if self.poll.poll(&mut self.events, Some(wait)).is_err() {
+            return Err(ServeFault::Network);
+        }
+        match report_all(&mut self.peers, &self.events) {
+            Ok(connected) => {
+                self.may_accept |= connected;
+                Ok(())
+            }
+            Err(_) => Err(ServeFault::Memory),
+        }
+    }
+
+    // Takes in those who have connected.
+    fn accept_all(&mut self, alloc: Global, server: &mut Server) -> Result<(), ServeFault>
+        ensures { Serves unknown unknown 0 (scene (world_of server.old) self.old) (scene (world_of server.new) self.new) result }
+    {
+        for _accept in 0..ACCEPTS {
+            let Some(stream) = self.accept() else {
+                return Ok(());
+            };
+            match self.take_in(alloc, server, stream) {
+                Ok(()) => {}
+                Err(fault) => return Err(fault),
+            }
+        }
+        Ok(())
+    }
+
+    // The next who has connected. A connection that is gone again is passed over. Where there are no more
+    // descriptors, or no memory, it is tried again in the next turn.
+    fn accept(&mut self) -> Option<TcpStream>
+        ensures { self.new ≡ self.old }
+    {
+        for _try in 0..ACCEPTS {
+            if !self.may_accept {
+                return None;
+            }
+            match self.listener.accept() {
+                Ok((stream, _)) => return Some(stream),
+                Err(error) => match error.kind() {
+                    ErrorKind::ConnectionAborted | ErrorKind::Interrupted => {}
+                    kind => {
+                        self.may_accept = kind != ErrorKind::WouldBlock;
+                        return None;
+                    }
+                },
+            }
+        }
+        None
+    }
+
+    // Takes in one who has connected. A socket that can't be waited for is let go of.
+    fn take_in(
+        &mut self,
+        alloc: Global,
+        server: &mut Server,
+        mut stream: TcpStream,
+    ) -> Result<(), ServeFault>
+        ensures { Serves unknown unknown 0 (scene (world_of server.old) self.old) (scene (world_of server.new) self.new) result }
+    {
+        let Some(number) = self.peers.next() else {
+            return Ok(());
+        };
+        let _ = stream.set_nodelay(true);
+        let token = Token(number as usize);
+        let both = Interest::READABLE | Interest::WRITABLE;
+        if self
+            .poll
+            .registry()
+            .register(&mut stream, token, both)
+            .is_err()
+        {
+            return Ok(());
+        }
+        let key = fresh_key(&mut self.keys);
+        welcome(alloc, &mut self.peers, server, number, stream, key)
+    }
+}

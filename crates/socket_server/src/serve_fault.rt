@@ -1,0 +1,38 @@
+//! Why serving ended.
+
+ghost use Rattle.std.specs.Prelude.{◌≡◌};
+ghost use Rattle.socket_server.specs.declared.serve_fault.ServeFault.TheVariants as serve_fault;
+
+use std::alloc::{AllocError, AllocFailed};
+use thiserror::Error;
+use ua_core::StepFault;
+
+/// Why serving ended. No socket that fails ends it, and no client.
+#[derive(Clone, Copy, Debug, PartialEq, Eq, Error)]
+pub enum ServeFault {
+    /// The port can't be had, or the system refused the wait, the clock or random bytes.
+    #[error("the network")]
+    Network,
+    /// The server didn't answer an event.
+    #[error("the server did not answer")]
+    Step(StepFault),
+    /// A growth of the loop's own was refused. The server is as its last step left it.
+    #[error("out of memory")]
+    Memory,
+}
+
+impl From<AllocError> for ServeFault {
+    ghost from_gives = { λ _ e. e ≡ serve_fault.Memory };
+
+    fn from(_e: AllocError) -> ServeFault {
+        ServeFault::Memory
+    }
+}
+
+impl<T: Drop> From<AllocFailed<T>> for ServeFault {
+    ghost from_gives = { λ _ e. e ≡ serve_fault.Memory };
+
+    fn from(_e: AllocFailed<T>) -> ServeFault {
+        ServeFault::Memory
+    }
+}

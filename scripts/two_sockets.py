@@ -1,0 +1,221 @@
+#!/usr/bin/env python3
+"""Talks to `uaserver serve` as clients over sockets, and compares what they get with what `uaserver pipe` writes.
+
+    python3 scripts/two_sockets.py PROGRAM NODES [PORT]
+
+PROGRAM is the built program, NODES a node file with the standard's limits, as crates/uaserver/data/line.toml. It tries:
+two sockets whose conversations go on at once, cut differently; 100 sockets opened and closed at once, and then one
+that is served; a client that sends nothing, and one that never reads. Nothing but Python's own library is needed.
+"""
+import select
+import socket
+import struct
+import subprocess
+import sys
+import time
+
+HELLO = bytes.fromhex('48454c46380000000000000000000100000001000000000000000000180000006f70632e7463703a2f2f6c6f63616c686f73743a34383430')
+POLICY = struct.pack('<I', 47) + b'http://opcfoundation.org/UA/SecurityPolicy#None' + b'\xff' * 8
+
+
+def opening():
+    """OpenSecureChannel of the mode None, an Issue for an hour."""
+    body = bytes.fromhex('0100be01') + bytes.fromhex('0000') + bytes(8) + struct.pack('<I', 1) + bytes(4) + b'\xff' * 4
+    body += bytes(4) + bytes(3) + bytes(4) + struct.pack('<II', 0, 1) + b'\xff' * 4 + struct.pack('<I', 3600000)
+    rest = bytes(4) + POLICY + struct.pack('<II', 1, 1) + body
+    return b'OPNF' + struct.pack('<I', 8 + len(rest)) + rest
+
+
+def chunk(letters, channel, sequence, request, body):
+    return letters + struct.pack('<IIIII', 24 + len(body), channel, 1, sequence, request) + body
+
+
+def header(type_id, handle):
+    return b'\x01\x00' + struct.pack('<H', type_id) + b'\x00\x00' + bytes(8) + struct.pack('<I', handle) + bytes(4) + b'\xff' * 4 + bytes(4) + bytes(3)
+
+
+def get_endpoints(channel, sequence):
+    return chunk(b'MSGF', channel, sequence, 2, header(428, 2) + b'\xff' * 12)
+
+
+def close(channel, sequence):
+    return chunk(b'CLOF', channel, sequence, 3, header(452, 3))
+
+
+def conversation(channel, requests):
+    """Hello, an opening, so many GetEndpoints, and the end."""
+    parts = [HELLO, opening()]
+    parts += [get_endpoints(channel, 2 + n) for n in range(requests)]
+    parts.append(close(channel, 2 + requests))
+    return b''.join(parts)
+
+
+def without_times(answer):
+    """The clock is another one: zeros in the place of each time, and channel and sequence as they are."""
+    out = bytearray(answer)
+    place = 0
+    while place + 8 <= len(out):
+        letters, size = bytes(out[place:place + 3]), struct.unpack_from('<I', out, place + 4)[0]
+        if letters == b'OPN':
+            out[place + 83:place + 91] = bytes(8)
+            out[place + 119:place + 127] = bytes(8)
+        elif letters == b'MSG':
+            out[place + 28:place + 36] = bytes(8)
+        place += size
+    return bytes(out)
+
+
+def of_channel(answer, channel):
+    """The same answer on another channel: the number stands in each header, and in the token."""
+    out = bytearray(answer)
+    place = 0
+    while place + 8 <= len(out):
+        letters, size = bytes(out[place:place + 3]), struct.unpack_from('<I', out, place + 4)[0]
+        if letters in (b'OPN', b'MSG'):
+            struct.pack_into('<I', out, place + 8, channel)
+        if letters == b'OPN':
+            struct.pack_into('<I', out, place + 111, channel)
+        place += size
+    return bytes(out)
+
+
+def connect(port):
+    return socket.create_connection(('127.0.0.1', port), timeout=20)
+
+
+def read_all(sock):
+    parts = []
+    while True:
+        part = sock.recv(65536)
+        if not part:
+            return b''.join(parts)
+        parts.append(part)
+
+
+def read_frame(sock):
+    front = b''
+    while len(front) < 8:
+        front += sock.recv(8 - len(front))
+    size = struct.unpack_from('<I', front, 4)[0]
+    while len(front) < size:
+        front += sock.recv(size - len(front))
+    return front
+
+
+def piped(program, nodes, data):
+    return subprocess.run([program, 'pipe', nodes], input=data, stdout=subprocess.PIPE, check=True).stdout
+
+
+def two_at_once(program, nodes, port):
+    first, second = connect(port), connect(port)
+    # The first asks 300 times in one go, the second 40 times in pieces of 7 bytes. Channel numbers go by the openings.
+    first.sendall(HELLO + opening())
+    assert read_frame(first)[:3] == b'ACK'
+    opened = read_frame(first)
+    one = struct.unpack_from('<I', opened, 8)[0]
+    second.sendall(HELLO + opening())
+    assert read_frame(second)[:3] == b'ACK'
+    two = struct.unpack_from('<I', read_frame(second), 8)[0]
+    assert two == one + 1, (one, two)
+    rest = {}
+    for sock, channel, count, size in ((first, one, 300, 1 << 20), (second, two, 40, 7)):
+        rest[sock] = [conversation(channel, count)[len(HELLO) + len(opening()):], size, b'', channel, count]
+    open_still = {first, second}
+    for sock in open_still:
+        sock.setblocking(False)
+    while open_still:
+        readable, writable, _ = select.select(list(open_still), [s for s in open_still if rest[s][0]], [], 20)
+        assert readable or writable, 'nothing for 20 seconds'
+        for sock in writable:
+            taken = sock.send(rest[sock][0][:rest[sock][1]])
+            rest[sock][0] = rest[sock][0][taken:]
+        for sock in readable:
+            part = sock.recv(65536)
+            rest[sock][2] += part
+            if not part:
+                open_still.discard(sock)
+    for sock in (first, second):
+        _, _, got, channel, count = rest[sock]
+        due = piped(program, nodes, conversation(1, count))
+        due = of_channel(without_times(due), channel)[28 + 135:]
+        assert without_times(got) == due, (len(got), len(due))
+        sock.close()
+
+
+def served_once(program, nodes, port):
+    sock = connect(port)
+    sock.sendall(HELLO + opening())
+    assert read_frame(sock)[:3] == b'ACK'
+    channel = struct.unpack_from('<I', read_frame(sock), 8)[0]
+    sock.sendall(get_endpoints(channel, 2))
+    assert len(read_frame(sock)) == 323
+    sock.sendall(close(channel, 3))
+    assert read_all(sock) == b''
+    sock.close()
+
+
+def hundred(program, nodes, port):
+    socks = [connect(port) for _ in range(100)]
+    for sock in socks:
+        sock.close()
+    served_once(program, nodes, port)
+
+
+def silent_and_deaf(program, nodes, port):
+    silent, deaf = connect(port), connect(port)
+    deaf.sendall(HELLO + opening())
+    assert read_frame(deaf)[:3] == b'ACK'
+    channel = struct.unpack_from('<I', read_frame(deaf), 8)[0]
+    # It asks and asks, and never reads, until its socket takes no more.
+    deaf.setblocking(False)
+    data = b''.join(get_endpoints(channel, 2 + n) for n in range(20000))
+    sent, last = 0, time.time()
+    while sent < len(data) and time.time() - last < 1:
+        try:
+            count = deaf.send(data[sent:sent + 65536])
+            sent, last = sent + count, time.time()
+        except BlockingIOError:
+            time.sleep(0.01)
+    started = time.time()
+    served_once(program, nodes, port)
+    print(f'  beside one that never reads ({sent} bytes sent, then no more taken: {sent < len(data)}): {1000 * (time.time() - started):.1f} ms')
+    # Once it reads, it is served on, to the last request.
+    deaf.setblocking(True)
+    answers, left = 0, data[sent:]
+    deaf.settimeout(20)
+    if left:
+        deaf.setblocking(False)
+    got = b''
+    while answers < 20000:
+        readable, writable, _ = select.select([deaf], [deaf] if left else [], [], 20)
+        assert readable or writable, f'nothing for 20 seconds after {answers} answers'
+        if writable:
+            left = left[deaf.send(left[:65536]):]
+        if readable:
+            got += deaf.recv(1 << 20)
+            answers = len(got) // 323
+    assert len(got) == 20000 * 323
+    silent.close()
+    deaf.close()
+
+
+def main():
+    program, nodes = sys.argv[1], sys.argv[2]
+    port = int(sys.argv[3]) if len(sys.argv) > 3 else 48410
+    server = subprocess.Popen([program, 'serve', nodes, '--port', str(port)], stdout=subprocess.PIPE)
+    try:
+        line = server.stdout.readline()
+        assert line == f'listening {port}\n'.encode(), line
+        for name, test in (('two at once', two_at_once), ('a hundred that vanish', hundred), ('silent and deaf', silent_and_deaf)):
+            test(program, nodes, port)
+            assert server.poll() is None, 'the server ended'
+            print('ok', name)
+        taken = subprocess.run([program, 'serve', nodes, '--port', str(port)], stdout=subprocess.PIPE, stderr=subprocess.PIPE)
+        assert (taken.returncode, taken.stderr) == (6, b'network\n'), taken
+        print('ok a port that is taken')
+    finally:
+        server.kill()
+        server.wait()
+
+
+main()
