@@ -94,6 +94,6 @@ allows types.All named id = true
 allows types.Named named id = same_id id named
 allows (types.Below ids) named id = list_any (same_id id) ids
 
--- these are the types that a description asks for
+-- the types that are allowed are those that a description asks for
 abbrev pub AllowsWanted : List Triple → BrowseDescription → Types → Type 0
 AllowsWanted triples d types = (id : NodeId) → allows types d.reference_type_id id ≡ is_type_wanted triples d id

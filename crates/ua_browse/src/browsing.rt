@@ -1,4 +1,4 @@
-//! The services Browse and BrowseNext.
+//! Pages of a node's references, and the points between them.
 
 ghost use Rattle.std.specs.Prelude.{◌≡◌, ◌<◌, ◌^◌, length, Some, IfOk};
 ghost use Rattle.std.specs.Result.{result_map_both};
@@ -65,8 +65,8 @@ fn paged(
     }
 }
 
-/// The references of a node that a description asks for, or as many of them as a page has (IEC 62541-4,
-/// "Browse").
+/// The references of a node that a description asks for, or as many of them as a page has (IEC 62541-4, 5.8.2,
+/// Browse). `size` is the most references of a page, of [`page_size`], at least 1.
 ///
 /// It refuses in this order: no node has the id, `BAD_NODE_ID_UNKNOWN`; the reference type is neither null
 /// nor a ReferenceType node, `BAD_REFERENCE_TYPE_ID_INVALID`; the direction is none of the three,
@@ -116,8 +116,8 @@ fn copied(alloc: Global, description: &BrowseDescription) -> Result<BrowseDescri
     })
 }
 
-/// The next page of the references that a point stands for, which is used up (IEC 62541-4, "BrowseNext").
-/// Where more are left, another point stands for them.
+/// The next page after a point (IEC 62541-4, 5.8.3, BrowseNext). The point is used up; where more references are
+/// left, another one stands for them.
 ///
 /// `BAD_CONTINUATION_POINT_INVALID` where no point of Browse has the serial. `Exhausted` where no serial is left
 /// for the new point. At an `Err` the points are as they were.

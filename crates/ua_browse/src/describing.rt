@@ -104,7 +104,7 @@ fn definition_told(
 }
 
 /// What is told of a reference, of which the mask says what is wanted.
-pub fn described(
+pub(crate) fn described(
     alloc: Global,
     space: &Space,
     mask: u32,

@@ -19,7 +19,7 @@ pub struct Cut {
 
 /// The first of a node's references that are wanted, from a place on. It looks at those up to the first that
 /// the next page has.
-pub fn page_from(
+pub(crate) fn page_from(
     alloc: Global,
     space: &Space,
     types: &Types,

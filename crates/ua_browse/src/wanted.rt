@@ -11,7 +11,7 @@ use ua_space::{Direction, NodeDetails, Reference, Space, Subtypes};
 use ua_types::{NodeClass, NodeId, Status};
 
 /// Whether a mask has a bit, which is told by its value.
-pub fn has_bit(mask: u32, bit: u32) -> bool
+pub(crate) fn has_bit(mask: u32, bit: u32) -> bool
     requires { 0 < bit }
     ensures { result ≡ has_bit_lem mask bit }
 {
@@ -50,7 +50,7 @@ pub enum Types {
 }
 
 /// The types that a description asks for.
-pub fn types_of(
+pub(crate) fn types_of(
     alloc: Global,
     space: &Space,
     description: &BrowseDescription,
@@ -102,7 +102,7 @@ fn is_class_wanted(space: &Space, mask: u32, id: &NodeId) -> bool
 }
 
 /// Whether a reference is one that a description asks for; `types` are those that it asks for.
-pub fn is_wanted(
+pub(crate) fn is_wanted(
     space: &Space,
     types: &Types,
     description: &BrowseDescription,
@@ -131,7 +131,7 @@ fn is_reference_type(space: &Space, id: &NodeId) -> bool
 
 /// Whether a description can be served, or why not.
 #[tactic(auto, unfolding(crate::specs::Wanted::judged))]
-pub fn judged(space: &Space, description: &BrowseDescription) -> Result<(), Status>
+pub(crate) fn judged(space: &Space, description: &BrowseDescription) -> Result<(), Status>
     ensures { result ≡ judged_lem space.now.nodes description.now }
 {
     if space.node(&description.node_id).is_none() {

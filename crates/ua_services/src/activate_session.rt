@@ -12,7 +12,7 @@ use ua_messages::{DiagnosticInfos, ResponseHeader, StructureFault, body, structu
 use ua_requests::{Halt, Served, Setting};
 use ua_types::{Array, ByteString, ExtensionObject, ExtensionObjectBody, Refusal, Status};
 
-// Whether the user stays unnamed.
+// Whether the user stays anonymous.
 fn is_anonymous(alloc: Global, identity: &ExtensionObject) -> Result<bool, AllocError>
     ensures { IfOk result (λ is. is ≡ is_anonymous_lem identity.now) }
 {
@@ -46,7 +46,7 @@ fn response(
 ///
 /// The faults, in this order: `BAD_SESSION_ID_INVALID` where no session has the token,
 /// `BAD_SECURE_CHANNEL_ID_INVALID` for a session that was never activated, on another connection than
-/// that it was made on, and `BAD_IDENTITY_TOKEN_REJECTED` for any user but an unnamed one.
+/// that it was made on, and `BAD_IDENTITY_TOKEN_REJECTED` for any user but an anonymous one.
 pub struct ActivateSession;
 
 impl Service for ActivateSession {

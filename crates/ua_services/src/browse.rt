@@ -93,7 +93,8 @@ fn serve_nodes(
 /// Gives the references of nodes, page by page.
 ///
 /// The faults, in this order: `BAD_VIEW_ID_UNKNOWN` where a view is named, since there are none;
-/// `BAD_NOTHING_TO_DO`, `BAD_TOO_MANY_OPERATIONS`. What is wrong with one node is told in its result
+/// `BAD_NOTHING_TO_DO` for a list that is null or empty, `BAD_TOO_MANY_OPERATIONS` for one with
+/// more entries than the configuration's `operations`. What is wrong with one node is told in its result
 /// ([`ua_browse::browse`]).
 pub struct Browse;
 

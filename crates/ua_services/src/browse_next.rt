@@ -116,7 +116,8 @@ fn serve_points(
 
 /// Gives the next page of references for each continuation point, or gives the points up.
 ///
-/// The faults, in this order: `BAD_NOTHING_TO_DO`, `BAD_TOO_MANY_OPERATIONS`. What is wrong with one point is
+/// The faults, in this order: `BAD_NOTHING_TO_DO` for a list that is null or empty,
+/// `BAD_TOO_MANY_OPERATIONS` for one with more entries than the configuration's `operations`. What is wrong with one point is
 /// told in its result: `BAD_CONTINUATION_POINT_INVALID` where no point of Browse is held under it, which uses up
 /// none.
 pub struct BrowseNext;

@@ -1,4 +1,4 @@
-//! What is served: the services, and what they keep.
+//! The OPC UA services that are served, and what they keep between requests.
 //!
 //! [`Services::serve`] answers a request, now or at a later event; [`Services::tick`] does what is due
 //! as time passes; [`Services::forget`] drops what a closed connection still waited for. Nothing here
@@ -7,7 +7,10 @@
 //! Each service is a type that is a [`Service`], or a [`SessionService`] where it is one of a session, in a
 //! file of its own, and its meaning is a file of `specs/` with the same name. `specs/Serving` has what
 //! all of them share, `InSession` what those of a session begin with, `Services` the order in which a
-//! request is judged, and `Owing` to whom replies go.
+//! request is judged, and `Owing` to whom replies go. Tests that drive the services stand in
+//! `uaserver/src/tests`.
+//!
+//! Read [`Services`] first, and `session_service.rt`, then `browse.rt` for a whole service.
 #![tactic(auto)]
 
 mod activate_session;

@@ -10,7 +10,7 @@ use ua_types::{Array, Config, Status};
 ///
 /// `BAD_NOTHING_TO_DO` where the list is null or empty, `BAD_TOO_MANY_OPERATIONS` where it has more entries
 /// than the configuration's `operations` (IEC 62541-4, "StatusCode").
-pub fn operations<'a, T>(config: &Config, list: &'a Array<T>) -> Result<&'a [T], Status>
+pub(crate) fn operations<'a, T>(config: &Config, list: &'a Array<T>) -> Result<&'a [T], Status>
     ensures { result_map_both (λ s. s.now) (λ code. code) result ≡ operations_of config.now list.now }
 {
     match list.as_slice() {

@@ -16,7 +16,7 @@ use ua_session::{Points, point_bytes};
 use ua_types::{Array, ByteString, Refusal, Status};
 
 /// The result that tells what was answered.
-pub fn told(alloc: Global, answer: Result<Page, Refusal>) -> Result<BrowseResult, Halt>
+pub(crate) fn told(alloc: Global, answer: Result<Page, Refusal>) -> Result<BrowseResult, Halt>
     ensures { Tells result answer }
 {
     match answer {
@@ -36,7 +36,7 @@ pub fn told(alloc: Global, answer: Result<Page, Refusal>) -> Result<BrowseResult
 }
 
 /// Gives the session the points that are left, and answers with the results.
-pub fn browsed(
+pub(crate) fn browsed(
     alloc: Global,
     setting: &Setting,
     call: &Call,

@@ -17,7 +17,8 @@ use ua_types::Status;
 /// Reads attributes of nodes.
 ///
 /// The faults, in this order: `BAD_TIMESTAMPS_TO_RETURN_INVALID` where the choice of times is none of the
-/// four, `BAD_NOTHING_TO_DO`, `BAD_TOO_MANY_OPERATIONS`. What is wrong with one attribute is told in its
+/// four, `BAD_NOTHING_TO_DO` for a list that is null or empty, `BAD_TOO_MANY_OPERATIONS` for one with
+/// more entries than the configuration's `operations`. What is wrong with one attribute is told in its
 /// result ([`read_write::read`]).
 pub struct Read;
 

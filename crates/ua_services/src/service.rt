@@ -18,7 +18,7 @@ use ua_requests::{Halt, Reply, Served, Setting};
 use ua_types::{Listed, Moment, Status};
 
 /// The reply to a call, with this body.
-pub fn reply(alloc: Global, call: &Call, body: Vec<u8>) -> Result<Served, AllocError>
+pub(crate) fn reply(alloc: Global, call: &Call, body: Vec<u8>) -> Result<Served, AllocError>
     ensures { IfOk result (λ served. served ≡ replied (reply_of call.now body.items)) }
 {
     let body = Bytes::from_vec(body)?;
@@ -36,7 +36,7 @@ pub fn reply(alloc: Global, call: &Call, body: Vec<u8>) -> Result<Served, AllocE
 }
 
 /// The fault with this status, in the place of a response.
-pub fn refuse(
+pub(crate) fn refuse(
     alloc: Global,
     call: &Call,
     status: Status,

@@ -35,7 +35,6 @@ use ua_types::{Config, Listed, Status};
 pub struct Services {
     /// The nodes of the server and the references between them.
     pub space: Space,
-
     /// The sessions of its clients.
     pub sessions: Sessions,
 }
@@ -53,7 +52,7 @@ impl Services {
 
     /// Does what a request asks for. The replies may be for it and for others that waited.
     ///
-    /// `Memory` comes only where a growth was refused, `Exhausted` only where the serials of nonces or of a
+    /// `Memory` comes only where an allocation failed, `Exhausted` only where the serials of nonces or of a
     /// session's continuation points are used up.
     #[tactic(auto, unfolding(crate::specs::Services::serving_of))]
     pub fn serve(

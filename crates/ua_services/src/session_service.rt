@@ -31,7 +31,8 @@ pub trait SessionService {
 
     /// Does what a request asks for. `session` is the number of the session that was found: a service that needs
     /// its continuation points takes them out, uses them and puts them back
-    /// ([`ua_session::Sessions::take_points`]).
+    /// ([`ua_session::Sessions::take_points`]). `Memory` where an allocation fails, `Exhausted` where a serial of 64
+    /// bits ran out.
     fn serve(
         alloc: Global,
         setting: &Setting,

@@ -16,7 +16,8 @@ use ua_types::Status;
 
 /// Gives variables new values, one after the other.
 ///
-/// The faults, in this order: `BAD_NOTHING_TO_DO`, `BAD_TOO_MANY_OPERATIONS`; then nothing is written. What is
+/// The faults, in this order: `BAD_NOTHING_TO_DO` for a list that is null or empty,
+/// `BAD_TOO_MANY_OPERATIONS` for one with more entries than the configuration's `operations`; then nothing is written. What is
 /// wrong with one value is told in its result ([`read_write::write`]). Where memory runs out, some of the
 /// values were written, from the first on, and the server halts.
 pub struct Write;

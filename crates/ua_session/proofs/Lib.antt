@@ -1,3 +1,4 @@
 pub mod TableLemmas
 pub mod DueLemmas
 pub mod HeldLemmas
+pub mod PointLemmas

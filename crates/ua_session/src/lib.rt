@@ -7,15 +7,16 @@
 //!
 //! ```text
 //! let created = sessions.create(alloc, conn, &key)?;             // CreateSession
-//! sessions.activate(&created.token, conn, &key, true)?;          // ActivateSession, an unnamed user
+//! sessions.activate(&created.token, conn, &key, true)?;          // ActivateSession, an anonymous user
 //! let number = sessions.find(&request_header.authentication_token, conn)?;   // every later request
 //! let ended = sessions.tick(alloc, now)?;                        // their numbers
 //! ```
 //!
 //! What a contract sees: a record of the sessions by their numbers (`specs/Sessions`). docs/SESSIONS.md
-//! has a session's life as a picture.
+//! has a session's life as a picture. Read [`Sessions`] first, then [`Points`].
 #![tactic(auto)]
 
+pub mod laws;
 mod nonces;
 mod points;
 mod session;

@@ -80,7 +80,7 @@ impl Model for Points {
 }
 
 impl Points {
-    /// None yet, and at most so many at once. Takes no memory.
+    /// None yet, with room for so many at once. Takes no memory.
     pub fn new(alloc: Global, most: u32) -> Points
         ensures { result ≡ no_points most }
     {
@@ -100,7 +100,7 @@ impl Points {
 
     /// Keeps a point, and says its serial.
     ///
-    /// `BAD_NO_CONTINUATION_POINTS` where as many are held as may be. `Exhausted` where no serial is left.
+    /// `BAD_NO_CONTINUATION_POINTS` where as many are held as may be. `Exhausted` where no serial is left, and `Memory`.
     /// At an `Err` nothing changed.
     #[tactic(auto, unfolding(crate::specs::Points::hold_of))]
     pub fn hold(&mut self, point: Point) -> Result<u64, Refusal>
@@ -140,9 +140,10 @@ impl Points {
         self.held.remove(&serial)
     }
 
-    /// Puts a point in the place of the one with this serial, and says its serial, which is a new one.
+    /// Puts a point in the place of the one with this serial, and says its serial, which is a new one. Where none
+    /// has the serial, the point is added.
     ///
-    /// `Exhausted` where no serial is left. At an `Err` nothing changed.
+    /// `Exhausted` where no serial is left, and `Memory`. At an `Err` nothing changed.
     #[tactic(auto, unfolding(crate::specs::Points::replace_of))]
     pub fn replace(&mut self, serial: u64, point: Point) -> Result<u64, Refusal>
         ensures { TakesSerial result self.old self.new (replace_of self.old serial point) }
@@ -163,7 +164,7 @@ pub fn point_bytes(alloc: Global, serial: Option<u64>) -> Result<ByteString, All
     }
 }
 
-/// The serial of the one point that these bytes may name.
+/// The serial of the one point that these bytes may name. None where they aren't 8 bytes.
 pub fn point_serial(bytes: &ByteString) -> Option<u64>
     ensures { result ≡ serial_of bytes.now }
 {

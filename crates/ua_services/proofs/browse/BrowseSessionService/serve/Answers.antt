@@ -23,13 +23,13 @@ returns c =
     let ds = c.in-Some.descriptions.items in
     let no_view : is_null_id request.view_id ≡ true = sym c.is_null.ensures ∙ c.if-not-is_null.false in
     let good : is_ok (operations_of setting.config request.nodes_to_browse) ≡ true =
-        ap is_ok (sym c.operations.ensures) ∙ ap (λ r. is_ok (result_map_both (λ s. s.now) (λ code. code) r)) c.in_default.is
+    ap is_ok (sym c.operations.ensures) ∙ ap (λ r. is_ok (result_map_both (λ s. s.now) (λ code. code) r)) c.in_default.is
     in
     let listed = listed_whole setting.config request.nodes_to_browse ds good (sym c.in-Some.ensures.items) in
     let is : browse_meaning setting call session request state ≡ browse_listed setting call session request.requested_max_references_per_node state (Ok ds) =
-        ap (λ (b : Bool). cond (not b) (faulted state call status.BAD_VIEW_ID_UNKNOWN setting.clock)
-        (browse_listed setting call session request.requested_max_references_per_node state (operations_of setting.config request.nodes_to_browse))) no_view
-        ∙ ap (browse_listed setting call session request.requested_max_references_per_node state) listed
+    ap (λ (b : Bool). cond (not b) (faulted state call status.BAD_VIEW_ID_UNKNOWN setting.clock)
+    (browse_listed setting call session request.requested_max_references_per_node state (operations_of setting.config request.nodes_to_browse))) no_view
+    ∙ ap (browse_listed setting call session request.requested_max_references_per_node state) listed
     in
     subst (λ (s : Serving). Serves c.serve_nodes.result c.serve_nodes.new.services s) (sym is)
     (subst (λ size. Serves c.serve_nodes.result c.serve_nodes.new.services
