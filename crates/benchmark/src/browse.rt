@@ -145,7 +145,7 @@ fn time_many(rt: &HostRuntime, server: &mut Server, first: u32) -> io::Result<()
 }
 
 /// Browses a node of three references so many times, and one of very many by pages.
-pub fn run(rt: &HostRuntime, rounds: u32) -> io::Result<()> {
+pub(crate) fn run(rt: &HostRuntime, rounds: u32) -> io::Result<()> {
     let alloc = rt.alloc();
     let (config, space) = plant(alloc)?;
     let mut server = Server::new(alloc, config, space);

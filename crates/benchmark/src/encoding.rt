@@ -110,7 +110,7 @@ fn time_both_ways<T: Wire>(
 }
 
 /// Writes and reads data values, read value ids and texts.
-pub fn run(rt: &HostRuntime, rounds: u32) -> io::Result<()> {
+pub(crate) fn run(rt: &HostRuntime, rounds: u32) -> io::Result<()> {
     let alloc = rt.alloc();
     time_both_ways(rt, "data values", data_values(alloc)?, rounds)?;
     time_both_ways(rt, "read value ids", read_value_ids(alloc)?, rounds)?;

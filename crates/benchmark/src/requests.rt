@@ -42,7 +42,7 @@ const WRITE: [u8; 4] = [0x01, 0x00, 0xa1, 0x02];
 // No token, and that of the first session on a connection with a key of zeros.
 const NO_TOKEN: &[u8] = b"\0\0";
 
-pub const TOKEN: &[u8] = b"\x05\0\0\x14\0\0\0\0\0\0\0\0\0\0\0\0\0\0\0\0\0\0\0\x01\0\0\0";
+pub(crate) const TOKEN: &[u8] = b"\x05\0\0\x14\0\0\0\0\0\0\0\0\0\0\0\0\0\0\0\0\0\0\0\x01\0\0\0";
 
 // What a request's header has behind the token.
 const HEADER: &[u8] = b"\0\0\0\0\0\0\0\0\x07\0\0\0\0\0\0\0\xff\xff\xff\xff\0\0\0\0\0\0\0";
@@ -62,7 +62,7 @@ const VALUE: &[u8] = b"\x01\x01\x01\0\x0d\0\0\0\xff\xff\xff\xff\0\0\xff\xff\xff\
 
 const WRITTEN: &[u8] = b"\x01\0\0\0\x01\x01\x01\0\x0d\0\0\0\xff\xff\xff\xff\x01\x05\x02\x01";
 
-pub fn failed() -> io::Error {
+pub(crate) fn failed() -> io::Error {
     io::Error::from(ErrorKind::Other)
 }
 
@@ -75,7 +75,7 @@ fn joined(alloc: Global, parts: &[&[u8]]) -> Result<Vec<u8>, AllocError> {
 }
 
 // Hands bytes to the server, and says how many it sends.
-pub fn hand_in(alloc: Global, server: &mut Server, bytes: Vec<u8>) -> io::Result<usize> {
+pub(crate) fn hand_in(alloc: Global, server: &mut Server, bytes: Vec<u8>) -> io::Result<usize> {
     let bytes = Bytes::from_vec(bytes)?;
     let Ok(step) = server.step(alloc, &Event::Bytes { conn: 1, bytes }) else {
         return Err(failed());
@@ -91,7 +91,7 @@ pub fn hand_in(alloc: Global, server: &mut Server, bytes: Vec<u8>) -> io::Result
 }
 
 // A request in one chunk of the first channel.
-pub fn request(
+pub(crate) fn request(
     alloc: Global,
     number: u32,
     type_id: &[u8; 4],
@@ -128,7 +128,7 @@ fn plant(alloc: Global) -> io::Result<(Config, Space)> {
 }
 
 // Opens the connection with its channel, and a session on it, by two requests.
-pub fn greet(alloc: Global, server: &mut Server) -> io::Result<()> {
+pub(crate) fn greet(alloc: Global, server: &mut Server) -> io::Result<()> {
     let opened = Event::Opened {
         conn: 1,
         key: [0; 32],
@@ -203,7 +203,7 @@ fn time_all(rt: &HostRuntime, server: &mut Server, rounds: u32) -> io::Result<()
 }
 
 /// Reads one value and 1,000 values, and writes one, each so many times.
-pub fn run(rt: &HostRuntime, rounds: u32) -> io::Result<()> {
+pub(crate) fn run(rt: &HostRuntime, rounds: u32) -> io::Result<()> {
     let alloc = rt.alloc();
     let (config, space) = plant(alloc)?;
     let mut server = Server::new(alloc, config, space);

@@ -11,7 +11,7 @@ use std::collections::{BTreeMap, BTreeSet};
 pub type Index<K> = BTreeMap<K, BTreeSet<u32>>;
 
 /// The number is under this key from now on. At an `Err` nothing changed.
-pub fn put_in<K: Ord + Drop>(
+pub(crate) fn put_in<K: Ord + Drop>(
     alloc: Global,
     index: &mut Index<K>,
     key: K,
@@ -33,7 +33,7 @@ pub fn put_in<K: Ord + Drop>(
 }
 
 /// The number is not under this key any more.
-pub fn take_out<K: Ord + Drop>(index: &mut Index<K>, key: &K, number: u32)
+pub(crate) fn take_out<K: Ord + Drop>(index: &mut Index<K>, key: &K, number: u32)
     ensures { IsTakenOut K.cmp index.old index.new (is_at (K.cmp key.now)) number }
 {
     if let Some(numbers) = index.get_mut(key) {

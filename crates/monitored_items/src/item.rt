@@ -22,20 +22,28 @@ const OVERFLOW: u32 = 0x480;
 pub struct Item {
     /// The number of its subscription.
     pub subscription: u32,
+
     /// The node that it watches.
     pub node_id: NodeId,
+
     /// The number of the attribute that it watches, as 13 for the value.
     pub attribute_id: u32,
+
     /// The client's number of the item. It and `timestamps` are those of the last call that set them, and
     /// are applied when a message is made.
     pub client_handle: u32,
+
     /// Which times are sent.
     pub timestamps: Timestamps,
+
     pub mode: Mode,
+
     /// Which changes are queued.
     pub trigger: Trigger,
+
     /// The values that wait, with both times as they were read.
     pub queue: ItemQueue<DataValue>,
+
     /// The last value that was queued, without a mark. None until the item is enabled first.
     pub last: Option<DataValue>,
 }

@@ -66,7 +66,7 @@ fn visit_node(
 
 /// The items of all nodes that were written, whose numbers the index has, see the values, in their
 /// order. At an `Err` some have seen theirs, from the first on.
-pub fn sample_all(
+pub(crate) fn sample_all(
     alloc: Global,
     items: &mut BTreeMap<u32, Item>,
     on_node: &Index<NodeId>,

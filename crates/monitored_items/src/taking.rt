@@ -19,7 +19,7 @@ fn waits(items: &BTreeMap<u32, Item>, number: u32) -> bool
 }
 
 /// Whether one of the items with these numbers has a value to send.
-pub fn any_waits(items: &BTreeMap<u32, Item>, numbers: &BTreeSet<u32>) -> bool
+pub(crate) fn any_waits(items: &BTreeMap<u32, Item>, numbers: &BTreeSet<u32>) -> bool
     ensures { result ≡ any_waits items.now.entries numbers.now.keys }
 {
     for number in numbers {
@@ -55,7 +55,7 @@ fn take_from(
 
 /// The first values of the items with these numbers, at most so many. At an `Err` some of the items
 /// have given theirs, from the first on.
-pub fn take_all(
+pub(crate) fn take_all(
     alloc: Global,
     items: &mut BTreeMap<u32, Item>,
     numbers: &BTreeSet<u32>,

@@ -31,7 +31,7 @@ pub enum Cause {
     /// A value lies outside its key's range.
     #[error("OutOfRange")]
     OutOfRange,
-    /// A growth was refused. Nothing is said of the file.
+    /// An allocation failed. Nothing is said of the file.
     #[error("Memory")]
     Memory,
 }

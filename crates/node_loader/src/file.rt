@@ -209,7 +209,7 @@ fn contents(alloc: Global, table: &Table) -> Result<Loaded, LoadFault>
 }
 
 /// What the text of a node file means, or its first fault. The fault `Memory`, at any part, comes
-/// only where a growth was refused.
+/// only where an allocation failed.
 pub fn load(alloc: Global, text: &str) -> Result<Loaded, LoadFault>
     ensures { Loads (λ l. l) result (meaning_of text.now) }
 {

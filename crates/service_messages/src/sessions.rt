@@ -69,11 +69,11 @@ impl Wire for SignedSoftwareCertificate {
     }
 }
 
-/// Says that the user stays unnamed (AnonymousIdentityToken, IEC 62541-4, section 7). It travels in an
+/// Says that the user stays anonymous (AnonymousIdentityToken, IEC 62541-4, section 7). It travels in an
 /// ExtensionObject.
 #[derive(Debug, Drop)]
 pub struct AnonymousIdentityToken {
-    /// The name that the endpoint gives to its policy for unnamed users.
+    /// The name that the endpoint gives to its policy for anonymous users.
     pub policy_id: Text,
 }
 

@@ -13,7 +13,8 @@ use ua_types::Guid;
 
 /// A place in bytes. Contracts see it as the bytes from there on.
 ///
-/// No call on it takes memory.
+/// Numbers have their lowest byte first (IEC 62541-6, 5.2.2.2). No call takes memory, and at a fault the
+/// cursor stands where it stood.
 #[derive(Debug, Drop)]
 pub struct Cursor<'a> {
     // The bytes from the place on.

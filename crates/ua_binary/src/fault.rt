@@ -24,7 +24,7 @@ pub enum TakeFault {
     /// A Variant is of a type that isn't served.
     #[error("a variant is of a type that is not served")]
     Kind,
-    /// A growth was refused. The bytes may be good.
+    /// An allocation failed. The bytes may be good.
     #[error("out of memory")]
     Memory,
 }

@@ -3,12 +3,12 @@
 //! A type of the encoding is [`Wire`]: [`Wire::take`] reads a value at a [`Cursor`], [`Wire::put`]
 //! writes one behind an output. Contracts see both by two ghost members of the type: *reading*, what
 //! bytes begin with (a value and the bytes after it, or the first fault), and *encoding*, the one
-//! text that is written for a value. From the trait alone it holds for every type that
+//! sequence of bytes that is written for a value. From the trait alone it holds for every type that
 //!
 //! - `take` gives what the reading gives and moves past it, or the first fault and stays;
 //! - `put` appends the encoding, or nothing;
 //! - what was put is read again, whatever follows it;
-//! - a claim of more bytes or elements than are left takes no memory.
+//! - a length (a *claim*) above the bytes or elements that are left takes no memory.
 //!
 //! Nothing here knows messages, frames or sockets. Lists have one impl for every element type, and
 //! `variants` is the one place where a type is picked by its number.

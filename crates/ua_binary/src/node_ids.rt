@@ -12,7 +12,8 @@ use crate::wire::Wire;
 use std::alloc::{AllocError, Global};
 use ua_types::{ByteString, Guid, Identifier, NodeId, Text};
 
-// Reads what follows a first byte of this form.
+// Reads what follows the first byte, which says the form (IEC 62541-6, 5.2.2.9): 0 is two bytes in all, 1 four, 2 a
+// whole number, 3 a String, 4 a Guid, 5 a ByteString. Any other is `Form`.
 #[tactic(auto, unfolding(crate::specs::NodeIds::after_form_reading))]
 pub(crate) fn decode_form(
     alloc: Global,
@@ -65,7 +66,7 @@ pub(crate) fn decode_form(
     }
 }
 
-// The form in which an id is written: the shortest.
+// The form in which an id is written: of a number the shortest that holds it.
 pub(crate) fn form(id: &NodeId) -> u8
     ensures form { result ≡ form_of id.now.namespace id.now.identifier }
     ensures small { result < 6 }

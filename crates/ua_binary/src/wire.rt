@@ -17,21 +17,21 @@ pub trait Wire: Drop {
     /// What bytes begin with: a value and the bytes after it, or the first fault.
     ghost reading: { Reading Self };
 
-    /// The one text that is written for a value.
+    /// The one sequence of bytes that is written for a value.
     ghost encoding: { Self → List ℕ };
 
-    /// Of these bytes a value is read or refused without memory: of all bytes for a type of fixed
-    /// size, and else where they begin with a claim of more than is left.
+    /// Bytes of which a value is read or refused without memory: all of them for a type of fixed size, for a
+    /// text, a byte string, a list and a Variant those that claim more than is left, and else none.
     ghost spares_memory: { List ℕ → Type 0 } = { λ _. ⊥ };
 
-    /// Reads the fields in order. At an `Err` the cursor stands where the fault is; at `Memory` before
-    /// the length of what wanted it, and so much is there.
+    /// Reads the fields in order. At an `Err` the cursor stands where the fault is; at `Memory` it stands
+    /// before the length of the value that found no room, and so many bytes do follow that length.
     fn decode(alloc: Global, cursor: &mut Cursor<'_>) -> Result<Self, TakeFault>
         ensures reads { Reads result cursor.new (reading cursor.old) }
         ensures claim { spares_memory cursor.old → result ≢ Err Memory }
         ensures backed { result ≡ Err Memory → IsBacked cursor.new };
 
-    /// Writes the fields in order. At an `Err` some of them are written.
+    /// Writes the fields in order. The error is want of memory, and some of them are then written.
     fn encode(&self, out: &mut Vec<u8>) -> Result<(), AllocError>
         ensures ok { OnOk result (out.new.items ≡ out.old.items ++ encoding self.now) }
         ensures err { OnErr result (Extends out.old.items out.new.items) }
@@ -40,8 +40,8 @@ pub trait Wire: Drop {
 
     /// Reads a value and moves past it; what follows it isn't looked at.
     ///
-    /// At an `Err`, the first fault, the cursor stands where it stood. `Memory` comes only where a
-    /// growth was refused.
+    /// At an `Err`, the first fault, the cursor stands where it stood. `Memory` comes only where an
+    /// allocation failed.
     final fn take(alloc: Global, cursor: &mut Cursor<'_>) -> Result<Self, TakeFault>
         ensures reads { Reads result cursor.new (reading cursor.old) }
         ensures claim { spares_memory cursor.old → result ≢ Err Memory }
@@ -53,7 +53,7 @@ pub trait Wire: Drop {
         Ok(value)
     }
 
-    /// Writes a value behind what was written before. At an `Err` nothing is written.
+    /// Writes a value behind what was written before. The error is want of memory, and nothing is then written.
     final fn put(&self, out: &mut Vec<u8>) -> Result<(), AllocError>
         ensures ok { OnOk result (out.new.items ≡ out.old.items ++ encoding self.now) }
         ensures err { OnErr result (out.new.items ≡ out.old.items) }

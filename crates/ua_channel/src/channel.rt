@@ -134,7 +134,7 @@ impl Channel {
     /// - `BAD_TCP_MESSAGE_TOO_LARGE`: with it the message has more bytes than the server's
     ///   `max_message`, or more chunks than its `max_chunks`.
     ///
-    /// `Memory` comes only where a growth was refused. The channel is then as it was, and the same
+    /// `Memory` comes only where an allocation failed. The channel is then as it was, and the same
     /// frame may be taken again. `Exhausted` never comes.
     pub fn take(&mut self, alloc: Global, frame: &Frame) -> Result<Taken, Refusal>
         ensures taken { TakesOrRefuses result self.old self.new (take_of self.old frame.now) }
@@ -273,7 +273,7 @@ impl Channel {
     /// which is `F` and may be shorter. An empty body has one chunk.
     ///
     /// The fault is `TooLarge` where the body is longer than the client's largest message, or has
-    /// more chunks than the client takes, and `Memory` where a growth was refused. The channel is
+    /// more chunks than the client takes, and `Memory` where an allocation failed. The channel is
     /// then as it was.
     pub fn send(&mut self, alloc: Global, id: u32, body: &[u8]) -> Result<Listed<Bytes>, SendFault>
         ensures { Takes send_fault.Memory result self.old self.new (send_of self.old id body.now) }
@@ -296,7 +296,7 @@ impl Channel {
     /// certificate and no thumbprint.
     ///
     /// The fault is `TooLarge` where the body is longer than the client's largest message, or the
-    /// frame is longer than the agreed send size, and `Memory` where a growth was refused. The channel
+    /// frame is longer than the agreed send size, and `Memory` where an allocation failed. The channel
     /// is then as it was.
     pub fn send_opening(
         &mut self,

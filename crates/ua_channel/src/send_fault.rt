@@ -14,7 +14,7 @@ pub enum SendFault {
     #[error("the answer is larger than the client takes")]
     TooLarge,
 
-    /// A growth was refused.
+    /// An allocation failed.
     #[error("out of memory")]
     Memory,
 }

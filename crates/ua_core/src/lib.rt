@@ -25,8 +25,10 @@
 //!
 //! Read [`Event`], [`Step`] and [`Server`] first. `specs/World` has what the server knows, `Handling`
 //! what a frame does, `Stepping` what an event does and `Running` what a list of events does: the world
-//! after it, and one list of effects, of which outs and rows are what the code gives. `Coherent` is what
+//! after it, and one list of effects, of which a [`Step`] shows the outs and the rows. `Coherent` is what
 //! every reached world keeps, and [`laws`] states it, with what holds wherever streams are cut.
+//!
+//! Tests that drive a server stand in `uaserver/src/tests`.
 #![tactic(auto)]
 
 mod event;

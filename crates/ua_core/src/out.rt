@@ -45,7 +45,7 @@ pub enum StepFault {
     #[error("no such connection")]
     UnknownConnection,
 
-    /// A growth was refused. Nothing of the step is to be done, and the server is halted.
+    /// An allocation failed. Nothing of the step is to be done, and the server is halted.
     #[error("out of memory")]
     Memory,
 

@@ -51,7 +51,7 @@ impl Server {
     /// and the world after it.
     ///
     /// `KnownConnection` and `UnknownConnection` refuse the event, and nothing has changed. `Memory`
-    /// comes only where a growth was refused, and never for an event that is refused, is of a
+    /// comes only where an allocation failed, and never for an event that is refused, is of a
     /// connection that is closed, is `Gone`, or is a `Tick` at which nothing is due. `Exhausted` comes
     /// only where the event spends the last serial of 64 bits. Both halt the server, which answers
     /// `Halted` from then on, and at no other time.

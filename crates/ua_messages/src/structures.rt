@@ -19,7 +19,7 @@ pub enum StructureFault {
     /// It has no body in the binary encoding, or one that can't be read.
     #[error("the object's body can't be read")]
     Unreadable,
-    /// A growth was refused. The object may be good.
+    /// An allocation failed. The object may be good.
     #[error("out of memory")]
     Memory,
 }

@@ -9,7 +9,7 @@ use thiserror::Error;
 /// Why a part of the server can't go on. Nothing is said of what it then is.
 #[derive(Clone, Copy, Debug, PartialEq, Eq, Error)]
 pub enum Halt {
-    /// A growth was refused.
+    /// An allocation failed.
     #[error("out of memory")]
     Memory,
     /// A serial of 64 bits is at its last value.

@@ -22,7 +22,7 @@ pub enum SpaceFault {
     /// More than 100,000 nodes or 400,000 references, the base set included.
     #[error("Limit file 0")]
     Limit,
-    /// A growth was refused. Nothing is said of the nodes and references.
+    /// An allocation failed. Nothing is said of the nodes and references.
     #[error("Memory")]
     Memory,
 }

@@ -111,8 +111,8 @@ impl Model for Framer {
 }
 
 impl Framer {
-    /// A framer that lets frames of up to `limit` bytes through, their first eight included. It
-    /// stays that limit's for good.
+    /// A framer that lets frames of up to `limit` bytes through, their first eight included. The
+    /// limit never changes.
     pub fn new(limit: u32) -> Framer
         ensures { result ≡ unfed limit }
     {
@@ -155,7 +155,7 @@ impl Framer {
     }
 }
 
-/// How many bytes must be there before more can be said of the frame that these begin.
+// How many bytes must be there before more can be said of the frame that these begin.
 #[tactic(auto, unfolding(crate::specs::Header::judgement_of))]
 fn needed(limit: u32, held: &[u8]) -> usize
     ensures { (piece : List ℕ) → length held.now + length piece < result
@@ -170,7 +170,7 @@ fn needed(limit: u32, held: &[u8]) -> usize
     }
 }
 
-/// Both in one buffer.
+// Both in one buffer.
 fn joined(alloc: Global, front: &[u8], back: &[u8]) -> Result<Bytes, AllocError>
     ensures { IfOk result (λ all. all ≡ front.now ++ back.now) }
 {
@@ -180,7 +180,7 @@ fn joined(alloc: Global, front: &[u8], back: &[u8]) -> Result<Bytes, AllocError>
     Ok(Bytes::from_vec(all)?)
 }
 
-/// The frames of these bytes, and the bytes left behind them where no fault stands there.
+// The frames of these bytes, and the bytes left behind them where no fault stands there.
 fn cut_frames(alloc: Global, limit: u32, bytes: Bytes) -> Result<(Fed, Option<Held>), AllocError>
     ensures fed { IfOk result (λ cut. feeding cut.0 (record { limit = limit; held = cut.1 })
         ≡ feeding_by limit (frames limit bytes)) }
@@ -199,7 +199,7 @@ fn cut_frames(alloc: Global, limit: u32, bytes: Bytes) -> Result<(Fed, Option<He
     ))
 }
 
-/// The bytes, where no fault stands behind them.
+// The bytes, where no fault stands behind them.
 fn kept(alloc: Global, rest: &[u8], fault: Option<FrameFault>) -> Result<Option<Held>, AllocError>
     ensures { IfOk result (λ held. held ≡ held_at (end_of rest.now fault)) }
 {
@@ -209,7 +209,7 @@ fn kept(alloc: Global, rest: &[u8], fault: Option<FrameFault>) -> Result<Option<
     }
 }
 
-/// Takes the whole frames off the front, and says which fault stands behind them.
+// Takes the whole frames off the front, and says which fault stands behind them.
 fn split_frames(
     limit: u32,
     rest: &mut Bytes,

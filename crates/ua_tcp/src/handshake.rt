@@ -94,7 +94,7 @@ fn is_too_small(hello: &Hello) -> bool
 /// - `BAD_TCP_NOT_ENOUGH_RESOURCES` where a buffer is smaller than 1024 bytes, or the largest answer
 ///   is limited to less than 1024 bytes.
 ///
-/// `Memory` comes only where a growth was refused, and `Exhausted` never.
+/// `Memory` comes only where an allocation failed, and `Exhausted` never.
 pub fn hello(alloc: Global, frame: &Frame, limits: &Limits) -> Result<Agreed, Refusal>
     ensures { GivesOrRefuses result (outcome_of_frame limits.now frame.now) }
 {

@@ -2,7 +2,7 @@
 //! OPC UA Connection Protocol). A frame is one message of that protocol, or one chunk of a secure channel.
 //!
 //! A server over TCP receives bytes in pieces of any size. [`Framer`] is fed the pieces and gives the
-//! [`Frame`]s that are whole by then, and at the first header that is no good a [`FrameFault`]. Where
+//! [`Frame`]s that are whole by then, and at the first bad header a [`FrameFault`]. Where
 //! the stream is cut makes no difference: [`laws::any_cut`] states it. The first frame is a Hello:
 //! [`hello`] takes or refuses it, [`ack`] and [`err`] make the answers, and what was settled is
 //! [`Agreed`]. Streams are read and written through a [`Tap`], which counts the calls that failed.

@@ -37,7 +37,7 @@ pub enum IdFault {
     #[error("not the bytes of an identifier")]
     Bytes,
 
-    /// A growth was refused. Nothing is said of the text.
+    /// An allocation failed. Nothing is said of the text.
     #[error("out of memory")]
     Memory,
 }
@@ -146,7 +146,7 @@ impl NodeId {
     /// The id that a text says: `ns=n;` where the namespace isn't 0, then `i=` and decimal digits,
     /// `s=` and the text, `g=` and a Guid, or `b=` and hex digits.
     ///
-    /// The leftmost fault is answered; `Memory` only where a growth was refused.
+    /// The leftmost fault is answered; `Memory` only where an allocation failed.
     #[tactic(auto, unfolding(crate::specs::IdTexts::id_of, crate::specs::IdTexts::spaced))]
     pub fn parse(alloc: Global, text: &str) -> Result<NodeId, IdFault>
         ensures { Gives Memory result (id_of text.now) }

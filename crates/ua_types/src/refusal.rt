@@ -13,7 +13,7 @@ pub enum Refusal {
     /// The peer is told this status.
     #[error("refused with status {:#010x}", .0.0)]
     Service(Status),
-    /// A growth was refused.
+    /// An allocation failed.
     #[error("out of memory")]
     Memory,
     /// A serial of 64 bits is at its last value.
