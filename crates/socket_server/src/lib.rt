@@ -15,6 +15,3 @@ mod serve_fault;
 
 pub use serve::Serve;
 pub use serve_fault::ServeFault;
-
-#[cfg(test)]
-mod tests;

@@ -10,4 +10,5 @@ mod messages;
 mod node_files;
 mod scene;
 mod sessions;
+mod sockets;
 mod streams;
