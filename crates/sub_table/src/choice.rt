@@ -7,6 +7,7 @@ ghost use Rattle.sub_table.specs.StateTable.{fires, first_false};
 ghost use Rattle.sub_table.specs.Events.{fits};
 ghost use Rattle.sub_table.specs.Rows.{is_fired, first_fired, printed_table, true_if_any, placed_in};
 ghost use Rattle.sub_table.specs.Sound.{IsSound};
+ghost use Rattle.sub_table.specs.Chosen.{answers, chosen, publish_row as publish_row_lem, timer_row as timer_row_lem};
 
 use crate::condition::Condition;
 use crate::event::TableEvent;
@@ -51,6 +52,80 @@ pub fn choose(vars: &Vars, event: TableEvent) -> RowId
     match first_of_table(vars, event) {
         Some(row) => row.id,
         None => unreachable!(),
+    }
+}
+
+/// The row that fires, as [`choose`] tells it, by cases instead of a search. It asks nothing of the variables: for
+/// ones that aren't sound it is some row of the table. It takes no memory.
+pub fn chosen_row(vars: &Vars, event: TableEvent) -> RowId
+    ensures { result ≡ chosen vars.now event }
+{
+    match event {
+        TableEvent::Create { full: true } => RowId::C1,
+        TableEvent::Create { full: false } => RowId::C2,
+        TableEvent::Publish => publish_row(vars),
+        TableEvent::Timer => {
+            if vars.life == 1 {
+                RowId::G6
+            } else {
+                timer_row(vars)
+            }
+        }
+        TableEvent::Modify => RowId::G1,
+        TableEvent::SetMode => RowId::G2,
+        TableEvent::Republish { kept: true } => RowId::G3,
+        TableEvent::Republish { kept: false } => RowId::G4,
+        TableEvent::Delete => RowId::G5,
+        TableEvent::Items => RowId::G7,
+        TableEvent::SessionEnd { deleting: true } => RowId::G8,
+        TableEvent::SessionEnd { deleting: false } => RowId::G9,
+    }
+}
+
+// At a Publish request.
+fn publish_row(vars: &Vars) -> RowId
+    ensures { result ≡ publish_row_lem vars.now.state (answers vars.now) }
+{
+    match vars.state {
+        State::Closed => RowId::C1,
+        State::Normal if vars.enabled && vars.more => RowId::N2,
+        State::Normal => RowId::N1,
+        State::Late if vars.enabled && vars.available => RowId::L1,
+        State::Late => RowId::L2,
+        State::KeepAlive => RowId::K1,
+    }
+}
+
+// At a timer that isn't the last.
+fn timer_row(vars: &Vars) -> RowId
+    ensures { result ≡ timer_row_lem vars.now.state (answers vars.now) }
+{
+    let has_values = vars.enabled && vars.available;
+    match vars.state {
+        State::Closed => RowId::G6,
+        State::Normal => {
+            if vars.queued && has_values {
+                RowId::N3
+            } else if !vars.queued && (!vars.sent || has_values) {
+                RowId::N5
+            } else if vars.sent {
+                RowId::N6
+            } else {
+                RowId::N4
+            }
+        }
+        State::Late => RowId::L3,
+        State::KeepAlive => {
+            if vars.queued && has_values {
+                RowId::K2
+            } else if vars.keep != 1 && !has_values {
+                RowId::K4
+            } else if vars.queued {
+                RowId::K3
+            } else {
+                RowId::K5
+            }
+        }
     }
 }
 

@@ -24,7 +24,7 @@ mod table;
 mod vars;
 
 pub use action::{Action, actions_of};
-pub use choice::{choose, fits, reachable, why_not};
+pub use choice::{choose, chosen_row, fits, reachable, why_not};
 pub use condition::Condition;
 pub use event::{EventKind, TableEvent};
 pub use row::{Next, Row, RowId, Scope, next_of};

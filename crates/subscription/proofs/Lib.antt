@@ -1,0 +1,10 @@
+pub mod Folding
+pub mod Sendings
+pub mod Doings
+pub mod Meetings
+pub mod Places
+pub mod Dues
+pub mod Owners
+pub mod RowLinks
+pub mod RowFairness
+pub mod RowSteady
