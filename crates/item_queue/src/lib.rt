@@ -13,9 +13,11 @@
 mod entry;
 pub mod laws;
 mod queue;
+mod room;
 
 pub use entry::Entry;
 pub use queue::ItemQueue;
+pub use room::Room;
 
 #[cfg(test)]
 mod tests;

@@ -1,9 +1,12 @@
 //! The queue of a monitored item.
 
-ghost use Rattle.std.specs.Prelude.{◌≡◌, ◌≤◌, OnOk, OnErr, length, drop, take, [], ◌∷◌, ◌++◌, ◌-◌, IsTrue, ◌↔◌};
-ghost use Rattle.item_queue.specs.ItemQueue.{QueueState, marked_front, sampled, sent, cleared, resized, first_of};
+ghost use Rattle.std.specs.Prelude.{◌≡◌, ◌≤◌, ◌<◌, OnOk, OnErr, IfOk, IsOk, length, drop, take, [], ◌∷◌, ◌++◌, ◌-◌, IsTrue, ◌↔◌};
+ghost use Rattle.std.specs.VecDeque.{deque_len, deque_capacity};
+ghost use Rattle.item_queue.specs.ItemQueue.{QueueState, queue_after, marked_front, sampled, sent, cleared, resized, first_of};
+ghost use Rattle.item_queue.specs.ItemQueue.Deed.{Sample};
 
 use crate::entry::Entry;
+use crate::room::Room;
 use std::alloc::{AllocError, Global};
 use std::collections::VecDeque;
 use std::marker::Model;
@@ -61,36 +64,25 @@ impl<T: Drop> ItemQueue<T> {
         ensures ok { OnOk result (self.new ≡ sampled self.old value) }
         ensures err { OnErr result (self.new ≡ self.old) }
     {
-        if self.entries.len() < self.size {
-            self.entries.push_back(Entry {
-                value,
-                marked: false,
-            })?;
-        } else if self.size == 1 {
-            replace_newest(
-                &mut self.entries,
-                Entry {
-                    value,
-                    marked: false,
-                },
-            );
-        } else if self.discard_oldest {
-            self.entries.push_back(Entry {
-                value,
-                marked: false,
-            })?;
-            let _ = self.entries.pop_front();
-            mark_front(&mut self.entries);
-        } else {
-            replace_newest(
-                &mut self.entries,
-                Entry {
-                    value,
-                    marked: true,
-                },
-            );
-        }
-        Ok(())
+        sample_into(&mut self.entries, self.size, self.discard_oldest, value)
+    }
+
+    /// Room for [`ItemQueue::sample_within`], in which the values that wait will stand.
+    pub fn room(&self, alloc: Global) -> Result<Room<T>, AllocError>
+        ensures { IfOk result (λ room. length self.now.entries < room) }
+    {
+        Room::above(alloc, self.entries.len())
+    }
+
+    /// Takes in a value as [`ItemQueue::sample`] does. Takes no memory, since there is room.
+    pub fn sample_within(&mut self, value: T, room: Room<T>)
+        requires { length self.old.entries < room }
+        ensures { self.new ≡ sampled self.old value }
+    {
+        let mut entries = room.into_entries();
+        move_all(&mut self.entries, &mut entries);
+        let _ = sample_into(&mut entries, self.size, self.discard_oldest, value);
+        self.entries = entries;
     }
 
     /// Takes the oldest value out, to be sent.
@@ -125,6 +117,62 @@ impl<T: Drop> ItemQueue<T> {
         self.size = size;
         self.discard_oldest = discard_oldest;
     }
+}
+
+// Takes in a value. At an `Err`, which comes only where there is no room, nothing changed.
+fn sample_into<T: Drop>(
+    entries: &mut VecDeque<Entry<T>>,
+    size: usize,
+    discard_oldest: bool,
+    value: T,
+) -> Result<(), AllocError>
+    requires some { 1 ≤ size }
+    requires within { length entries.old.items ≤ size }
+    ensures ok { OnOk result (entries.new.items ≡ queue_after entries.old.items (Sample size discard_oldest value)) }
+    ensures err { OnErr result (entries.new.items ≡ entries.old.items) }
+    ensures within { length entries.new.items ≤ size }
+    ensures succeeds { deque_len entries.old < deque_capacity entries.old → IsOk result }
+{
+    if entries.len() < size {
+        entries.push_back(Entry {
+            value,
+            marked: false,
+        })?;
+    } else if size == 1 {
+        replace_newest(
+            entries,
+            Entry {
+                value,
+                marked: false,
+            },
+        );
+    } else if discard_oldest {
+        entries.push_back(Entry {
+            value,
+            marked: false,
+        })?;
+        let _ = entries.pop_front();
+        mark_front(entries);
+    } else {
+        replace_newest(
+            entries,
+            Entry {
+                value,
+                marked: true,
+            },
+        );
+    }
+    Ok(())
+}
+
+// Moves all values over, where there is room for them.
+fn move_all<T>(from: &mut VecDeque<Entry<T>>, to: &mut VecDeque<Entry<T>>)
+    requires none { to.old.items ≡ [] }
+    requires room { deque_len from.old ≤ deque_capacity to.old }
+    ensures items { to.new.items ≡ from.old.items }
+    ensures capacity { deque_capacity to.old ≤ deque_capacity to.new }
+{
+    let _ = to.append(from);
 }
 
 fn mark_front<T>(entries: &mut VecDeque<Entry<T>>)

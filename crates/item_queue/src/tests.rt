@@ -53,3 +53,20 @@ fn smaller_queues_mark_nothing(rt: HostRuntime) -> Result<(), Fail> {
     assert!(rt; queue.is_empty());
     Ok(())
 }
+
+#[test]
+fn queues_within_room(rt: HostRuntime) -> Result<(), Fail> {
+    let alloc = rt.alloc();
+    for (size, discard_oldest, text) in [
+        (7, true, "0 1 2 3 4 5 9 "),
+        (3, true, "4* 5 9 "),
+        (3, false, "0 1 9* "),
+        (1, true, "9 "),
+    ] {
+        let mut queue = sampled(alloc, size, discard_oldest)?;
+        let room = queue.room(alloc)?;
+        queue.sample_within(9, room);
+        assert_eq!(rt; written(alloc, queue)?.as_str(), text);
+    }
+    Ok(())
+}

@@ -9,3 +9,6 @@ pub mod FollowingEnds
 pub mod Runs
 pub mod Apart
 pub mod FirstNotes
+pub mod Undoing
+pub mod Rooms
+pub mod Readiness

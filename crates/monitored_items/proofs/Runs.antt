@@ -81,7 +81,7 @@ begun_is nodes clock item empty = by (is_enabled item.mode)
 
 -- ---- the entries of a request
 
-own_is : (subscription : ℕ) (found : Option Item) (item : Item) → own_if subscription found ≡ Some item → found ≡ Some item
+pub own_is : (subscription : ℕ) (found : Option Item) (item : Item) → own_if subscription found ≡ Some item → found ≡ Some item
 own_is subscription None item e = absurd cc
 own_is subscription (Some other) item e = by (other.subscription == subscription) e
   where

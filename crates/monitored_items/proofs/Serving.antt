@@ -9,7 +9,7 @@ use Rattle.monitored_items.specs.Item.{seen, gave, notes_of, waiting_in}
 use Rattle.monitored_items.specs.Sampling.{visits_by}
 use Rattle.std.specs.Result.{OnErr}
 use Rattle.monitored_items.specs.ItemTables.{Numbered, item_at, with_item}
-use Rattle.monitored_items.specs.Items.{ItemsState, One, Served, nothing_served, with_one, all_served, ServedSome, Visit, visited, sampled_items, VisitedSome, Taking, nat_least, taken_from, with_taken, nothing_taken, taken_of, TookSome}
+use Rattle.monitored_items.specs.Items.{ItemsState, One, Served, nothing_served, with_one, all_served, Visit, visited, sampled_items, VisitedSome, Taking, nat_least, taken_from, with_taken, nothing_taken, taken_of}
 use Rattle.monitored_items.specs.declared.item.Item.{Item}
 use Rattle.monitored_items.proofs.Edits.{set_same}
 use Rattle.std.specs.BTreeMap.{is_at}
@@ -20,9 +20,6 @@ on_any (Ok x) p = tt
 on_any (Err e) p = p
 
 module _ {A R : Type 0} (serve : ItemsState → A → One R) (s : ItemsState) (xs : List A) (x : A) where
-  before : Served R
-  before = all_served serve s xs
-
   whole : all_served serve s (xs ++ x ∷ []) ≡ with_one serve (all_served serve s xs) x
   whole = fold-append (with_one serve) (nothing_served s) xs (x ∷ [])
 
@@ -32,19 +29,17 @@ module _ {A R : Type 0} (serve : ItemsState → A → One R) (s : ItemsState) (x
   pub state_more : (all_served serve s (xs ++ x ∷ [])).state ≡ (serve (all_served serve s xs).state x).state
   state_more = ap (λ (w : Served R). w.state) whole
 
-module _ {A R : Type 0} (serve : ItemsState → A → One R) (old new mid : ItemsState) (front rest all : List A) (x : A) where
-  -- an entry wasn't served
-  pub served_before : mid ≡ (all_served serve old front).state → front ++ x ∷ rest ≡ all → new ≡ mid → ServedSome serve old new all
-  served_before is split same = (front, x ∷ rest, split, same ∙ is)
+-- one more entry is served, from the state that the others left
+module _ {A R : Type 0} (serve : ItemsState → A → One R) (old mid : ItemsState) (front : List A) (x : A) where
+  pub results_then : (results : List R) (result : R) → results ≡ (all_served serve old front).results → mid ≡ (all_served serve old front).state → result ≡ (serve mid x).result
+      → results ++ result ∷ [] ≡ (all_served serve old (front ++ x ∷ [])).results
+  results_then results result are left is =
+      ap (λ (rs : List R). rs ++ result ∷ []) are
+      ∙ ap (λ (r : R). (all_served serve old front).results ++ r ∷ []) (is ∙ ap (λ (s : ItemsState). (serve s x).result) left)
+      ∙ sym (results_more serve old front x)
 
-  -- an entry was served, and its result was not kept
-  pub served_after : mid ≡ (all_served serve old front).state → front ++ x ∷ rest ≡ all → new ≡ (serve mid x).state → ServedSome serve old new all
-  served_after is split done = (
-    front ++ x ∷ [],
-    rest,
-    append_assoc front (x ∷ []) rest ∙ split,
-    done ∙ ap (λ (m : ItemsState). (serve m x).state) is ∙ sym (state_more serve old front x),
-  )
+  pub state_then : (new : ItemsState) → mid ≡ (all_served serve old front).state → new ≡ (serve mid x).state → new ≡ (all_served serve old (front ++ x ∷ [])).state
+  state_then new left is = is ∙ ap (λ (s : ItemsState). (serve s x).state) left ∙ sym (state_more serve old front x)
 
 -- ---- visits
 
@@ -95,18 +90,6 @@ split_at [] i x less is = absurd (omega (arith, less))
 split_at (y ∷ ys) zero x less is = ap (λ z. z ∷ ys) is
 split_at (y ∷ ys) (suc i) x less is = ap (λ zs. y ∷ zs) (split_at ys i x (omega (arith, less)) is)
 
-module _ {A R : Type 0} (serve : ItemsState → A → One R) (old new mid : ItemsState) (xs : List A) (i : ℕ) (x : A) (less : i < length xs) (here : x ≡ get_or xs i x) (is : mid ≡ (all_served serve old (take i xs)).state) where
-  pub slice_before : new ≡ mid → ServedSome serve old new xs
-  slice_before same = served_before serve old new mid (take i xs) (drop (suc i) xs) xs x is (split_at xs i x less here) same
-
-  pub slice_after : new ≡ (serve mid x).state → ServedSome serve old new xs
-  slice_after done = served_after serve old new mid (take i xs) (drop (suc i) xs) xs x is (split_at xs i x less here) done
-
-pub number_here : (xs : List ℕ) (i d : ℕ) → i < length xs → get_or xs i d ≡ get_or xs i (get_or xs i d)
-number_here [] i d less = absurd (omega (arith, less))
-number_here (x ∷ xs) zero d less = refl
-number_here (x ∷ xs) (suc i) d less = number_here xs i d (omega (arith, less))
-
 pub flat_at : {A B : Type 0} (f : A → List B) (xs : List A) (i : ℕ) (x : A) → i < length xs → x ≡ get_or xs i x → flat_map f (take i xs) ++ (f x ++ flat_map f (drop (suc i) xs)) ≡ flat_map f xs
 flat_at f xs i x less here = flat_split f (take i xs) (drop (suc i) xs) x ∙ ap (flat_map f) (split_at xs i x less here)
 
@@ -119,9 +102,6 @@ pub took_more : (items : Numbered) (n : ℕ) (front : List ℕ) (number : ℕ) (
     → after.notes ≡ (with_taken before number).notes → after.items ≡ (with_taken before number).items → after.left ≡ (with_taken before number).left → after ≡ taken_of items n (front ++ number ∷ [])
 took_more items n front number before after is notes its left =
     taking_is (with_taken before number) after notes its left ∙ ap (λ (t : Taking). with_taken t number) is ∙ sym (taken_more items n front number)
-
-pub took_before : (items new mid : Numbered) (n : ℕ) (front rest all : List ℕ) (before : Taking) → front ++ rest ≡ all → before ≡ taken_of items n front → before.items ≡ mid → new ≡ mid → TookSome items new n all
-took_before items new mid n front rest all before split is its same = (front, rest, split, same ∙ sym its ∙ ap (λ (t : Taking). t.items) is)
 
 -- nothing is wanted any more
 least_zero : (w : ℕ) → nat_least 0 w ≡ 0

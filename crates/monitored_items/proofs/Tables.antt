@@ -1,5 +1,5 @@
 -- Items under their numbers, and the numbers of some of them.
-use Rattle.std.proofs.Common.{◌≡◌, ℕ, ◌+◌, ◌<◌, ◌≤◌, arith, Bool, true, false, cond, List, [], ◌∷◌, Option, Some, None, Result, Ok, Err, refl, sym, ap, subst, ◌∙◌}
+use Rattle.std.proofs.Common.{◌≡◌, ◌≢◌, ℕ, ◌+◌, ◌-◌, ◌<◌, ◌≤◌, arith, Bool, true, false, cond, List, [], ◌∷◌, Option, Some, None, Result, Ok, Err, refl, sym, ap, subst, ◌∙◌}
 use Rattle.std.specs.BTreeMap.{BTreeMap, insert_entry, is_at}
 use Rattle.std.specs.BTreeSet.{BTreeSet, insert_key}
 use Rattle.std.specs.Map.{lookup, set_value, remove_entry}
@@ -15,14 +15,14 @@ use Rattle.ua_types.specs.NodeIdOrder.{id_cmp, same_id}
 use Rattle.ua_types.specs.contracts.node_id.NodeIdOrd.TheImpl.Laws.{matches_eq-law}
 use Rattle.ua_types.specs.declared.node_id.NodeId.{NodeId}
 use Rattle.monitored_items.specs.ItemTables.{Numbered, item_at, numbers_where, numbers_of, is_of, is_on, with_found, with_item, numbers_at, AreWithin, AreAbove, AreRising, IsTable, IsPut, IsTakenOut, IsPutBack}
-use Rattle.ua_types.specs.declared.moment.Moment.{Moment}
 use Rattle.ua_values.specs.declared.data_value.DataValue.{DataValue}
-use Rattle.ua_space.specs.Nodes.{Nodes}
 use Rattle.read_write.specs.declared.timestamps.Timestamps.{Timestamps}
 use Rattle.sub_messages.specs.declared.monitoring_parameters.MonitoringParameters.{MonitoringParameters}
-use Rattle.monitored_items.specs.Item.{is_enabled, takes, queued, seen, reading, with_mode, disabled, moded, modified, gave, waiting_in}
-use Rattle.monitored_items.specs.Items.{Visit, visited, sampled_items, Taking, nat_least, taken_from, with_taken, without_all, first_number, VisitedSome, TookSome, taken_of, nothing_taken, all_visits, visits_of}
+use Rattle.monitored_items.specs.Item.{is_enabled, takes, queued, seen, with_mode, disabled, modified, gave, waiting_in}
+use Rattle.monitored_items.specs.Items.{Visit, visited, sampled_items, Taking, nat_least, taken_from, with_taken, without_all, first_number, VisitedSome, taken_of, nothing_taken, all_visits, visits_of}
+use Rattle.monitored_items.specs.Preparing.{enabled_from, moded_from}
 use Rattle.monitored_items.specs.Sampling.{index_visits}
+use Rattle.monitored_items.specs.declared.preparing.FirstSample.{FirstSample}
 use Rattle.read_write.specs.declared.writing.Change.{Change}
 use Rattle.std.proofs.lemmas.List.Concat.{flat_map-cons}
 use Rattle.monitored_items.specs.declared.item.Item.{Item}
@@ -199,6 +199,29 @@ rising_removed number (e ∷ es) rising = by (rising_removed number es rising.1)
     by rest true = rising.1
     by rest false = (above_removed e.0 number es rising.0, rest)
 
+-- ---- the last number is taken back
+
+within_less : (made : ℕ) (es : Numbered) → AreAbove made es → AreWithin made es → AreWithin (made - 1) es
+within_less made [] above within = tt
+within_less made (e ∷ es) above within = absurd (omega (arith, above.0, within.0))
+
+within_back : (made : ℕ) (es : Numbered) → AreWithin made es → AreRising es → AreWithin (made - 1) (remove_entry (is_at (nat_cmp made)) es)
+within_back made [] within rising = tt
+within_back made (e ∷ es) within rising = by (within_back made es within.1 rising.1) (is_at (nat_cmp made) e.0) refl
+  where
+    by : AreWithin (made - 1) (remove_entry (is_at (nat_cmp made)) es) → (b : Bool) → is_at (nat_cmp made) e.0 ≡ b → AreWithin (made - 1) (cond b es (e ∷ remove_entry (is_at (nat_cmp made)) es))
+    by rest true is = within_less made es (subst (λ (n : ℕ). AreAbove n es) (sym (same_number made e.0 is)) rising.0) within.1
+    by rest false is =
+        let other : e.0 ≢ made = λ same. false≢true (sym is ∙ ap (is_at (nat_cmp made)) same ∙ at_itself made) in
+        (omega (arith, within.0, other), rest)
+
+-- what was put behind all is taken out again
+pub put_and_removed : (made : ℕ) (v : Item) (es : Numbered) → AreWithin made es → remove_entry (is_at (nat_cmp (made + 1))) (insert_entry nat_cmp es (made + 1) v) ≡ es
+put_and_removed made v [] within = rw (at_itself (made + 1)) refl
+put_and_removed made v (e ∷ es) within =
+    let behind : nat_cmp (made + 1) e.0 ≡ Greater = greater (made + 1) e.0 (omega (arith, within.0)) in
+    rw behind (rw behind (ap (λ (fs : Numbered). e ∷ fs) (put_and_removed made v es within.1)))
+
 -- ---- what the fields of a table keep
 
 -- what is done with an item leaves it where it is
@@ -229,6 +252,14 @@ module _ (made : ℕ) (items : Numbered) (of_subscription : BTreeMap ℕ (BTreeS
       by : (found : Option Item) → item_at number items ≡ found → IsTable made (with_found number change items found) of_subscription on_node
       by None e = h
       by (Some v) e = table_set number v (change v) (there v) e
+
+  pub table_back : (subs : BTreeMap ℕ (BTreeSet ℕ)) (nodes : BTreeMap NodeId (BTreeSet ℕ)) → IsTable made (remove_entry (is_at (nat_cmp made)) items) subs nodes → IsTable (made - 1) (remove_entry (is_at (nat_cmp made)) items) subs nodes
+  table_back subs nodes after = record {
+    within = within_back made items h.within h.rising;
+    rising = after.rising;
+    subscriptions = after.subscriptions;
+    nodes = after.nodes;
+  }
 
   module _ (item : Item) (subs : BTreeMap ℕ (BTreeSet ℕ)) (nodes : BTreeMap NodeId (BTreeSet ℕ)) where
     pub table_put : IsPut nat_cmp of_subscription subs (λ q. is_of q item) (made + 1) → IsPut id_cmp on_node nodes (λ id. is_on id item) (made + 1)
@@ -309,13 +340,17 @@ there_seen v item = by (takes item v)
     by true = there_queued v item
     by false = record { subscription = refl; node = refl; attribute = refl }
 
-pub there_moded : (nodes : Nodes) (clock : Moment) (mode : Mode) (item : Item) → IsThere item (moded nodes clock mode item)
-there_moded nodes clock mode item = by (is_enabled mode) (is_enabled item.mode)
+pub there_moded : (mode : Mode) (first : Option FirstSample) (item : Item) → IsThere item (moded_from mode first item)
+there_moded mode first item = by (is_enabled mode) first (is_enabled item.mode)
   where
-    by : (b c : Bool) → IsThere item (cond b (with_mode mode (cond c item (queued (reading nodes clock item) item))) (disabled item))
-    by true true = record { subscription = refl; node = refl; attribute = refl }
-    by true false = record { subscription = refl; node = refl; attribute = refl }
-    by false c = record { subscription = refl; node = refl; attribute = refl }
+    queued_if : (c : Bool) (v : DataValue) → IsThere item (with_mode mode (cond c item (queued v item)))
+    queued_if true v = record { subscription = refl; node = refl; attribute = refl }
+    queued_if false v = record { subscription = refl; node = refl; attribute = refl }
+
+    by : (b : Bool) (first : Option FirstSample) (c : Bool) → IsThere item (cond b (with_mode mode (enabled_from first item)) (disabled item))
+    by true None c = record { subscription = refl; node = refl; attribute = refl }
+    by true (Some first) c = queued_if (is_enabled item.mode) first.value
+    by false first c = record { subscription = refl; node = refl; attribute = refl }
 
 pub there_gave : (n : ℕ) (item : Item) → IsThere item (gave n item)
 there_gave n item = record { subscription = refl; node = refl; attribute = refl }
@@ -394,9 +429,9 @@ module _ (made : ℕ) (of_subscription : BTreeMap ℕ (BTreeSet ℕ)) (on_node :
   table_after_samples (Ok x) new visits ok err = subst (λ (es : Numbered). IsTable made es of_subscription on_node) (sym ok) (table_sampled made of_subscription on_node items visits h)
   table_after_samples (Err x) new visits ok (front, rest, joined, is) = subst (λ (es : Numbered). IsTable made es of_subscription on_node) (sym is) (table_sampled made of_subscription on_node items front h)
 
-  pub table_after_taking : {T E : Type 0} (r : Result T E) (new : Numbered) (n : ℕ) (numbers : List ℕ) → OnOk r (new ≡ (taken_of items n numbers).items) → OnErr r (TookSome items new n numbers) → IsTable made new of_subscription on_node
+  pub table_after_taking : {T E : Type 0} (r : Result T E) (new : Numbered) (n : ℕ) (numbers : List ℕ) → OnOk r (new ≡ (taken_of items n numbers).items) → OnErr r (new ≡ items) → IsTable made new of_subscription on_node
   table_after_taking (Ok x) new n numbers ok err = subst (λ (es : Numbered). IsTable made es of_subscription on_node) (sym ok) (table_taken made of_subscription on_node (nothing_taken items n) numbers h)
-  table_after_taking (Err x) new n numbers ok (front, rest, joined, is) = subst (λ (es : Numbered). IsTable made es of_subscription on_node) (sym is) (table_taken made of_subscription on_node (nothing_taken items n) front h)
+  table_after_taking (Err x) new n numbers ok err = subst (λ (es : Numbered). IsTable made es of_subscription on_node) (sym err) h
 
   -- the visits that the index leads to are those of the items of each node
   pub same_visits : (changed : List Change) → flat_map (index_visits on_node) changed ≡ all_visits items changed

@@ -78,10 +78,6 @@ with_one serve before x =
 abbrev pub all_served : {A R : Type 0} → (ItemsState → A → One R) → ItemsState → List A → Served R
 all_served serve s xs = fold (with_one serve) (nothing_served s) xs
 
--- some of the entries were served, from the first on, and nothing else was done
-abbrev pub ServedSome : {A R : Type 0} → (ItemsState → A → One R) → ItemsState → ItemsState → List A → Type 0
-ServedSome {A} serve old new xs = (front : List A) × (rest : List A) × (front ++ rest ≡ xs) × (new ≡ (all_served serve old front).state)
-
 -- ---- CreateMonitoredItems
 
 -- as many items as a subscription may have are held, or no number is left
@@ -328,7 +324,3 @@ nothing_taken items n = record { notes = []; items = items; left = n }
 -- the first n values of these items, the items by rising number and the values of each oldest first
 abbrev pub taken_of : Numbered → ℕ → List ℕ → Taking
 taken_of items n numbers = fold with_taken (nothing_taken items n) numbers
-
--- some of the items have given theirs, from the first on, and nothing else was done
-abbrev pub TookSome : Numbered → Numbered → ℕ → List ℕ → Type 0
-TookSome old new n numbers = (front : List ℕ) × (rest : List ℕ) × (front ++ rest ≡ numbers) × (new ≡ (taken_of old n front).items)

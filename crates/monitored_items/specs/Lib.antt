@@ -4,3 +4,6 @@ pub mod ItemTables
 pub mod Items
 pub mod Sampling
 pub mod Moves
+pub mod Taking
+pub mod Undoing
+pub mod Preparing

@@ -1,11 +1,13 @@
 //! A monitored item.
 
 ghost use Rattle.std.specs.Vec.{vec_len, vec_capacity};
-ghost use Rattle.std.specs.Prelude.{◌≡◌, ◌≤◌, ◌<◌, ◌+◌, ◌++◌, take, OnOk, OnErr};
+ghost use Rattle.std.specs.Prelude.{◌≡◌, ◌≤◌, ◌<◌, ◌+◌, ◌++◌, take, length, OnOk, OnErr, IfOk};
 ghost use Rattle.std.specs.Option.{option_copied};
-ghost use Rattle.monitored_items.specs.Item.{is_change_since as is_change_since_lem, takes as takes_lem, queued, seen, reading, moded, modified, revised_size as revised_size_lem, gave, notes_of, waiting_in, time_if, marked_status, shown, note_of};
+ghost use Rattle.monitored_items.specs.Item.{is_change_since as is_change_since_lem, takes as takes_lem, queued, seen, reading, modified, revised_size as revised_size_lem, gave, notes_of, waiting_in, time_if, marked_status, shown, note_of};
+ghost use Rattle.monitored_items.specs.Preparing.{IsFirstSample, Fits, moded_from};
 
 use crate::kinds::{Mode, Trigger};
+use crate::preparing::FirstSample;
 use item_queue::{Entry, ItemQueue};
 use read_write::{Timestamps, sample};
 use std::alloc::{AllocError, Global};
@@ -192,27 +194,51 @@ impl Item {
         self.queue.resize(size as usize, parameters.discard_oldest);
     }
 
-    // Gets a mode. At an `Err` nothing changed.
-    pub(crate) fn set_mode(
-        &mut self,
+    // What it queues if it is enabled now.
+    pub(crate) fn first_sample(
+        &self,
         alloc: Global,
         space: &Space,
         clock: Moment,
-        mode: Mode,
-    ) -> Result<(), AllocError>
-        ensures ok { OnOk result (self.new ≡ moded space.now.nodes clock mode self.old) }
-        ensures err { OnErr result (self.new ≡ self.old) }
+    ) -> Result<FirstSample, AllocError>
+        ensures { IfOk result (λ first. IsFirstSample space.now.nodes clock self.now first) }
+    {
+        let value = sample(alloc, space, clock, &self.node_id, self.attribute_id)?;
+        let room = self.queue.room(alloc)?;
+        Ok(FirstSample {
+            last: value.copy(alloc)?,
+            value,
+            room,
+        })
+    }
+
+    // Queues what was sampled for it. Takes no memory.
+    fn begin(&mut self, first: FirstSample)
+        requires same { first.last ≡ first.value }
+        requires room { length self.old.queue.entries < first.room }
+        ensures { self.new ≡ queued first.value self.old }
+    {
+        let FirstSample { value, last, room } = first;
+        self.queue.sample_within(value, room);
+        self.last = Some(last);
+    }
+
+    // Gets a mode, and queues what was sampled for it where that enables it. Takes no memory.
+    pub(crate) fn set_mode(&mut self, mode: Mode, first: Option<FirstSample>)
+        requires { Fits mode self.old first }
+        ensures { self.new ≡ moded_from mode first self.old }
     {
         if !mode.is_enabled() {
             self.queue.clear();
             self.mode = Mode::Disabled;
-            return Ok(());
+            return;
         }
-        if !self.mode.is_enabled() {
-            self.queue_reading(alloc, space, clock)?;
+        if let Some(first) = first {
+            if !self.mode.is_enabled() {
+                self.begin(first);
+            }
         }
         self.mode = mode;
-        Ok(())
     }
 
     // How many of its values wait to be sent.
@@ -240,20 +266,16 @@ impl Item {
         }
     }
 
-    // Gives its oldest values, so many. At an `Err` nothing changed.
-    pub(crate) fn give(
-        &mut self,
-        count: usize,
-        notes: &mut Vec<MonitoredItemNotification>,
-    ) -> Result<(), AllocError>
-        ensures ok { OnOk result (self.new ≡ gave count self.old) }
-        ensures notes { OnOk result (notes.new.items ≡ notes.old.items ++ take count (notes_of self.old)) }
-        ensures err { OnErr result (self.new ≡ self.old) }
+    // Gives its oldest values, so many. Takes no memory, since there is room for them.
+    pub(crate) fn give(&mut self, count: usize, notes: &mut Vec<MonitoredItemNotification>)
+        requires { vec_len notes.old + count ≤ vec_capacity notes.old }
+        ensures gave { self.new ≡ gave count self.old }
+        ensures notes { notes.new.items ≡ notes.old.items ++ take count (notes_of self.old) }
+        ensures len { vec_len notes.new ≤ vec_len notes.old + count }
+        ensures room { vec_capacity notes.new ≡ vec_capacity notes.old }
     {
-        notes.reserve(count)?;
         for _ in 0..count {
             self.give_one(notes);
         }
-        Ok(())
     }
 }

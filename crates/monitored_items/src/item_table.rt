@@ -6,13 +6,15 @@ ghost use Rattle.std.specs.Map.{remove_entry};
 ghost use Rattle.std.specs.Option.{option_copied, option_map};
 ghost use Rattle.std.specs.Ordering.{nat_cmp};
 ghost use Rattle.ua_types.specs.NodeIdOrder.{id_cmp};
-ghost use Rattle.monitored_items.specs.Item.{modified, moded};
+ghost use Rattle.monitored_items.specs.Item.{modified};
 ghost use Rattle.monitored_items.specs.ItemTables.{TableState, item_at, numbers_of, is_of, is_on, with_item, IsPut, IsTakenOut, IsPutBack, IsKept, IsOwn};
-ghost use Rattle.monitored_items.specs.Items.{without_all, all_visits, sampled_items, VisitedSome, any_waits, taken_of, TookSome, first_number};
+ghost use Rattle.monitored_items.specs.Items.{without_all, all_visits, sampled_items, VisitedSome, any_waits, taken_of, first_number};
+ghost use Rattle.monitored_items.specs.Preparing.{FitsAt, moded_from};
 
 use crate::index::{Index, put_in, take_out};
 use crate::item::Item;
 use crate::kinds::{Mode, Trigger};
+use crate::preparing::FirstSample;
 use crate::sampling::sample_all;
 use crate::taking::{any_waits, take_all};
 use read_write::{Change, Timestamps};
@@ -131,21 +133,12 @@ fn modify_at(
     }
 }
 
-#[tactic(auto, using(crate::proofs::Edits::set_same))]
-fn set_mode_at(
-    alloc: Global,
-    items: &mut BTreeMap<u32, Item>,
-    number: u32,
-    space: &Space,
-    clock: Moment,
-    mode: Mode,
-) -> Result<(), AllocError>
-    ensures ok { OnOk result (items.new.entries ≡ with_item number (moded space.now.nodes clock mode) items.old.entries) }
-    ensures err { OnErr result (items.new.entries ≡ items.old.entries) }
+fn set_mode_at(items: &mut BTreeMap<u32, Item>, number: u32, mode: Mode, first: Option<FirstSample>)
+    requires { FitsAt mode (item_at number items.old.entries) first }
+    ensures { items.new.entries ≡ with_item number (moded_from mode first) items.old.entries }
 {
-    match items.get_mut(&number) {
-        None => Ok(()),
-        Some(item) => item.set_mode(alloc, space, clock, mode),
+    if let Some(item) = items.get_mut(&number) {
+        item.set_mode(mode, first);
     }
 }
 
@@ -199,6 +192,7 @@ impl ItemTable {
     pub fn add(&mut self, alloc: Global, item: Item) -> Result<(), AllocError>
         requires { self.old.made < 2 ^ 32 - 1 }
         ensures ok { OnOk result (self.new ≡ record { made = self.old.made + 1; items = insert_entry nat_cmp self.old.items (self.old.made + 1) item }) }
+        ensures back { OnOk result (remove_entry (is_at (nat_cmp (self.old.made + 1))) self.new.items ≡ self.old.items) }
         ensures err { OnErr result (self.new ≡ self.old) }
     {
         let number = self.made + 1;
@@ -228,6 +222,16 @@ impl ItemTable {
         if let Some(item) = self.items.remove(&number) {
             unindex_item(&mut self.of_subscription, &mut self.on_node, number, &item);
         }
+    }
+
+    /// Takes the item with the last number back, as if no item had had it. Takes no memory.
+    pub fn take_back(&mut self)
+        requires { 0 < self.old.made }
+        ensures { self.new ≡ record { made = self.old.made - 1; items = remove_entry (is_at (nat_cmp self.old.made)) self.old.items } }
+    {
+        let number = self.made;
+        self.remove(number);
+        self.made = number - 1;
     }
 
     /// Takes all items of a subscription out. Takes no memory.
@@ -282,19 +286,13 @@ impl ItemTable {
         );
     }
 
-    /// The item with this number gets a mode. At an `Err` nothing changed.
-    pub fn set_mode(
-        &mut self,
-        alloc: Global,
-        number: u32,
-        space: &Space,
-        clock: Moment,
-        mode: Mode,
-    ) -> Result<(), AllocError>
-        ensures ok { OnOk result (self.new ≡ record { made = self.old.made; items = with_item number (moded space.now.nodes clock mode) self.old.items }) }
-        ensures err { OnErr result (self.new ≡ self.old) }
+    /// The item with this number gets a mode, and queues what was sampled for it where that enables it.
+    /// Takes no memory.
+    pub fn set_mode(&mut self, number: u32, mode: Mode, first: Option<FirstSample>)
+        requires { FitsAt mode (item_at number self.old.items) first }
+        ensures { self.new ≡ record { made = self.old.made; items = with_item number (moded_from mode first) self.old.items } }
     {
-        set_mode_at(alloc, &mut self.items, number, space, clock, mode)
+        set_mode_at(&mut self.items, number, mode, first);
     }
 
     /// The items of the nodes that were written see the values, in their order. At an `Err` some have
@@ -317,8 +315,7 @@ impl ItemTable {
         }
     }
 
-    /// The first values of a subscription's reporting items, at most so many. At an `Err` some of the
-    /// items have given theirs, from the first on.
+    /// The first values of a subscription's reporting items, at most so many. At an `Err` nothing changed.
     pub fn take(
         &mut self,
         alloc: Global,
@@ -328,7 +325,7 @@ impl ItemTable {
         ensures made { self.new.made ≡ self.old.made }
         ensures notes { IfOk result (λ notes. notes.items ≡ (taken_of self.old.items count (numbers_of subscription self.old.items)).notes) }
         ensures items { OnOk result (self.new.items ≡ (taken_of self.old.items count (numbers_of subscription self.old.items)).items) }
-        ensures err { OnErr result (TookSome self.old.items self.new.items count (numbers_of subscription self.old.items)) }
+        ensures err { OnErr result (self.new ≡ self.old) }
     {
         match self.of_subscription.get(&subscription) {
             None => Ok(Vec::new(alloc)),

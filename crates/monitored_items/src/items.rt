@@ -1,14 +1,18 @@
 //! The monitored items of a server.
 
-ghost use Rattle.std.specs.Prelude.{◌≡◌, ◌++◌, ◌-◌, ◌^◌, ◌<◌, false, true, length, OnOk, OnErr, IfOk};
+ghost use Rattle.std.specs.Prelude.{◌≡◌, ◌++◌, ◌-◌, ◌^◌, ◌<◌, ◌≤◌, false, true, length, map, OnOk, OnErr, IfOk};
 ghost use Rattle.std.specs.Option.{option_copied};
 ghost use Rattle.monitored_items.specs.Item.{modified, moded, revised_size as revised_size_lem};
 ghost use Rattle.monitored_items.specs.ItemTables.{numbers_of};
-ghost use Rattle.monitored_items.specs.Items.{no_items, is_full as is_full_lem, null_object, zero_duration, create_judged, create_one, create_result, create_refused, new_item, begun, with_new_item, own_item, with_change, modify_one, modify_result, modify_refused, mode_one, delete_one, without, ended as ended_lem, all_served, ServedSome, all_visits, sampled_items, VisitedSome, is_available, taken_of, TookSome};
+ghost use Rattle.monitored_items.specs.Items.{no_items, is_full as is_full_lem, null_object, zero_duration, create_judged, create_one, create_result, create_refused, new_item, begun, with_new_item, own_item, with_change, modify_one, modify_result, modify_refused, mode_one, delete_one, without, ended as ended_lem, all_served, all_visits, sampled_items, VisitedSome, is_available, taken_of};
+ghost use Rattle.monitored_items.specs.Kinds.{trigger_of as trigger_of_lem};
+ghost use Rattle.monitored_items.specs.Preparing.{FitsAt, IsReady, AreReady, mode_status, moded_own};
+ghost use Rattle.monitored_items.specs.Undoing.{last_undone, undone, CanBeUndone};
 
 use crate::item::{Item, revised_size};
 use crate::item_table::ItemTable;
-use crate::kinds::{Kind, Mode, trigger_of};
+use crate::kinds::{Kind, Mode, Trigger, trigger_of};
+use crate::preparing::Prepared;
 use item_queue::ItemQueue;
 use read_write::{Change, Timestamps, refusal};
 use std::alloc::{AllocError, Global};
@@ -29,8 +33,8 @@ use ua_types::{Config, Duration, ExtensionObject, ExtensionObjectBody, Moment, N
 /// attribute Value. What is queued waits until a message takes it, or the client clears it. Contracts see
 /// the items under their numbers, with the values that wait.
 ///
-/// The calls that serve a request say that at want of memory its entries were served up to one of
-/// them, and that nothing else was done.
+/// At want of memory nothing changed, but for [`Items::sample`]: the calls that serve a request take what
+/// memory it wants before they change an item, or take back the items that they made.
 #[derive(Drop)]
 pub struct Items {
     // How many items a subscription may have.
@@ -83,6 +87,21 @@ fn modify_refused(status: Status) -> MonitoredItemModifyResult
         revised_queue_size: 0,
         filter_result: null_object(),
     }
+}
+
+// Which changes the filter of each entry lets through.
+fn triggers_of(
+    alloc: Global,
+    requests: &[MonitoredItemModifyRequest],
+) -> Result<Vec<Option<Trigger>>, AllocError>
+    ensures { IfOk result (λ triggers. triggers.items ≡ map (λ r. trigger_of_lem r.requested_parameters.filter) requests.now) }
+{
+    let mut triggers = Vec::with_capacity(alloc, requests.len())?;
+    for request in requests {
+        let trigger = trigger_of(alloc, &request.requested_parameters.filter)?;
+        triggers.push(trigger)?;
+    }
+    Ok(triggers)
 }
 
 impl Items {
@@ -183,6 +202,7 @@ impl Items {
     ) -> Result<MonitoredItemCreateResult, AllocError>
         ensures result { IfOk result (λ made. made ≡ (create_one space.now.nodes clock subscription timestamps self.old request).result) }
         ensures ok { OnOk result (self.new ≡ (create_one space.now.nodes clock subscription timestamps self.old request).state) }
+        ensures back { OnOk result (CanBeUndone self.old self.new) }
         ensures err { OnErr result (self.new ≡ self.old) }
     {
         let kind = match self.create_judged(alloc, space, subscription, &request)? {
@@ -202,6 +222,46 @@ impl Items {
             revised_queue_size: size,
             filter_result: null_object(),
         })
+    }
+
+    // Makes the items of a request. At an `Err` some were made.
+    fn create_all(
+        &mut self,
+        alloc: Global,
+        space: &Space,
+        clock: Moment,
+        subscription: u32,
+        timestamps: Timestamps,
+        requests: Vec<MonitoredItemCreateRequest>,
+    ) -> Result<Vec<MonitoredItemCreateResult>, AllocError>
+        ensures results { IfOk result (λ results. results.items ≡ (all_served (create_one space.now.nodes clock subscription timestamps) self.old requests.items).results) }
+        ensures ok { OnOk result (self.new ≡ (all_served (create_one space.now.nodes clock subscription timestamps) self.old requests.items).state) }
+        ensures err { OnErr result (CanBeUndone self.old self.new) }
+    {
+        let mut results = Vec::with_capacity(alloc, requests.len())?;
+        for request in requests {
+            let made = self.create_one(alloc, space, clock, subscription, timestamps, request)?;
+            results.push_reserved(made);
+        }
+        Ok(results)
+    }
+
+    // Takes the last item back. Takes no memory.
+    fn take_back_one(&mut self)
+        requires { 0 < self.old.made }
+        ensures { self.new ≡ last_undone self.old }
+    {
+        self.table.take_back();
+    }
+
+    // Takes the last items back, so many. Takes no memory.
+    fn take_back(&mut self, count: u32)
+        requires { count ≤ self.old.made }
+        ensures { self.new ≡ undone count self.old }
+    {
+        for _ in 0..count {
+            self.take_back_one();
+        }
     }
 
     /// Makes items of a subscription, one for each entry, in their order, and answers what became of each
@@ -224,14 +284,17 @@ impl Items {
     ) -> Result<Vec<MonitoredItemCreateResult>, AllocError>
         ensures results { IfOk result (λ results. results.items ≡ (all_served (create_one space.now.nodes clock subscription timestamps) self.old requests.items).results) }
         ensures ok { OnOk result (self.new ≡ (all_served (create_one space.now.nodes clock subscription timestamps) self.old requests.items).state) }
-        ensures err { OnErr result (ServedSome (create_one space.now.nodes clock subscription timestamps) self.old self.new requests.items) }
+        ensures err { OnErr result (self.new ≡ self.old) }
     {
-        let mut results = Vec::with_capacity(alloc, requests.len())?;
-        for request in requests {
-            let made = self.create_one(alloc, space, clock, subscription, timestamps, request)?;
-            results.push(made)?;
+        let made = self.table.made();
+        match self.create_all(alloc, space, clock, subscription, timestamps, requests) {
+            Ok(results) => Ok(results),
+            Err(error) => {
+                let last = self.table.made();
+                self.take_back(last - made);
+                Err(error)
+            }
         }
-        Ok(results)
     }
 
     // The item with this number, if it is of this subscription.
@@ -250,35 +313,35 @@ impl Items {
         }
     }
 
-    // Changes one item, if it isn't refused. At an `Err` nothing changed.
+    // Changes one item, if it isn't refused, whose filter was judged so. Takes no memory.
     #[tactic(auto, unfolding(crate::specs::Items::modify_one))]
     fn modify_one(
         &mut self,
-        alloc: Global,
         subscription: u32,
         timestamps: Timestamps,
         request: &MonitoredItemModifyRequest,
-    ) -> Result<MonitoredItemModifyResult, AllocError>
-        ensures result { IfOk result (λ made. made ≡ (modify_one subscription timestamps self.old request.now).result) }
-        ensures ok { OnOk result (self.new ≡ (modify_one subscription timestamps self.old request.now).state) }
-        ensures err { OnErr result (self.new ≡ self.old) }
+        trigger: Option<Trigger>,
+    ) -> MonitoredItemModifyResult
+        requires { trigger ≡ trigger_of_lem request.now.requested_parameters.filter }
+        ensures result { result ≡ (modify_one subscription timestamps self.old request.now).result }
+        ensures state { self.new ≡ (modify_one subscription timestamps self.old request.now).state }
     {
         let number = request.monitored_item_id;
         if self.own_item(subscription, number).is_none() {
-            return Ok(modify_refused(Status::BAD_MONITORED_ITEM_ID_INVALID));
+            return modify_refused(Status::BAD_MONITORED_ITEM_ID_INVALID);
         }
-        let parameters = &request.requested_parameters;
-        let Some(trigger) = trigger_of(alloc, &parameters.filter)? else {
-            return Ok(modify_refused(Status::BAD_MONITORED_ITEM_FILTER_UNSUPPORTED));
+        let Some(trigger) = trigger else {
+            return modify_refused(Status::BAD_MONITORED_ITEM_FILTER_UNSUPPORTED);
         };
+        let parameters = &request.requested_parameters;
         self.table
             .modify(number, self.longest, timestamps, trigger, parameters);
-        Ok(MonitoredItemModifyResult {
+        MonitoredItemModifyResult {
             status_code: Status::GOOD,
             revised_sampling_interval: self.interval,
             revised_queue_size: revised_size(self.longest, parameters.queue_size),
             filter_result: null_object(),
-        })
+        }
     }
 
     /// Gives items of a subscription other parameters, entry by entry, and answers what became of each
@@ -296,36 +359,76 @@ impl Items {
     ) -> Result<Vec<MonitoredItemModifyResult>, AllocError>
         ensures results { IfOk result (λ results. results.items ≡ (all_served (modify_one subscription timestamps) self.old requests.now).results) }
         ensures ok { OnOk result (self.new ≡ (all_served (modify_one subscription timestamps) self.old requests.now).state) }
-        ensures err { OnErr result (ServedSome (modify_one subscription timestamps) self.old self.new requests.now) }
+        ensures err { OnErr result (self.new ≡ self.old) }
     {
+        let triggers = triggers_of(alloc, requests)?;
         let mut results = Vec::with_capacity(alloc, requests.len())?;
-        for request in requests {
-            let made = self.modify_one(alloc, subscription, timestamps, request)?;
-            results.push(made)?;
+        for (index, request) in requests.iter().enumerate() {
+            let made = self.modify_one(subscription, timestamps, request, triggers[index]);
+            results.push_reserved(made);
         }
         Ok(results)
     }
 
-    // Gives one item a mode, if it is known. At an `Err` nothing changed.
-    #[tactic(auto, unfolding(crate::specs::Items::mode_one))]
-    fn mode_one(
-        &mut self,
+    // An entry of SetMonitoringMode, with what the item queues if this enables it.
+    fn prepared(
+        &self,
         alloc: Global,
         space: &Space,
         clock: Moment,
         subscription: u32,
         mode: Mode,
         number: u32,
-    ) -> Result<Status, AllocError>
-        ensures result { IfOk result (λ status. status ≡ (mode_one space.now.nodes clock subscription mode self.old number).result) }
-        ensures ok { OnOk result (self.new ≡ (mode_one space.now.nodes clock subscription mode self.old number).state) }
-        ensures err { OnErr result (self.new ≡ self.old) }
+    ) -> Result<Prepared, AllocError>
+        ensures number { IfOk result (λ prepared. prepared.number ≡ number) }
+        ensures ready { IfOk result (λ prepared. IsReady space.now.nodes clock mode (own_item self.now subscription number) prepared.first) }
     {
-        if self.own_item(subscription, number).is_none() {
-            return Ok(Status::BAD_MONITORED_ITEM_ID_INVALID);
+        let first = match self.own_item(subscription, number) {
+            None => None,
+            Some(item) => {
+                if mode.is_enabled() && !item.mode.is_enabled() {
+                    Some(item.first_sample(alloc, space, clock)?)
+                } else {
+                    None
+                }
+            }
+        };
+        Ok(Prepared { number, first })
+    }
+
+    // The entries of SetMonitoringMode, each with what its item wants.
+    fn prepare_all(
+        &self,
+        alloc: Global,
+        space: &Space,
+        clock: Moment,
+        subscription: u32,
+        mode: Mode,
+        numbers: &[u32],
+    ) -> Result<Vec<Prepared>, AllocError>
+        ensures numbers { IfOk result (λ entries. map (λ e. e.number) entries.items ≡ numbers.now) }
+        ensures ready { IfOk result (λ entries. AreReady space.now.nodes clock subscription mode self.now entries.items) }
+    {
+        let mut entries = Vec::with_capacity(alloc, numbers.len())?;
+        for number in numbers {
+            let prepared = self.prepared(alloc, space, clock, subscription, mode, *number)?;
+            entries.push(prepared)?;
         }
-        self.table.set_mode(alloc, number, space, clock, mode)?;
-        Ok(Status::GOOD)
+        Ok(entries)
+    }
+
+    // Gives one item a mode, if it is known. Takes no memory.
+    fn mode_one(&mut self, subscription: u32, mode: Mode, prepared: Prepared) -> Status
+        requires { FitsAt mode (own_item self.old subscription prepared.number) prepared.first }
+        ensures result { result ≡ mode_status (own_item self.old subscription prepared.number) }
+        ensures state { self.new ≡ moded_own mode self.old prepared (own_item self.old subscription prepared.number) }
+    {
+        let Prepared { number, first } = prepared;
+        if self.own_item(subscription, number).is_none() {
+            return Status::BAD_MONITORED_ITEM_ID_INVALID;
+        }
+        self.table.set_mode(number, mode, first);
+        Status::GOOD
     }
 
     /// Gives items of a subscription a mode, one after the other, and answers what became of each
@@ -344,12 +447,12 @@ impl Items {
     ) -> Result<Vec<Status>, AllocError>
         ensures results { IfOk result (λ results. results.items ≡ (all_served (mode_one space.now.nodes clock subscription mode) self.old numbers.now).results) }
         ensures ok { OnOk result (self.new ≡ (all_served (mode_one space.now.nodes clock subscription mode) self.old numbers.now).state) }
-        ensures err { OnErr result (ServedSome (mode_one space.now.nodes clock subscription mode) self.old self.new numbers.now) }
+        ensures err { OnErr result (self.new ≡ self.old) }
     {
+        let entries = self.prepare_all(alloc, space, clock, subscription, mode, numbers)?;
         let mut results = Vec::with_capacity(alloc, numbers.len())?;
-        for number in numbers {
-            let status = self.mode_one(alloc, space, clock, subscription, mode, *number)?;
-            results.push(status)?;
+        for prepared in entries {
+            results.push_reserved(self.mode_one(subscription, mode, prepared));
         }
         Ok(results)
     }
@@ -379,14 +482,13 @@ impl Items {
     ) -> Result<Vec<Status>, AllocError>
         ensures results { IfOk result (λ results. results.items ≡ (all_served (delete_one subscription) self.old numbers.now).results) }
         ensures ok { OnOk result (self.new ≡ (all_served (delete_one subscription) self.old numbers.now).state) }
-        ensures err { OnErr result (ServedSome (delete_one subscription) self.old self.new numbers.now) }
+        ensures err { OnErr result (self.new ≡ self.old) }
     {
-        let mut results = Vec::with_capacity(alloc, numbers.len())?;
+        let mut statuses = Vec::with_capacity(alloc, numbers.len())?;
         for number in numbers {
-            let status = self.delete_one(subscription, *number);
-            results.push(status)?;
+            statuses.push_reserved(self.delete_one(subscription, *number));
         }
-        Ok(results)
+        Ok(statuses)
     }
 
     /// Deletes all items of a subscription, with what waits: the subscription's end. Takes no memory.
@@ -421,7 +523,7 @@ impl Items {
     /// number, and the values of each oldest first. Each goes with the client's number of the item, the
     /// times that are wanted now, and the Overflow bit where it is marked.
     ///
-    /// At want of memory some of the items have given theirs, from the first on, and nothing else was done.
+    /// At want of memory nothing changed: there is room for all of them before the first is taken.
     pub fn take_notes(
         &mut self,
         alloc: Global,
@@ -431,7 +533,7 @@ impl Items {
         ensures notes { IfOk result (λ notes. notes.items ≡ (taken_of self.old.items count (numbers_of subscription self.old.items)).notes) }
         ensures ok { OnOk result (self.new.items ≡ (taken_of self.old.items count (numbers_of subscription self.old.items)).items) }
         ensures others { self.new ≡ record self.old { items = self.new.items } }
-        ensures err { OnErr result (TookSome self.old.items self.new.items count (numbers_of subscription self.old.items)) }
+        ensures err { OnErr result (self.new ≡ self.old) }
     {
         self.table.take(alloc, subscription, count)
     }

@@ -18,7 +18,8 @@
 //!
 //! What a contract sees: the items under their numbers, each with its queue (`specs/Items`). Each call is
 //! one definition over them, which also lists the deeds by which queues changed; the code keeps no such
-//! record. docs/MONITORED_ITEMS.md has the tables.
+//! record. How a call changes nothing at want of memory is told by `specs/Preparing`, `specs/Taking` and
+//! `specs/Undoing`. docs/MONITORED_ITEMS.md has the tables.
 #![tactic(auto)]
 
 mod index;
@@ -27,6 +28,7 @@ mod item_table;
 mod items;
 mod kinds;
 pub mod laws;
+mod preparing;
 mod sampling;
 mod taking;
 

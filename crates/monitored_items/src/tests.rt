@@ -228,7 +228,7 @@ fn queue_made_smaller_and_disabled(rt: HostRuntime) -> Result<(), Fail> {
     assert_eq!(rt; results.as_slice(), statuses.as_slice());
     assert!(rt; !items.available(1));
     assert_eq!(rt; told(alloc, &mut items, 9)?.as_str(), "");
-    items.set_mode(alloc, &space, Moment(6), 1, Mode::Reporting, &[1])?;
+    items.set_mode(alloc, &space, Moment(6), 1, Mode::Reporting, &[1, 1])?;
     assert_eq!(rt; told(alloc, &mut items, 9)?.as_str(), "2 ");
     let results = items.delete(alloc, 1, &[1, 1])?;
     let statuses = [Status::GOOD, Status::BAD_MONITORED_ITEM_ID_INVALID];

@@ -12,5 +12,6 @@ loop-preserved c = record {
       ∙ append_assoc c.args.notes.now.items (take c.loop.counter (notes_of c.args.self.now)) (take 1 (notes_of c.loop.self))
       ∙ ap (λ i. c.args.notes.now.items ++ (take c.loop.counter (notes_of c.args.self.now) ++ take 1 (notes_of i))) c.loop.invariant.item
       ∙ ap (λ xs. c.args.notes.now.items ++ xs) (notes_more c.loop.counter c.args.self.now);
-  room = omega (arith, c.loop.invariant.room, c.give_one.ensures.len, c.give_one.ensures.room);
+  len = omega (arith, c.loop.invariant.len, c.give_one.ensures.len);
+  room = c.give_one.ensures.room ∙ c.loop.invariant.room;
 }

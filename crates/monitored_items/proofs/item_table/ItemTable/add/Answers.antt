@@ -1,9 +1,11 @@
-use Rattle.std.proofs.Common.{◌≡◌, ◌+◌, sym, subst}
+use Rattle.std.proofs.Common.{◌≡◌, ◌+◌, sym, ap, subst, ◌∙◌}
+use Rattle.std.specs.BTreeMap.{is_at}
+use Rattle.std.specs.Map.{remove_entry}
 use Rattle.std.specs.Ordering.{nat_cmp}
 use Rattle.ua_types.specs.NodeIdOrder.{id_cmp}
-use Rattle.monitored_items.specs.ItemTables.{Numbered, is_of, is_on, IsTable, IsPut, IsTakenOut}
+use Rattle.monitored_items.specs.ItemTables.{Numbered, TableState, is_of, is_on, IsTable, IsPut, IsTakenOut}
 use Rattle.monitored_items.specs.declared.item.Item.{Item}
-use Rattle.monitored_items.proofs.Tables.{table_put, table_put_back, put_and_taken}
+use Rattle.monitored_items.proofs.Tables.{table_put, table_put_back, put_and_taken, put_and_removed}
 use Rattle.monitored_items.proofs.item_table.ItemTable.add.Goals as goal
 
 pub invariant_of-self : goal.invariant_of-self
@@ -31,3 +33,9 @@ invariant_of-self-in-Err c =
     (table_put_back t.made t.items.entries t.of_subscription t.on_node c.self.invariant c.args.item c.unindex_item.new.of_subscription c.unindex_item.new.on_node
     (put_and_taken nat_cmp t.of_subscription c.index_item.new.of_subscription c.unindex_item.new.of_subscription (λ q. is_of q c.in-Err.item) (t.made + 1) in_sub out_sub)
     (put_and_taken id_cmp t.on_node c.index_item.new.on_node c.unindex_item.new.on_node (λ id. is_on id c.in-Err.item) (t.made + 1) in_node out_node))
+
+pub returns-in-Ok-clause-back : goal.returns-in-Ok-clause-back
+returns-in-Ok-clause-back c =
+    let t = c.self.inside in
+    subst (λ (s : TableState). remove_entry (is_at (nat_cmp (s.made + 1))) c.insert_item.new.items.entries ≡ s.items) c.self.view_is
+    (ap (remove_entry (is_at (nat_cmp (t.made + 1)))) c.in-Ok.ensures.ok ∙ put_and_removed t.made c.args.item t.items.entries c.self.invariant.within)
