@@ -8,3 +8,4 @@ pub mod Owners
 pub mod RowLinks
 pub mod RowFairness
 pub mod RowSteady
+pub mod MadeMessages

@@ -9,12 +9,11 @@ use Rattle.monitored_items.specs.Items.{is_available}
 use Rattle.subscription.specs.declared.publish_call.PublishCall.{PublishCall}
 use Rattle.subscription.specs.declared.subscription.Subscription.{Subscription}
 use Rattle.subscription.specs.declared.turn.Turn.{Turn}
-use Rattle.subscription.specs.Scenes.{Scene, Noting, sending, noting, note_sent, rest_sent, notes_sent, with_asked, dequeued, started, row_done}
+use Rattle.subscription.specs.Scenes.{Scene, Noting, sending, noting, note_sent, rest_sent, notes_sent, with_asked, dequeued, started, life_reset, row_done}
 use Rattle.subscription.specs.Settings.{revised_keep, revised_life}
 use Rattle.subscription.specs.Standings.{circumstances, sends_notes}
 use Rattle.subscription.specs.Subscriptions.{is_any}
 use Rattle.subscription.proofs.Owners.{Frame, frame, note_frame}
-use Rattle.subscription.proofs.RowLinks.{life_reset}
 
 pub revised : (keep life : ℕ) → AreRevised (revised_keep keep) (revised_life (revised_keep keep) life)
 revised keep life = record { keep = grind arith; life = grind arith }

@@ -12,7 +12,7 @@ use Rattle.subscription.specs.declared.publish_call.PublishCall.{PublishCall}
 use Rattle.subscription.specs.declared.session_part.SessionPart.{SessionPart}
 use Rattle.subscription.specs.declared.subscription.Subscription.{Subscription}
 use Rattle.subscription.specs.declared.turn.Turn.{Turn}
-use Rattle.subscription.specs.Scenes.{Scene, Noting, sending, noting, note_sent, rest_sent, notes_sent, with_asked, Queueing, enqueued, enqueued_by, dequeued, started, row_done}
+use Rattle.subscription.specs.Scenes.{Scene, Noting, sending, noting, note_sent, rest_sent, notes_sent, with_asked, Queueing, enqueued, enqueued_by, dequeued, started, life_reset, row_done}
 use Rattle.subscription.specs.Standings.{Counts, standing_in, circumstances, counts_of, IsAsked}
 use Rattle.subscription.specs.Subscriptions.{is_any}
 
@@ -129,12 +129,6 @@ sent_standing waits available more counts s = record {
   started = counts.started;
   answerable = counts.answerable;
 }
-
-abbrev pub life_reset : Subscription → Subscription
-life_reset s = record s { life = s.life_count }
-
-abbrev timer_started : Subscription → Subscription
-timer_started s = record s { life = s.life_count - 1 }
 
 -- the requests before, those that are left, and the subscription between
 sent_link : (calls : List PublishCall) (n : Noting) (more : Bool) (available : Bool) (waited : Bool) (counts : Counts) → (is_any (notes_sent calls n).requests ≡ true → waited ≡ true) →

@@ -14,3 +14,4 @@ pub mod Ending
 pub mod Making
 pub mod Subs
 pub mod Standings
+pub mod Numbering

@@ -65,6 +65,9 @@ initialised turn s =
 abbrev pub started : Turn → Subscription → Subscription
 started turn s = record s { due = record { 0 = saturate_signed w64 (turn.clock.0 +ℤ pos turn.bounds.publish_time) }; life = s.life - 1 }
 
+abbrev pub life_reset : Subscription → Subscription
+life_reset s = record s { life = s.life_count }
+
 -- ---- Publish requests
 
 abbrev pub with_reply : Turn → Reply → Turn
@@ -199,7 +202,7 @@ done c Answer = c
 done c DeleteAcknowledged = c
 done c Enqueue = with_queueing c (enqueued c.turn c.part)
 done c Dequeue = with_queueing c (dequeued c.turn c.part)
-done c ResetLife = let s : Subscription = c.subscription in with_subscription c (record s { life = s.life_count })
+done c ResetLife = with_subscription c (life_reset c.subscription)
 done c ResetKeep = let s : Subscription = c.subscription in with_subscription c (record s { keep = s.keep_count })
 done c CountKeep = let s : Subscription = c.subscription in with_subscription c (record s { keep = s.keep - 1 })
 done c SendNotifications = with_sending c (notes_sent c.part.requests (noting c.turn c.subscription c.items))

@@ -1,0 +1,56 @@
+-- The messages that a row makes, and their numbers (IEC 62541-4, 5.13: SequenceNumber and the retransmission queue).
+use Rattle.std.specs.Prelude.{◌≡◌, ⊤, ℕ, Bool, true, false, List, [], ◌∷◌, drop, fold, if◌then◌else◌}
+use Rattle.sub_table.specs.declared.row.RowId.{RowId}
+use Rattle.sub_table.specs.declared.row.RowId.TheVariants.{C2, N2, N3, L1, K2, G5, G6, G8}
+use Rattle.subscription.specs.declared.messages.KeptMessage.{KeptMessage}
+use Rattle.subscription.specs.declared.publish_call.PublishCall.{PublishCall}
+use Rattle.subscription.specs.declared.subscription.Subscription.{Subscription}
+use Rattle.subscription.specs.Messages.{number_after}
+use Rattle.subscription.specs.Scenes.{Scene, Noting, noting, note_sent, with_asked, message_made, kept_with, started, dequeued, life_reset}
+
+-- the message that is made next
+abbrev pub note_made : Noting → KeptMessage
+note_made n = record { number = number_after n.subscription.number; bytes = message_made n.turn n.subscription n.items }
+
+abbrev pub rest_made : List PublishCall → Noting → List KeptMessage
+rest_made [] n = []
+rest_made (call ∷ calls) n = if n.subscription.more then note_made (with_asked n call) ∷ rest_made calls (note_sent (with_asked n call)) else []
+
+-- the messages that are made while notifications are sent
+abbrev pub notes_made : List PublishCall → Noting → List KeptMessage
+notes_made calls n = note_made n ∷ rest_made calls (note_sent n)
+
+-- each number follows the one before it
+abbrev pub AreNumbered : ℕ → List KeptMessage → Type 0
+AreNumbered number [] = ⊤
+AreNumbered number (m ∷ ms) = (m.number ≡ number_after number) × AreNumbered m.number ms
+
+abbrev pub last_number : ℕ → List KeptMessage → ℕ
+last_number number [] = number
+last_number number (m ∷ ms) = last_number m.number ms
+
+-- all are kept, one after the other, the oldest going where there are more than may be
+abbrev pub all_kept : ℕ → List KeptMessage → List KeptMessage → List KeptMessage
+all_kept bound kept made = fold (kept_with bound) kept made
+
+-- what a row leaves of numbers and kept messages, where it makes these
+pub record IsMade (bound : ℕ) (before after : Subscription) (made : List KeptMessage) : Type 0 where
+  pub numbered : AreNumbered before.number made
+  pub number : after.number ≡ last_number before.number made
+  pub kept : after.kept ≡ all_kept bound before.kept made
+
+-- the messages that a row makes; those of the four rows that send notifications
+abbrev pub messages_of : RowId → Scene → List KeptMessage
+messages_of N2 c = notes_made c.part.requests (noting c.turn (life_reset c.subscription) c.items)
+messages_of L1 c = notes_made c.part.requests (noting c.turn (life_reset c.subscription) c.items)
+messages_of N3 c = notes_made (drop 1 c.part.requests) (noting (dequeued c.turn c.part).turn (started c.turn (life_reset c.subscription)) c.items)
+messages_of K2 c = notes_made (drop 1 c.part.requests) (noting (dequeued c.turn c.part).turn (started c.turn (life_reset c.subscription)) c.items)
+messages_of r c = []
+
+-- a row begins or ends a subscription
+abbrev pub begins_or_ends : RowId → Bool
+begins_or_ends C2 = true
+begins_or_ends G5 = true
+begins_or_ends G6 = true
+begins_or_ends G8 = true
+begins_or_ends r = false
