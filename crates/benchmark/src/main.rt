@@ -3,12 +3,15 @@
 //! `benchmark encoding ROUNDS` writes and reads lists of 1,000 elements, each ROUNDS times, and tells the
 //! time of an element in the fastest round. `benchmark requests ROUNDS` hands requests to a whole server,
 //! each ROUNDS times, and tells how many are answered in a second. `benchmark browse ROUNDS` browses a node
-//! of 3 references, ROUNDS times, and one of 99,000 by pages of 1,000, once. `benchmark all ROUNDS` does all. The
-//! counts go to standard output, where the gate compares them; the times go to standard error.
+//! of 3 references, ROUNDS times, and one of 99,000 by pages of 1,000, once. `benchmark history ROUNDS` writes a
+//! variable 100,000 times, whose history is kept, and reads the history by pages of 1,000, once, whatever ROUNDS is.
+//! `benchmark all ROUNDS` does all. The counts go to standard output, where the gate compares them; the times go to
+//! standard error.
 #![tactic(auto)]
 
 mod browse;
 mod encoding;
+mod history;
 mod requests;
 
 use std::process::ExitCode;
@@ -20,6 +23,7 @@ enum Mode {
     Encoding,
     Requests,
     Browse,
+    History,
     All,
 }
 
@@ -29,6 +33,7 @@ impl Mode {
             "encoding" => Some(Mode::Encoding),
             "requests" => Some(Mode::Requests),
             "browse" => Some(Mode::Browse),
+            "history" => Some(Mode::History),
             "all" => Some(Mode::All),
             _ => None,
         }
@@ -51,10 +56,12 @@ fn run(rt: &HostRuntime, mode: Mode, rounds: u32) -> io::Result<()> {
         Mode::Encoding => encoding::run(rt, rounds),
         Mode::Requests => requests::run(rt, rounds),
         Mode::Browse => browse::run(rt, rounds),
+        Mode::History => history::run(rt),
         Mode::All => {
             encoding::run(rt, rounds)?;
             requests::run(rt, rounds)?;
-            browse::run(rt, rounds)
+            browse::run(rt, rounds)?;
+            history::run(rt)
         }
     }
 }

@@ -1,3 +1,5 @@
 pub mod Histories
 pub mod Intervals
+pub mod Pages
+pub mod Reading
 pub mod HistoryLaws

@@ -1,12 +1,14 @@
 //! The histories of nodes.
 
-ghost use Rattle.std.specs.Prelude.{◌≡◌, [], length, map, take, IfOk, OnOk, OnErr};
+ghost use Rattle.std.specs.Prelude.{◌≡◌, [], length, IfOk, OnOk, OnErr};
 ghost use Rattle.std.specs.Option.{option_copied};
+ghost use Rattle.raw_history.specs.HistoryLaws.{IsByTime};
 ghost use Rattle.raw_history.specs.Intervals.{raw};
+ghost use Rattle.raw_history.specs.Pages.{IsCut};
 ghost use Rattle.raw_history.specs.Histories.{no_histories, kept, kept_in, history_of, value_at as value_at_lem};
 
 use crate::intervals::Interval;
-use crate::reading::page;
+use crate::pages::{Cut, page};
 use std::alloc::{AllocError, Global};
 use std::collections::BTreeMap;
 use std::marker::Model;
@@ -28,6 +30,8 @@ impl Model for NodeHistory {
     ghost Value = { Values };
 
     ghost view = { λ h. h.values.entries };
+
+    ghost invariant = { λ h. IsStrictlySortedBy int_cmp (keys h.values) };
 }
 
 impl NodeHistory {
@@ -37,6 +41,12 @@ impl NodeHistory {
         NodeHistory {
             values: BTreeMap::new(alloc),
         }
+    }
+
+    fn soundness(&self)
+        ensures { IsByTime self.now }
+    {
+        let _ = &self.values;
     }
 
     // One more value, in the place of one that was there at that time. Where it is one too many, the one with the
@@ -103,6 +113,17 @@ impl History {
         Ok(())
     }
 
+    /// Says that the times of a node's history rise. It does nothing.
+    #[tactic(auto, using(crate::proofs::Keeping::none_by_time))]
+    pub fn soundness(&self, node: &NodeId)
+        ensures { IsByTime (history_of node.now self.now) }
+    {
+        match self.nodes.get(node) {
+            None => {}
+            Some(values) => values.soundness(),
+        }
+    }
+
     /// How many values of a node are kept.
     pub fn len(&self, node: &NodeId) -> usize
         ensures { result ≡ length (history_of node.now self.now) }
@@ -124,19 +145,23 @@ impl History {
     }
 
     /// The first values of a node in an interval, in its order, each where it stands. They are found in logarithmic
-    /// time, and no more of them are looked at. Where more are wanted, [`Interval::past`] the last one's time has them.
-    #[tactic(auto, using(crate::proofs::Keeping::none_raw))]
+    /// time, and no more than one of the others is looked at. Where more are left, [`Interval::past`] the last one's
+    /// time has them.
+    #[tactic(auto, using(crate::proofs::Between::none_raw))]
     pub fn read<'a>(
         &'a self,
         alloc: Global,
         node: &NodeId,
         interval: Interval,
         count: u32,
-    ) -> Result<Vec<&'a DataValue>, AllocError>
-        ensures { IfOk result (λ values. map (λ v. v.now) values.items ≡ take count (raw (history_of node.now self.now) interval)) }
+    ) -> Result<Cut<'a>, AllocError>
+        ensures { IfOk result (λ cut. IsCut cut count (raw (history_of node.now self.now) interval)) }
     {
         match self.nodes.get(node) {
-            None => Ok(Vec::new(alloc)),
+            None => Ok(Cut {
+                values: Vec::new(alloc),
+                is_more: false,
+            }),
             Some(values) => page(alloc, &values.values, interval, count),
         }
     }

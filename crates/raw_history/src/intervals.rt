@@ -19,49 +19,54 @@ pub struct Interval {
 }
 
 impl Interval {
-    /// The interval from a start to an end, each of which isn't given where it is 0; None where neither is.
+    /// The interval from a start to an end, each of which isn't given where it is 0.
     ///
     /// With both it has the start and not the end, and falls where the end lies before the start; where they are
     /// the same it is that one time. From a start alone it rises, and from an end alone it falls, with that time.
-    pub fn new(start: Moment, end: Moment) -> Option<Interval>
+    /// With neither it has all times, and rises.
+    pub fn new(start: Moment, end: Moment) -> Interval
         ensures { result ≡ interval_of start end }
     {
         let (start, end) = (start.0, end.0);
         if start == 0 {
             if end == 0 {
-                return None;
+                return Interval {
+                    low: Bound::Unbounded,
+                    high: Bound::Unbounded,
+                    is_falling: false,
+                };
             }
-            return Some(Interval {
+            return Interval {
                 low: Bound::Unbounded,
                 high: Bound::Included(end),
                 is_falling: true,
-            });
+            };
         }
         if end == 0 {
-            return Some(Interval {
+            return Interval {
                 low: Bound::Included(start),
                 high: Bound::Unbounded,
                 is_falling: false,
-            });
+            };
         }
         if start < end {
-            Some(Interval {
+            Interval {
                 low: Bound::Included(start),
                 high: Bound::Excluded(end),
                 is_falling: false,
-            })
+            }
         } else if end < start {
-            Some(Interval {
+            Interval {
                 low: Bound::Excluded(end),
                 high: Bound::Included(start),
                 is_falling: true,
-            })
+            }
         } else {
-            Some(Interval {
+            Interval {
                 low: Bound::Included(start),
                 high: Bound::Included(start),
                 is_falling: false,
-            })
+            }
         }
     }
 

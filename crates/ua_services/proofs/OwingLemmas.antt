@@ -17,6 +17,9 @@ use Rattle.service_messages.specs.Browsing.{browse_request_reading, browse_next_
 use Rattle.service_messages.specs.declared.browsing.BrowseDescription.{BrowseDescription}
 use Rattle.service_messages.specs.declared.browsing.BrowseNextRequest.{BrowseNextRequest}
 use Rattle.service_messages.specs.declared.browsing.BrowseRequest.{BrowseRequest}
+use Rattle.service_messages.specs.History.{history_read_request_reading}
+use Rattle.service_messages.specs.declared.history.HistoryReadRequest.{HistoryReadRequest}
+use Rattle.service_messages.specs.declared.history.HistoryReadValueId.{HistoryReadValueId}
 use Rattle.service_messages.specs.Reading.{read_request_reading}
 use Rattle.service_messages.specs.Writing.{write_request_reading}
 use Rattle.service_messages.specs.declared.reading.ReadRequest.{ReadRequest}
@@ -29,6 +32,8 @@ use Rattle.ua_types.specs.declared.node_id.NodeId.{NodeId}
 use Rattle.ua_types.specs.NodeIds.{is_null_id}
 use Rattle.ua_services.specs.Browse.{browse_listed, browse_meaning}
 use Rattle.ua_services.specs.BrowseNext.{browse_next_listed, browse_next_meaning}
+use Rattle.ua_services.specs.HistoryRead.{some_times, details_judged, history_ranged, history_listed, history_timed, history_read_meaning}
+use Rattle.raw_history.specs.declared.reading.RawRange.{RawRange}
 use Rattle.ua_services.specs.InSession.{if_found, served_in_session}
 use Rattle.ua_services.specs.Operations.{operations_of}
 use Rattle.ua_services.specs.Read.{read_listed, read_timed, read_meaning}
@@ -127,6 +132,23 @@ module _ (Such : ℕ → Type 0) where
   browse_next_only setting call q session request state p =
       browse_next_listed_only setting call session request.release_continuation_points state p q (operations_of setting.config request.continuation_points)
 
+  history_ranged_only : (setting : Setting) (call : Call) (session : ℕ) (request : HistoryReadRequest) (state : Services) (times : Timestamps) (nodes : List HistoryReadValueId) → OwesOnly Such state → Such call.conn → (r : Result RawRange Status) →
+      ServesOnly Such (history_ranged setting call session request state times nodes r)
+  history_ranged_only setting call session request state times nodes p q (Ok range) = record { state = tt; replies = (q, tt) }
+  history_ranged_only setting call session request state times nodes p q (Err code) = record { state = p; replies = (q, tt) }
+
+  history_listed_only : (setting : Setting) (call : Call) (session : ℕ) (request : HistoryReadRequest) (state : Services) (times : Timestamps) → OwesOnly Such state → Such call.conn → (r : Result (List HistoryReadValueId) Status) →
+      ServesOnly Such (history_listed setting call session request state times r)
+  history_listed_only setting call session request state times p q (Ok nodes) = history_ranged_only setting call session request state times nodes p q (details_judged setting.config request.history_read_details)
+  history_listed_only setting call session request state times p q (Err code) = record { state = p; replies = (q, tt) }
+
+  history_timed_only : (setting : Setting) (call : Call) (session : ℕ) (request : HistoryReadRequest) (state : Services) → OwesOnly Such state → Such call.conn → (choice : Option Timestamps) → ServesOnly Such (history_timed setting call session request state choice)
+  history_timed_only setting call session request state p q None = record { state = p; replies = (q, tt) }
+  history_timed_only setting call session request state p q (Some times) = history_listed_only setting call session request state times p q (operations_of setting.config request.nodes_to_read)
+
+  history_read_only : (setting : Setting) (call : Call) → Such call.conn → (session : ℕ) (request : HistoryReadRequest) (state : Services) → OwesOnly Such state → ServesOnly Such (history_read_meaning setting call session request state)
+  history_read_only setting call q session request state p = history_timed_only setting call session request state p q (some_times (timestamps_of request.timestamps_to_return))
+
   picked_only : (setting : Setting) (call : Call) (token : NodeId) (body : List ℕ) (state : Services) (id : ℕ) → OwesOnly Such state → Such call.conn → ServesOnly Such (picked setting call token body state id)
   picked_only setting call token body state id p q =
       let none : ServesOnly Such (faulted state call status.BAD_SERVICE_UNSUPPORTED setting.clock) = record { state = p; replies = (q, tt) } in
@@ -137,7 +159,8 @@ module _ (Such : ℕ → Type 0) where
       (either _ _ _ (by_session read_meaning setting call token state p q (read_only setting call q) (message_of read_request_reading body))
       (either _ _ _ (by_session write_meaning setting call token state p q (write_only setting call q) (message_of write_request_reading body))
       (either _ _ _ (by_session browse_meaning setting call token state p q (browse_only setting call q) (message_of browse_request_reading body))
-      (either _ _ _ (by_session browse_next_meaning setting call token state p q (browse_next_only setting call q) (message_of browse_next_request_reading body)) none)))))))
+      (either _ _ _ (by_session browse_next_meaning setting call token state p q (browse_next_only setting call q) (message_of browse_next_request_reading body))
+      (either _ _ _ (by_session history_read_meaning setting call token state p q (history_read_only setting call q) (message_of history_read_request_reading body)) none))))))))
 
   by_header : (setting : Setting) (request : Request) (state : Services) (id : Result ℕ TakeFault) (header : Result RequestHeader TakeFault) → OwesOnly Such state → Such request.conn →
       ServesOnly Such (serving_by setting request state id header)

@@ -1,12 +1,11 @@
 -- Things that are asked for, done one after the other with a session's continuation points.
-use Rattle.std.proofs.Common.{◌≡◌, ℕ, zero, suc, ◌+◌, ◌<◌, ◌≤◌, get_or, ◌^◌, Bool, true, false, cond, leb, List, [], ◌∷◌, ◌++◌, length, take, drop, Option, Some, None, Result, Ok, Err, refl, sym, ap, subst, ◌∙◌, arith, length-append}
+use Rattle.std.proofs.Common.{◌≡◌, ℕ, zero, suc, ◌<◌, ◌≤◌, get_or, ◌^◌, Bool, true, false, cond, List, [], ◌∷◌, ◌++◌, length, take, drop, Option, Some, None, Result, Ok, Err, refl, sym, ap, subst, ◌∙◌, arith}
 use Rattle.std.specs.List.{fold, list_any}
 use Rattle.std.specs.Prelude.{◌==◌, nat_lt, is_ok}
-use Rattle.std.specs.FinMap.{get, insert, remove}
-use Rattle.std.specs.Result.{result_map_both}
+use Rattle.std.specs.FinMap.{get}
 use Rattle.std.proofs.lemmas.Bool.{leb-true, le-leb}
 use Rattle.ua_types.proofs.NumberMaps.{insert_removed}
-use Rattle.ua_types.specs.Answers.{Step, step}
+use Rattle.ua_types.specs.Answers.{Step}
 use Rattle.ua_types.specs.declared.refusal.Refusal.{Refusal}
 use Rattle.ua_types.specs.declared.refusal.Refusal.TheVariants as refusals
 use Rattle.ua_types.specs.Configuration.{Configuration}
@@ -14,24 +13,35 @@ use Rattle.ua_types.specs.declared.status.Status.{Status}
 use Rattle.ua_types.specs.declared.status.TheConstants.Status as status
 use Rattle.ua_services.specs.Operations.{operations_of}
 use Rattle.service_messages.specs.declared.browsing.BrowseDescription.{BrowseDescription}
-use Rattle.service_messages.specs.declared.browsing.BrowseResult.{BrowseResult}
 use Rattle.service_messages.specs.declared.browsing.ReferenceDescription.{ReferenceDescription}
-use Rattle.ua_browse.specs.Browsing.{with_point, first_page, browse_judged, browse_of, later_page, gone_on, browse_next_of, released, release_of, part, point_at}
+use Rattle.ua_browse.specs.Browsing.{first_page, browse_judged, browse_of, later_page, gone_on, browse_next_of, released, part, point_at}
 use Rattle.ua_browse.specs.Wanted.{judged}
-use Rattle.ua_browse.specs.declared.browsing.Page.{Page}
 use Rattle.ua_session.specs.Points.{PointsState, TakesSerial, hold_of, replace_of, put_of, is_full, is_overspent, serial_of}
 use Rattle.ua_session.specs.declared.points.BrowsePoint.{BrowsePoint}
 use Rattle.ua_session.specs.declared.points.Point.{Point}
 use Rattle.ua_session.specs.declared.points.Point.TheVariants as points
-use Rattle.ua_session.specs.Sessions.{SessionsState, with_points, without_points}
+use Rattle.ua_session.specs.Sessions.{without_points}
 use Rattle.ua_space.specs.Nodes.{SpaceState}
-use Rattle.ua_requests.specs.declared.fired.Fired.{Fired}
+use Rattle.service_messages.specs.declared.history.HistoryReadValueId.{HistoryReadValueId}
+use Rattle.raw_history.specs.Histories.{HistoryState, Values, history_of}
+use Rattle.raw_history.specs.Intervals.{interval_of, raw as raw_values}
+use Rattle.raw_history.specs.Pages.{shown_of, last_given}
+use Rattle.raw_history.specs.Reading as raw
+use Rattle.raw_history.specs.declared.reading.RawRange.{RawRange}
+use Rattle.ua_session.specs.declared.points.HistoryPoint.{HistoryPoint}
+use Rattle.ua_space.specs.Nodes.{Nodes}
+use Rattle.ua_types.specs.declared.moment.Moment.{Moment}
+use Rattle.ua_types.specs.declared.node_id.NodeId.{NodeId}
+use Rattle.ua_services.specs.HistoryRead.{node_read}
+use Rattle.ua_services.specs.HistoryResults.{history_result_of, release_result_of}
+use Rattle.ua_services.specs.declared.history_read.Wanted.{Wanted}
 use Rattle.ua_requests.specs.declared.halt.Halt.{Halt}
 use Rattle.ua_requests.specs.declared.halt.Halt.TheVariants.{Memory, Exhausted}
 use Rattle.ua_requests.specs.declared.served.Served.{Served}
 use Rattle.ua_requests.specs.declared.setting.Setting.{Setting}
-use Rattle.ua_services.specs.BrowseNext.{emptied, gone_on_by, go_on_of}
-use Rattle.ua_services.specs.Paging.{Browsing, with_one, all_done, result_of, browsed, spent_by_points, Tells, DoesOne, DoesAll}
+use Rattle.ua_services.specs.BrowseResults.{browse_told}
+use Rattle.ua_services.specs.BrowseNext.{gone_on_by, go_on_of}
+use Rattle.ua_services.specs.Paging.{Done, AllDone, told_as, with_one, all_done, paged, spent_by_points, Tells, DoesOne, DoesAll}
 use Rattle.ua_services.specs.Serving.{Act, is_spent as is_spent_act, Serves, rows_of, given, given_of}
 use Rattle.ua_services.specs.ServicesState.{Services}
 use Rattle.ua_services.specs.SessionServing.{with_sessions}
@@ -39,14 +49,15 @@ use Rattle.ua_services.specs.declared.call.Call.{Call}
 
 -- ---- one thing
 
--- what a call answered, told as a result
-pub does_one : (told : Result BrowseResult Halt) (answer : Result Page Refusal) (old new : PointsState) (said : Step Page Status PointsState) → Tells told answer → TakesSerial answer old new said → DoesOne told new said
-does_one (Ok told) (Ok page) old new said t h = (t ∙ ap (λ (s : Step Page Status PointsState). result_of s.answer) (sym h), ap (λ (s : Step Page Status PointsState). s.state) (sym h))
-does_one (Ok told) (Err (refusals.Service code)) old new said t h = (t ∙ ap (λ (s : Step Page Status PointsState). result_of s.answer) (sym h), ap (λ (s : Step Page Status PointsState). s.state) (sym h))
-does_one (Ok told) (Err refusals.Memory) old new said t h = absurd t
-does_one (Ok told) (Err refusals.Exhausted) old new said t h = absurd t
-does_one (Err Memory) answer old new said t h = tt
-does_one (Err Exhausted) answer old new said t h = (subst (λ (a : Result Page Refusal). TakesSerial a old new said) t h).0
+module _ {P R : Type 0} (tell : Result P Status → R) where
+  -- what a call answered, told as a result
+  pub does_one : (told : Result R Halt) (answer : Result P Refusal) (old new : PointsState) (said : Step P Status PointsState) → Tells tell told answer → TakesSerial answer old new said → DoesOne told new (told_as tell said)
+  does_one (Ok told) (Ok page) old new said t h = (t ∙ ap (λ (s : Step P Status PointsState). tell s.answer) (sym h), ap (λ (s : Step P Status PointsState). s.state) (sym h))
+  does_one (Ok told) (Err (refusals.Service code)) old new said t h = (t ∙ ap (λ (s : Step P Status PointsState). tell s.answer) (sym h), ap (λ (s : Step P Status PointsState). s.state) (sym h))
+  does_one (Ok told) (Err refusals.Memory) old new said t h = absurd t
+  does_one (Ok told) (Err refusals.Exhausted) old new said t h = absurd t
+  does_one (Err Memory) answer old new said t h = tt
+  does_one (Err Exhausted) answer old new said t h = (subst (λ (a : Result P Refusal). TakesSerial a old new said) t h).0
 
 pub split_at : {A : Type 0} (xs : List A) (i : ℕ) (x : A) → i < length xs → x ≡ get_or xs i x → take i xs ++ x ∷ drop (suc i) xs ≡ xs
 split_at [] i x lt e = absurd (omega arith)
@@ -56,8 +67,8 @@ split_at (y ∷ ys) (suc i) x lt e = ap (λ (l : List _). y ∷ l) (split_at ys 
 -- ---- serials never fall
 
 -- a call that gives no serial back
-abbrev pub Rises : {A : Type 0} → (PointsState → A → Step Page Status PointsState) → Type 0
-Rises {A = A} f = (s : PointsState) (x : A) → s.made ≤ (f s x).state.made
+abbrev pub Rises : {A R : Type 0} → (PointsState → A → Done R) → Type 0
+Rises {A = A} f = (s : PointsState) (x : A) → s.made ≤ (f s x).points.made
 
 holds_risen : (b : Bool) (s : PointsState) (point : Point) (refused : Step ℕ Status PointsState) → s.made ≤ refused.state.made → s.made ≤ (cond b refused (put_of s point)).state.made
 holds_risen true s point refused h = h
@@ -72,7 +83,7 @@ judged_risen : (space : SpaceState) (s : PointsState) (size : ℕ) (d : BrowseDe
 judged_risen space s size d (Err code) = omega arith
 judged_risen space s size d (Ok done) = first_risen s d size (part space d size 0).references (part space d size 0).next
 
-pub browse_rises : (space : SpaceState) (size : ℕ) → Rises (λ s d. browse_of space s size d)
+pub browse_rises : (space : SpaceState) (size : ℕ) → Rises (λ s d. browse_told (browse_of space s size d))
 unfolding browse_of
 browse_rises space size s d = judged_risen space s size d (judged space.nodes d)
 
@@ -100,17 +111,68 @@ gone_by_risen space is_release s None = omega arith
 gone_by_risen space true s (Some serial) = released_risen s serial (get s.held serial)
 gone_by_risen space false s (Some serial) = next_risen space s serial
 
-pub go_on_rises : (space : SpaceState) (is_release : Bool) → Rises (go_on_of space is_release)
+pub go_on_rises : (space : SpaceState) (is_release : Bool) → Rises (λ s p. browse_told (go_on_of space is_release s p))
 go_on_rises space is_release s bytes = gone_by_risen space is_release s (serial_of bytes)
+
+raw_first_risen : (s : PointsState) (id : NodeId) (range : RawRange) (shown : Values) (next : Option Moment) → s.made ≤ (raw.first_page s id range shown next).state.made
+unfolding hold_of
+raw_first_risen s id range shown None = omega arith
+raw_first_risen s id range shown (Some last) = holds_risen (is_full s) s (raw.point_after id range last) _ (omega arith)
+
+raw_later_risen : (s : PointsState) (serial : ℕ) (p : HistoryPoint) (shown : Values) (next : Option Moment) → s.made ≤ (raw.later_page s serial p shown next).state.made
+unfolding replace_of
+raw_later_risen s serial p shown None = omega arith
+raw_later_risen s serial p shown (Some last) = omega arith
+
+raw_gone_risen : (h : HistoryState) (s : PointsState) (serial : ℕ) (point : Option HistoryPoint) → s.made ≤ (raw.gone_on h s serial point).state.made
+raw_gone_risen h s serial None = omega arith
+raw_gone_risen h s serial (Some p) = raw_later_risen s serial p (shown_of p.count (raw.left_at h p)) (last_given p.count (raw.left_at h p))
+
+at_point_risen : (h : HistoryState) (s : PointsState) (id : NodeId) (serial : Option ℕ) → s.made ≤ (raw.at_point h s id serial).state.made
+at_point_risen h s id None = omega arith
+at_point_risen h s id (Some serial) = raw_gone_risen h s serial (raw.history_point id (get s.held serial))
+
+begun_risen : (h : HistoryState) (s : PointsState) (range : RawRange) (id : NodeId) → s.made ≤ (raw.begun h s range id).state.made
+begun_risen h s range id = let all = raw_values (history_of id h) (interval_of range.start range.end) in raw_first_risen s id range (shown_of range.size all) (last_given range.size all)
+
+either_risen : (b : Bool) (s : PointsState) (x y : Step raw.RawPage Status PointsState) → s.made ≤ x.state.made → s.made ≤ y.state.made → s.made ≤ (cond b x y).state.made
+either_risen true s x y p q = p
+either_risen false s x y p q = q
+
+raw_judged_risen : (h : HistoryState) (s : PointsState) (range : RawRange) (asked : HistoryReadValueId) (verdict : Result (Unit {0}) Status) → s.made ≤ (raw.read_judged h s range asked verdict).state.made
+raw_judged_risen h s range asked (Err code) = omega arith
+raw_judged_risen h s range asked (Ok done) =
+    either_risen (raw.is_given asked.continuation_point) s (raw.at_point h s asked.node_id (serial_of asked.continuation_point)) (raw.begun h s range asked.node_id)
+    (at_point_risen h s asked.node_id (serial_of asked.continuation_point)) (begun_risen h s range asked.node_id)
+
+read_raw_risen : (h : HistoryState) (nodes : Nodes) (range : RawRange) (s : PointsState) (asked : HistoryReadValueId) → s.made ≤ (raw.read_raw_of h nodes range s asked).state.made
+unfolding raw.read_raw_of
+read_raw_risen h nodes range s asked = raw_judged_risen h s range asked (raw.judged nodes asked)
+
+raw_released_by_risen : (s : PointsState) (serial : ℕ) (point : Option Point) → s.made ≤ (raw.released_by s serial point).state.made
+raw_released_by_risen s serial None = omega arith
+raw_released_by_risen s serial (Some (points.History p)) = omega arith
+raw_released_by_risen s serial (Some (points.Browse p)) = omega arith
+
+raw_released_risen : (s : PointsState) (serial : Option ℕ) → s.made ≤ (raw.released s serial).state.made
+raw_released_risen s None = omega arith
+raw_released_risen s (Some serial) = raw_released_by_risen s serial (get s.held serial)
+
+pub node_read_rises : (h : HistoryState) (nodes : Nodes) (wanted : Wanted) → Rises (λ s asked. node_read h nodes wanted s asked)
+node_read_rises h nodes wanted s asked = by wanted.is_release
+  where
+    by : (b : Bool) → s.made ≤ (cond b (told_as release_result_of (raw.release_of s asked.continuation_point)) (told_as (history_result_of wanted.timestamps) (raw.read_raw_of h nodes wanted.range s asked))).points.made
+    by true = raw_released_risen s (serial_of asked.continuation_point)
+    by false = read_raw_risen h nodes wanted.range s asked
 
 -- ---- all things
 
-module _ {A : Type 0} (f : PointsState → A → Step Page Status PointsState) where
-  fold_rises : Rises f → (xs : List A) (b : Browsing) → b.points.made ≤ (fold (with_one f) b xs).points.made
+module _ {A R : Type 0} (f : PointsState → A → Done R) where
+  fold_rises : Rises f → (xs : List A) (b : AllDone R) → b.points.made ≤ (fold (with_one f) b xs).points.made
   fold_rises rises [] b = omega arith
   fold_rises rises (x ∷ xs) b = let one = rises b.points x in let rest = fold_rises rises xs (with_one f b x) in omega (arith, one, rest)
 
-  fold_joined : (xs ys : List A) (b : Browsing) → fold (with_one f) b (xs ++ ys) ≡ fold (with_one f) (fold (with_one f) b xs) ys
+  fold_joined : (xs ys : List A) (b : AllDone R) → fold (with_one f) b (xs ++ ys) ≡ fold (with_one f) (fold (with_one f) b xs) ys
   fold_joined [] ys b = refl
   fold_joined (x ∷ xs) ys b = fold_joined xs ys (with_one f b x)
 
@@ -124,16 +186,16 @@ module _ {A : Type 0} (f : PointsState → A → Step Page Status PointsState) w
   halts_all rises Exhausted points new before x rest all is h =
       let b = all_done f points before in
       let later = fold_rises rises rest (with_one f b x) in
-      overspent_later (f b.points x).state (all_done f points all).points
-      (subst (λ (after : Browsing). (f b.points x).state.made ≤ after.points.made) (sym (fold_joined before (x ∷ rest) (record { results = []; points = points })) ∙ ap (all_done f points) is) later) h
+      overspent_later (f b.points x).points (all_done f points all).points
+      (subst (λ (after : AllDone R). (f b.points x).points.made ≤ after.points.made) (sym (fold_joined before (x ∷ rest) (record { results = []; points = points })) ∙ ap (all_done f points) is) later) h
 
   -- one more is done
-  pub does_one_more : (points new : PointsState) (before : List A) (x : A) (results after : List BrowseResult) (told : BrowseResult) (old : PointsState) → record { results = results; points = old } ≡ all_done f points before →
+  pub does_one_more : (points new : PointsState) (before : List A) (x : A) (results after : List R) (told : R) (old : PointsState) → record { results = results; points = old } ≡ all_done f points before →
       DoesOne (Ok told) new (f old x) → after ≡ results ++ told ∷ [] → record { results = after; points = new } ≡ all_done f points (before ++ x ∷ [])
   does_one_more points new before x results after told old so_far h is =
-      ap (λ (r : List BrowseResult). record { results = r; points = new }) (is ∙ ap (λ (t : BrowseResult). results ++ t ∷ []) h.0)
-      ∙ ap (λ (p : PointsState). record { results = results ++ result_of (f old x).answer ∷ []; points = p }) h.1
-      ∙ ap (λ (b : Browsing). with_one f b x) so_far
+      ap (λ (r : List R). record { results = r; points = new }) (is ∙ ap (λ (t : R). results ++ t ∷ []) h.0)
+      ∙ ap (λ (p : PointsState). record { results = results ++ (f old x).result ∷ []; points = p }) h.1
+      ∙ ap (λ (b : AllDone R). with_one f b x) so_far
       ∙ sym (fold_joined before (x ∷ []) (record { results = []; points = points }))
 
 -- ---- the answer
@@ -152,22 +214,22 @@ pub spent_points_are_said : (points : PointsState) → is_overspent points ≡ t
 spent_points_are_said points e = any_spent (is_overspent points) e
 
 -- points that were taken out and put back with what was done
-pub put_back : (setting : Setting) (call : Call) (session type_id : ℕ) (state : Services) (b : Browsing) →
-    browsed setting call session type_id (with_sessions state (without_points state.sessions session)) b ≡ browsed setting call session type_id state b
-put_back setting call session type_id state b =
-    ap (λ held. record (browsed setting call session type_id state b) { state = with_sessions state (record state.sessions { points = held }) }) (insert_removed state.sessions.points session b.points)
+pub put_back : {R : Type 0} (encoding : R → List ℕ) (setting : Setting) (call : Call) (session type_id : ℕ) (state : Services) (b : AllDone R) →
+    paged encoding setting call session type_id (with_sessions state (without_points state.sessions session)) b ≡ paged encoding setting call session type_id state b
+put_back encoding setting call session type_id state b =
+    ap (λ held. record (paged encoding setting call session type_id state b) { state = with_sessions state (record state.sessions { points = held }) }) (insert_removed state.sessions.points session b.points)
 
 -- what was answered of all, and a halt in the middle
-module _ (setting : Setting) (call : Call) (session type_id : ℕ) (state mid new : Services) (b done : Browsing) (is : mid ≡ with_sessions state (without_points state.sessions session)) where
-  pub served_all : (served : Served) → given new served ≡ given_of (browsed setting call session type_id mid b) → b ≡ done → given new served ≡ given_of (browsed setting call session type_id state done)
+module _ {R : Type 0} (encoding : R → List ℕ) (setting : Setting) (call : Call) (session type_id : ℕ) (state mid new : Services) (b done : AllDone R) (is : mid ≡ with_sessions state (without_points state.sessions session)) where
+  pub served_all : (served : Served) → given new served ≡ given_of (paged encoding setting call session type_id mid b) → b ≡ done → given new served ≡ given_of (paged encoding setting call session type_id state done)
   served_all served h e =
-      h ∙ ap (λ (s : Services). given_of (browsed setting call session type_id s b)) is
-      ∙ ap given_of (put_back setting call session type_id state b)
-      ∙ ap (λ (x : Browsing). given_of (browsed setting call session type_id state x)) e
+      h ∙ ap (λ (s : Services). given_of (paged encoding setting call session type_id s b)) is
+      ∙ ap given_of (put_back encoding setting call session type_id state b)
+      ∙ ap (λ (x : AllDone R). given_of (paged encoding setting call session type_id state x)) e
 
-pub halted_all : (setting : Setting) (call : Call) (session type_id : ℕ) (state after : Services) (halt : Halt) (new : PointsState) (said : Browsing) → DoesAll (Err halt) new said → Serves (Err halt) after (browsed setting call session type_id state said)
-halted_all setting call session type_id state after Memory new said h = tt
-halted_all setting call session type_id state after Exhausted new said h = spent_points_are_said said.points h
+pub halted_all : {R : Type 0} (encoding : R → List ℕ) (setting : Setting) (call : Call) (session type_id : ℕ) (state after : Services) (halt : Halt) (new : PointsState) (said : AllDone R) → DoesAll (Err halt) new said → Serves (Err halt) after (paged encoding setting call session type_id state said)
+halted_all encoding setting call session type_id state after Memory new said h = tt
+halted_all encoding setting call session type_id state after Exhausted new said h = spent_points_are_said said.points h
 
 -- a list that was judged good is the one that was given
 pub listed_whole : {A : Type 0} (config : Configuration) (list : Option (List A)) (entries : List A) → is_ok (operations_of config list) ≡ true → list ≡ Some entries → operations_of config list ≡ Ok entries

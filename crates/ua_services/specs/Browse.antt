@@ -9,8 +9,9 @@ use Rattle.service_messages.specs.declared.browsing.BrowseRequest.{BrowseRequest
 use Rattle.ua_browse.specs.Browsing.{page_size, browse_of}
 use Rattle.ua_session.specs.Sessions.{points_of}
 use Rattle.ua_requests.specs.declared.setting.Setting.{Setting}
+use Rattle.ua_services.specs.BrowseResults.{browse_told, browsed}
 use Rattle.ua_services.specs.Operations.{operations_of}
-use Rattle.ua_services.specs.Paging.{all_done, browsed}
+use Rattle.ua_services.specs.Paging.{all_done}
 use Rattle.ua_services.specs.ServicesState.{Services}
 use Rattle.ua_services.specs.Serving.{Serving, faulted}
 use Rattle.ua_services.specs.declared.call.Call.{Call}
@@ -18,7 +19,7 @@ use Rattle.ua_services.specs.declared.call.Call.{Call}
 abbrev pub browse_listed : Setting → Call → ℕ → ℕ → Services → Result (List BrowseDescription) Status → Serving
 browse_listed setting call session requested state (Ok descriptions) =
     browsed setting call session BROWSE_RESPONSE state
-    (all_done (λ points d. browse_of state.space points (page_size setting.config.references requested) d) (points_of state.sessions session) descriptions)
+    (all_done (λ points d. browse_told (browse_of state.space points (page_size setting.config.references requested) d)) (points_of state.sessions session) descriptions)
 browse_listed setting call session requested state (Err code) = faulted state call code setting.clock
 
 -- there are no views, which is judged first of all; then the list, then each node

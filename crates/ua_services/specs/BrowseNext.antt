@@ -12,8 +12,9 @@ use Rattle.ua_session.specs.Points.{PointsState, serial_of}
 use Rattle.ua_session.specs.Sessions.{points_of}
 use Rattle.ua_space.specs.Nodes.{SpaceState}
 use Rattle.ua_requests.specs.declared.setting.Setting.{Setting}
+use Rattle.ua_services.specs.BrowseResults.{browse_told, browsed}
 use Rattle.ua_services.specs.Operations.{operations_of}
-use Rattle.ua_services.specs.Paging.{all_done, browsed}
+use Rattle.ua_services.specs.Paging.{all_done}
 use Rattle.ua_services.specs.ServicesState.{Services}
 use Rattle.ua_services.specs.Serving.{Serving, faulted}
 use Rattle.ua_services.specs.declared.call.Call.{Call}
@@ -31,8 +32,9 @@ abbrev pub go_on_of : SpaceState → Bool → PointsState → Option (List ℕ) 
 go_on_of space is_release points bytes = gone_on_by space is_release points (serial_of bytes)
 
 abbrev pub browse_next_listed : Setting → Call → ℕ → Bool → Services → Result (List (Option (List ℕ))) Status → Serving
-browse_next_listed setting call session is_release state (Ok points) =
-    browsed setting call session BROWSE_NEXT_RESPONSE state (all_done (go_on_of state.space is_release) (points_of state.sessions session) points)
+browse_next_listed setting call session is_release state (Ok named) =
+    browsed setting call session BROWSE_NEXT_RESPONSE state
+    (all_done (λ points bytes. browse_told (go_on_of state.space is_release points bytes)) (points_of state.sessions session) named)
 browse_next_listed setting call session is_release state (Err code) = faulted state call code setting.clock
 
 -- the list is judged first, then each point

@@ -11,7 +11,10 @@ pub mod CloseSession
 pub mod Read
 pub mod Write
 pub mod Paging
+pub mod BrowseResults
 pub mod Browse
 pub mod BrowseNext
+pub mod HistoryResults
+pub mod HistoryRead
 pub mod Services
 pub mod Owing

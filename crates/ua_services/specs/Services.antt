@@ -7,10 +7,11 @@ use Rattle.ua_messages.specs.Bodies.{message_id_of, message_of}
 use Rattle.ua_messages.specs.GetEndpoints.{get_endpoints_request_reading}
 use Rattle.ua_messages.specs.Headers.{request_header_reading}
 use Rattle.ua_messages.specs.declared.headers.RequestHeader.{RequestHeader}
-use Rattle.ua_messages.specs.declared.type_ids.TheConstants.{GET_ENDPOINTS_REQUEST, CREATE_SESSION_REQUEST, ACTIVATE_SESSION_REQUEST, CLOSE_SESSION_REQUEST, READ_REQUEST, WRITE_REQUEST, BROWSE_REQUEST, BROWSE_NEXT_REQUEST}
+use Rattle.ua_messages.specs.declared.type_ids.TheConstants.{GET_ENDPOINTS_REQUEST, CREATE_SESSION_REQUEST, ACTIVATE_SESSION_REQUEST, CLOSE_SESSION_REQUEST, READ_REQUEST, WRITE_REQUEST, BROWSE_REQUEST, BROWSE_NEXT_REQUEST, HISTORY_READ_REQUEST}
 use Rattle.ua_requests.specs.declared.request.Request.{Request}
 use Rattle.ua_requests.specs.declared.setting.Setting.{Setting}
 use Rattle.service_messages.specs.Browsing.{browse_request_reading, browse_next_request_reading}
+use Rattle.service_messages.specs.History.{history_read_request_reading}
 use Rattle.service_messages.specs.Reading.{read_request_reading}
 use Rattle.service_messages.specs.Writing.{write_request_reading}
 use Rattle.service_messages.specs.Sessions.{create_session_request_reading, activate_session_request_reading, close_session_request_reading}
@@ -21,6 +22,7 @@ use Rattle.ua_services.specs.BrowseNext.{browse_next_meaning}
 use Rattle.ua_services.specs.CloseSession.{close_session_meaning}
 use Rattle.ua_services.specs.CreateSession.{create_session_meaning}
 use Rattle.ua_services.specs.GetEndpoints.{get_endpoints_meaning}
+use Rattle.ua_services.specs.HistoryRead.{history_read_meaning}
 use Rattle.ua_services.specs.InSession.{served_in_session}
 use Rattle.ua_services.specs.Read.{read_meaning}
 use Rattle.ua_services.specs.Write.{write_meaning}
@@ -42,6 +44,7 @@ picked setting call token body state id =
     else if id == WRITE_REQUEST then served_in_session write_meaning setting call token state (message_of write_request_reading body)
     else if id == BROWSE_REQUEST then served_in_session browse_meaning setting call token state (message_of browse_request_reading body)
     else if id == BROWSE_NEXT_REQUEST then served_in_session browse_next_meaning setting call token state (message_of browse_next_request_reading body)
+    else if id == HISTORY_READ_REQUEST then served_in_session history_read_meaning setting call token state (message_of history_read_request_reading body)
     else faulted state call status.BAD_SERVICE_UNSUPPORTED setting.clock
 
 abbrev pub serving_by : Setting → Request → Services → Result ℕ TakeFault → Result RequestHeader TakeFault → Serving

@@ -6,12 +6,14 @@ ghost use Rattle.ua_browse.specs.Browsing.{page_size as page_size_lem, browse_of
 ghost use Rattle.ua_services.specs.Browse.{browse_meaning};
 ghost use Rattle.ua_messages.specs.declared.type_ids.TheConstants.{BROWSE_RESPONSE};
 ghost use Rattle.ua_session.specs.Sessions.{points_of};
-ghost use Rattle.ua_services.specs.Paging.{DoesOne, DoesAll, all_done, browsed as browsed_lem};
+ghost use Rattle.ua_services.specs.BrowseResults.{browse_told, browsed};
+ghost use Rattle.ua_services.specs.Paging.{DoesOne, DoesAll, all_done};
 ghost use Rattle.ua_services.specs.Serving.{Serves};
 
+use crate::browse_results::told;
 use crate::call::Call;
 use crate::operations::operations;
-use crate::paging::{browsed, told};
+use crate::paging::paged;
 use crate::service::refuse;
 use crate::services::Services;
 use crate::session_service::SessionService;
@@ -32,7 +34,7 @@ fn browse_one(
     size: u32,
     description: BrowseDescription,
 ) -> Result<BrowseResult, Halt>
-    ensures { DoesOne result points.new (browse_of space.now points.old size description) }
+    ensures { DoesOne result points.new (browse_told (browse_of space.now points.old size description)) }
 {
     told(alloc, browse(alloc, space, points, size, description))
 }
@@ -44,7 +46,7 @@ fn browse_all(
     size: u32,
     descriptions: Vec<BrowseDescription>,
 ) -> Result<Vec<BrowseResult>, Halt>
-    ensures all { DoesAll (result_map_both (λ rs. rs.items) (λ halt. halt) result) points.new (all_done (λ s d. browse_of space.now s size d) points.old descriptions.items) }
+    ensures all { DoesAll (result_map_both (λ rs. rs.items) (λ halt. halt) result) points.new (all_done (λ s d. browse_told (browse_of space.now s size d)) points.old descriptions.items) }
     ensures count { IfOk result (λ rs. length rs.items ≡ length descriptions.items) }
 {
     let mut results = Vec::with_capacity(alloc, descriptions.len())?;
@@ -75,14 +77,14 @@ fn serve_nodes(
     descriptions: Vec<BrowseDescription>,
 ) -> Result<Served, Halt>
     requires { length descriptions.items < 2 ^ 31 }
-    ensures { Serves result services.new (browsed_lem setting.now call.now session BROWSE_RESPONSE services.old
-        (all_done (λ s d. browse_of services.old.space s size d) (points_of services.old.sessions session) descriptions.items)) }
+    ensures { Serves result services.new (browsed setting.now call.now session BROWSE_RESPONSE services.old
+        (all_done (λ s d. browse_told (browse_of services.old.space s size d)) (points_of services.old.sessions session) descriptions.items)) }
 {
     let mut points = services.sessions.take_points(alloc, session);
     match browse_all(alloc, &services.space, &mut points, size, descriptions) {
         Ok(results) => {
             let type_id = type_ids::BROWSE_RESPONSE;
-            Ok(browsed(
+            Ok(paged(
                 alloc, setting, call, session, type_id, services, points, &results,
             )?)
         }

@@ -7,12 +7,14 @@ ghost use Rattle.ua_session.specs.Points.{TakesSerial};
 ghost use Rattle.ua_services.specs.BrowseNext.{emptied, go_on_of, browse_next_meaning};
 ghost use Rattle.ua_messages.specs.declared.type_ids.TheConstants.{BROWSE_NEXT_RESPONSE};
 ghost use Rattle.ua_session.specs.Sessions.{points_of};
-ghost use Rattle.ua_services.specs.Paging.{DoesOne, DoesAll, all_done, browsed as browsed_lem};
+ghost use Rattle.ua_services.specs.BrowseResults.{browse_told, browsed};
+ghost use Rattle.ua_services.specs.Paging.{DoesOne, DoesAll, all_done};
 ghost use Rattle.ua_services.specs.Serving.{Serves};
 
+use crate::browse_results::told;
 use crate::call::Call;
 use crate::operations::operations;
-use crate::paging::{browsed, told};
+use crate::paging::paged;
 use crate::service::refuse;
 use crate::services::Services;
 use crate::session_service::SessionService;
@@ -63,7 +65,7 @@ fn go_on_one(
     is_release: bool,
     point: &ByteString,
 ) -> Result<BrowseResult, Halt>
-    ensures { DoesOne result points.new (go_on_of space.now is_release points.old point.now) }
+    ensures { DoesOne result points.new (browse_told (go_on_of space.now is_release points.old point.now)) }
 {
     told(alloc, go_on(alloc, space, points, is_release, point))
 }
@@ -75,7 +77,7 @@ fn go_on_all(
     is_release: bool,
     named: &[ByteString],
 ) -> Result<Vec<BrowseResult>, Halt>
-    ensures all { DoesAll (result_map_both (λ rs. rs.items) (λ halt. halt) result) points.new (all_done (go_on_of space.now is_release) points.old named.now) }
+    ensures all { DoesAll (result_map_both (λ rs. rs.items) (λ halt. halt) result) points.new (all_done (λ s p. browse_told (go_on_of space.now is_release s p)) points.old named.now) }
     ensures count { IfOk result (λ rs. length rs.items ≡ length named.now) }
 {
     let mut results = Vec::with_capacity(alloc, named.len())?;
@@ -99,14 +101,14 @@ fn serve_points(
     named: &[ByteString],
 ) -> Result<Served, Halt>
     requires { length named.now < 2 ^ 31 }
-    ensures { Serves result services.new (browsed_lem setting.now call.now session BROWSE_NEXT_RESPONSE services.old
-        (all_done (go_on_of services.old.space is_release) (points_of services.old.sessions session) named.now)) }
+    ensures { Serves result services.new (browsed setting.now call.now session BROWSE_NEXT_RESPONSE services.old
+        (all_done (λ s p. browse_told (go_on_of services.old.space is_release s p)) (points_of services.old.sessions session) named.now)) }
 {
     let mut points = services.sessions.take_points(alloc, session);
     match go_on_all(alloc, &services.space, &mut points, is_release, named) {
         Ok(results) => {
             let type_id = type_ids::BROWSE_NEXT_RESPONSE;
-            Ok(browsed(
+            Ok(paged(
                 alloc, setting, call, session, type_id, services, points, &results,
             )?)
         }

@@ -16,11 +16,14 @@
 mod activate_session;
 mod browse;
 mod browse_next;
+mod browse_results;
 mod call;
 mod close_session;
 mod create_session;
 mod endpoint_list;
 mod get_endpoints;
+mod history_read;
+mod history_results;
 mod operations;
 mod paging;
 mod read;

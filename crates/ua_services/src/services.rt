@@ -12,10 +12,12 @@ use crate::call::Call;
 use crate::close_session::CloseSession;
 use crate::create_session::CreateSession;
 use crate::get_endpoints::GetEndpoints;
+use crate::history_read::HistoryRead;
 use crate::read::Read;
 use crate::service::{Service, refuse};
 use crate::session_service::SessionService;
 use crate::write::Write;
+use raw_history::History;
 use std::alloc::Global;
 use ua_binary::TakeFault;
 use ua_messages::{RequestHeader, message, message_id, type_ids};
@@ -37,6 +39,8 @@ pub struct Services {
     pub space: Space,
     /// The sessions of its clients.
     pub sessions: Sessions,
+    /// The values that its variables had.
+    pub history: History,
 }
 
 impl Services {
@@ -47,6 +51,7 @@ impl Services {
         Services {
             space,
             sessions: Sessions::new(alloc, config),
+            history: History::new(alloc, config),
         }
     }
 
@@ -100,6 +105,9 @@ impl Services {
             type_ids::BROWSE_REQUEST => Browse::take(alloc, setting, &call, token, body, self),
             type_ids::BROWSE_NEXT_REQUEST => {
                 BrowseNext::take(alloc, setting, &call, token, body, self)
+            }
+            type_ids::HISTORY_READ_REQUEST => {
+                HistoryRead::take(alloc, setting, &call, token, body, self)
             }
             _ => Ok(refuse(alloc, &call, Status::BAD_SERVICE_UNSUPPORTED, setting.clock)?),
         }

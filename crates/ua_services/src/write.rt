@@ -1,20 +1,52 @@
 //! The service Write (IEC 62541-4, "Write").
 
-ghost use Rattle.ua_services.specs.Write.{write_meaning};
+ghost use Rattle.std.specs.Prelude.{◌≡◌, OnOk};
+ghost use Rattle.ua_space.specs.Values.{variable_at};
+ghost use Rattle.ua_services.specs.Write.{is_historizing as is_historizing_lem, all_kept, write_meaning};
 
 use crate::call::Call;
 use crate::operations::operations;
 use crate::service::{refuse, reply};
 use crate::services::Services;
 use crate::session_service::SessionService;
-use read_write::write;
+use raw_history::History;
+use read_write::{Change, Written, write};
 use service_messages::WriteRequest;
-use std::alloc::Global;
+use std::alloc::{AllocError, Global};
 use ua_messages::{ResponseHeader, results_body, type_ids};
 use ua_requests::{Halt, Served, Setting};
-use ua_types::Status;
+use ua_space::Space;
+use ua_types::{NodeId, Status};
 
-/// Gives variables new values, one after the other.
+// Whether the values of this node are kept.
+fn is_historizing(space: &Space, node: &NodeId) -> bool
+    ensures { result ≡ is_historizing_lem (variable_at node.now space.now.nodes) }
+{
+    match space.variable(node) {
+        None => false,
+        Some(variable) => variable.historizing,
+    }
+}
+
+// Keeps the values that were accepted, where their variables are historizing.
+fn keep_all(
+    alloc: Global,
+    space: &Space,
+    history: &mut History,
+    changes: Vec<Change>,
+) -> Result<(), AllocError>
+    ensures { OnOk result (history.new ≡ all_kept space.now.nodes history.old changes.items) }
+{
+    for change in changes {
+        let Change { node_id, value } = change;
+        if is_historizing(space, &node_id) {
+            history.keep(alloc, &node_id, value)?;
+        }
+    }
+    Ok(())
+}
+
+/// Gives variables new values, one after the other, and keeps those of variables that are historizing.
 ///
 /// The faults, in this order: `BAD_NOTHING_TO_DO` for a list that is null or empty,
 /// `BAD_TOO_MANY_OPERATIONS` for one with more entries than the configuration's `operations`; then nothing is written. What is
@@ -41,13 +73,19 @@ impl SessionService for Write {
         let Some(values) = request.nodes_to_write.into_vec() else {
             return Ok(refuse(alloc, call, Status::BAD_NOTHING_TO_DO, setting.clock)?);
         };
-        let written = write(alloc, &mut services.space, setting.clock, values)?;
+        let Written { statuses, changed } = write(
+            alloc,
+            &mut services.space,
+            setting.clock,
+            values,
+        )?;
+        keep_all(alloc, &services.space, &mut services.history, changed)?;
         let header = ResponseHeader::new(call.handle, Status(0), setting.clock);
         let body = results_body(
             alloc,
             type_ids::WRITE_RESPONSE,
             &header,
-            written.statuses.as_slice(),
+            statuses.as_slice(),
         )?;
         Ok(reply(alloc, call, body)?)
     }

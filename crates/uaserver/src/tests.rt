@@ -5,6 +5,7 @@ mod browsing;
 mod commands;
 mod conversations;
 mod events;
+mod history;
 mod large_answers;
 mod messages;
 mod node_files;

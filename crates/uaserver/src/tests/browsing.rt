@@ -93,14 +93,14 @@ pub fn sample_scene(alloc: Global, points: u32) -> Result<Scene, Fail> {
     scene_of(alloc, Server::new(alloc, config, space), HELLO)
 }
 
-// The type ids of Browse and BrowseNext, and of what they are answered.
-const BROWSES: [u8; 2] = [0x0f, 0x02];
+/// The type ids of Browse and BrowseNext, and of what they are answered.
+pub const BROWSES: [u8; 2] = [0x0f, 0x02];
 
-const GOES_ON: [u8; 2] = [0x15, 0x02];
+pub const GOES_ON: [u8; 2] = [0x15, 0x02];
 
 const BROWSED: [u8; 2] = [0x12, 0x02];
 
-const GONE_ON: [u8; 2] = [0x18, 0x02];
+pub const GONE_ON: [u8; 2] = [0x18, 0x02];
 
 // Browse of the line, forward, by hierarchical references and their subtypes: names alone, two on a page.
 const LINE: &[u8] =

@@ -2,20 +2,22 @@ use Rattle.std.proofs.Common.{◌∙◌, length, arith, ap}
 use Rattle.ua_messages.specs.declared.type_ids.TheConstants.{BROWSE_RESPONSE}
 use Rattle.ua_browse.specs.Browsing.{browse_of}
 use Rattle.ua_session.specs.Sessions.{points_of}
+use Rattle.service_messages.specs.Browsing.{browse_result_encoding}
+use Rattle.ua_services.specs.BrowseResults.{browse_told}
 use Rattle.ua_services.specs.Paging.{all_done}
 use Rattle.ua_services.specs.SessionServing.{with_sessions}
 use Rattle.ua_services.proofs.PagingLemmas.{served_all}
 use Rattle.ua_services.proofs.browse.serve_nodes.Goals as goal
 
-pub browsed-requires : goal.browsed-requires
-browsed-requires c = let same = ap length c.deref.ensures.value in let count = c.in-Ok.ensures.count in let few = c.requires in omega (arith, same, count, few)
+pub paged-requires : goal.paged-requires
+paged-requires c = let same = ap length c.deref.ensures.value in let count = c.in-Ok.ensures.count in let few = c.requires in omega (arith, same, count, few)
 
-pub returns-in_ok-browsed-in-Ok : goal.returns-in_ok-browsed-in-Ok
-returns-in_ok-browsed-in-Ok c =
+pub returns-in_ok-paged-in-Ok : goal.returns-in_ok-paged-in-Ok
+returns-in_ok-paged-in-Ok c =
     let state = c.args.services.now in
-    served_all c.args.setting.now c.args.call.now c.args.session BROWSE_RESPONSE state (record state { sessions = c.take_points-points.new.self }) c.browsed.new.services
+    served_all browse_result_encoding c.args.setting.now c.args.call.now c.args.session BROWSE_RESPONSE state (record state { sessions = c.take_points-points.new.self }) c.paged.new.services
     (record { results = c.deref.result.now; points = c.browse_all.new.points })
-    (all_done (λ s d. browse_of state.space s c.args.size d) (points_of state.sessions c.args.session) c.args.descriptions.items)
-    (ap (with_sessions state) c.take_points-points.ensures.rest) c.in_ok-browsed-in-Ok.field-0 c.in_ok-browsed-in-Ok.ensures
+    (all_done (λ s d. browse_told (browse_of state.space s c.args.size d)) (points_of state.sessions c.args.session) c.args.descriptions.items)
+    (ap (with_sessions state) c.take_points-points.ensures.rest) c.in_ok-paged-in-Ok.field-0 c.in_ok-paged-in-Ok.ensures
     (ap (λ rs. record { results = rs; points = c.browse_all.new.points }) c.deref.ensures.value ∙ c.in-Ok.ensures.all
-    ∙ ap (λ points. all_done (λ s d. browse_of state.space s c.args.size d) points c.args.descriptions.items) c.take_points-points.ensures.points)
+    ∙ ap (λ points. all_done (λ s d. browse_told (browse_of state.space s c.args.size d)) points c.args.descriptions.items) c.take_points-points.ensures.points)

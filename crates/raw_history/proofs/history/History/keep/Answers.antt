@@ -1,4 +1,4 @@
-use Rattle.std.proofs.Common.{◌∙◌, ◌≡◌, List, Result, Ok, Err, OnErr, ap, sym}
+use Rattle.std.proofs.Common.{◌∙◌, List, Result, Ok, Err, OnErr, ap, sym}
 use Rattle.std.proofs.lemmas.Map.Steps.{set_value_same}
 use Rattle.std.specs.BTreeMap.{is_at}
 use Rattle.ua_types.specs.NodeIdOrder.{id_cmp}

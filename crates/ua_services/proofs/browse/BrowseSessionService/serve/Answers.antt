@@ -1,4 +1,4 @@
-use Rattle.std.proofs.Common.{◌∙◌, ◌≡◌, Ok, true, not, cond, Bool, List, ap, sym, subst}
+use Rattle.std.proofs.Common.{◌∙◌, ◌≡◌, Ok, true, not, cond, Bool, ap, sym, subst}
 use Rattle.std.specs.Prelude.{is_ok}
 use Rattle.std.specs.Result.{result_map_both}
 use Rattle.ua_types.specs.NodeIds.{is_null_id}
@@ -8,7 +8,8 @@ use Rattle.ua_browse.specs.Browsing.{browse_of}
 use Rattle.ua_session.specs.Sessions.{points_of}
 use Rattle.ua_services.specs.Browse.{browse_meaning, browse_listed}
 use Rattle.ua_services.specs.Operations.{operations_of}
-use Rattle.ua_services.specs.Paging.{all_done, browsed}
+use Rattle.ua_services.specs.BrowseResults.{browse_told, browsed}
+use Rattle.ua_services.specs.Paging.{all_done}
 use Rattle.ua_services.specs.Serving.{Serving, Serves, faulted}
 use Rattle.ua_services.proofs.PagingLemmas.{listed_whole}
 use Rattle.ua_services.proofs.browse.BrowseSessionService.serve.Goals as goal
@@ -33,4 +34,4 @@ returns c =
     in
     subst (λ (s : Serving). Serves c.serve_nodes.result c.serve_nodes.new.services s) (sym is)
     (subst (λ size. Serves c.serve_nodes.result c.serve_nodes.new.services
-    (browsed setting call session BROWSE_RESPONSE state (all_done (λ points d. browse_of state.space points size d) (points_of state.sessions session) ds))) c.size_in-size.ensures c.serve_nodes.ensures)
+    (browsed setting call session BROWSE_RESPONSE state (all_done (λ points d. browse_told (browse_of state.space points size d)) (points_of state.sessions session) ds))) c.size_in-size.ensures c.serve_nodes.ensures)

@@ -1,0 +1,113 @@
+//! What HistoryRead answers of each node.
+
+ghost use Rattle.std.specs.Prelude.{◌≡◌, map, IfOk};
+ghost use Rattle.std.specs.Result.{result_map_both};
+ghost use Rattle.raw_history.specs.Pages.{seen};
+ghost use Rattle.raw_history.specs.Reading.{page_seen};
+ghost use Rattle.ua_services.specs.HistoryResults.{stored_time_of, shown as shown_lem, history_data_of, status_alone as status_alone_lem, history_result_of, release_result_of};
+ghost use Rattle.ua_services.specs.Paging.{Tells};
+ghost use Rattle.read_write.specs.Reading.{source_time_of};
+
+use raw_history::{Kept, Page};
+use read_write::Timestamps;
+use service_messages::{HistoryReadResult, history_data_object};
+use std::alloc::{AllocError, Global};
+use ua_binary::BorrowedDataValue;
+use ua_requests::Halt;
+use ua_session::point_bytes;
+use ua_types::{ByteString, ExtensionObject, ExtensionObjectBody, Moment, NodeId, Refusal, Status};
+use ua_values::DataValue;
+
+fn source_time(timestamps: Timestamps, value: &DataValue) -> Option<Moment>
+    ensures { result ≡ source_time_of timestamps value.now }
+{
+    if timestamps.has_source() {
+        value.source_time
+    } else {
+        None
+    }
+}
+
+fn server_time(timestamps: Timestamps, value: &DataValue) -> Option<Moment>
+    ensures { result ≡ stored_time_of timestamps value.now }
+{
+    if timestamps.has_server() {
+        value.server_time
+    } else {
+        None
+    }
+}
+
+// A value with those of its times that are wanted.
+fn shown(timestamps: Timestamps, value: &DataValue) -> BorrowedDataValue<'_>
+    ensures { result ≡ shown_lem timestamps value.now }
+{
+    BorrowedDataValue::new(
+        value.value.as_ref(),
+        value.status,
+        source_time(timestamps, value),
+        server_time(timestamps, value),
+    )
+}
+
+// The HistoryData of these values. As many as can't be spelled, 2^31, are refused as by want of memory.
+fn history_data(
+    alloc: Global,
+    timestamps: Timestamps,
+    values: &[Kept<'_>],
+) -> Result<ExtensionObject, AllocError>
+    ensures { IfOk result (λ object. object ≡ history_data_of timestamps (map seen values.now)) }
+{
+    if values.len() >= 1 << 31 {
+        return Err(AllocError);
+    }
+    let mut all = Vec::with_capacity(alloc, values.len())?;
+    for kept in values {
+        all.push(shown(timestamps, kept.value))?;
+    }
+    history_data_object(alloc, &all)
+}
+
+// A result without data.
+fn status_alone(status_code: Status) -> HistoryReadResult
+    ensures { result ≡ status_alone_lem status_code }
+{
+    HistoryReadResult {
+        status_code,
+        continuation_point: ByteString::null(),
+        history_data: ExtensionObject {
+            type_id: NodeId::null(),
+            body: ExtensionObjectBody::Absent,
+        },
+    }
+}
+
+/// The result that tells what was read. Its values are written where they stand.
+pub(crate) fn history_told(
+    alloc: Global,
+    timestamps: Timestamps,
+    answer: Result<Page<'_>, Refusal>,
+) -> Result<HistoryReadResult, Halt>
+    ensures { Tells (history_result_of timestamps) result (result_map_both page_seen (λ refusal. refusal) answer.entry) }
+{
+    match answer {
+        Ok(page) => Ok(HistoryReadResult {
+            status_code: page.status,
+            continuation_point: point_bytes(alloc, page.point)?,
+            history_data: history_data(alloc, timestamps, &page.values)?,
+        }),
+        Err(Refusal::Service(status_code)) => Ok(status_alone(status_code)),
+        Err(Refusal::Memory) => Err(Halt::Memory),
+        Err(Refusal::Exhausted) => Err(Halt::Exhausted),
+    }
+}
+
+/// The result that tells whether a point was given up.
+pub(crate) fn release_told(released: Result<(), Status>) -> HistoryReadResult
+    ensures { result ≡ release_result_of released }
+{
+    match released {
+        Ok(()) => status_alone(Status::GOOD),
+        Err(status_code) => status_alone(status_code),
+    }
+}
