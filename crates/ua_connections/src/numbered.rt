@@ -2,6 +2,7 @@
 
 ghost use Rattle.std.specs.Prelude.{◌≡◌, OnOk, IfNone, is_some};
 ghost use Rattle.std.specs.FinMap as map;
+ghost use Rattle.std.specs.Option.{option_copied};
 
 use std::alloc::{AllocError, Global};
 use std::collections::BTreeMap;
@@ -48,6 +49,13 @@ impl<V> Numbered<V> {
         ensures { result ≡ is_some (map.get self.now number) }
     {
         self.entries.contains_key(&number)
+    }
+
+    /// The one with this number.
+    pub fn get(&self, number: u64) -> Option<&V>
+        ensures { option_copied result ≡ map.get self.now number }
+    {
+        self.entries.get(&number)
     }
 
     /// Takes the one with this number out. Takes no memory.

@@ -1,0 +1,6 @@
+pub mod Pieces
+pub mod RunLemmas
+pub mod EventLemmas
+pub mod AssemblyLemmas
+pub mod ReadLemmas
+pub mod CountLemmas

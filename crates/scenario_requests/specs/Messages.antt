@@ -1,0 +1,227 @@
+-- What each statement asks, as a message: fields that no word says are null or 0.
+use Rattle.std.specs.Prelude.{ℕ, ℤ, pos, Bool, true, false, List, [], ◌∷◌, map, Some, None}
+use Rattle.ua_types.specs.NodeIds.{numeric_id}
+use Rattle.ua_messages.specs.Bodies.{body_encoding}
+use Rattle.ua_messages.specs.Structures.{object_around}
+use Rattle.ua_messages.specs.declared.headers.RequestHeader.{RequestHeader}
+use Rattle.ua_messages.specs.declared.type_ids.TheConstants.{ACTIVATE_SESSION_REQUEST, BROWSE_NEXT_REQUEST, BROWSE_REQUEST, CLOSE_SECURE_CHANNEL_REQUEST, CLOSE_SESSION_REQUEST, CREATE_MONITORED_ITEMS_REQUEST, CREATE_SESSION_REQUEST, CREATE_SUBSCRIPTION_REQUEST, DELETE_MONITORED_ITEMS_REQUEST, DELETE_SUBSCRIPTIONS_REQUEST, GET_ENDPOINTS_REQUEST, HISTORY_READ_REQUEST, MODIFY_MONITORED_ITEMS_REQUEST, MODIFY_SUBSCRIPTION_REQUEST, OPEN_SECURE_CHANNEL_REQUEST, PUBLISH_REQUEST, READ_RAW_MODIFIED_DETAILS, READ_REQUEST, REPUBLISH_REQUEST, SET_MONITORING_MODE_REQUEST, SET_PUBLISHING_MODE_REQUEST, WRITE_REQUEST}
+use Rattle.service_messages.specs.Browsing.{browse_next_request_encoding, browse_request_encoding}
+use Rattle.service_messages.specs.History.{history_read_request_encoding, read_raw_modified_details_encoding}
+use Rattle.service_messages.specs.Reading.{read_request_encoding}
+use Rattle.service_messages.specs.Sessions.{activate_session_request_encoding, close_session_request_encoding, create_session_request_encoding}
+use Rattle.service_messages.specs.Writing.{write_request_encoding}
+use Rattle.sub_messages.specs.MonitoredItems.{create_monitored_items_request_encoding, delete_monitored_items_request_encoding, modify_monitored_items_request_encoding, set_monitoring_mode_request_encoding}
+use Rattle.sub_messages.specs.Publishing.{publish_request_encoding, republish_request_encoding}
+use Rattle.sub_messages.specs.Subscriptions.{create_subscription_request_encoding, delete_subscriptions_request_encoding, modify_subscription_request_encoding, set_publishing_mode_request_encoding}
+use Rattle.ua_messages.specs.GetEndpoints.{get_endpoints_request_encoding}
+use Rattle.ua_messages.specs.SecureChannels.{close_secure_channel_request_encoding, open_secure_channel_request_encoding}
+use Rattle.scenario_text.specs.declared.choices.ChannelRequest.{ChannelRequest}
+use Rattle.scenario_text.specs.declared.choices.Publishing.{Publishing}
+use Rattle.scenario_text.specs.declared.choices.Subscriptions.{Subscriptions}
+use Rattle.scenario_text.specs.declared.requests.Acknowledgement.{Acknowledgement}
+use Rattle.scenario_text.specs.declared.requests.Attribute.{Attribute}
+use Rattle.scenario_text.specs.declared.requests.ChangedItem.{ChangedItem}
+use Rattle.scenario_text.specs.declared.requests.Counts.{Counts}
+use Rattle.scenario_text.specs.declared.requests.NewItem.{NewItem}
+use Rattle.scenario_text.specs.declared.requests.NewValue.{NewValue}
+use Rattle.scenario_text.specs.declared.requests.RawValues.{RawValues}
+use Rattle.scenario_text.specs.declared.requests.References.{References}
+use Rattle.scenario_text.specs.declared.statement.Request.{Request}
+use Rattle.scenario_text.specs.declared.statement.Request.TheVariants as requests
+use Rattle.scenario_requests.specs.Structures.{no_duration, no_time, no_object, no_signature, no_application, is_delete, is_on, request_type, attribute_sent, value_sent, description_sent, point_sent, details_sent, history_node_sent, new_item_sent, changed_item_sent, acknowledgement_sent}
+
+-- ---- what sessions ask
+
+unfoldable pub read_body : RequestHeader → ℤ → List Attribute → List ℕ
+read_body header timestamps attributes = body_encoding read_request_encoding READ_REQUEST (record {
+  request_header = header;
+  max_age = no_duration;
+  timestamps_to_return = record { 0 = timestamps };
+  nodes_to_read = Some (map attribute_sent attributes);
+})
+
+unfoldable pub write_body : RequestHeader → List NewValue → List ℕ
+write_body header values = body_encoding write_request_encoding WRITE_REQUEST (record {
+  request_header = header;
+  nodes_to_write = Some (map value_sent values);
+})
+
+unfoldable pub browse_body : RequestHeader → References → List ℕ
+browse_body header references = body_encoding browse_request_encoding BROWSE_REQUEST (record {
+  request_header = header;
+  view_id = numeric_id 0 0;
+  view_timestamp = no_time;
+  view_version = 0;
+  requested_max_references_per_node = references.max_references;
+  nodes_to_browse = Some (description_sent references ∷ []);
+})
+
+unfoldable pub browse_next_body : RequestHeader → Bool → List ℕ → List ℕ
+browse_next_body header is_release points = body_encoding browse_next_request_encoding BROWSE_NEXT_REQUEST (record {
+  request_header = header;
+  release_continuation_points = is_release;
+  continuation_points = Some (map point_sent points);
+})
+
+unfoldable pub history_body : RequestHeader → RawValues → List ℕ
+history_body header values = body_encoding history_read_request_encoding HISTORY_READ_REQUEST (record {
+  request_header = header;
+  history_read_details = object_around READ_RAW_MODIFIED_DETAILS (read_raw_modified_details_encoding (details_sent values));
+  timestamps_to_return = record { 0 = values.timestamps };
+  release_continuation_points = false;
+  nodes_to_read = Some (history_node_sent values ∷ []);
+})
+
+unfoldable pub activate_session_body : RequestHeader → List ℕ
+activate_session_body header = body_encoding activate_session_request_encoding ACTIVATE_SESSION_REQUEST (record {
+  request_header = header;
+  client_signature = no_signature;
+  client_software_certificates = None;
+  locale_ids = None;
+  user_identity_token = no_object;
+  user_token_signature = no_signature;
+})
+
+unfoldable pub close_session_body : RequestHeader → Subscriptions → List ℕ
+close_session_body header subscriptions = body_encoding close_session_request_encoding CLOSE_SESSION_REQUEST (record {
+  request_header = header;
+  delete_subscriptions = is_delete subscriptions;
+})
+
+unfoldable pub create_subscription_body : RequestHeader → Counts → Publishing → List ℕ
+create_subscription_body header counts publishing = body_encoding create_subscription_request_encoding CREATE_SUBSCRIPTION_REQUEST (record {
+  request_header = header;
+  requested_publishing_interval = no_duration;
+  requested_lifetime_count = counts.lifetime;
+  requested_max_keep_alive_count = counts.max_keep_alive;
+  max_notifications_per_publish = counts.max_notifications;
+  publishing_enabled = is_on publishing;
+  priority = counts.priority;
+})
+
+unfoldable pub modify_subscription_body : RequestHeader → ℕ → Counts → List ℕ
+modify_subscription_body header subscription counts = body_encoding modify_subscription_request_encoding MODIFY_SUBSCRIPTION_REQUEST (record {
+  request_header = header;
+  subscription_id = subscription;
+  requested_publishing_interval = no_duration;
+  requested_lifetime_count = counts.lifetime;
+  requested_max_keep_alive_count = counts.max_keep_alive;
+  max_notifications_per_publish = counts.max_notifications;
+  priority = counts.priority;
+})
+
+unfoldable pub set_publishing_body : RequestHeader → Publishing → List ℕ → List ℕ
+set_publishing_body header publishing subscriptions = body_encoding set_publishing_mode_request_encoding SET_PUBLISHING_MODE_REQUEST (record {
+  request_header = header;
+  publishing_enabled = is_on publishing;
+  subscription_ids = Some subscriptions;
+})
+
+unfoldable pub create_item_body : RequestHeader → NewItem → List ℕ
+create_item_body header item = body_encoding create_monitored_items_request_encoding CREATE_MONITORED_ITEMS_REQUEST (record {
+  request_header = header;
+  subscription_id = item.subscription;
+  timestamps_to_return = record { 0 = item.timestamps };
+  items_to_create = Some (new_item_sent item ∷ []);
+})
+
+unfoldable pub modify_item_body : RequestHeader → ChangedItem → List ℕ
+modify_item_body header item = body_encoding modify_monitored_items_request_encoding MODIFY_MONITORED_ITEMS_REQUEST (record {
+  request_header = header;
+  subscription_id = item.subscription;
+  timestamps_to_return = record { 0 = item.timestamps };
+  items_to_modify = Some (changed_item_sent item ∷ []);
+})
+
+unfoldable pub set_item_mode_body : RequestHeader → ℕ → ℤ → List ℕ → List ℕ
+set_item_mode_body header subscription mode items = body_encoding set_monitoring_mode_request_encoding SET_MONITORING_MODE_REQUEST (record {
+  request_header = header;
+  subscription_id = subscription;
+  monitoring_mode = record { 0 = mode };
+  monitored_item_ids = Some items;
+})
+
+unfoldable pub delete_items_body : RequestHeader → ℕ → List ℕ → List ℕ
+delete_items_body header subscription items = body_encoding delete_monitored_items_request_encoding DELETE_MONITORED_ITEMS_REQUEST (record {
+  request_header = header;
+  subscription_id = subscription;
+  monitored_item_ids = Some items;
+})
+
+unfoldable pub publish_body : RequestHeader → List Acknowledgement → List ℕ
+publish_body header acknowledgements = body_encoding publish_request_encoding PUBLISH_REQUEST (record {
+  request_header = header;
+  subscription_acknowledgements = Some (map acknowledgement_sent acknowledgements);
+})
+
+unfoldable pub republish_body : RequestHeader → ℕ → ℕ → List ℕ
+republish_body header subscription sequence_number = body_encoding republish_request_encoding REPUBLISH_REQUEST (record {
+  request_header = header;
+  subscription_id = subscription;
+  retransmit_sequence_number = sequence_number;
+})
+
+unfoldable pub delete_subscriptions_body : RequestHeader → List ℕ → List ℕ
+delete_subscriptions_body header subscriptions = body_encoding delete_subscriptions_request_encoding DELETE_SUBSCRIPTIONS_REQUEST (record {
+  request_header = header;
+  subscription_ids = Some subscriptions;
+})
+
+-- the body of what a session asks, with this header
+unfoldable pub request_body : RequestHeader → Request → List ℕ
+request_body header requests.ActivateSession = activate_session_body header
+request_body header (requests.CloseSession subscriptions) = close_session_body header subscriptions
+request_body header (requests.Read timestamps attributes) = read_body header timestamps attributes
+request_body header (requests.Write values) = write_body header values
+request_body header (requests.Browse references) = browse_body header references
+request_body header (requests.BrowseNext points) = browse_next_body header false points
+request_body header (requests.ReleasePoints points) = browse_next_body header true points
+request_body header (requests.ReadHistory values) = history_body header values
+request_body header (requests.CreateSubscription counts publishing) = create_subscription_body header counts publishing
+request_body header (requests.ModifySubscription subscription counts) = modify_subscription_body header subscription counts
+request_body header (requests.SetPublishing publishing subscriptions) = set_publishing_body header publishing subscriptions
+request_body header (requests.CreateItem item) = create_item_body header item
+request_body header (requests.ModifyItem item) = modify_item_body header item
+request_body header (requests.SetItemMode subscription mode items) = set_item_mode_body header subscription mode items
+request_body header (requests.DeleteItems subscription items) = delete_items_body header subscription items
+request_body header (requests.Publish acknowledgements) = publish_body header acknowledgements
+request_body header (requests.Republish subscription sequence_number) = republish_body header subscription sequence_number
+request_body header (requests.DeleteSubscriptions subscriptions) = delete_subscriptions_body header subscriptions
+
+-- ---- what no session asks
+
+unfoldable pub endpoints_body : RequestHeader → List ℕ
+endpoints_body header = body_encoding get_endpoints_request_encoding GET_ENDPOINTS_REQUEST (record {
+  request_header = header;
+  endpoint_url = None;
+  locale_ids = None;
+  profile_uris = None;
+})
+
+unfoldable pub create_session_body : RequestHeader → List ℕ
+create_session_body header = body_encoding create_session_request_encoding CREATE_SESSION_REQUEST (record {
+  request_header = header;
+  client_description = no_application;
+  server_uri = None;
+  endpoint_url = None;
+  session_name = None;
+  client_nonce = None;
+  client_certificate = None;
+  requested_session_timeout = no_duration;
+  max_response_message_size = 0;
+})
+
+unfoldable pub opening_body : RequestHeader → ChannelRequest → List ℕ
+opening_body header request = body_encoding open_secure_channel_request_encoding OPEN_SECURE_CHANNEL_REQUEST (record {
+  request_header = header;
+  client_protocol_version = 0;
+  request_type = request_type request;
+  security_mode = record { 0 = pos 1 };
+  client_nonce = None;
+  requested_lifetime = 3600000;
+})
+
+unfoldable pub closing_body : RequestHeader → List ℕ
+closing_body header = body_encoding close_secure_channel_request_encoding CLOSE_SECURE_CHANNEL_REQUEST (record {
+  request_header = header;
+})

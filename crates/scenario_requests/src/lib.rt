@@ -1,0 +1,18 @@
+//! The requests of scenarios: what each statement asks, as the body of a message (IEC 62541-4).
+//!
+//! What a word of the statement says stands in its field, and every other field is null or 0. A list
+//! without entries is written with length 0. Nothing here knows chunks, channels or connections.
+//!
+//! Read [`request_body`] first. `specs/Messages` has each request's fields, and `specs/Structures` the
+//! structures in them.
+#![tactic(auto)]
+
+mod openings;
+mod requests;
+mod sent;
+mod structures;
+
+pub use openings::{closing_body, create_session_body, endpoints_body, opening_body};
+pub use requests::request_body;
+pub use sent::Sent;
+pub use structures::request_header;

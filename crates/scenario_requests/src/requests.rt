@@ -1,0 +1,422 @@
+//! The bodies of what sessions ask.
+
+ghost use Rattle.std.specs.Prelude.{◌≡◌, IfOk, false, true};
+ghost use Rattle.scenario_requests.specs.Messages.{read_body, write_body, browse_body, browse_next_body, history_body, activate_session_body, close_session_body, create_subscription_body, modify_subscription_body, set_publishing_body, create_item_body, modify_item_body, set_item_mode_body, delete_items_body, publish_body, republish_body, delete_subscriptions_body, request_body};
+
+use crate::sent::{Sent, held, list, one};
+use crate::structures::{
+    NO_DURATION, history_details, is_delete, is_on, last_point, no_name, no_object, no_signature,
+    parameters,
+};
+use scenario_text::{
+    Acknowledgement, Attribute, ChangedItem, Counts, NewItem, NewValue, Publishing, RawValues,
+    References, Request, Subscriptions,
+};
+use service_messages::{
+    ActivateSessionRequest, BrowseDescription, BrowseDirection, BrowseNextRequest, BrowseRequest,
+    CloseSessionRequest, HistoryReadRequest, HistoryReadValueId, ReadRequest, WriteRequest,
+};
+use std::alloc::{AllocError, Global};
+use sub_messages::{
+    CreateMonitoredItemsRequest, CreateSubscriptionRequest, DeleteMonitoredItemsRequest,
+    DeleteSubscriptionsRequest, ModifyMonitoredItemsRequest, ModifySubscriptionRequest,
+    MonitoredItemCreateRequest, MonitoredItemModifyRequest, MonitoringMode, PublishRequest,
+    RepublishRequest, SetMonitoringModeRequest, SetPublishingModeRequest,
+};
+use ua_messages::{RequestHeader, TimestampsToReturn, body, type_ids};
+use ua_types::{Array, Listed, Moment, NodeId, Text};
+
+#[tactic(auto, unfolding(crate::specs::Messages::read_body))]
+fn read_body(
+    alloc: Global,
+    header: RequestHeader,
+    timestamps: i32,
+    attributes: Listed<Attribute>,
+) -> Result<Vec<u8>, AllocError>
+    ensures { IfOk result (λ bytes. bytes.items ≡ read_body header timestamps attributes) }
+{
+    let message = ReadRequest {
+        request_header: header,
+        max_age: NO_DURATION,
+        timestamps_to_return: TimestampsToReturn(timestamps),
+        nodes_to_read: list(alloc, attributes)?,
+    };
+    body(alloc, type_ids::READ_REQUEST, &message)
+}
+
+#[tactic(auto, unfolding(crate::specs::Messages::write_body))]
+fn write_body(
+    alloc: Global,
+    header: RequestHeader,
+    values: Listed<NewValue>,
+) -> Result<Vec<u8>, AllocError>
+    ensures { IfOk result (λ bytes. bytes.items ≡ write_body header values) }
+{
+    let message = WriteRequest {
+        request_header: header,
+        nodes_to_write: list(alloc, values)?,
+    };
+    body(alloc, type_ids::WRITE_REQUEST, &message)
+}
+
+#[tactic(auto, unfolding(crate::specs::Messages::browse_body))]
+fn browse_body(
+    alloc: Global,
+    header: RequestHeader,
+    references: References,
+) -> Result<Vec<u8>, AllocError>
+    ensures { IfOk result (λ bytes. bytes.items ≡ browse_body header references) }
+{
+    let References {
+        max_references,
+        node_id,
+        direction,
+        reference_type_id,
+        include_subtypes,
+        node_class_mask,
+        result_mask,
+    } = references;
+    let description = BrowseDescription {
+        node_id,
+        browse_direction: BrowseDirection(direction),
+        reference_type_id,
+        include_subtypes,
+        node_class_mask,
+        result_mask,
+    };
+    let message = BrowseRequest {
+        request_header: header,
+        view_id: NodeId::null(),
+        view_timestamp: Moment(0),
+        view_version: 0,
+        requested_max_references_per_node: max_references,
+        nodes_to_browse: one(alloc, description)?,
+    };
+    body(alloc, type_ids::BROWSE_REQUEST, &message)
+}
+
+#[tactic(auto, unfolding(crate::specs::Messages::browse_next_body))]
+fn browse_next_body(
+    alloc: Global,
+    header: RequestHeader,
+    is_release: bool,
+    points: Listed<u64>,
+) -> Result<Vec<u8>, AllocError>
+    ensures { IfOk result (λ bytes. bytes.items ≡ browse_next_body header is_release points) }
+{
+    let message = BrowseNextRequest {
+        request_header: header,
+        release_continuation_points: is_release,
+        continuation_points: list(alloc, points)?,
+    };
+    body(alloc, type_ids::BROWSE_NEXT_REQUEST, &message)
+}
+
+#[tactic(auto, unfolding(crate::specs::Messages::history_body))]
+fn history_body(
+    alloc: Global,
+    header: RequestHeader,
+    values: RawValues,
+) -> Result<Vec<u8>, AllocError>
+    ensures { IfOk result (λ bytes. bytes.items ≡ history_body header values) }
+{
+    let RawValues {
+        timestamps,
+        start,
+        end,
+        count,
+        node_id,
+        point,
+    } = values;
+    let details = history_details(alloc, start, end, count)?;
+    let node = HistoryReadValueId {
+        node_id,
+        index_range: Text::null(),
+        data_encoding: no_name(),
+        continuation_point: last_point(alloc, point)?,
+    };
+    let message = HistoryReadRequest {
+        request_header: header,
+        history_read_details: details,
+        timestamps_to_return: TimestampsToReturn(timestamps),
+        release_continuation_points: false,
+        nodes_to_read: one(alloc, node)?,
+    };
+    body(alloc, type_ids::HISTORY_READ_REQUEST, &message)
+}
+
+#[tactic(auto, unfolding(crate::specs::Messages::activate_session_body))]
+fn activate_session_body(alloc: Global, header: RequestHeader) -> Result<Vec<u8>, AllocError>
+    ensures { IfOk result (λ bytes. bytes.items ≡ activate_session_body header) }
+{
+    let message = ActivateSessionRequest {
+        request_header: header,
+        client_signature: no_signature(),
+        client_software_certificates: Array::null(),
+        locale_ids: Array::null(),
+        user_identity_token: no_object(),
+        user_token_signature: no_signature(),
+    };
+    body(alloc, type_ids::ACTIVATE_SESSION_REQUEST, &message)
+}
+
+#[tactic(auto, unfolding(crate::specs::Messages::close_session_body))]
+fn close_session_body(
+    alloc: Global,
+    header: RequestHeader,
+    subscriptions: Subscriptions,
+) -> Result<Vec<u8>, AllocError>
+    ensures { IfOk result (λ bytes. bytes.items ≡ close_session_body header subscriptions) }
+{
+    let message = CloseSessionRequest {
+        request_header: header,
+        delete_subscriptions: is_delete(subscriptions),
+    };
+    body(alloc, type_ids::CLOSE_SESSION_REQUEST, &message)
+}
+
+#[tactic(auto, unfolding(crate::specs::Messages::create_subscription_body))]
+fn create_subscription_body(
+    alloc: Global,
+    header: RequestHeader,
+    counts: Counts,
+    publishing: Publishing,
+) -> Result<Vec<u8>, AllocError>
+    ensures { IfOk result (λ bytes. bytes.items ≡ create_subscription_body header counts publishing) }
+{
+    let message = CreateSubscriptionRequest {
+        request_header: header,
+        requested_publishing_interval: NO_DURATION,
+        requested_lifetime_count: counts.lifetime,
+        requested_max_keep_alive_count: counts.max_keep_alive,
+        max_notifications_per_publish: counts.max_notifications,
+        publishing_enabled: is_on(publishing),
+        priority: counts.priority,
+    };
+    body(alloc, type_ids::CREATE_SUBSCRIPTION_REQUEST, &message)
+}
+
+#[tactic(auto, unfolding(crate::specs::Messages::modify_subscription_body))]
+fn modify_subscription_body(
+    alloc: Global,
+    header: RequestHeader,
+    subscription: u32,
+    counts: Counts,
+) -> Result<Vec<u8>, AllocError>
+    ensures { IfOk result (λ bytes. bytes.items ≡ modify_subscription_body header subscription counts) }
+{
+    let message = ModifySubscriptionRequest {
+        request_header: header,
+        subscription_id: subscription,
+        requested_publishing_interval: NO_DURATION,
+        requested_lifetime_count: counts.lifetime,
+        requested_max_keep_alive_count: counts.max_keep_alive,
+        max_notifications_per_publish: counts.max_notifications,
+        priority: counts.priority,
+    };
+    body(alloc, type_ids::MODIFY_SUBSCRIPTION_REQUEST, &message)
+}
+
+#[tactic(auto, unfolding(crate::specs::Messages::set_publishing_body))]
+fn set_publishing_body(
+    alloc: Global,
+    header: RequestHeader,
+    publishing: Publishing,
+    subscriptions: Listed<u32>,
+) -> Result<Vec<u8>, AllocError>
+    ensures { IfOk result (λ bytes. bytes.items ≡ set_publishing_body header publishing subscriptions) }
+{
+    let message = SetPublishingModeRequest {
+        request_header: header,
+        publishing_enabled: is_on(publishing),
+        subscription_ids: held(subscriptions.into_vec())?,
+    };
+    body(alloc, type_ids::SET_PUBLISHING_MODE_REQUEST, &message)
+}
+
+#[tactic(auto, unfolding(crate::specs::Messages::create_item_body))]
+fn create_item_body(
+    alloc: Global,
+    header: RequestHeader,
+    item: NewItem,
+) -> Result<Vec<u8>, AllocError>
+    ensures { IfOk result (λ bytes. bytes.items ≡ create_item_body header item) }
+{
+    let NewItem {
+        subscription,
+        timestamps,
+        attribute,
+        mode,
+        monitoring,
+    } = item;
+    let create = MonitoredItemCreateRequest {
+        item_to_monitor: attribute.sent(alloc)?,
+        monitoring_mode: MonitoringMode(mode),
+        requested_parameters: parameters(alloc, monitoring)?,
+    };
+    let message = CreateMonitoredItemsRequest {
+        request_header: header,
+        subscription_id: subscription,
+        timestamps_to_return: TimestampsToReturn(timestamps),
+        items_to_create: one(alloc, create)?,
+    };
+    body(alloc, type_ids::CREATE_MONITORED_ITEMS_REQUEST, &message)
+}
+
+#[tactic(auto, unfolding(crate::specs::Messages::modify_item_body))]
+fn modify_item_body(
+    alloc: Global,
+    header: RequestHeader,
+    item: ChangedItem,
+) -> Result<Vec<u8>, AllocError>
+    ensures { IfOk result (λ bytes. bytes.items ≡ modify_item_body header item) }
+{
+    let modify = MonitoredItemModifyRequest {
+        monitored_item_id: item.item,
+        requested_parameters: parameters(alloc, item.monitoring)?,
+    };
+    let message = ModifyMonitoredItemsRequest {
+        request_header: header,
+        subscription_id: item.subscription,
+        timestamps_to_return: TimestampsToReturn(item.timestamps),
+        items_to_modify: one(alloc, modify)?,
+    };
+    body(alloc, type_ids::MODIFY_MONITORED_ITEMS_REQUEST, &message)
+}
+
+#[tactic(auto, unfolding(crate::specs::Messages::set_item_mode_body))]
+fn set_item_mode_body(
+    alloc: Global,
+    header: RequestHeader,
+    subscription: u32,
+    mode: i32,
+    items: Listed<u32>,
+) -> Result<Vec<u8>, AllocError>
+    ensures { IfOk result (λ bytes. bytes.items ≡ set_item_mode_body header subscription mode items) }
+{
+    let message = SetMonitoringModeRequest {
+        request_header: header,
+        subscription_id: subscription,
+        monitoring_mode: MonitoringMode(mode),
+        monitored_item_ids: held(items.into_vec())?,
+    };
+    body(alloc, type_ids::SET_MONITORING_MODE_REQUEST, &message)
+}
+
+#[tactic(auto, unfolding(crate::specs::Messages::delete_items_body))]
+fn delete_items_body(
+    alloc: Global,
+    header: RequestHeader,
+    subscription: u32,
+    items: Listed<u32>,
+) -> Result<Vec<u8>, AllocError>
+    ensures { IfOk result (λ bytes. bytes.items ≡ delete_items_body header subscription items) }
+{
+    let message = DeleteMonitoredItemsRequest {
+        request_header: header,
+        subscription_id: subscription,
+        monitored_item_ids: held(items.into_vec())?,
+    };
+    body(alloc, type_ids::DELETE_MONITORED_ITEMS_REQUEST, &message)
+}
+
+#[tactic(auto, unfolding(crate::specs::Messages::publish_body))]
+fn publish_body(
+    alloc: Global,
+    header: RequestHeader,
+    acknowledgements: Listed<Acknowledgement>,
+) -> Result<Vec<u8>, AllocError>
+    ensures { IfOk result (λ bytes. bytes.items ≡ publish_body header acknowledgements) }
+{
+    let message = PublishRequest {
+        request_header: header,
+        subscription_acknowledgements: list(alloc, acknowledgements)?,
+    };
+    body(alloc, type_ids::PUBLISH_REQUEST, &message)
+}
+
+#[tactic(auto, unfolding(crate::specs::Messages::republish_body))]
+fn republish_body(
+    alloc: Global,
+    header: RequestHeader,
+    subscription: u32,
+    sequence_number: u32,
+) -> Result<Vec<u8>, AllocError>
+    ensures { IfOk result (λ bytes. bytes.items ≡ republish_body header subscription sequence_number) }
+{
+    let message = RepublishRequest {
+        request_header: header,
+        subscription_id: subscription,
+        retransmit_sequence_number: sequence_number,
+    };
+    body(alloc, type_ids::REPUBLISH_REQUEST, &message)
+}
+
+#[tactic(auto, unfolding(crate::specs::Messages::delete_subscriptions_body))]
+fn delete_subscriptions_body(
+    alloc: Global,
+    header: RequestHeader,
+    subscriptions: Listed<u32>,
+) -> Result<Vec<u8>, AllocError>
+    ensures { IfOk result (λ bytes. bytes.items ≡ delete_subscriptions_body header subscriptions) }
+{
+    let message = DeleteSubscriptionsRequest {
+        request_header: header,
+        subscription_ids: held(subscriptions.into_vec())?,
+    };
+    body(alloc, type_ids::DELETE_SUBSCRIPTIONS_REQUEST, &message)
+}
+
+/// The body of what a session asks, with this header.
+#[tactic(auto, unfolding(crate::specs::Messages::request_body))]
+pub fn request_body(
+    alloc: Global,
+    header: RequestHeader,
+    request: Request,
+) -> Result<Vec<u8>, AllocError>
+    ensures { IfOk result (λ bytes. bytes.items ≡ request_body header request) }
+{
+    match request {
+        Request::ActivateSession => activate_session_body(alloc, header),
+        Request::CloseSession { subscriptions } => close_session_body(alloc, header, subscriptions),
+        Request::Read {
+            timestamps,
+            attributes,
+        } => read_body(alloc, header, timestamps, attributes),
+        Request::Write { values } => write_body(alloc, header, values),
+        Request::Browse { references } => browse_body(alloc, header, references),
+        Request::BrowseNext { points } => browse_next_body(alloc, header, false, points),
+        Request::ReleasePoints { points } => browse_next_body(alloc, header, true, points),
+        Request::ReadHistory { values } => history_body(alloc, header, values),
+        Request::CreateSubscription { counts, publishing } => {
+            create_subscription_body(alloc, header, counts, publishing)
+        }
+        Request::ModifySubscription {
+            subscription,
+            counts,
+        } => modify_subscription_body(alloc, header, subscription, counts),
+        Request::SetPublishing {
+            publishing,
+            subscriptions,
+        } => set_publishing_body(alloc, header, publishing, subscriptions),
+        Request::CreateItem { item } => create_item_body(alloc, header, item),
+        Request::ModifyItem { item } => modify_item_body(alloc, header, item),
+        Request::SetItemMode {
+            subscription,
+            mode,
+            items,
+        } => set_item_mode_body(alloc, header, subscription, mode, items),
+        Request::DeleteItems {
+            subscription,
+            items,
+        } => delete_items_body(alloc, header, subscription, items),
+        Request::Publish { acknowledgements } => publish_body(alloc, header, acknowledgements),
+        Request::Republish {
+            subscription,
+            sequence_number,
+        } => republish_body(alloc, header, subscription, sequence_number),
+        Request::DeleteSubscriptions { subscriptions } => {
+            delete_subscriptions_body(alloc, header, subscriptions)
+        }
+    }
+}

@@ -1,0 +1,10 @@
+pub mod Readings
+pub mod Words
+pub mod Entries
+pub mod Numbers
+pub mod Choices
+pub mod Values
+pub mod Requests
+pub mod Verbs
+pub mod Statements
+pub mod Scenarios

@@ -1,0 +1,268 @@
+//! What the lines before a line have opened and made.
+
+ghost use Rattle.std.specs.Prelude.{◌≡◌, IfOk, OnOk, OnErr};
+ghost use Rattle.ua_types.specs.Answers.{Gives};
+ghost use Rattle.scenario_text.specs.Readings.{Reads};
+ghost use Rattle.scenario_text.specs.declared.fault.Cause.TheVariants.{Memory};
+ghost use Rattle.scenario_text.specs.Statements.{nothing_known, is_above_all, connection_reading, new_connection_reading, session_reading, request_reading, statement_reading, line_reading, statement_of, after, after_line};
+
+use crate::choices::{ChannelRequest, Publishing, Subscriptions};
+use crate::fault::Cause;
+use crate::open_connections::OpenConnections;
+use crate::phrases::Phrase;
+use crate::requests::{
+    Acknowledgement, Attribute, ChangedItem, Counts, NewItem, NewValue, RawValues, References,
+};
+use crate::statement::{Request, Statement};
+use crate::values::{key, octets};
+use crate::verbs::{RequestVerb, Verb, verb_of};
+use crate::words::Words;
+use std::alloc::{AllocError, Global};
+use ua_types::{Listed, Moment, Text};
+
+/// What the words of a line are judged against: which connections are open there, and which sessions
+/// were made.
+#[derive(Debug, Drop)]
+pub struct Known {
+    /// The connections that were opened and aren't gone.
+    pub connections: OpenConnections,
+    /// The greatest number of a connection that was opened so far.
+    pub greatest: Option<u64>,
+    /// How many sessions were made. It stays at its last value.
+    pub sessions: u64,
+}
+
+// What a session asks.
+#[tactic(auto, unfolding(crate::specs::Statements::request_reading))]
+fn request(alloc: Global, verb: RequestVerb, words: &mut Words<'_>) -> Result<Request, Cause>
+    ensures { Reads result words.new (request_reading verb words.old) }
+{
+    match verb {
+        RequestVerb::ActivateSession => Ok(Request::ActivateSession),
+        RequestVerb::CloseSession => Ok(Request::CloseSession {
+            subscriptions: Subscriptions::read(alloc, words)?,
+        }),
+        RequestVerb::Read => Ok(Request::Read {
+            timestamps: i32::read(alloc, words)?,
+            attributes: Listed::<Attribute>::read(alloc, words)?,
+        }),
+        RequestVerb::Write => Ok(Request::Write {
+            values: Listed::<NewValue>::read(alloc, words)?,
+        }),
+        RequestVerb::Browse => Ok(Request::Browse {
+            references: References::read(alloc, words)?,
+        }),
+        RequestVerb::BrowseNext => Ok(Request::BrowseNext {
+            points: Listed::<u64>::read(alloc, words)?,
+        }),
+        RequestVerb::ReleasePoints => Ok(Request::ReleasePoints {
+            points: Listed::<u64>::read(alloc, words)?,
+        }),
+        RequestVerb::ReadHistory => Ok(Request::ReadHistory {
+            values: RawValues::read(alloc, words)?,
+        }),
+        RequestVerb::CreateSubscription => Ok(Request::CreateSubscription {
+            counts: Counts::read(alloc, words)?,
+            publishing: Publishing::read(alloc, words)?,
+        }),
+        RequestVerb::ModifySubscription => Ok(Request::ModifySubscription {
+            subscription: u32::read(alloc, words)?,
+            counts: Counts::read(alloc, words)?,
+        }),
+        RequestVerb::SetPublishing => Ok(Request::SetPublishing {
+            publishing: Publishing::read(alloc, words)?,
+            subscriptions: Listed::<u32>::read(alloc, words)?,
+        }),
+        RequestVerb::CreateItem => Ok(Request::CreateItem {
+            item: NewItem::read(alloc, words)?,
+        }),
+        RequestVerb::ModifyItem => Ok(Request::ModifyItem {
+            item: ChangedItem::read(alloc, words)?,
+        }),
+        RequestVerb::SetItemMode => Ok(Request::SetItemMode {
+            subscription: u32::read(alloc, words)?,
+            mode: i32::read(alloc, words)?,
+            items: Listed::<u32>::read(alloc, words)?,
+        }),
+        RequestVerb::DeleteItems => Ok(Request::DeleteItems {
+            subscription: u32::read(alloc, words)?,
+            items: Listed::<u32>::read(alloc, words)?,
+        }),
+        RequestVerb::Publish => Ok(Request::Publish {
+            acknowledgements: Listed::<Acknowledgement>::read(alloc, words)?,
+        }),
+        RequestVerb::Republish => Ok(Request::Republish {
+            subscription: u32::read(alloc, words)?,
+            sequence_number: u32::read(alloc, words)?,
+        }),
+        RequestVerb::DeleteSubscriptions => Ok(Request::DeleteSubscriptions {
+            subscriptions: Listed::<u32>::read(alloc, words)?,
+        }),
+    }
+}
+
+impl Known {
+    /// Before the first line. Takes no memory.
+    pub fn new(alloc: Global) -> Known
+        ensures { result ≡ nothing_known }
+    {
+        Known {
+            connections: OpenConnections::new(alloc),
+            greatest: None,
+            sessions: 0,
+        }
+    }
+
+    // The number is above those of all connections before.
+    fn is_new(&self, connection: u64) -> bool
+        ensures { result ≡ is_above_all connection self.now.greatest }
+    {
+        match self.greatest {
+            Some(greatest) => greatest < connection,
+            None => true,
+        }
+    }
+
+    // A connection that is open.
+    #[tactic(auto, unfolding(crate::specs::Statements::connection_reading))]
+    fn connection(&self, alloc: Global, words: &mut Words<'_>) -> Result<u64, Cause>
+        ensures { Reads result words.new (connection_reading self.now words.old) }
+    {
+        let connection = u64::read(alloc, words)?;
+        if self.connections.contains(connection) {
+            Ok(connection)
+        } else {
+            Err(Cause::NoConnection)
+        }
+    }
+
+    // A connection that can be opened.
+    #[tactic(auto, unfolding(crate::specs::Statements::new_connection_reading))]
+    fn new_connection(&self, alloc: Global, words: &mut Words<'_>) -> Result<u64, Cause>
+        ensures { Reads result words.new (new_connection_reading self.now words.old) }
+    {
+        let connection = u64::read(alloc, words)?;
+        if self.is_new(connection) {
+            Ok(connection)
+        } else {
+            Err(Cause::Number)
+        }
+    }
+
+    // A session that was made.
+    #[tactic(auto, unfolding(crate::specs::Statements::session_reading))]
+    fn session(&self, alloc: Global, words: &mut Words<'_>) -> Result<u64, Cause>
+        ensures { Reads result words.new (session_reading self.now words.old) }
+    {
+        let session = u64::read(alloc, words)?;
+        if 0 < session && session <= self.sessions {
+            Ok(session)
+        } else {
+            Err(Cause::NoConnection)
+        }
+    }
+
+    #[tactic(auto, unfolding(crate::specs::Statements::statement_reading))]
+    fn statement(
+        &self,
+        alloc: Global,
+        verb: Verb,
+        words: &mut Words<'_>,
+    ) -> Result<Statement, Cause>
+        ensures { Reads result words.new (statement_reading self.now verb words.old) }
+    {
+        match verb {
+            Verb::Open => Ok(Statement::Open {
+                connection: self.new_connection(alloc, words)?,
+                key: key(words)?,
+            }),
+            Verb::Hello => Ok(Statement::Hello {
+                connection: self.connection(alloc, words)?,
+                url: Text::read(alloc, words)?,
+            }),
+            Verb::OpenChannel => Ok(Statement::OpenChannel {
+                connection: self.connection(alloc, words)?,
+                request: ChannelRequest::read(alloc, words)?,
+            }),
+            Verb::CloseChannel => Ok(Statement::CloseChannel {
+                connection: self.connection(alloc, words)?,
+            }),
+            Verb::Gone => Ok(Statement::Gone {
+                connection: self.connection(alloc, words)?,
+            }),
+            Verb::Tick => Ok(Statement::Tick {
+                now: Moment::read(alloc, words)?,
+            }),
+            Verb::Raw => Ok(Statement::Raw {
+                connection: self.connection(alloc, words)?,
+                bytes: Listed::from_vec(octets(alloc, words)?),
+            }),
+            Verb::Cut => Ok(Statement::Cut {
+                size: u64::read(alloc, words)?,
+            }),
+            Verb::Chunk => Ok(Statement::Chunk {
+                size: u64::read(alloc, words)?,
+            }),
+            Verb::Abort => Ok(Statement::Abort),
+            Verb::GetEndpoints => Ok(Statement::GetEndpoints {
+                connection: self.connection(alloc, words)?,
+            }),
+            Verb::CreateSession => Ok(Statement::CreateSession {
+                connection: self.connection(alloc, words)?,
+            }),
+            Verb::Ask(verb) => Ok(Statement::Ask {
+                connection: self.connection(alloc, words)?,
+                session: self.session(alloc, words)?,
+                request: request(alloc, verb, words)?,
+            }),
+        }
+    }
+
+    // What the words of a line say, if there are any.
+    #[tactic(auto, unfolding(crate::specs::Statements::line_reading))]
+    fn line(&self, alloc: Global, words: &mut Words<'_>) -> Result<Option<Statement>, Cause>
+        ensures { Reads result words.new (line_reading self.now words.old) }
+    {
+        if !words.has_more() {
+            return Ok(None);
+        }
+        let verb = verb_of(words.word()?)?;
+        let statement = self.statement(alloc, verb, words)?;
+        words.end()?;
+        Ok(Some(statement))
+    }
+
+    /// What a line says, judged against what is known; none where it is blank or a comment.
+    ///
+    /// The cause is that of the leftmost bad word.
+    #[tactic(auto, unfolding(crate::specs::Statements::statement_of))]
+    pub fn read(&self, alloc: Global, line: &str) -> Result<Option<Statement>, Cause>
+        ensures { Gives Memory result (statement_of self.now line.now) }
+    {
+        let mut words = Words::new(line);
+        self.line(alloc, &mut words)
+    }
+
+    /// Knows what a statement has opened, ended or made. At an `Err` nothing has changed.
+    pub fn note(&mut self, statement: &Statement) -> Result<(), AllocError>
+        ensures ok { OnOk result (self.new ≡ after self.old statement.now) }
+        ensures err { OnErr result (self.new ≡ self.old) }
+    {
+        match statement {
+            Statement::Open { connection, key: _ } => {
+                self.connections.insert(*connection)?;
+                self.greatest = Some(*connection);
+                Ok(())
+            }
+            Statement::Gone { connection } => {
+                self.connections.remove(*connection);
+                Ok(())
+            }
+            Statement::CreateSession { connection: _ } => {
+                self.sessions = self.sessions.saturating_add(1);
+                Ok(())
+            }
+            _ => Ok(()),
+        }
+    }
+}
