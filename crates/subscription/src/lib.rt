@@ -1,4 +1,22 @@
-//! Subscriptions.
+//! Subscriptions: what is sent of monitored items, to whom, and when (IEC 62541-4, 5.13).
+//!
+//! [`Subs`] holds the subscriptions of a server, the Publish requests that wait for them, and the notes of those that
+//! timed out. A client's requests about subscriptions are its calls, and so are the timers and the ends of sessions and
+//! connections. Each call fires rows of the state table ([`sub_table`]), and what it does is what the rows' actions say:
+//! it answers Publish requests ([`ua_requests::Reply`]), and says which rows fired. It is lent the monitored items, whose
+//! values the messages take. Nothing here knows the wire but for the messages' bytes, which are made once and kept.
+//!
+//! ```text
+//! a call ── which subscriptions does it concern? ── for each, in order:
+//!           variables ── the table's row ── its actions, one after the other ── next state
+//! ```
+//!
+//! What a contract sees: the live subscriptions, and what each session has of subscriptions, under their numbers
+//! (`specs/Tables`). `Scenes` has the actions as definitions; `Firing` a row; `Making`, `Named`, `Publishing` and `Ending`
+//! the calls, `Ranks` who comes first, and `Subs` what a call leaves. [`laws`] says what follows for each row: a steady
+//! subscription stays steady, and messages are numbered without a gap.
+//!
+//! Read docs/SUBSCRIPTIONS.md first, then [`Subs`], then `src/acting.rt`.
 #![tactic(auto)]
 
 mod acting;

@@ -27,17 +27,17 @@ fn message(
     alloc: Global,
     number: u32,
     clock: Moment,
-    data: Vec<ExtensionObject>,
+    objects: Vec<ExtensionObject>,
 ) -> Result<Bytes, AllocError>
-    ensures { IfOk result (λ bytes. bytes ≡ message_of number clock data.items) }
+    ensures { IfOk result (λ bytes. bytes ≡ message_of number clock objects.items) }
 {
-    if data.len() >= 1 << 31 {
+    if objects.len() >= 1 << 31 {
         return Err(AllocError);
     }
     let message = NotificationMessage {
         sequence_number: number,
         publish_time: clock,
-        notification_data: Array::new(data),
+        notification_data: Array::new(objects),
     };
     let mut bytes = Vec::new(alloc);
     message.encode(&mut bytes)?;
@@ -61,9 +61,9 @@ pub(crate) fn data_message(
         monitored_items: Array::new(notes),
         diagnostic_infos: DiagnosticInfos,
     };
-    let mut data = Vec::new(alloc);
-    data.push(extension_object(alloc, type_ids::DATA_CHANGE_NOTIFICATION, &changes)?)?;
-    message(alloc, number, clock, data)
+    let mut objects = Vec::new(alloc);
+    objects.push(extension_object(alloc, type_ids::DATA_CHANGE_NOTIFICATION, &changes)?)?;
+    message(alloc, number, clock, objects)
 }
 
 /// The bytes of a message with nothing to tell.
@@ -91,7 +91,7 @@ pub(crate) fn timeout_message(
         status: Status::BAD_TIMEOUT,
         diagnostic_info: DiagnosticInfo,
     };
-    let mut data = Vec::new(alloc);
-    data.push(extension_object(alloc, type_ids::STATUS_CHANGE_NOTIFICATION, &change)?)?;
-    message(alloc, number, clock, data)
+    let mut objects = Vec::new(alloc);
+    objects.push(extension_object(alloc, type_ids::STATUS_CHANGE_NOTIFICATION, &change)?)?;
+    message(alloc, number, clock, objects)
 }
