@@ -1,14 +1,19 @@
 -- A row that fires keeps a subscription steady.
 use Rattle.std.proofs.Common.{◌≡◌, ◌≢◌, ℕ, Bool, true, false, List, [], ◌∷◌, refl, cond, sym, ap, ◌∙◌, subst}
 use Rattle.sub_table.specs.Doing.{Standing, after, enqueues}
-use Rattle.sub_table.specs.Events.{fits}
+use Rattle.sub_table.specs.Chosen.{chosen}
+use Rattle.sub_table.specs.Events.{fits, is_closed}
 use Rattle.sub_table.specs.StateTable.{fires, next_of}
 use Rattle.sub_table.specs.Steady.{IsSteady}
 use Rattle.sub_table.specs.declared.event.TableEvent.{TableEvent}
 use Rattle.sub_table.specs.declared.row.RowId.{RowId}
 use Rattle.sub_table.specs.declared.row.RowId.TheVariants.{C1, C2, N1, N2, N3, N4, N5, N6, L1, L2, L3, K1, K2, K3, K4, K5, G1, G2, G3, G4, G5, G6, G7, G8, G9}
-use Rattle.sub_table.specs.declared.state.State.TheVariants.{Closed}
+use Rattle.sub_table.specs.declared.state.State.{State}
+use Rattle.sub_table.specs.declared.state.State.TheVariants.{Closed, Normal, Late, KeepAlive}
+use Rattle.sub_table.proofs.OneRow.{one_row}
 use Rattle.sub_table.proofs.SteadyLemmas as table
+use Rattle.subscription.specs.Calls.{event_of}
+use Rattle.subscription.specs.Firing.{fired, before_of, vars_in, row_of}
 use Rattle.subscription.specs.Scenes.{Scene, row_done}
 use Rattle.subscription.specs.Standings.{Counts, standing_in, circumstances, counts_of, row_counts, IsAsked}
 use Rattle.subscription.proofs.RowFairness.{fair}
@@ -47,3 +52,27 @@ pub row_stays_steady : (c : Scene) (counts : Counts) (e : TableEvent) (r : RowId
 row_stays_steady c counts e r steady fit fire live asked =
     subst IsSteady (sym (row_link r c live asked counts))
     (table.stays_steady (circumstances r c (row_done r c)) (standing_in c.turn.own c counts) e r (fair r c) steady fit fire live)
+
+not_closed : (s : State) → is_closed s ≡ false → s ≢ Closed
+not_closed Closed h e = absurd (cc)
+not_closed Normal h e = absurd (cc)
+not_closed Late h e = absurd (cc)
+not_closed KeepAlive h e = absurd (cc)
+
+closes : (r : RowId) (c : Scene) → (row_done r c).subscription.state ≡ next_of r c.subscription.state
+unfolding row_done
+closes r c = refl
+
+pub one_row_fires : (c : Scene) (counts : Counts) → before_of c ≡ vars_in c → fits c.subscription.state (event_of c.turn.call) ≡ true → IsSteady (standing_in c.turn.own c counts) →
+    fires (before_of c) (event_of c.turn.call) ≡ row_of c ∷ []
+one_row_fires c counts own fit steady =
+    subst (λ v. fires v (event_of c.turn.call) ≡ chosen v (event_of c.turn.call) ∷ []) (sym own)
+    (one_row (vars_in c) (event_of c.turn.call) (table.steady_is_sound (standing_in c.turn.own c counts) steady) fit)
+
+pub stays_steady : (c : Scene) (counts : Counts) → before_of c ≡ vars_in c → fits c.subscription.state (event_of c.turn.call) ≡ true → IsSteady (standing_in c.turn.own c counts) →
+    (enqueues (row_of c) ≡ true → IsAsked c) → is_closed (fired c).subscription.state ≡ false → IsSteady (standing_in c.turn.own (fired c) (row_counts (row_of c) c counts))
+unfolding fired
+stays_steady c counts own fit steady asked live =
+    row_stays_steady c counts (event_of c.turn.call) (row_of c) steady fit
+    (subst (λ v. fires v (event_of c.turn.call) ≡ row_of c ∷ []) own (one_row_fires c counts own fit steady))
+    (subst (λ s. s ≢ Closed) (closes (row_of c) c) (not_closed _ live)) asked
