@@ -1,14 +1,12 @@
 -- Actions that are done one after the other.
-use Rattle.std.proofs.Common.{◌≡◌, ◌≤◌, ℕ, ◌+◌, ◌^◌, Bool, true, false, List, [], ◌∷◌, ◌++◌, take, drop, fold, nat_le, Option, Some, None, refl, arith, cond, sym, ap, ◌∙◌, subst, length}
-use Rattle.sub_table.specs.StateTable.{actions_of}
+use Rattle.std.proofs.Common.{◌≡◌, ◌≤◌, ◌+◌, Bool, true, false, List, [], ◌∷◌, ◌++◌, nat_le, Option, Some, None, refl, arith, cond, length}
 use Rattle.sub_table.specs.declared.action.Action.{Action}
 use Rattle.sub_table.specs.declared.action.Action.TheVariants.{RefuseTooMany, Initialise, StartTimer, Answer, DeleteAcknowledged, Enqueue, Dequeue, ResetLife, ResetKeep, CountKeep, SendNotifications, SendKeepAlive, SetSent, DeleteItems, NoteTimeout, Update, LimitKeep, SetEnabled, ClearMore, AnswerKept, RefuseNotKept, CallItems, LimitMore, LeaveSession}
-use Rattle.sub_table.specs.declared.row.RowId.{RowId}
 use Rattle.subscription.specs.declared.publish_call.PublishCall.{PublishCall}
 use Rattle.subscription.specs.declared.session_part.SessionPart.{SessionPart}
 use Rattle.subscription.specs.declared.turn.Turn.{Turn}
 use Rattle.subscription.specs.Queues.{first_of}
-use Rattle.subscription.specs.Scenes.{Scene, noting, with_refused, enqueued, enqueued_by, Queueing, keep_alive_sent, counted, placed, answered, answered_by, note_sent, notes_sent, rest_sent, done, all_done, row_done, is_overspent}
+use Rattle.subscription.specs.Scenes.{Scene, noting, with_refused, enqueued, enqueued_by, Queueing, keep_alive_sent, note_sent, notes_sent, done, all_done, is_overspent}
 use Rattle.subscription.proofs.Sendings.{rest_place, note_place, answered_place}
 
 refused_place : (turn : Turn) (call : Option PublishCall) → (with_refused turn call).place ≡ turn.place

@@ -1,7 +1,6 @@
 -- Subscriptions of which none is due.
-use Rattle.std.proofs.Common.{◌≡◌, ℕ, Bool, true, false, ◌||◌, List, [], ◌∷◌, Option, Some, None, fold, refl, cond, ap, ◌∙◌}
+use Rattle.std.proofs.Common.{◌≡◌, ℕ, Bool, true, false, ◌||◌, List, [], ◌∷◌, Some, None, fold, refl, cond, ap, ◌∙◌}
 use Rattle.std.specs.Prelude.{map}
-use Rattle.std.specs.List.{list_any}
 use Rattle.ua_types.specs.declared.moment.Moment.{Moment}
 use Rattle.subscription.specs.declared.ranks.Rank.{Rank}
 use Rattle.subscription.specs.declared.subscription.Subscription.{Subscription}

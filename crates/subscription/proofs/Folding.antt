@@ -1,5 +1,5 @@
 -- A number that only rises while things are done one after the other.
-use Rattle.std.proofs.Common.{◌≡◌, ◌≤◌, ◌<◌, ℕ, zero, suc, ◌+◌, List, [], ◌∷◌, length, take, fold, slice_index_or, refl, arith}
+use Rattle.std.proofs.Common.{◌≤◌, ◌<◌, ℕ, zero, suc, List, [], ◌∷◌, length, take, fold, slice_index_or, arith}
 
 module _ {S A : Type 0} (f : S → A → S) (height : S → ℕ) (rises : (s : S) (x : A) → height s ≤ height (f s x)) where
   pub fold_rises : (xs : List A) (s : S) → height s ≤ height (fold f s xs)

@@ -1,11 +1,10 @@
 -- What a subscription meets, under its number.
-use Rattle.std.proofs.Common.{◌≡◌, ◌≤◌, ℕ, ◌+◌, ◌^◌, Bool, true, false, List, [], ◌∷◌, ◌++◌, take, drop, fold, nat_le, Option, Some, None, Result, Ok, Err, OnOk, unwrap_or, refl, arith, cond, sym, ap, ◌∙◌, subst, length}
+use Rattle.std.proofs.Common.{◌≡◌, ℕ, Bool, true, false, List, [], ◌∷◌, Option, Some, None, Result, Ok, Err, OnOk, unwrap_or, refl, cond, sym, ap, ◌∙◌}
 use Rattle.std.specs.BTreeMap.{is_at}
-use Rattle.std.specs.Map.{lookup, set_value, remove_entry}
+use Rattle.std.specs.Map.{lookup, set_value}
 use Rattle.std.specs.Ordering.{nat_cmp}
 use Rattle.ua_requests.specs.declared.halt.Halt.{Halt}
 use Rattle.monitored_items.specs.Items.{ItemsState}
-use Rattle.subscription.specs.declared.call.Call.{Call}
 use Rattle.subscription.specs.declared.session_part.SessionPart.{SessionPart}
 use Rattle.subscription.specs.declared.subscription.Subscription.{Subscription}
 use Rattle.subscription.specs.declared.turn.Turn.{Turn}

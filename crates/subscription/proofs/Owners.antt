@@ -1,5 +1,5 @@
 -- A row keeps whose turn it is, the moment, what the server allows, and what came.
-use Rattle.std.proofs.Common.{◌≡◌, ℕ, Bool, true, false, List, [], ◌∷◌, fold, nat_le, length, Option, Some, None, refl, cond, ap, ◌∙◌}
+use Rattle.std.proofs.Common.{◌≡◌, ℕ, Bool, true, false, List, [], ◌∷◌, nat_le, length, Option, Some, None, refl, cond, ◌∙◌}
 use Rattle.ua_types.specs.declared.moment.Moment.{Moment}
 use Rattle.sub_table.specs.StateTable.{actions_of}
 use Rattle.sub_table.specs.declared.action.Action.{Action}

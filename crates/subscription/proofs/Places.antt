@@ -1,5 +1,5 @@
 -- Places only rise while subscriptions meet what comes to them.
-use Rattle.std.proofs.Common.{◌≡◌, ◌≤◌, ◌<◌, ℕ, ◌+◌, ◌^◌, Bool, true, false, List, [], ◌∷◌, ◌++◌, length, take, fold, nat_le, slice_index, Option, Some, None, Err, refl, arith, cond, subst}
+use Rattle.std.proofs.Common.{◌≡◌, ◌≤◌, ◌<◌, ℕ, ◌^◌, Bool, true, false, List, [], length, take, slice_index, Option, Some, None, Err, refl, arith, cond, subst}
 use Rattle.sub_table.specs.StateTable.{actions_of}
 use Rattle.sub_table.specs.declared.row.RowId.{RowId}
 use Rattle.ua_types.specs.declared.status.Status.{Status}

@@ -1,12 +1,11 @@
 -- What a row does to a subscription is what the state table sees of it.
-use Rattle.std.proofs.Common.{◌≡◌, ◌≢◌, ℕ, ◌+◌, ◌-◌, ◌&&◌, ◌||◌, Bool, true, false, List, [], ◌∷◌, ◌++◌, drop, nat_le, length, Option, Some, None, refl, arith, cond, sym, ap, ◌∙◌, subst}
+use Rattle.std.proofs.Common.{◌≡◌, ◌&&◌, ◌||◌, Bool, true, false, List, [], ◌∷◌, ◌++◌, drop, nat_le, length, Option, Some, None, refl, cond, sym, ap, ◌∙◌}
 use Rattle.std.specs.Option.{is_some}
-use Rattle.sub_table.specs.Doing.{Standing, Circumstances, after}
+use Rattle.sub_table.specs.Doing.{Standing, after}
 use Rattle.sub_table.specs.Laws.{with_queued}
 use Rattle.sub_table.specs.declared.state.State.TheVariants.{Normal}
 use Rattle.sub_table.specs.declared.row.RowId.{RowId}
-use Rattle.sub_table.specs.declared.row.RowId.TheVariants.{C1, C2, N1, N2, N3, N4, N5, N6, L1, L2, L3, K1, K2, K3, K4, K5, G1, G2, G3, G4, G5, G6, G7, G8, G9}
-use Rattle.sub_table.specs.declared.vars.Vars.{Vars}
+use Rattle.sub_table.specs.declared.row.RowId.TheVariants.{C2, N1, N2, N3, N4, N5, N6, L1, L2, L3, K1, K2, K3, K4, K5, G1, G2, G3, G4, G7, G9}
 use Rattle.monitored_items.specs.Items.{is_available}
 use Rattle.subscription.specs.declared.publish_call.PublishCall.{PublishCall}
 use Rattle.subscription.specs.declared.session_part.SessionPart.{SessionPart}

@@ -1,6 +1,6 @@
 -- A row that fires keeps a subscription steady.
-use Rattle.std.proofs.Common.{◌≡◌, ◌≢◌, ℕ, Bool, true, false, List, [], ◌∷◌, refl, cond, sym, ap, ◌∙◌, subst}
-use Rattle.sub_table.specs.Doing.{Standing, after, enqueues}
+use Rattle.std.proofs.Common.{◌≡◌, ◌≢◌, true, false, [], ◌∷◌, refl, sym, subst}
+use Rattle.sub_table.specs.Doing.{enqueues}
 use Rattle.sub_table.specs.Chosen.{chosen}
 use Rattle.sub_table.specs.Events.{fits, is_closed}
 use Rattle.sub_table.specs.StateTable.{fires, next_of}
@@ -15,7 +15,7 @@ use Rattle.sub_table.proofs.SteadyLemmas as table
 use Rattle.subscription.specs.Calls.{event_of}
 use Rattle.subscription.specs.Firing.{fired, before_of, vars_in, row_of}
 use Rattle.subscription.specs.Scenes.{Scene, row_done}
-use Rattle.subscription.specs.Standings.{Counts, standing_in, circumstances, counts_of, row_counts, IsAsked}
+use Rattle.subscription.specs.Standings.{Counts, standing_in, circumstances, row_counts, IsAsked}
 use Rattle.subscription.proofs.RowFairness.{fair}
 use Rattle.subscription.proofs.RowLinks.{Links, link_C2, link_N1, link_N2, link_N3, link_N4, link_N5, link_N6, link_L1, link_L2, link_L3, link_K1, link_K2, link_K3, link_K4, link_K5, link_G1, link_G2, link_G3, link_G4, link_G7, link_G9}
 

@@ -1,10 +1,10 @@
 -- Messages that are sent one after the other.
-use Rattle.std.proofs.Common.{◌≡◌, ◌≤◌, ◌<◌, length, ℕ, ◌+◌, ◌^◌, Bool, true, false, List, [], ◌∷◌, drop, nat_le, Option, Some, None, refl, arith, cond, sym, ap, ◌∙◌, subst}
+use Rattle.std.proofs.Common.{◌≡◌, ◌≤◌, ◌<◌, length, ℕ, ◌+◌, ◌^◌, Bool, true, false, List, [], ◌∷◌, drop, Option, Some, None, refl, arith, cond, sym, ap, ◌∙◌, subst}
 use Rattle.subscription.specs.declared.publish_call.PublishCall.{PublishCall}
 use Rattle.subscription.specs.declared.subscription.Subscription.{Subscription}
 use Rattle.subscription.specs.declared.turn.Turn.{Turn}
 use Rattle.subscription.specs.Queues.{first_of}
-use Rattle.subscription.specs.Scenes.{Noting, Sending, sending, noting, with_asked, note_sent, rest_sent, is_overspent, answered_by}
+use Rattle.subscription.specs.Scenes.{Noting, Sending, sending, with_asked, note_sent, rest_sent, is_overspent, answered_by}
 
 pub answered_place : (asked : Option PublishCall) (turn : Turn) (s : Subscription) (more : Bool) (message : List ℕ) → (answered_by asked turn s more message).place ≡ turn.place
 answered_place None turn s more message = refl

@@ -1,5 +1,5 @@
 -- Publish: acknowledgements, notes of time-outs, and who answers (IEC 62541-4, "Publish").
-use Rattle.std.specs.Prelude.{ℕ, Bool, true, false, List, [], ◌∷◌, ◌++◌, fold, drop, Option, Some, None, if◌then◌else◌}
+use Rattle.std.specs.Prelude.{ℕ, false, List, [], ◌∷◌, ◌++◌, fold, drop, Option, Some, None, if◌then◌else◌}
 use Rattle.std.specs.BTreeMap.{is_at}
 use Rattle.std.specs.List.{position, remove}
 use Rattle.std.specs.Map.{set_value}

@@ -1,8 +1,6 @@
 -- What the actions of the state table do (IEC 62541-4, 5.13).
-use Rattle.std.specs.Prelude.{◌≡◌, ◌≤◌, ⊤, ℕ, ◌+◌, ◌-◌, ◌^◌, ◌==◌, ◌&&◌, min, Bool, true, false, List, [], ◌∷◌, ◌++◌, map, length, drop, fold, nat_lt, nat_le, Option, Some, None, Result, Ok, Err, if◌then◌else◌, ◌+ℤ◌, pos}
+use Rattle.std.specs.Prelude.{◌≡◌, ⊤, ℕ, ◌+◌, ◌-◌, ◌^◌, ◌&&◌, min, Bool, true, false, List, [], ◌∷◌, ◌++◌, map, length, drop, fold, nat_lt, nat_le, Option, Some, None, Result, Ok, Err, if◌then◌else◌, ◌+ℤ◌, pos}
 use Rattle.std.specs.Int.{w64, saturate_signed}
-use Rattle.std.specs.BTreeMap.{is_at}
-use Rattle.ua_types.specs.declared.moment.Moment.{Moment}
 use Rattle.ua_types.specs.declared.status.TheConstants.Status as status
 use Rattle.ua_requests.specs.declared.halt.Halt.{Halt}
 use Rattle.ua_requests.specs.declared.halt.Halt.TheVariants.{Memory, Exhausted}
@@ -17,7 +15,6 @@ use Rattle.monitored_items.specs.ItemTables.{numbers_of}
 use Rattle.subscription.specs.declared.messages.KeptMessage.{KeptMessage}
 use Rattle.subscription.specs.declared.publish_call.PublishCall.{PublishCall}
 use Rattle.subscription.specs.declared.session_part.SessionPart.{SessionPart}
-use Rattle.subscription.specs.declared.session_part.TimeoutNote.{TimeoutNote}
 use Rattle.subscription.specs.declared.settings.Settings.{Settings}
 use Rattle.subscription.specs.declared.subscription.Subscription.{Subscription}
 use Rattle.subscription.specs.declared.turn.Turn.{Turn}

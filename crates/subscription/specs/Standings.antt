@@ -7,7 +7,6 @@ use Rattle.sub_table.specs.declared.row.RowId.TheVariants.{N2, N3, L1, K2}
 use Rattle.sub_table.specs.declared.vars.Vars.{Vars}
 use Rattle.monitored_items.specs.Items.{is_available}
 use Rattle.subscription.specs.declared.subscription.Subscription.{Subscription}
-use Rattle.subscription.specs.declared.settings.Settings.{Settings}
 use Rattle.subscription.specs.Calls.{settings_of, asks_enabled}
 use Rattle.subscription.specs.Scenes.{Scene, row_done}
 use Rattle.subscription.specs.Settings.{revised_keep, revised_life}

@@ -1,7 +1,6 @@
 use Rattle.std.proofs.Common.{rules, ap, ◌∙◌}
 use Rattle.std.proofs.lemmas.Map.Made.{map_same_pairs}
 use Rattle.subscription.specs.Ending.{part_without_conn, without_conn}
-use Rattle.subscription.specs.Tables.{TableState}
 use Rattle.subscription.proofs.table.SubscriptionTable.gone.Goals as goal
 
 pub returns : goal.returns
