@@ -58,3 +58,5 @@ pub use turn::Turn;
 
 #[cfg(test)]
 mod tests;
+#[cfg(test)]
+mod tests_with_items;

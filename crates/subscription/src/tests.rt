@@ -10,13 +10,13 @@ use ua_types::{Config, Listed, Moment, Status};
 
 /// The subscriptions and items of a server, and its clock.
 #[derive(Drop)]
-struct Plant {
-    subs: Subs,
-    items: Items,
-    clock: i64,
+pub(crate) struct Plant {
+    pub(crate) subs: Subs,
+    pub(crate) items: Items,
+    pub(crate) clock: i64,
 }
 
-fn new_plant(alloc: Global, config: &Config) -> Plant {
+pub(crate) fn new_plant(alloc: Global, config: &Config) -> Plant {
     Plant {
         subs: Subs::new(alloc, config),
         items: Items::new(alloc, config),
@@ -25,7 +25,7 @@ fn new_plant(alloc: Global, config: &Config) -> Plant {
 }
 
 // The rows that fired, each with its subscription, as `1:N5 2:L1 `.
-fn told(alloc: Global, rows: &Listed<Fired>) -> Result<String, Fail> {
+pub(crate) fn told(alloc: Global, rows: &Listed<Fired>) -> Result<String, Fail> {
     let mut text = String::new(alloc);
     for fired in rows.as_slice() {
         text.push_str(format!(in alloc; "{}:{} ", fired.subscription, fired.row)?.as_str())?;
@@ -35,7 +35,7 @@ fn told(alloc: Global, rows: &Listed<Fired>) -> Result<String, Fail> {
 
 // The requests that were answered, each with the status of its answer (a response's or a fault's header begins after
 // 4 bytes of type id; its status comes after 8 bytes of time and 4 of the handle).
-fn answers(alloc: Global, replies: &Listed<Reply>) -> Result<String, Fail> {
+pub(crate) fn answers(alloc: Global, replies: &Listed<Reply>) -> Result<String, Fail> {
     let mut text = String::new(alloc);
     for reply in replies.as_slice() {
         let body = reply.body.as_slice();
@@ -62,7 +62,7 @@ fn make(alloc: Global, plant: &mut Plant, priority: u8) -> Result<String, Fail> 
     told(alloc, &made.rows)
 }
 
-fn publish(alloc: Global, plant: &mut Plant, id: u32) -> Result<Answered<()>, Fail> {
+pub(crate) fn publish(alloc: Global, plant: &mut Plant, id: u32) -> Result<Answered<()>, Fail> {
     let call = PublishCall {
         conn: 1,
         id,
