@@ -1,9 +1,8 @@
 //! Subscriptions and sessions under their numbers.
 
 ghost use Rattle.std.specs.Prelude.{◌≡◌, true, OnOk, IfOk, IfErr};
-ghost use Rattle.std.specs.Option.{option_copied};
 ghost use Rattle.ua_requests.specs.declared.halt.Halt.TheVariants.{Exhausted};
-ghost use Rattle.subscription.specs.Tables.{no_table, part_of, subscription_at, vars_found, kept_found, met_in, one_met, met_at, world, met, all_met, Meets};
+ghost use Rattle.subscription.specs.Tables.{no_table, part_of, vars_found, kept_found, met_in, one_met, met_at, world, met, all_met, Meets};
 ghost use Rattle.subscription.specs.Subscriptions.{is_any};
 ghost use Rattle.subscription.specs.Scenes.{is_overspent};
 
@@ -99,13 +98,6 @@ impl SubscriptionTable {
             subscriptions: BTreeMap::new(alloc),
             sessions: BTreeMap::new(alloc),
         }
-    }
-
-    /// The live subscription of a number, found in logarithmic time.
-    pub(crate) fn get(&self, number: u32) -> Option<&Subscription>
-        ensures { option_copied result ≡ subscription_at number self.now.subscriptions }
-    {
-        self.subscriptions.get(&number)
     }
 
     // Whether a request of a session waits.
