@@ -65,7 +65,7 @@ others_get_goes f (suc n) (t ∷ ts) = by (is_waiting t.fate) (others_get_goes f
     by true h _ = (same t, h)
     by false _ h = (same t, h)
 
-first_marked_goes : {V : Type 0} → (ts : List (Told V)) → GoesOn ts (first_marked ts)
+pub first_marked_goes : {V : Type 0} → (ts : List (Told V)) → GoesOn ts (first_marked ts)
 first_marked_goes [] = tt
 first_marked_goes (t ∷ ts) = by (is_waiting t.fate) refl (first_marked_goes ts)
   where
@@ -73,11 +73,11 @@ first_marked_goes (t ∷ ts) = by (is_waiting t.fate) refl (first_marked_goes ts
     by true e h = (marks t e, goes_on ts)
     by false e h = (same t, h)
 
-settled_goes : {V : Type 0} → (ts : List (Told V)) → GoesOn ts (settled ts)
+pub settled_goes : {V : Type 0} → (ts : List (Told V)) → GoesOn ts (settled ts)
 settled_goes [] = tt
 settled_goes (t ∷ ts) = (settles t, settled_goes ts)
 
-act_goes : {V : Type 0} → (ts : List (Told V)) (a : Act V) → GoesOn ts (accounted ts a)
+pub act_goes : {V : Type 0} → (ts : List (Told V)) (a : Act V) → GoesOn ts (accounted ts a)
 act_goes ts (Act.Queued v) = longer ts ts _ (goes_on ts)
 act_goes ts Act.FrontDropped = goes_further ts (first_get WasLost 1 ts) _ (first_get_goes WasLost 1 ts) (first_marked_goes (first_get WasLost 1 ts))
 act_goes ts (Act.NewestReplaced v) = longer ts (others_get WasLost (length (waiting ts) - 1) ts) _ (others_get_goes WasLost (length (waiting ts) - 1) ts)
@@ -87,7 +87,7 @@ act_goes ts Act.Cleared = goes_further ts (others_get WasCleared 0 ts) _ (others
 act_goes ts (Act.FrontCleared n) = goes_further ts (first_get WasCleared n ts) _ (first_get_goes WasCleared n ts) (settled_goes (first_get WasCleared n ts))
 act_goes ts (Act.BackCleared n) = goes_further ts (others_get WasCleared n ts) _ (others_get_goes WasCleared n ts) (settled_goes (others_get WasCleared n ts))
 
-acts_go : {V : Type 0} → (acts : List (Act V)) (ts : List (Told V)) → GoesOn ts (fold accounted ts acts)
+pub acts_go : {V : Type 0} → (acts : List (Act V)) (ts : List (Told V)) → GoesOn ts (fold accounted ts acts)
 acts_go [] ts = goes_on ts
 acts_go (a ∷ acts) ts = goes_further ts (accounted ts a) _ (act_goes ts a) (acts_go acts (accounted ts a))
 

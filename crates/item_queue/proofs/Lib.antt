@@ -5,3 +5,6 @@ pub mod LossLemmas
 pub mod AccountLemmas
 pub mod NewestLemmas
 pub mod MarkLemmas
+pub mod ValueLemmas
+pub mod SentLemmas
+pub mod CauseLemmas

@@ -1,9 +1,11 @@
 //! What becomes of the values that an item queues, whatever is done with it.
 
-ghost use Rattle.std.specs.Prelude.{◌≡◌, ◌<◌, ℕ, Bool, List, fold};
+ghost use Rattle.std.specs.Prelude.{◌≡◌, ◌<◌, ℕ, Bool, List, [], fold};
 ghost use Rattle.item_queue.specs.ItemQueue.{Deed, queue};
 ghost use Rattle.item_queue.specs.ItemQueue.Deed.{Sample};
 ghost use Rattle.item_queue.specs.Fates.{account, account_after, waiting, GoesOn, IsInOrder, TellsLosses, MarksLosses};
+ghost use Rattle.item_queue.specs.Causes.{may_give, GetsOnly};
+ghost use Rattle.item_queue.specs.Sendings.{values_of, sampled_by, sent_of, given_by};
 
 /// The queue is those values of the account that wait, in the order in which they were queued.
 #[tactic(auto, using(crate::proofs::QueueLemmas::queue_is_what_waits))]
@@ -38,4 +40,25 @@ pub fn tells_losses<T>()
 pub fn marks_losses_at_once<T>()
     ensures { (deeds : List (Deed T)) (size : ℕ) (discard_oldest : Bool) (value : T) → 1 < size →
         MarksLosses (account deeds) (account_after (account deeds) (Sample size discard_oldest value)) }
+{}
+
+/// The account has each value that was ever queued, in the order in which they were, and no other.
+#[tactic(auto, using(crate::proofs::ValueLemmas::values_are_told))]
+pub fn each_value_is_told<T>()
+    ensures { (deeds : List (Deed T)) → values_of (account deeds) ≡ sampled_by deeds }
+{}
+
+/// The values of the account that were sent are those that the sendings took from the front of the queue,
+/// one after the other, with the marks that they had then: each once, and in the order in which they were
+/// queued.
+#[tactic(auto, using(crate::proofs::SentLemmas::sent_are_given))]
+pub fn sends_from_the_front<T>()
+    ensures { (deeds : List (Deed T)) → sent_of (account deeds) ≡ given_by [] deeds }
+{}
+
+/// A deed gives a value no fate but its own: a value is lost only where another is queued, sent only by a
+/// sending, and cleared only with the whole queue or where that is made smaller.
+#[tactic(auto, using(crate::proofs::CauseLemmas::own_fates))]
+pub fn each_fate_has_its_cause<T>()
+    ensures { (deeds : List (Deed T)) (deed : Deed T) → GetsOnly (may_give deed) (account deeds) (account_after (account deeds) deed) }
 {}

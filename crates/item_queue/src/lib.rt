@@ -18,6 +18,3 @@ mod room;
 pub use entry::Entry;
 pub use queue::ItemQueue;
 pub use room::Room;
-
-#[cfg(test)]
-mod tests;

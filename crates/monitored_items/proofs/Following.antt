@@ -44,7 +44,7 @@ follows_then a b c ds es f g n =
 
 -- ---- one item's deeds
 
-deeds_at : (k n : ℕ) (ds : List (Deed DataValue)) (b : Bool) → (k == n) ≡ b → deeds_of n (deeds_on k ds) ≡ cond b ds []
+pub deeds_at : (k n : ℕ) (ds : List (Deed DataValue)) (b : Bool) → (k == n) ≡ b → deeds_of n (deeds_on k ds) ≡ cond b ds []
 deeds_at k n [] true e = refl
 deeds_at k n [] false e = refl
 deeds_at k n (d ∷ ds) true e = rw e (ap (λ (xs : List (Deed DataValue)). d ∷ xs) (deeds_at k n ds true e))

@@ -12,3 +12,5 @@ pub mod FirstNotes
 pub mod Undoing
 pub mod Rooms
 pub mod Readiness
+pub mod Sent
+pub mod Causing

@@ -171,7 +171,7 @@ visits_step made items (v ∷ vs) h =
       sound = rest.sound;
     }
 
-take_step : (made : ℕ) (t : Taking) (n : ℕ) → IsSound made t.items → IsStep t.items made (with_taken t n).items (give_deeds t.left n (item_at n t.items))
+pub take_step : (made : ℕ) (t : Taking) (n : ℕ) → IsSound made t.items → IsStep t.items made (with_taken t n).items (give_deeds t.left n (item_at n t.items))
 take_step made t n h = by (item_at n t.items) refl
   where
     by : (found : Option Item) → item_at n t.items ≡ found → IsStep t.items made (taken_from t n found).items (give_deeds t.left n found)
@@ -192,7 +192,7 @@ takes_step made t (n ∷ ns) h =
 
 -- ---- any calls
 
-move_step : (s : ItemsState) (m : Move) → IsSound s.made s.items → IsStep s.items (moved s m).state.made (moved s m).state.items (moved s m).deeds
+pub move_step : (s : ItemsState) (m : Move) → IsSound s.made s.items → IsStep s.items (moved s m).state.made (moved s m).state.items (moved s m).deeds
 move_step s (Create nodes clock subscription timestamps requests) h =
     all_steps (create_one nodes clock subscription timestamps) (λ t x. created_served nodes clock subscription timestamps t x) s requests h
 move_step s (Modify subscription timestamps requests) h = all_steps (modify_one subscription timestamps) (λ t x. modified_served subscription timestamps t x) s requests h

@@ -4,6 +4,8 @@ pub mod ItemTables
 pub mod Items
 pub mod Sampling
 pub mod Moves
+pub mod Givings
+pub mod Causes
 pub mod Taking
 pub mod Undoing
 pub mod Preparing

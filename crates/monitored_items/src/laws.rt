@@ -2,6 +2,8 @@
 //! contracts state them, over lists of calls (`specs/Moves`).
 
 ghost use Rattle.monitored_items.specs.Moves.{QueuesAreTheirDeeds, QueuesAreWhatWaits, FatesAreFinal, AccountsAreInOrder, AccountsTellLosses, SubscriptionsStayApart, NotesAreTheFirst};
+ghost use Rattle.monitored_items.specs.Causes.{FatesHaveTheirCauses};
+ghost use Rattle.monitored_items.specs.Givings.{NotesAreOfGivings, GivingsAreWhatWasSent};
 
 /// After any calls each item's queue is what its own deeds made of it, from the empty queue on: the deeds
 /// that the calls' definitions list leave nothing out, and no call changes the queue of an item on which it
@@ -50,4 +52,20 @@ pub fn subscriptions_stay_apart()
 #[tactic(auto, using(crate::proofs::FirstNotes::notes_are_the_first))]
 pub fn notes_are_the_first()
     ensures { NotesAreTheFirst }
+{}
+
+/// What items gave to messages, call after call, are the values of their accounts that were sent, with the
+/// marks that they had then: each in one message, in the order in which they were sampled. What
+/// [`crate::Items::take_notes`] answers are the notes of what the items give then, and nothing else.
+pub fn messages_take_what_is_sent()
+    ensures notes { NotesAreOfGivings }
+    ensures sent { GivingsAreWhatWasSent }
+{}
+
+/// A call gives a value no fate but its own. A value is sent only by a message that takes it; it is lost only
+/// where its item takes another one, the first or one that was written; and it is cleared only where the
+/// item gets a smaller queue, is disabled or deleted, or its subscription ends.
+#[tactic(auto, using(crate::proofs::Causing::fates_have_their_causes))]
+pub fn fates_have_their_causes()
+    ensures { FatesHaveTheirCauses }
 {}

@@ -35,6 +35,3 @@ mod taking;
 pub use item::Item;
 pub use items::Items;
 pub use kinds::{Mode, Trigger};
-
-#[cfg(test)]
-mod tests;

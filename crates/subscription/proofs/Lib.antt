@@ -4,8 +4,9 @@ pub mod Doings
 pub mod Meetings
 pub mod Places
 pub mod Dues
-pub mod Owners
-pub mod RowLinks
-pub mod RowFairness
-pub mod RowSteady
-pub mod MadeMessages
+pub mod Choosing
+pub mod MapEntries
+pub mod OwingRows
+pub mod OwingTables
+pub mod OwingCalls
+pub mod OwingSubs

@@ -13,5 +13,4 @@ pub mod Publishing
 pub mod Ending
 pub mod Making
 pub mod Subs
-pub mod Standings
-pub mod Numbering
+pub mod Owing

@@ -18,8 +18,9 @@ use sub_table::{Action, RowId, actions_of, next_of};
 use ua_requests::Halt;
 use ua_types::{Moment, Status};
 
-/// The number of the message after the one with this number: after the last of 32 bits comes 1.
-pub(crate) fn number_after(number: u32) -> u32
+/// The sequence number of the message after the one with this number: after the last of 32 bits comes 1
+/// (IEC 62541-4, 7.7 Counter).
+pub fn number_after(number: u32) -> u32
     ensures { result ≡ number_after_lem number }
 {
     if number == u32::MAX { 1 } else { number + 1 }

@@ -13,8 +13,8 @@
 //!
 //! What a contract sees: the live subscriptions, and what each session has of subscriptions, under their numbers
 //! (`specs/Tables`). `Scenes` has the actions as definitions; `Firing` a row; `Making`, `Named`, `Publishing` and `Ending`
-//! the calls, `Ranks` who comes first, and `Subs` what a call leaves. [`laws`] says what follows for each row: a steady
-//! subscription stays steady, and messages are numbered without a gap.
+//! the calls, `Ranks` who comes first, and `Subs` what a call leaves. What follows from any calls, one after the other, the
+//! crate `subscription_laws` says.
 //!
 //! Read docs/SUBSCRIPTIONS.md first, then [`Subs`], then `src/acting.rt`.
 #![tactic(auto)]
@@ -24,7 +24,6 @@ mod answered;
 mod call;
 mod ending;
 mod firing;
-pub mod laws;
 mod making;
 mod messages;
 mod named;
@@ -41,6 +40,7 @@ mod table;
 mod turn;
 mod waiting;
 
+pub use acting::number_after;
 pub use answered::Answered;
 pub use call::Call;
 pub use making::Revised;
@@ -55,8 +55,3 @@ pub use subs::{Created, Subs};
 pub use subscription::Subscription;
 pub use table::SubscriptionTable;
 pub use turn::Turn;
-
-#[cfg(test)]
-mod tests;
-#[cfg(test)]
-mod tests_with_items;

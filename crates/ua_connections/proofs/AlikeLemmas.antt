@@ -1,85 +1,21 @@
 -- What a connection's frames do depends on nothing of the other connections.
-use Rattle.std.proofs.Common.{◌≡◌, ℕ, ◌+◌, ◌==◌, Bool, true, false, cond, List, [], ◌∷◌, ◌++◌, Option, Some, None, Result, Ok, Err, refl, sym, ◌∙◌, ap, subst}
-use Rattle.std.specs.Prelude.{⊤}
-use Rattle.std.specs.List.{AllByRecursion}
+use Rattle.std.proofs.Common.{◌≡◌, ◌≢◌, ℕ, ◌+◌, ◌==◌, Bool, true, false, cond, List, [], ◌∷◌, ◌++◌, filter, Option, Some, None, refl, sym, ◌∙◌, ap, subst}
+use Rattle.std.proofs.lemmas.Bool.{false≢true, eqb-true, eq-eqb}
 use Rattle.std.specs.FinMap.{get}
-use Rattle.ua_types.specs.declared.status.Status.{Status}
-use Rattle.ua_types.specs.declared.status.TheConstants.Status as status
-use Rattle.ua_channel.specs.Cutting.{written_id}
-use Rattle.ua_types.proofs.NumberMaps.{get_inserted}
-use Rattle.ua_tcp.specs.Agreements.{Agreement, limits_of, outcome_of_frame}
+use Rattle.ua_types.proofs.NumberMaps.{get_inserted, get_inserted_elsewhere}
 use Rattle.ua_tcp.specs.declared.frame.Frame.{Frame}
 use Rattle.ua_tcp.specs.declared.frame.FrameFault.{FrameFault}
-use Rattle.ua_channel.specs.declared.taken.Taken.{Taken}
-use Rattle.ua_channel.specs.declared.taken.Taken.TheVariants as taken
-use Rattle.ua_channel.specs.ChannelStates.{ChannelState}
-use Rattle.ua_channel.specs.Acceptance.{is_error, take_of}
 use Rattle.ua_requests.specs.declared.reply.Reply.{Reply}
 use Rattle.ua_requests.specs.declared.setting.Setting.{Setting}
-use Rattle.ua_connections.specs.Apart.{SeesAlike}
+use Rattle.ua_connections.specs.Apart.{SeesAlike, is_on, is_for}
 use Rattle.ua_connections.specs.Connecting.{Taking, turned, taking_by, taking_of, break_by, break_of}
-use Rattle.ua_connections.specs.Delivering.{Delivery, said_by, delivered_to, delivered, delivery_of}
-use Rattle.ua_connections.specs.Turns.{Turn, Counted, counted, refused, granted, sent_turn, greeted, first_turn, opening_turn, taken_turn, later_turn, turn_of, fault_turn}
-use Rattle.ua_connections.specs.declared.asked.Asked.{Asked}
-use Rattle.ua_connections.specs.declared.asked.Asked.TheVariants as asked
+use Rattle.ua_connections.specs.Delivering.{Delivery, reply_sent, said_by, delivered_to, delivered, delivery_of}
+use Rattle.ua_connections.specs.Turns.{Counted, counted, sends, turn_of, fault_turn}
 use Rattle.ua_connections.specs.declared.connection.Connection.{Connection}
 use Rattle.ua_connections.specs.declared.connection.Phase.{Phase}
 use Rattle.ua_connections.specs.declared.connection.Phase.TheVariants.{Greeting, Talking, Closed}
 use Rattle.ua_connections.specs.declared.connections.Connections.{Connections}
-use Rattle.ua_connections.specs.declared.out.Out.{Out}
-
--- ---- whose request it is
-
--- what is asked is asked by this connection
-abbrev pub IsOf : ℕ → Asked → Type 0
-IsOf conn (asked.Request request) = request.conn ≡ conn
-IsOf conn found = ⊤
-
-of_if : (conn : ℕ) (b : Bool) (x y : Turn) → IsOf conn x.asked → IsOf conn y.asked → IsOf conn (cond b x y).asked
-of_if conn true x y p q = p
-of_if conn false x y p q = q
-
-of_counted : (conn : ℕ) (b : Bool) (x y : Counted) → IsOf conn x.turn.asked → IsOf conn y.turn.asked → IsOf conn (cond b x y).turn.asked
-of_counted conn true x y p q = p
-of_counted conn false x y p q = q
-
-greeted_of : (conn : ℕ) (r : Result Agreement Status) → IsOf conn (greeted conn r).asked
-greeted_of conn (Ok agreed) = tt
-greeted_of conn (Err code) = tt
-
-first_of : (setting : Setting) (conn : ℕ) (frame : Frame) → IsOf conn (first_turn setting conn frame).asked
-unfolding first_turn
-first_of setting conn frame = of_if conn (is_error frame.message_type) _ _ tt (greeted_of conn (outcome_of_frame (limits_of setting.config) frame))
-
-opening_of : (setting : Setting) (channels conn : ℕ) (s : ChannelState) (id handle : ℕ) (renew : Bool) → IsOf conn (opening_turn setting channels conn s id handle renew).turn.asked
-unfolding opening_turn
-opening_of setting channels conn s id handle renew =
-    let renewed : Counted = counted channels (sent_turn conn (granted setting s id handle (written_id s.channel_id))) in
-    let too_many : Counted = counted channels (refused conn status.BAD_TCP_NOT_ENOUGH_RESOURCES) in
-    let issued : Counted = counted (channels + 1) (sent_turn conn (granted setting s id handle (channels + 1))) in
-    of_counted conn renew renewed (cond (channels == 4294967295) too_many issued) tt (of_counted conn (channels == 4294967295) too_many issued tt tt)
-
-taken_of : (setting : Setting) (channels conn : ℕ) (key : List ℕ) (s : ChannelState) (r : Result Taken Status) → IsOf conn (taken_turn setting channels conn key s r).turn.asked
-taken_of setting channels conn key s (Ok taken.Nothing) = tt
-taken_of setting channels conn key s (Ok (taken.Aborted id)) = tt
-taken_of setting channels conn key s (Ok taken.Closed) = tt
-taken_of setting channels conn key s (Ok (taken.Opening id handle renew)) = opening_of setting channels conn s id handle renew
-taken_of setting channels conn key s (Ok (taken.Request id body)) = refl
-taken_of setting channels conn key s (Err code) = tt
-
-turn_is_of : (setting : Setting) (channels conn : ℕ) (key : List ℕ) (frame : Frame) (phase : Phase) → IsOf conn (turn_of setting channels conn key frame phase).turn.asked
-unfolding later_turn
-turn_is_of setting channels conn key frame Greeting = first_of setting conn frame
-turn_is_of setting channels conn key frame (Talking s) = taken_of setting channels conn key (take_of s frame).state (take_of s frame).answer
-turn_is_of setting channels conn key frame Closed = tt
-
-taking_is_of_by : (setting : Setting) (conn : ℕ) (connections : Connections) (frame : Frame) (found : Option Connection) → IsOf conn (taking_by setting conn connections frame found).asked
-taking_is_of_by setting conn connections frame None = tt
-taking_is_of_by setting conn connections frame (Some connection) = turn_is_of setting connections.channels conn connection.key frame connection.phase
-
-pub taking_is_of : (setting : Setting) (conn : ℕ) (connections : Connections) (frame : Frame) → IsOf conn (taking_of setting conn connections frame).asked
-unfolding taking_of
-taking_is_of setting conn connections frame = taking_is_of_by setting conn connections frame (get connections.known conn)
+use Rattle.ua_connections.specs.declared.out.Out.TheVariants.{Send}
 
 -- ---- frames
 
@@ -125,10 +61,24 @@ break_alike conn a b fault p =
 
 -- ---- replies
 
+filter_joined : {A : Type 0} (p : A → Bool) (xs ys : List A) → filter p (xs ++ ys) ≡ filter p xs ++ filter p ys
+filter_joined p [] ys = refl
+filter_joined p (x ∷ xs) ys = by (p x) (filter_joined p xs ys)
+  where
+    by : (b : Bool) → filter p (xs ++ ys) ≡ filter p xs ++ filter p ys → cond b (x ∷ filter p (xs ++ ys)) (filter p (xs ++ ys)) ≡ cond b (x ∷ filter p xs) (filter p xs) ++ filter p ys
+    by true e = ap (λ (zs : List _). x ∷ zs) e
+    by false e = e
+
+-- what is the same of two lists each is the same of both
+pub both_filtered : {A : Type 0} (p : A → Bool) (ws xs ys zs : List A) → filter p ws ≡ filter p xs → filter p ys ≡ filter p zs → filter p (ws ++ ys) ≡ filter p (xs ++ zs)
+both_filtered p ws xs ys zs e f =
+    filter_joined p ws ys ∙ ap (λ (l : List _). l ++ filter p ys) e ∙ ap (λ (l : List _). filter p xs ++ l) f ∙ sym (filter_joined p xs zs)
+
+-- the same goes out on the connection, and the same is lost of what was for it
 pub record DeliversAlike (conn : ℕ) (d e : Delivery) : Type 0 where
   pub sees : SeesAlike conn d.connections e.connections
-  pub outs : d.outs ≡ e.outs
-  pub lost : d.lost ≡ e.lost
+  pub outs : filter (is_on conn) d.outs ≡ filter (is_on conn) e.outs
+  pub lost : filter (is_for conn) d.lost ≡ filter (is_for conn) e.lost
 
 to_alike : (setting : Setting) (a b : Connections) (reply : Reply) (found : Option Connection) → SeesAlike reply.conn a b → DeliversAlike reply.conn (delivered_to setting a reply found) (delivered_to setting b reply found)
 to_alike setting a b reply None p = record { sees = p; outs = refl; lost = refl }
@@ -140,23 +90,74 @@ to_alike setting a b reply (Some connection) p =
       lost = refl;
     }
 
-one_alike : (setting : Setting) (a b : Connections) (reply : Reply) → SeesAlike reply.conn a b → DeliversAlike reply.conn (delivered setting a reply) (delivered setting b reply)
+-- a reply for this connection
+own_alike : (setting : Setting) (a b : Connections) (reply : Reply) → SeesAlike reply.conn a b → DeliversAlike reply.conn (delivered setting a reply) (delivered setting b reply)
 unfolding delivered
-one_alike setting a b reply p =
+own_alike setting a b reply p =
     subst (λ (found : Option Connection). DeliversAlike reply.conn (delivered_to setting a reply (get a.known reply.conn)) (delivered_to setting b reply found)) p.known
     (to_alike setting a b reply (get a.known reply.conn) p)
 
-pub delivery_alike : (setting : Setting) (conn : ℕ) (a b : Connections) (replies : List Reply) → AllByRecursion (λ (reply : Reply). reply.conn ≡ conn) replies → SeesAlike conn a b →
-    DeliversAlike conn (delivery_of setting a replies) (delivery_of setting b replies)
-delivery_alike setting conn a b [] all p = record { sees = p; outs = refl; lost = refl }
-delivery_alike setting conn a b (reply ∷ replies) all p =
+none_sent : (conn other : ℕ) (frames : List (List ℕ)) → (other == conn) ≡ false → filter (is_on conn) (sends other frames) ≡ []
+none_sent conn other [] e = refl
+none_sent conn other (frame ∷ frames) e =
+    let rest = filter (is_on conn) (sends other frames) in
+    ap (λ (b : Bool). cond b (Send other frame ∷ rest) rest) e ∙ none_sent conn other frames e
+
+none_lost : (conn : ℕ) (reply : Reply) → (reply.conn == conn) ≡ false → filter (is_for conn) (reply ∷ []) ≡ []
+none_lost conn reply e = ap (λ (b : Bool). cond b (reply ∷ []) []) e
+
+-- a reply for another connection is nothing to this one
+record LeavesAlone (conn : ℕ) (old : Connections) (d : Delivery) : Type 0 where
+  known : get d.connections.known conn ≡ get old.known conn
+  channels : d.connections.channels ≡ old.channels
+  outs : filter (is_on conn) d.outs ≡ []
+  lost : filter (is_for conn) d.lost ≡ []
+
+said_elsewhere : (setting : Setting) (conn : ℕ) (reply : Reply) (phase : Phase) → (reply.conn == conn) ≡ false →
+    (filter (is_on conn) (said_by setting reply phase).outs ≡ []) × (filter (is_for conn) (said_by setting reply phase).lost ≡ [])
+said_elsewhere setting conn reply Greeting e = (refl, none_lost conn reply e)
+said_elsewhere setting conn reply Closed e = (refl, none_lost conn reply e)
+said_elsewhere setting conn reply (Talking s) e = (none_sent conn reply.conn (reply_sent s reply setting.clock).frames e, refl)
+
+to_elsewhere : (setting : Setting) (conn : ℕ) (connections : Connections) (reply : Reply) (found : Option Connection) → (reply.conn == conn) ≡ false → LeavesAlone conn connections (delivered_to setting connections reply found)
+to_elsewhere setting conn connections reply None e = record { known = refl; channels = refl; outs = refl; lost = none_lost conn reply e }
+to_elsewhere setting conn connections reply (Some connection) e =
+    let said = said_by setting reply connection.phase in
+    let none = said_elsewhere setting conn reply connection.phase e in
+    let apart : conn ≢ reply.conn = λ same. false≢true (sym e ∙ eq-eqb reply.conn conn (sym same)) in
+    record { known = get_inserted_elsewhere connections.known reply.conn (record connection { phase = said.phase }) conn apart; channels = refl; outs = none.0; lost = none.1 }
+
+leaves_alone : (setting : Setting) (conn : ℕ) (connections : Connections) (reply : Reply) → (reply.conn == conn) ≡ false → LeavesAlone conn connections (delivered setting connections reply)
+unfolding delivered
+leaves_alone setting conn connections reply e = to_elsewhere setting conn connections reply (get connections.known reply.conn) e
+
+one_alike : (setting : Setting) (conn : ℕ) (a b : Connections) (reply : Reply) → SeesAlike conn a b → DeliversAlike conn (delivered setting a reply) (delivered setting b reply)
+one_alike setting conn a b reply p = by (reply.conn == conn) refl
+  where
+    by : (same : Bool) → (reply.conn == conn) ≡ same → DeliversAlike conn (delivered setting a reply) (delivered setting b reply)
+    by true e =
+        let is = eqb-true reply.conn conn e in
+        subst (λ (n : ℕ). DeliversAlike n (delivered setting a reply) (delivered setting b reply)) is (own_alike setting a b reply (subst (λ (n : ℕ). SeesAlike n a b) (sym is) p))
+    by false e =
+        let x = leaves_alone setting conn a reply e in
+        let y = leaves_alone setting conn b reply e in
+        record {
+          sees = record { known = x.known ∙ p.known ∙ sym y.known; channels = x.channels ∙ p.channels ∙ sym y.channels };
+          outs = x.outs ∙ sym y.outs;
+          lost = x.lost ∙ sym y.lost;
+        }
+
+pub delivery_alike : (setting : Setting) (conn : ℕ) (a b : Connections) (replies : List Reply) → SeesAlike conn a b → DeliversAlike conn (delivery_of setting a replies) (delivery_of setting b replies)
+delivery_alike setting conn a b [] p = record { sees = p; outs = refl; lost = refl }
+delivery_alike setting conn a b (reply ∷ replies) p =
     let da = delivered setting a reply in
     let db = delivered setting b reply in
-    let one : DeliversAlike conn da db = subst (λ (n : ℕ). DeliversAlike n da db) all.0
-    (one_alike setting a b reply (subst (λ (n : ℕ). SeesAlike n a b) (sym all.0) p)) in
-    let rest = delivery_alike setting conn da.connections db.connections replies all.1 one.sees in
+    let one = one_alike setting conn a b reply p in
+    let ra = delivery_of setting da.connections replies in
+    let rb = delivery_of setting db.connections replies in
+    let rest = delivery_alike setting conn da.connections db.connections replies one.sees in
     record {
       sees = rest.sees;
-      outs = ap (λ (os : List Out). os ++ (delivery_of setting da.connections replies).outs) one.outs ∙ ap (λ (os : List Out). db.outs ++ os) rest.outs;
-      lost = ap (λ (rs : List Reply). rs ++ (delivery_of setting da.connections replies).lost) one.lost ∙ ap (λ (rs : List Reply). db.lost ++ rs) rest.lost;
+      outs = both_filtered (is_on conn) da.outs db.outs ra.outs rb.outs one.outs rest.outs;
+      lost = both_filtered (is_for conn) da.lost db.lost ra.lost rb.lost one.lost rest.lost;
     }

@@ -1,11 +1,14 @@
 -- What the bytes of one connection leave of the others.
-use Rattle.std.specs.Prelude.{◌≡◌, ◌≢◌, ℕ, Option, Some, None}
+use Rattle.std.specs.Prelude.{◌≡◌, ◌≢◌, ◌==◌, ℕ, Bool, Option, Some, None}
 use Rattle.std.specs.FinMap.{get}
 use Rattle.ua_channel.specs.ChannelStates.{ChannelState}
+use Rattle.ua_requests.specs.declared.reply.Reply.{Reply}
 use Rattle.ua_connections.specs.declared.connection.Connection.{Connection}
 use Rattle.ua_connections.specs.declared.connection.Phase.{Phase}
 use Rattle.ua_connections.specs.declared.connection.Phase.TheVariants.{Talking}
 use Rattle.ua_connections.specs.declared.connections.Connections.{Connections}
+use Rattle.ua_connections.specs.declared.out.Out.{Out}
+use Rattle.ua_connections.specs.declared.out.Out.TheVariants.{Send, Close}
 use Rattle.ua_connections.specs.Connecting.{is_known}
 
 -- a channel but for what was sent by it: the number of the last chunk
@@ -35,3 +38,12 @@ pub record KeepsOthers (conn : ℕ) (old new : Connections) : Type 0 where
 pub record SeesAlike (conn : ℕ) (a b : Connections) : Type 0 where
   pub known : get a.known conn ≡ get b.known conn
   pub channels : a.channels ≡ b.channels
+
+-- what goes out, goes out on this connection
+abbrev pub is_on : ℕ → Out → Bool
+is_on conn (Send other bytes) = other == conn
+is_on conn (Close other) = other == conn
+
+-- a reply is for this connection
+abbrev pub is_for : ℕ → Reply → Bool
+is_for conn reply = reply.conn == conn

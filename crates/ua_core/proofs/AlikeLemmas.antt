@@ -1,5 +1,5 @@
 -- What the bytes of a connection do depends on nothing of the other connections.
-use Rattle.std.proofs.Common.{◌≡◌, ℕ, Bool, true, false, cond, List, [], ◌∷◌, ◌++◌, Option, Some, None, refl, sym, ◌∙◌, ap, subst}
+use Rattle.std.proofs.Common.{◌≡◌, ℕ, Bool, true, false, cond, List, [], ◌∷◌, ◌++◌, filter, Option, Some, None, refl, sym, ◌∙◌, ap, subst}
 use Rattle.std.specs.Ordering.{nat_cmp}
 use Rattle.std.specs.FinMap.{FinMap, get, remove}
 use Rattle.ua_tcp.specs.Feeding.{Framing, framed_of}
@@ -10,65 +10,87 @@ use Rattle.ua_tcp.specs.declared.frame.FrameFault.{FrameFault}
 use Rattle.ua_types.proofs.NumberMaps.{get_inserted, get_removed}
 use Rattle.ua_requests.specs.declared.reply.Reply.{Reply}
 use Rattle.ua_requests.specs.declared.setting.Setting.{Setting}
-use Rattle.ua_connections.specs.Apart.{SeesAlike}
+use Rattle.ua_connections.specs.Apart.{SeesAlike, is_on, is_for}
 use Rattle.ua_connections.specs.Connecting.{Taking, taking_of}
 use Rattle.ua_connections.specs.Delivering.{delivery_of}
 use Rattle.ua_connections.specs.declared.asked.Asked.{Asked}
 use Rattle.ua_connections.specs.declared.asked.Asked.TheVariants as asked
 use Rattle.ua_connections.specs.declared.connections.Connections.{Connections}
 use Rattle.ua_connections.specs.declared.out.Out.{Out}
-use Rattle.ua_connections.proofs.AlikeLemmas.{IsOf, taking_is_of, TakesAlike, taking_alike, break_alike, delivery_alike}
+use Rattle.ua_connections.proofs.AlikeLemmas.{TakesAlike, taking_alike, break_alike, delivery_alike, both_filtered}
 use Rattle.ua_services.specs.declared.services.Services.{Services}
 use Rattle.ua_services.specs.Services.{serving_of}
-use Rattle.ua_services.proofs.OwingLemmas.{serving_only}
-use Rattle.ua_core.specs.Apart.{IsAlike, IsAlikeTo}
-use Rattle.ua_core.specs.Effects.{Effect, doing, losing, acting}
+use Rattle.ua_core.specs.Apart.{IsAlike, IsAlikeTo, is_heard, heard}
+use Rattle.ua_core.specs.Effects.{Effect, Do, Lost, doing, losing, acting}
 use Rattle.ua_core.specs.Handling.{asked_for, handled_by, handled, broken}
 use Rattle.ua_core.specs.Stepping.{with_held, fed_to, fed}
 use Rattle.ua_core.specs.World.{World, Core}
 
--- the same is done, and the same is left of the connection
+-- the same is done, but for what is sent on others, and the same is left of the connection
 record DoesAlike (conn : ℕ) (d e : Done Core Effect) : Type 0 where
   state : IsAlike conn d.state e.state
-  effects : d.outs ≡ e.outs
+  effects : heard conn d.outs ≡ heard conn e.outs
   goes_on : d.goes_on ≡ e.goes_on
 
 abbrev core_of : Setting → Services → Connections → Core
 core_of setting services connections = record { setting = setting; connections = connections; services = services }
 
+-- ---- effects
+
+heard_out : (conn : ℕ) (outs : List Out) → heard conn (doing outs) ≡ doing (filter (is_on conn) outs)
+heard_out conn [] = refl
+heard_out conn (out ∷ outs) = by (is_on conn out) (heard_out conn outs)
+  where
+    by : (b : Bool) → heard conn (doing outs) ≡ doing (filter (is_on conn) outs) → cond b (Do out ∷ heard conn (doing outs)) (heard conn (doing outs)) ≡ doing (cond b (out ∷ filter (is_on conn) outs) (filter (is_on conn) outs))
+    by true e = ap (λ (es : List Effect). Do out ∷ es) e
+    by false e = e
+
+heard_lost : (conn : ℕ) (replies : List Reply) → heard conn (losing replies) ≡ losing (filter (is_for conn) replies)
+heard_lost conn [] = refl
+heard_lost conn (reply ∷ replies) = by (is_for conn reply) (heard_lost conn replies)
+  where
+    by : (b : Bool) → heard conn (losing replies) ≡ losing (filter (is_for conn) replies) → cond b (Lost reply ∷ heard conn (losing replies)) (heard conn (losing replies)) ≡ losing (cond b (reply ∷ filter (is_for conn) replies) (filter (is_for conn) replies))
+    by true e = ap (λ (es : List Effect). Lost reply ∷ es) e
+    by false e = e
+
 -- ---- frames
 
 module _ (conn : ℕ) (setting : Setting) (services : Services) where
-  asked_alike : (a b : Connections) (outs : List Out) (found : Asked) → IsOf conn found → SeesAlike conn a b →
+  asked_alike : (a b : Connections) (outs : List Out) (found : Asked) → SeesAlike conn a b →
       DoesAlike conn (asked_for conn (core_of setting services a) outs found) (asked_for conn (core_of setting services b) outs found)
-  asked_alike a b outs asked.Nothing o p = record { state = record { setting = refl; sees = p; services = refl }; effects = refl; goes_on = refl }
-  asked_alike a b outs asked.Closed o p = record { state = record { setting = refl; sees = p; services = refl }; effects = refl; goes_on = refl }
-  asked_alike a b outs (asked.Request request) o p =
+  asked_alike a b outs asked.Nothing p = record { state = record { setting = refl; sees = p; services = refl }; effects = refl; goes_on = refl }
+  asked_alike a b outs asked.Closed p = record { state = record { setting = refl; sees = p; services = refl }; effects = refl; goes_on = refl }
+  asked_alike a b outs (asked.Request request) p =
       let s = serving_of setting request services in
-      let d = delivery_alike setting conn a b s.replies (serving_only (λ (n : ℕ). n ≡ conn) setting request services tt o).replies p in
+      let da = delivery_of setting a s.replies in
+      let db = delivery_of setting b s.replies in
+      let d = delivery_alike setting conn a b s.replies p in
       record {
         state = record { setting = refl; sees = d.sees; services = refl };
-        effects = ap (λ (os : List Out). doing outs ++ (acting s.acts ++ (doing os ++ losing (delivery_of setting a s.replies).lost))) d.outs
-            ∙ ap (λ (rs : List Reply). doing outs ++ (acting s.acts ++ (doing (delivery_of setting b s.replies).outs ++ losing rs))) d.lost;
+        effects = both_filtered (is_heard conn) (doing outs) (doing outs) (acting s.acts ++ (doing da.outs ++ losing da.lost)) (acting s.acts ++ (doing db.outs ++ losing db.lost)) refl
+            (both_filtered (is_heard conn) (acting s.acts) (acting s.acts) (doing da.outs ++ losing da.lost) (doing db.outs ++ losing db.lost) refl
+            (both_filtered (is_heard conn) (doing da.outs) (doing db.outs) (losing da.lost) (losing db.lost)
+            (heard_out conn da.outs ∙ ap doing d.outs ∙ sym (heard_out conn db.outs))
+            (heard_lost conn da.lost ∙ ap losing d.lost ∙ sym (heard_lost conn db.lost))));
         goes_on = refl;
       }
 
-  taken_alike : (a b : Connections) (s t : Taking) → IsOf conn s.asked → TakesAlike conn s t →
+  taken_alike : (a b : Connections) (s t : Taking) → TakesAlike conn s t →
       DoesAlike conn (handled_by conn (core_of setting services a) s) (handled_by conn (core_of setting services b) t)
-  taken_alike a b s t o p =
+  taken_alike a b s t p =
       subst (λ (os : List Out). DoesAlike conn (asked_for conn (core_of setting services s.connections) s.outs s.asked) (asked_for conn (core_of setting services t.connections) os t.asked)) p.outs
       (subst (λ (f : Asked). DoesAlike conn (asked_for conn (core_of setting services s.connections) s.outs s.asked) (asked_for conn (core_of setting services t.connections) s.outs f)) p.asked
-      (asked_alike s.connections t.connections s.outs s.asked o p.sees))
+      (asked_alike s.connections t.connections s.outs s.asked p.sees))
 
   handled_same : (a b : Connections) (frame : Frame) → SeesAlike conn a b → DoesAlike conn (handled conn (core_of setting services a) frame) (handled conn (core_of setting services b) frame)
   unfolding handled
-  handled_same a b frame p = taken_alike a b (taking_of setting conn a frame) (taking_of setting conn b frame) (taking_is_of setting conn a frame) (taking_alike setting conn a b frame p)
+  handled_same a b frame p = taken_alike a b (taking_of setting conn a frame) (taking_of setting conn b frame) (taking_alike setting conn a b frame p)
 
   broken_same : (a b : Connections) (fault : FrameFault) → SeesAlike conn a b → DoesAlike conn (broken conn (core_of setting services a) fault) (broken conn (core_of setting services b) fault)
   unfolding broken
   broken_same a b fault p =
       let k = break_alike conn a b fault p in
-      record { state = record { setting = refl; sees = k.sees; services = refl }; effects = ap doing k.outs; goes_on = refl }
+      record { state = record { setting = refl; sees = k.sees; services = refl }; effects = ap (λ (outs : List Out). heard conn (doing outs)) k.outs; goes_on = refl }
 
 -- cores that are alike differ in their connections alone
 same_core : (conn : ℕ) (a b : Core) → IsAlike conn a b → core_of a.setting a.services b.connections ≡ b
@@ -84,11 +106,11 @@ broken_alike conn a b fault p =
 
 -- ---- one after the other
 
-then_by : (conn : ℕ) (s t : Core) (xs ys : List Effect) (b : Bool) (more other : Core → Done Core Effect) → IsAlike conn s t → xs ≡ ys → DoesAlike conn (more s) (other t) →
+then_by : (conn : ℕ) (s t : Core) (xs ys : List Effect) (b : Bool) (more other : Core → Done Core Effect) → IsAlike conn s t → heard conn xs ≡ heard conn ys → DoesAlike conn (more s) (other t) →
     DoesAlike conn (and_then (record { state = s; outs = xs; goes_on = b }) more) (and_then (record { state = t; outs = ys; goes_on = b }) other)
 then_by conn s t xs ys true more other p e k = record {
   state = k.state;
-  effects = ap (λ (es : List Effect). es ++ (more s).outs) e ∙ ap (λ (es : List Effect). ys ++ es) k.effects;
+  effects = both_filtered (is_heard conn) xs ys (more s).outs (other t).outs e k.effects;
   goes_on = k.goes_on;
 }
 then_by conn s t xs ys false more other p e k = record { state = p; effects = e; goes_on = refl }
@@ -110,7 +132,7 @@ all_alike conn a b (frame ∷ frames) p =
 record StepsAlike (conn : ℕ) (s t : Stepped Core Effect) : Type 0 where
   state : IsAlike conn s.stream.state t.stream.state
   held : s.stream.held ≡ t.stream.held
-  effects : s.outs ≡ t.outs
+  effects : heard conn s.outs ≡ heard conn t.outs
 
 end_alike : (conn : ℕ) (end : End) (d e : Done Core Effect) → DoesAlike conn d e → StepsAlike conn (at_end (broken conn) end d) (at_end (broken conn) end e)
 end_alike conn (Rest bytes) d e p = record { state = p.state; held = ap (λ (b : Bool). cond b (Some bytes) None) p.goes_on; effects = p.effects }
@@ -126,7 +148,7 @@ framer_left conn limit (Some held) m n =
     get_inserted (remove m conn) conn framing ∙ sym (get_inserted (remove n conn) conn framing)
 
 fed_to_alike : (a b : World) (conn : ℕ) (piece : List ℕ) (found : Option Framing) → IsAlikeTo conn a b →
-    (let s = fed_to a conn piece found in let t = fed_to b conn piece found in IsAlikeTo conn s.world t.world × (s.effects ≡ t.effects))
+    (let s = fed_to a conn piece found in let t = fed_to b conn piece found in IsAlikeTo conn s.world t.world × (heard conn s.effects ≡ heard conn t.effects))
 fed_to_alike a b conn piece None p = (p, refl)
 fed_to_alike a b conn piece (Some framing) p =
     let framed = framed_of framing.limit framing.held piece in
@@ -143,8 +165,8 @@ fed_to_alike a b conn piece (Some framing) p =
 
 -- bytes do the same in worlds that are alike to their connection
 pub fed_alike : (a b : World) (conn : ℕ) (piece : List ℕ) → IsAlikeTo conn a b →
-    (let s = fed a conn piece in let t = fed b conn piece in IsAlikeTo conn s.world t.world × (s.effects ≡ t.effects))
+    (let s = fed a conn piece in let t = fed b conn piece in IsAlikeTo conn s.world t.world × (heard conn s.effects ≡ heard conn t.effects))
 unfolding fed
 fed_alike a b conn piece p =
-    subst (λ (found : Option Framing). (let s = fed_to a conn piece (get a.links conn) in let t = fed_to b conn piece found in IsAlikeTo conn s.world t.world × (s.effects ≡ t.effects))) p.framer
+    subst (λ (found : Option Framing). (let s = fed_to a conn piece (get a.links conn) in let t = fed_to b conn piece found in IsAlikeTo conn s.world t.world × (heard conn s.effects ≡ heard conn t.effects))) p.framer
     (fed_to_alike a b conn piece (get a.links conn) p)

@@ -47,14 +47,14 @@ outs_of_effects acts d =
 
 -- ---- the rows
 
-fired_of-append : (xs ys : List Effect) → fired_of (xs ++ ys) ≡ fired_of xs ++ fired_of ys
+pub fired_of-append : (xs ys : List Effect) → fired_of (xs ++ ys) ≡ fired_of xs ++ fired_of ys
 fired_of-append [] ys = refl
 fired_of-append (Do out ∷ xs) ys = fired_of-append xs ys
 fired_of-append (Acted (Fire fired) ∷ xs) ys = ap (λ (fs : List Fired). fired ∷ fs) (fired_of-append xs ys)
 fired_of-append (Acted Spent ∷ xs) ys = fired_of-append xs ys
 fired_of-append (Lost reply ∷ xs) ys = fired_of-append xs ys
 
-fired_of_doing : (outs : List Out) → fired_of (doing outs) ≡ []
+pub fired_of_doing : (outs : List Out) → fired_of (doing outs) ≡ []
 fired_of_doing [] = refl
 fired_of_doing (out ∷ outs) = fired_of_doing outs
 
@@ -67,7 +67,7 @@ fired_of_losing : (replies : List Reply) → fired_of (losing replies) ≡ []
 fired_of_losing [] = refl
 fired_of_losing (reply ∷ replies) = fired_of_losing replies
 
-fired_of_effects : (acts : List Act) (d : Delivery) → fired_of (effects_of acts d) ≡ rows_of acts
+pub fired_of_effects : (acts : List Act) (d : Delivery) → fired_of (effects_of acts d) ≡ rows_of acts
 fired_of_effects acts d =
     fired_of-append (acting acts) (doing d.outs ++ losing d.lost)
     ∙ ap (λ (fs : List Fired). fs ++ fired_of (doing d.outs ++ losing d.lost)) (fired_of_acting acts)

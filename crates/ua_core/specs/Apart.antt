@@ -1,7 +1,7 @@
 -- What the bytes of one connection leave as it was.
-use Rattle.std.specs.Prelude.{◌≡◌, ◌≢◌, ◌&&◌, ℕ, Bool, true, false, List, [], ◌∷◌, Option, Some, None, Result, Ok}
+use Rattle.std.specs.Prelude.{◌≡◌, ◌≢◌, ◌&&◌, ℕ, Bool, true, false, List, [], ◌∷◌, filter, Option, Some, None, Result, Ok}
 use Rattle.std.specs.FinMap.{get}
-use Rattle.ua_connections.specs.Apart.{unsent, with_known, SeesAlike}
+use Rattle.ua_connections.specs.Apart.{unsent, with_known, SeesAlike, is_on, is_for}
 use Rattle.ua_connections.specs.Connecting.{is_known}
 use Rattle.ua_types.specs.declared.status.Status.{Status}
 use Rattle.ua_tcp.specs.Feeding.{Framing, framed_of}
@@ -13,6 +13,7 @@ use Rattle.ua_channel.specs.Acceptance.{take_of}
 use Rattle.ua_connections.specs.declared.connection.Connection.{Connection}
 use Rattle.ua_connections.specs.declared.connection.Phase.{Phase}
 use Rattle.ua_connections.specs.declared.connection.Phase.TheVariants.{Talking}
+use Rattle.ua_core.specs.Effects.{Effect, Do, Acted, Lost}
 use Rattle.ua_core.specs.Handling.{handled}
 use Rattle.ua_core.specs.World.{World, Core}
 
@@ -81,6 +82,15 @@ pub record IsAlike (conn : ℕ) (a b : Core) : Type 0 where
   pub setting : a.setting ≡ b.setting
   pub sees : SeesAlike conn a.connections b.connections
   pub services : a.services ≡ b.services
+
+-- what of some effects is sent on a connection, and what else was done
+abbrev pub is_heard : ℕ → Effect → Bool
+is_heard conn (Do out) = is_on conn out
+is_heard conn (Acted act) = true
+is_heard conn (Lost reply) = is_for conn reply
+
+abbrev pub heard : ℕ → List Effect → List Effect
+heard conn effects = filter (is_heard conn) effects
 
 -- two worlds are: its framer is the same too
 pub record IsAlikeTo (conn : ℕ) (a b : World) : Type 0 where

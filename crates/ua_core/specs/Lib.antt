@@ -6,3 +6,4 @@ pub mod Stepping
 pub mod Running
 pub mod Coherent
 pub mod Apart
+pub mod Subscriptions

@@ -5,7 +5,7 @@ ghost use Rattle.std.specs.Prelude.{◌≡◌, ◌++◌, ℕ, List, [], Option, 
 ghost use Rattle.std.specs.List.{AllByRecursion};
 ghost use Rattle.ua_types.specs.Configuration.{Configuration, IsConfigured};
 ghost use Rattle.ua_space.specs.Nodes.{SpaceState};
-ghost use Rattle.ua_core.specs.Apart.{KeepsOthers, KeepsAllElse, IsAlikeTo, completes_none};
+ghost use Rattle.ua_core.specs.Apart.{KeepsOthers, KeepsAllElse, IsAlikeTo, heard, completes_none};
 ghost use Rattle.ua_core.specs.Coherent.{IsCoherent, LosesNone, AnswersFit, reached, IfRuns};
 ghost use Rattle.ua_core.specs.declared.event.Event.{Event};
 ghost use Rattle.ua_core.specs.Running.{run_of, joined_run, uncut};
@@ -62,10 +62,11 @@ pub fn faults_fit()
 
 /// What the bytes of a connection do, and what they leave of it, depends on nothing of the other
 /// connections: in two worlds that are alike in its framer, its own part, the setting, the number of
-/// channels and the services, they have the same effects, and leave worlds that are alike again.
+/// channels and the services, they have the same effects, but for what is sent on others, and leave
+/// worlds that are alike again.
 pub fn hears_its_own_stream()
     ensures worlds { (a b : World) (conn : ℕ) (bytes : List ℕ) → IsAlikeTo conn a b →
         IsAlikeTo conn (fed a conn bytes).world (fed b conn bytes).world }
     ensures effects { (a b : World) (conn : ℕ) (bytes : List ℕ) → IsAlikeTo conn a b →
-        (fed a conn bytes).effects ≡ (fed b conn bytes).effects }
+        heard conn (fed a conn bytes).effects ≡ heard conn (fed b conn bytes).effects }
 {}

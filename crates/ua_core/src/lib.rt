@@ -26,9 +26,10 @@
 //! Read [`Event`], [`Step`] and [`Server`] first. `specs/World` has what the server knows, `Handling`
 //! what a frame does, `Stepping` what an event does and `Running` what a list of events does: the world
 //! after it, and one list of effects, of which a [`Step`] shows the outs and the rows. `Coherent` is what
-//! every reached world keeps, and [`laws`] states it, with what holds wherever streams are cut.
+//! every reached world keeps, and [`laws`] states it, with what holds wherever streams are cut. What holds of
+//! sessions and subscriptions after any events, the crate `server_laws` says.
 //!
-//! Tests that drive a server stand in `uaserver/src/tests`.
+//! Tests that drive a server stand in `conversation_tests`, `service_tests` and `event_tests`.
 #![tactic(auto)]
 
 mod event;

@@ -16,8 +16,7 @@ pub struct Step {
     /// What is to be done, in order.
     pub outs: Listed<Out>,
 
-    /// The rows of the subscriptions' state table that fired, in order. Subscriptions are still to
-    /// come, so there are none yet.
+    /// The rows of the subscriptions' state table that fired, in order.
     pub rows: Listed<Fired>,
 }
 

@@ -1,8 +1,9 @@
 //! The server.
 
-ghost use Rattle.std.specs.Prelude.{◌≡◌, Some, None, Err, false};
+ghost use Rattle.std.specs.Prelude.{◌≡◌, option_map, Some, None, Err, false, IfOk};
 ghost use Rattle.ua_core.specs.World.{opening, world_of};
 ghost use Rattle.ua_core.specs.Stepping.{step_on, StepsTo, takes_no_memory_on};
+ghost use Rattle.ua_core.specs.Subscriptions.{vars_on, kept_numbers_on, kept_on};
 ghost use Rattle.ua_core.specs.Running.{Runs};
 ghost use Rattle.ua_core.specs.declared.out.StepFault.TheVariants as step_fault;
 
@@ -10,7 +11,8 @@ use crate::event::Event;
 use crate::out::{Ran, Step, StepFault};
 use crate::parts::Core;
 use crate::world::World;
-use std::alloc::Global;
+use std::alloc::{AllocError, Global};
+use sub_table::Vars;
 use ua_connections::{Connections, Numbered};
 use ua_requests::Setting;
 use ua_services::Services;
@@ -96,6 +98,41 @@ impl Server {
             }
         }
         Ran { steps, fault: None }
+    }
+
+    /// The variables of the subscription with this number that the state table looks at ([`sub_table`]), or None where there
+    /// is none, or the server is halted. Takes no memory.
+    pub fn vars(&self, number: u32) -> Option<Vars>
+        ensures { result ≡ vars_on (world_of self.now) number }
+    {
+        match &self.world {
+            None => None,
+            Some(world) => {
+                let services = &world.core.services;
+                services.subs.vars(number, &services.items)
+            }
+        }
+    }
+
+    /// The numbers of the messages that a subscription keeps until they are acknowledged, in the order in which they were
+    /// sent; none where there is no such subscription, or the server is halted.
+    pub fn kept_numbers(&self, alloc: Global, number: u32) -> Result<Vec<u32>, AllocError>
+        ensures { IfOk result (λ numbers. numbers.items ≡ kept_numbers_on (world_of self.now) number) }
+    {
+        match &self.world {
+            None => Ok(Vec::new(alloc)),
+            Some(world) => world.core.services.subs.kept_numbers(alloc, number),
+        }
+    }
+
+    /// The message of a subscription with this number, as it was first sent, if it is kept. Takes no memory.
+    pub fn kept(&self, number: u32, wanted: u32) -> Option<&[u8]>
+        ensures { option_map (λ bytes. bytes.now) result ≡ kept_on (world_of self.now) number wanted }
+    {
+        match &self.world {
+            None => None,
+            Some(world) => world.core.services.subs.kept(number, wanted),
+        }
     }
 
     // Breaks a run off for want of memory.

@@ -3,8 +3,6 @@
 use sub_table::{RowId, TableEvent, Vars};
 
 /// A row of the subscriptions' state table that fired (IEC 62541-4, the Subscription state table).
-///
-/// Subscriptions are still to come, so none fires yet.
 #[derive(Clone, Copy, Debug, PartialEq, Eq)]
 pub struct Fired {
     /// The subscription's number, 0 for one that was refused.

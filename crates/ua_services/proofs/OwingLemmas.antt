@@ -1,5 +1,6 @@
 -- The services answer no connections but those that asked them.
-use Rattle.std.proofs.Common.{◌≢◌, ℕ, Bool, true, false, not, cond, List, [], Option, Some, None, Result, Ok, Err}
+use Rattle.std.proofs.Common.{◌≡◌, ◌≢◌, ℕ, Bool, true, false, not, cond, List, [], ◌∷◌, ◌++◌, length, fold, Option, Some, None, Result, Ok, Err, refl, ◌∙◌}
+use Rattle.std.specs.Prelude.{nat_lt}
 use Rattle.ua_types.specs.declared.status.TheConstants.Status as status
 use Rattle.ua_binary.specs.declared.fault.TakeFault.{TakeFault}
 use Rattle.ua_messages.specs.Bodies.{message_id_of, message_of}
@@ -10,8 +11,9 @@ use Rattle.ua_messages.specs.declared.get_endpoints.GetEndpointsRequest.{GetEndp
 use Rattle.ua_requests.specs.declared.request.Request.{Request}
 use Rattle.ua_requests.specs.declared.setting.Setting.{Setting}
 use Rattle.ua_services.specs.ServicesState.{Services}
-use Rattle.ua_services.specs.Serving.{Act, Serving, faulted, served_by}
-use Rattle.ua_services.specs.Services.{call_of, picked, serving_by, serving_of, ticking_of, forgotten}
+use Rattle.ua_messages.specs.declared.type_ids.TheConstants.{SET_PUBLISHING_MODE_RESPONSE, DELETE_SUBSCRIPTIONS_RESPONSE}
+use Rattle.ua_services.specs.Serving.{Act, Serving, reply_of, answered, faulted, served_by}
+use Rattle.ua_services.specs.Services.{call_of, picked_of_subscriptions, picked_of_items, picked, serving_by, serving_of, ticking_of, forgotten}
 use Rattle.service_messages.specs.Sessions.{create_session_request_reading, activate_session_request_reading, close_session_request_reading}
 use Rattle.service_messages.specs.Browsing.{browse_request_reading, browse_next_request_reading}
 use Rattle.service_messages.specs.declared.browsing.BrowseDescription.{BrowseDescription}
@@ -49,8 +51,52 @@ use Rattle.ua_services.specs.CloseSession.{close_session_body, close_session_mea
 use Rattle.ua_services.specs.CreateSession.{create_session_body, create_session_meaning}
 use Rattle.ua_services.specs.GetEndpoints.{get_endpoints_meaning}
 use Rattle.ua_services.specs.SessionServing.{spent_by, taken, with_sessions}
+use Rattle.ua_requests.specs.declared.reply.Reply.{Reply}
+use Rattle.sub_table.specs.declared.vars.Vars.{Vars}
+use Rattle.sub_messages.specs.MonitoredItems.{create_monitored_items_request_reading, modify_monitored_items_request_reading, set_monitoring_mode_request_reading, delete_monitored_items_request_reading}
+use Rattle.sub_messages.specs.Publishing.{publish_request_reading, republish_request_reading}
+use Rattle.sub_messages.specs.Subscriptions.{create_subscription_request_reading, modify_subscription_request_reading, set_publishing_mode_request_reading, delete_subscriptions_request_reading}
+use Rattle.sub_messages.specs.declared.publishing.PublishRequest.{PublishRequest}
+use Rattle.sub_messages.specs.declared.publishing.RepublishRequest.{RepublishRequest}
+use Rattle.sub_messages.specs.declared.subscriptions.CreateSubscriptionRequest.{CreateSubscriptionRequest}
+use Rattle.sub_messages.specs.declared.subscriptions.DeleteSubscriptionsRequest.{DeleteSubscriptionsRequest}
+use Rattle.sub_messages.specs.declared.subscriptions.ModifySubscriptionRequest.{ModifySubscriptionRequest}
+use Rattle.sub_messages.specs.declared.subscriptions.SetPublishingModeRequest.{SetPublishingModeRequest}
+use Rattle.subscription.specs.Owing.{RepliedTo, SaysOnly}
+use Rattle.monitored_items.specs.Items.{ItemsState}
+use Rattle.subscription.specs.Making.{modified, republished}
+use Rattle.subscription.specs.Named.{named_all, deleted}
+use Rattle.subscription.specs.declared.call.Call.TheVariants.{SetMode, Items}
+use Rattle.subscription.specs.Subs.{SubsState, Said, said, told, world_of, is_full, created, refused, created_one}
+use Rattle.subscription.specs.declared.settings.Settings.{Settings}
+use Rattle.subscription.specs.Tables.{World, met}
+use Rattle.subscription.proofs.OwingSubs.{create_owes_only, modify_owes_only, set_mode_owes_only, delete_owes_only, republish_owes_only, items_owes_only, publish_owes_only, timers_owe_only, session_end_owes_only, without_conn_queued, queued_more}
+use Rattle.ua_session.specs.Sessions.{ticked, ended_by}
+use Rattle.ua_services.specs.CloseSession.{closed_by}
+use Rattle.ua_services.specs.CreateMonitoredItems.{items_created, create_monitored_items_meaning}
+use Rattle.ua_services.specs.CreateSubscription.{settings_asked, create_subscription_body, create_subscription_meaning}
+use Rattle.ua_services.specs.DeleteMonitoredItems.{items_deleted, delete_monitored_items_meaning}
+use Rattle.ua_services.specs.DeleteSubscriptions.{delete_subscriptions_listed, delete_subscriptions_meaning}
+use Rattle.ua_services.specs.ItemServing.{with_items, Itemed, own_vars, items_called_by}
+use Rattle.ua_services.specs.ModifyMonitoredItems.{items_modified, modify_monitored_items_meaning}
+use Rattle.ua_services.specs.ModifySubscription.{settings_wanted, modify_subscription_body, modify_subscription_meaning}
+use Rattle.ua_services.specs.Publish.{acknowledged_in, publish_call, publish_meaning}
+use Rattle.ua_services.specs.Republish.{republish_answer, republish_meaning}
+use Rattle.ua_services.specs.SetMonitoringMode.{items_moded, set_monitoring_mode_meaning}
+use Rattle.ua_services.specs.SetPublishingMode.{set_publishing_listed, set_publishing_mode_meaning}
+use Rattle.ua_services.specs.StatusResults.{statuses_body}
+use Rattle.ua_services.specs.SubServing.{world_at, called, no_reply, told_alone, nothing_done, and_then, session_over, timed_out, all_timed_out, timers_met}
 use Rattle.ua_services.specs.Owing.{OwesOnly, ServesOnly}
 use Rattle.ua_services.specs.declared.call.Call.{Call}
+
+-- making a subscription doesn't halt them
+created_halts : (session : ℕ) (asked : Settings) (enabled : Bool) (subs : SubsState) (items : ItemsState) (clock : Moment) → (created session asked enabled subs items clock).state.halted ≡ subs.halted
+unfolding created refused created_one
+created_halts session asked enabled subs items clock = by (is_full subs session)
+  where
+    by : (full : Bool) → (cond full (refused session asked enabled subs (world_of subs items clock)) (created_one session asked enabled subs (world_of subs items clock))).state.halted ≡ subs.halted
+    by true = refl
+    by false = refl
 
 module _ (Such : ℕ → Type 0) where
   either : (b : Bool) (x y : Serving) → ServesOnly Such x → ServesOnly Such y → ServesOnly Such (cond b x y)
@@ -66,8 +112,8 @@ module _ (Such : ℕ → Type 0) where
   get_endpoints_only setting call state p q request = record { state = p; replies = (q, tt) }
 
   taken_only : {A : Type 0} (call : Call) (state : Services) (clock : Moment) (acts : List Act) (body : A → List ℕ) → OwesOnly Such state → Such call.conn → (answer : Result A Status) (sessions : SessionsState) → ServesOnly Such (taken state call clock acts body answer sessions)
-  taken_only call state clock acts body p q (Ok x) sessions = record { state = tt; replies = (q, tt) }
-  taken_only call state clock acts body p q (Err code) sessions = record { state = tt; replies = (q, tt) }
+  taken_only call state clock acts body p q (Ok x) sessions = record { state = p; replies = (q, tt) }
+  taken_only call state clock acts body p q (Err code) sessions = record { state = p; replies = (q, tt) }
 
   create_session_only : (setting : Setting) (call : Call) (state : Services) → OwesOnly Such state → Such call.conn → (request : CreateSessionRequest) → ServesOnly Such (create_session_meaning setting call request state)
   create_session_only setting call state p q request =
@@ -79,21 +125,56 @@ module _ (Such : ℕ → Type 0) where
       let s = activate_of state.sessions request.request_header.authentication_token call.conn call.key (is_anonymous request.user_identity_token) in
       taken_only call state setting.clock (spent_by state.sessions) (activate_session_body setting call) p q s.answer s.state
 
+  -- ---- calls of the subscriptions
+
+  both_replied : (xs ys : List Reply) → RepliedTo Such xs → RepliedTo Such ys → RepliedTo Such (xs ++ ys)
+  both_replied [] ys p q = q
+  both_replied (x ∷ xs) ys p q = (p.0, both_replied xs ys p.1 q)
+
+  called_only : {A : Type 0} (state : Services) (own : A → List Reply) (said : Said A) → ((x : A) → RepliedTo Such (own x)) → SaysOnly Such said → said.state.halted ≡ None → ServesOnly Such (called state own said)
+  called_only state own said q p going = record { state = (p.queued, going); replies = both_replied (own said.outcome.answer) said.outcome.world.turn.replies (q said.outcome.answer) p.replies }
+
+  first_only : {A : Type 0} (state : Services) (call : Call) (body : A → List ℕ) (said : Said A) → Such call.conn → SaysOnly Such said → said.state.halted ≡ None → ServesOnly Such (called state (λ answer. reply_of call (body answer) ∷ []) said)
+  first_only state call body said q p going = record { state = (p.queued, going); replies = (q, p.replies) }
+
+  told_only : (state : Services) (w : World) → SaysOnly Such (told state.subs w) → state.subs.halted ≡ None → ServesOnly Such (told_alone state w)
+  unfolding told_alone
+  told_only state w p going = called_only state no_reply (told state.subs w) (λ x. tt) p going
+
+  then_only : (s : Serving) (more : Services → Serving) → ServesOnly Such s → ((state : Services) → OwesOnly Such state → ServesOnly Such (more state)) → ServesOnly Such (and_then s more)
+  then_only s more p f = let t = f s.state p.state in record { state = t.state; replies = both_replied s.replies (more s.state).replies p.replies t.replies }
+
+  over_only : (setting : Setting) (deleting : Bool) (number : ℕ) (state : Services) → OwesOnly Such state → ServesOnly Such (session_over setting deleting number state)
+  over_only setting deleting number state p = told_only state _ (session_end_owes_only Such state.subs state.items setting.clock number deleting p.0) p.1
+
+  all_timed_out_only : (setting : Setting) (numbers : List ℕ) (s : Serving) → ServesOnly Such s → ServesOnly Such (fold (timed_out setting) s numbers)
+  unfolding timed_out
+  all_timed_out_only setting [] s p = p
+  all_timed_out_only setting (number ∷ numbers) s p = all_timed_out_only setting numbers (timed_out setting s number) (then_only s (session_over setting false number) p (over_only setting false number))
+
+  -- ---- sessions
+
+  closed_only : (setting : Setting) (call : Call) (deleting : Bool) (state : Services) → OwesOnly Such state → Such call.conn → (answer : Result ℕ Status) (sessions : SessionsState) → ServesOnly Such (closed_by setting call deleting state answer sessions)
+  closed_only setting call deleting state p q (Ok number) sessions =
+      then_only (session_over setting deleting number (with_sessions state sessions)) (λ (after : Services). answered after call (close_session_body setting call))
+      (over_only setting deleting number (with_sessions state sessions) p) (λ after owes. record { state = owes; replies = (q, tt) })
+  closed_only setting call deleting state p q (Err code) sessions = record { state = p; replies = (q, tt) }
+
   close_session_only : (setting : Setting) (call : Call) (state : Services) → OwesOnly Such state → Such call.conn → (request : CloseSessionRequest) → ServesOnly Such (close_session_meaning setting call request state)
   close_session_only setting call state p q request =
       let s = close_of state.sessions request.request_header.authentication_token call.conn in
-      taken_only call state setting.clock [] (close_session_body setting call) p q s.answer s.state
+      closed_only setting call request.delete_subscriptions state p q s.answer s.state
 
-  if_found_only : (serve : ℕ → Services → Serving) (setting : Setting) (call : Call) (state : Services) → Such call.conn → ((number : ℕ) (after : Services) → OwesOnly Such after → ServesOnly Such (serve number after)) → (answer : Result ℕ Status) (sessions : SessionsState) →
+  if_found_only : (serve : ℕ → Services → Serving) (setting : Setting) (call : Call) (state : Services) → OwesOnly Such state → Such call.conn → ((number : ℕ) (after : Services) → OwesOnly Such after → ServesOnly Such (serve number after)) → (answer : Result ℕ Status) (sessions : SessionsState) →
       ServesOnly Such (if_found serve setting call state answer sessions)
-  if_found_only serve setting call state q f (Ok number) sessions = f number (with_sessions state sessions) tt
-  if_found_only serve setting call state q f (Err code) sessions = record { state = tt; replies = (q, tt) }
+  if_found_only serve setting call state p q f (Ok number) sessions = f number (with_sessions state sessions) p
+  if_found_only serve setting call state p q f (Err code) sessions = record { state = p; replies = (q, tt) }
 
   by_session : {A : Type 0} (meaning : Setting → Call → ℕ → A → Services → Serving) (setting : Setting) (call : Call) (token : NodeId) (state : Services) → OwesOnly Such state → Such call.conn →
       ((number : ℕ) (request : A) (after : Services) → OwesOnly Such after → ServesOnly Such (meaning setting call number request after)) → (r : Result A TakeFault) → ServesOnly Such (served_in_session meaning setting call token state r)
   by_session meaning setting call token state p q f (Ok request) =
       let s = find_of state.sessions token call.conn in
-      if_found_only (λ number. meaning setting call number request) setting call state q (λ number. f number request) s.answer s.state
+      if_found_only (λ number. meaning setting call number request) setting call state p q (λ number. f number request) s.answer s.state
   by_session meaning setting call token state p q f (Err fault) = record { state = p; replies = (q, tt) }
 
   read_listed_only : (setting : Setting) (call : Call) (state : Services) (timestamps : Timestamps) → OwesOnly Such state → Such call.conn → (r : Result (List ReadValueId) Status) → ServesOnly Such (read_listed setting call state timestamps r)
@@ -115,7 +196,7 @@ module _ (Such : ℕ → Type 0) where
   write_only setting call q session request state p = write_listed_only setting call state p q (operations_of setting.config request.nodes_to_write)
 
   browse_listed_only : (setting : Setting) (call : Call) (session requested : ℕ) (state : Services) → OwesOnly Such state → Such call.conn → (r : Result (List BrowseDescription) Status) → ServesOnly Such (browse_listed setting call session requested state r)
-  browse_listed_only setting call session requested state p q (Ok descriptions) = record { state = tt; replies = (q, tt) }
+  browse_listed_only setting call session requested state p q (Ok descriptions) = record { state = p; replies = (q, tt) }
   browse_listed_only setting call session requested state p q (Err code) = record { state = p; replies = (q, tt) }
 
   browse_only : (setting : Setting) (call : Call) → Such call.conn → (session : ℕ) (request : BrowseRequest) (state : Services) → OwesOnly Such state → ServesOnly Such (browse_meaning setting call session request state)
@@ -125,7 +206,7 @@ module _ (Such : ℕ → Type 0) where
 
   browse_next_listed_only : (setting : Setting) (call : Call) (session : ℕ) (is_release : Bool) (state : Services) → OwesOnly Such state → Such call.conn → (r : Result (List (Option (List ℕ))) Status) →
       ServesOnly Such (browse_next_listed setting call session is_release state r)
-  browse_next_listed_only setting call session is_release state p q (Ok points) = record { state = tt; replies = (q, tt) }
+  browse_next_listed_only setting call session is_release state p q (Ok points) = record { state = p; replies = (q, tt) }
   browse_next_listed_only setting call session is_release state p q (Err code) = record { state = p; replies = (q, tt) }
 
   browse_next_only : (setting : Setting) (call : Call) → Such call.conn → (session : ℕ) (request : BrowseNextRequest) (state : Services) → OwesOnly Such state → ServesOnly Such (browse_next_meaning setting call session request state)
@@ -134,7 +215,7 @@ module _ (Such : ℕ → Type 0) where
 
   history_ranged_only : (setting : Setting) (call : Call) (session : ℕ) (request : HistoryReadRequest) (state : Services) (times : Timestamps) (nodes : List HistoryReadValueId) → OwesOnly Such state → Such call.conn → (r : Result RawRange Status) →
       ServesOnly Such (history_ranged setting call session request state times nodes r)
-  history_ranged_only setting call session request state times nodes p q (Ok range) = record { state = tt; replies = (q, tt) }
+  history_ranged_only setting call session request state times nodes p q (Ok range) = record { state = p; replies = (q, tt) }
   history_ranged_only setting call session request state times nodes p q (Err code) = record { state = p; replies = (q, tt) }
 
   history_listed_only : (setting : Setting) (call : Call) (session : ℕ) (request : HistoryReadRequest) (state : Services) (times : Timestamps) → OwesOnly Such state → Such call.conn → (r : Result (List HistoryReadValueId) Status) →
@@ -149,9 +230,70 @@ module _ (Such : ℕ → Type 0) where
   history_read_only : (setting : Setting) (call : Call) → Such call.conn → (session : ℕ) (request : HistoryReadRequest) (state : Services) → OwesOnly Such state → ServesOnly Such (history_read_meaning setting call session request state)
   history_read_only setting call q session request state p = history_timed_only setting call session request state p q (some_times (timestamps_of request.timestamps_to_return))
 
+  -- ---- subscriptions
+
+  create_subscription_only : (setting : Setting) (call : Call) → Such call.conn → (session : ℕ) (request : CreateSubscriptionRequest) (state : Services) → OwesOnly Such state → ServesOnly Such (create_subscription_meaning setting call session request state)
+  create_subscription_only setting call q session request state p =
+      first_only state call (create_subscription_body setting call) (created session (settings_asked request) request.publishing_enabled state.subs state.items setting.clock) q (create_owes_only Such state.subs state.items setting.clock session (settings_asked request) request.publishing_enabled p.0) (created_halts session (settings_asked request) request.publishing_enabled state.subs state.items setting.clock ∙ p.1)
+
+  modify_subscription_only : (setting : Setting) (call : Call) → Such call.conn → (session : ℕ) (request : ModifySubscriptionRequest) (state : Services) → OwesOnly Such state → ServesOnly Such (modify_subscription_meaning setting call session request state)
+  modify_subscription_only setting call q session request state p =
+      first_only state call (modify_subscription_body setting call) (said state.subs (modified session request.subscription_id (settings_wanted request) (world_at setting state))) q (modify_owes_only Such state.subs state.items setting.clock session request.subscription_id (settings_wanted request) p.0) p.1
+
+  publishing_listed_only : (setting : Setting) (call : Call) (session : ℕ) (enabled : Bool) (state : Services) → OwesOnly Such state → Such call.conn → (r : Result (List ℕ) Status) → ServesOnly Such (set_publishing_listed setting call session enabled state r)
+  publishing_listed_only setting call session enabled state p q (Ok numbers) =
+      first_only state call (statuses_body SET_PUBLISHING_MODE_RESPONSE setting call) (said state.subs (named_all session (SetMode enabled) (world_at setting state) numbers)) q (set_mode_owes_only Such state.subs state.items setting.clock session numbers enabled p.0) p.1
+  publishing_listed_only setting call session enabled state p q (Err code) = record { state = p; replies = (q, tt) }
+
+  set_publishing_mode_only : (setting : Setting) (call : Call) → Such call.conn → (session : ℕ) (request : SetPublishingModeRequest) (state : Services) → OwesOnly Such state → ServesOnly Such (set_publishing_mode_meaning setting call session request state)
+  set_publishing_mode_only setting call q session request state p = publishing_listed_only setting call session request.publishing_enabled state p q (operations_of setting.config request.subscription_ids)
+
+  subscriptions_deleted_only : (setting : Setting) (call : Call) (session : ℕ) (state : Services) → OwesOnly Such state → Such call.conn → (r : Result (List ℕ) Status) → ServesOnly Such (delete_subscriptions_listed setting call session state r)
+  subscriptions_deleted_only setting call session state p q (Ok numbers) =
+      first_only state call (statuses_body DELETE_SUBSCRIPTIONS_RESPONSE setting call) (said state.subs (deleted session (world_at setting state) numbers)) q (delete_owes_only Such state.subs state.items setting.clock session numbers p.0) p.1
+  subscriptions_deleted_only setting call session state p q (Err code) = record { state = p; replies = (q, tt) }
+
+  delete_subscriptions_only : (setting : Setting) (call : Call) → Such call.conn → (session : ℕ) (request : DeleteSubscriptionsRequest) (state : Services) → OwesOnly Such state → ServesOnly Such (delete_subscriptions_meaning setting call session request state)
+  delete_subscriptions_only setting call q session request state p = subscriptions_deleted_only setting call session state p q (operations_of setting.config request.subscription_ids)
+
+  publish_only : (setting : Setting) (call : Call) → Such call.conn → (session : ℕ) (request : PublishRequest) (state : Services) → OwesOnly Such state → ServesOnly Such (publish_meaning setting call session request state)
+  publish_only setting call q session request state p =
+      let acks = acknowledged_in request.subscription_acknowledgements in
+      either (nat_lt setting.config.operations (length acks)) _ _ (record { state = p; replies = (q, tt) })
+      (told_only state _ (publish_owes_only Such state.subs state.items setting.clock session (publish_call call) acks q p.0) p.1)
+
+  republish_only : (setting : Setting) (call : Call) → Such call.conn → (session : ℕ) (request : RepublishRequest) (state : Services) → OwesOnly Such state → ServesOnly Such (republish_meaning setting call session request state)
+  republish_only setting call q session request state p =
+      first_only state call (republish_answer setting call) (said state.subs (republished session request.subscription_id request.retransmit_sequence_number (world_at setting state))) q (republish_owes_only Such state.subs state.items setting.clock session request.subscription_id request.retransmit_sequence_number p.0) p.1
+
+  -- ---- monitored items
+
+  items_called_only : (setting : Setting) (call : Call) (number : ℕ) (state : Services) (done : Itemed) → OwesOnly Such state → Such call.conn → (before : Option Vars) → ServesOnly Such (items_called_by setting call number state done before)
+  items_called_only setting call number state done p q None = record { state = p; replies = (q, tt) }
+  items_called_only setting call number state done p q (Some before) =
+      first_only (with_items state done.items) call (λ (x : Unit {0}). done.body) (told state.subs (met (world_at setting (with_items state done.items)) number (Items before))) q (items_owes_only Such state.subs done.items setting.clock number before p.0) p.1
+
+  subscriptions_only : (setting : Setting) (call : Call) (token : NodeId) (body : List ℕ) (state : Services) (id : ℕ) → OwesOnly Such state → Such call.conn → ServesOnly Such (picked_of_subscriptions setting call token body state id)
+  subscriptions_only setting call token body state id p q =
+      let none : ServesOnly Such (faulted state call status.BAD_SERVICE_UNSUPPORTED setting.clock) = record { state = p; replies = (q, tt) } in
+      either _ _ _ (by_session create_subscription_meaning setting call token state p q (create_subscription_only setting call q) (message_of create_subscription_request_reading body))
+      (either _ _ _ (by_session modify_subscription_meaning setting call token state p q (modify_subscription_only setting call q) (message_of modify_subscription_request_reading body))
+      (either _ _ _ (by_session set_publishing_mode_meaning setting call token state p q (set_publishing_mode_only setting call q) (message_of set_publishing_mode_request_reading body))
+      (either _ _ _ (by_session delete_subscriptions_meaning setting call token state p q (delete_subscriptions_only setting call q) (message_of delete_subscriptions_request_reading body))
+      (either _ _ _ (by_session publish_meaning setting call token state p q (publish_only setting call q) (message_of publish_request_reading body))
+      (either _ _ _ (by_session republish_meaning setting call token state p q (republish_only setting call q) (message_of republish_request_reading body))
+      none)))))
+
+  items_only : (setting : Setting) (call : Call) (token : NodeId) (body : List ℕ) (state : Services) (id : ℕ) → OwesOnly Such state → Such call.conn → ServesOnly Such (picked_of_items setting call token body state id)
+  items_only setting call token body state id p q =
+      either _ _ _ (by_session create_monitored_items_meaning setting call token state p q (λ session request after owes. items_called_only setting call request.subscription_id after (items_created setting call request after) owes q (own_vars session request.subscription_id after)) (message_of create_monitored_items_request_reading body))
+      (either _ _ _ (by_session modify_monitored_items_meaning setting call token state p q (λ session request after owes. items_called_only setting call request.subscription_id after (items_modified setting call request after) owes q (own_vars session request.subscription_id after)) (message_of modify_monitored_items_request_reading body))
+      (either _ _ _ (by_session set_monitoring_mode_meaning setting call token state p q (λ session request after owes. items_called_only setting call request.subscription_id after (items_moded setting call request after) owes q (own_vars session request.subscription_id after)) (message_of set_monitoring_mode_request_reading body))
+      (either _ _ _ (by_session delete_monitored_items_meaning setting call token state p q (λ session request after owes. items_called_only setting call request.subscription_id after (items_deleted setting call request after) owes q (own_vars session request.subscription_id after)) (message_of delete_monitored_items_request_reading body))
+      (subscriptions_only setting call token body state id p q))))
+
   picked_only : (setting : Setting) (call : Call) (token : NodeId) (body : List ℕ) (state : Services) (id : ℕ) → OwesOnly Such state → Such call.conn → ServesOnly Such (picked setting call token body state id)
   picked_only setting call token body state id p q =
-      let none : ServesOnly Such (faulted state call status.BAD_SERVICE_UNSUPPORTED setting.clock) = record { state = p; replies = (q, tt) } in
       either _ _ _ (by_fields get_endpoints_meaning setting call state p q (get_endpoints_only setting call state p q) (message_of get_endpoints_request_reading body))
       (either _ _ _ (by_fields create_session_meaning setting call state p q (create_session_only setting call state p q) (message_of create_session_request_reading body))
       (either _ _ _ (by_fields activate_session_meaning setting call state p q (activate_session_only setting call state p q) (message_of activate_session_request_reading body))
@@ -160,7 +302,8 @@ module _ (Such : ℕ → Type 0) where
       (either _ _ _ (by_session write_meaning setting call token state p q (write_only setting call q) (message_of write_request_reading body))
       (either _ _ _ (by_session browse_meaning setting call token state p q (browse_only setting call q) (message_of browse_request_reading body))
       (either _ _ _ (by_session browse_next_meaning setting call token state p q (browse_next_only setting call q) (message_of browse_next_request_reading body))
-      (either _ _ _ (by_session history_read_meaning setting call token state p q (history_read_only setting call q) (message_of history_read_request_reading body)) none))))))))
+      (either _ _ _ (by_session history_read_meaning setting call token state p q (history_read_only setting call q) (message_of history_read_request_reading body))
+      (items_only setting call token body state id p q)))))))))
 
   by_header : (setting : Setting) (request : Request) (state : Services) (id : Result ℕ TakeFault) (header : Result RequestHeader TakeFault) → OwesOnly Such state → Such request.conn →
       ServesOnly Such (serving_by setting request state id header)
@@ -173,13 +316,17 @@ module _ (Such : ℕ → Type 0) where
   serving_only setting request state p q = by_header setting request state (message_id_of request.body) (message_of request_header_reading request.body) p q
 
   pub ticking_only : (setting : Setting) (state : Services) → OwesOnly Such state → ServesOnly Such (ticking_of setting state)
-  ticking_only setting state p = record { state = tt; replies = tt }
+  ticking_only setting state p =
+      let after = with_sessions state (ticked state.sessions setting.clock) in
+      let ended = ended_by state.sessions setting.clock in
+      then_only (all_timed_out setting after ended) (timers_met setting) (all_timed_out_only setting ended (nothing_done after) (record { state = p; replies = tt }))
+      (λ mid owes. told_only mid _ (timers_owe_only Such mid.subs mid.items setting.clock owes.0) owes.1)
 
   -- a connection that is forgotten waits for nothing
   pub forgotten_only : (state : Services) (conn : ℕ) → OwesOnly Such state → OwesOnly (λ (other : ℕ). Such other × (other ≢ conn)) (forgotten state conn)
-  forgotten_only state conn p = tt
+  forgotten_only state conn p = (without_conn_queued Such conn state.subs.table p.0, p.1)
 
 -- what is true of more connections
 module _ (Such More : ℕ → Type 0) (f : (conn : ℕ) → Such conn → More conn) where
   pub owes_more : (state : Services) → OwesOnly Such state → OwesOnly More state
-  owes_more state p = tt
+  owes_more state p = (queued_more Such More f state.subs.table.sessions p.0, p.1)

@@ -1,23 +1,34 @@
 -- The service CloseSession.
-use Rattle.std.specs.Prelude.{ℕ, List, []}
+use Rattle.std.specs.Prelude.{ℕ, Bool, List, Result, Ok, Err}
+use Rattle.ua_types.specs.Answers.{Step}
+use Rattle.ua_types.specs.declared.status.Status.{Status}
 use Rattle.ua_messages.specs.Bodies.{body_encoding}
 use Rattle.ua_messages.specs.Headers.{plain_header}
 use Rattle.ua_messages.specs.declared.type_ids.TheConstants.{CLOSE_SESSION_RESPONSE}
 use Rattle.service_messages.specs.Sessions.{close_session_response_encoding}
 use Rattle.service_messages.specs.declared.sessions.CloseSessionRequest.{CloseSessionRequest}
-use Rattle.ua_session.specs.Sessions.{close_of}
+use Rattle.ua_session.specs.Sessions.{SessionsState, close_of}
 use Rattle.ua_requests.specs.declared.setting.Setting.{Setting}
 use Rattle.ua_services.specs.ServicesState.{Services}
-use Rattle.ua_services.specs.Serving.{Serving}
-use Rattle.ua_services.specs.SessionServing.{stepped}
+use Rattle.ua_services.specs.Serving.{Serving, answered, faulted}
+use Rattle.ua_services.specs.SessionServing.{with_sessions}
+use Rattle.ua_services.specs.SubServing.{and_then, session_over}
 use Rattle.ua_services.specs.declared.call.Call.{Call}
 
-abbrev pub close_session_body : Setting → Call → ℕ → List ℕ
-close_session_body setting call number =
+abbrev pub close_session_body : Setting → Call → List ℕ
+close_session_body setting call =
     body_encoding close_session_response_encoding CLOSE_SESSION_RESPONSE (record { response_header = plain_header call.handle (record { 0 = 0 }) setting.clock })
 
--- the session that the request's header names is no more
+-- the Publish requests that wait are answered before the close itself
+abbrev pub closed_by : Setting → Call → Bool → Services → Result ℕ Status → SessionsState → Serving
+closed_by setting call deleting state (Ok number) sessions =
+    and_then (session_over setting deleting number (with_sessions state sessions)) (λ (after : Services). answered after call (close_session_body setting call))
+closed_by setting call deleting state (Err code) sessions = faulted (with_sessions state sessions) call code setting.clock
+
+abbrev pub closed : Setting → Call → Bool → Services → Step ℕ Status SessionsState → Serving
+closed setting call deleting state step = closed_by setting call deleting state step.answer step.state
+
+-- the session that the request's header names is no more; its subscriptions are deleted, or left to their lifetime
 abbrev pub close_session_meaning : Setting → Call → CloseSessionRequest → Services → Serving
 close_session_meaning setting call request state =
-    stepped state call setting.clock [] (close_session_body setting call)
-    (close_of state.sessions request.request_header.authentication_token call.conn)
+    closed setting call request.delete_subscriptions state (close_of state.sessions request.request_header.authentication_token call.conn)

@@ -4,6 +4,9 @@ pub mod Serving
 pub mod SessionServing
 pub mod InSession
 pub mod Operations
+pub mod SubServing
+pub mod StatusResults
+pub mod ItemServing
 pub mod GetEndpoints
 pub mod CreateSession
 pub mod ActivateSession
@@ -16,5 +19,15 @@ pub mod Browse
 pub mod BrowseNext
 pub mod HistoryResults
 pub mod HistoryRead
+pub mod CreateMonitoredItems
+pub mod ModifyMonitoredItems
+pub mod SetMonitoringMode
+pub mod DeleteMonitoredItems
+pub mod CreateSubscription
+pub mod ModifySubscription
+pub mod SetPublishingMode
+pub mod DeleteSubscriptions
+pub mod Publish
+pub mod Republish
 pub mod Services
 pub mod Owing

@@ -1,5 +1,6 @@
 -- All services.
-use Rattle.std.specs.Prelude.{ℕ, ◌==◌, Bool, true, false, List, [], ◌∷◌, Result, Ok, if◌then◌else◌}
+use Rattle.std.specs.Prelude.{ℕ, ◌==◌, ◌&&◌, Bool, true, false, not, List, [], ◌∷◌, Result, Ok, if◌then◌else◌}
+use Rattle.std.specs.Option.{is_some}
 use Rattle.ua_types.specs.declared.node_id.NodeId.{NodeId}
 use Rattle.ua_types.specs.declared.status.TheConstants.Status as status
 use Rattle.ua_binary.specs.declared.fault.TakeFault.{TakeFault}
@@ -7,7 +8,7 @@ use Rattle.ua_messages.specs.Bodies.{message_id_of, message_of}
 use Rattle.ua_messages.specs.GetEndpoints.{get_endpoints_request_reading}
 use Rattle.ua_messages.specs.Headers.{request_header_reading}
 use Rattle.ua_messages.specs.declared.headers.RequestHeader.{RequestHeader}
-use Rattle.ua_messages.specs.declared.type_ids.TheConstants.{GET_ENDPOINTS_REQUEST, CREATE_SESSION_REQUEST, ACTIVATE_SESSION_REQUEST, CLOSE_SESSION_REQUEST, READ_REQUEST, WRITE_REQUEST, BROWSE_REQUEST, BROWSE_NEXT_REQUEST, HISTORY_READ_REQUEST}
+use Rattle.ua_messages.specs.declared.type_ids.TheConstants.{GET_ENDPOINTS_REQUEST, CREATE_SESSION_REQUEST, ACTIVATE_SESSION_REQUEST, CLOSE_SESSION_REQUEST, READ_REQUEST, WRITE_REQUEST, BROWSE_REQUEST, BROWSE_NEXT_REQUEST, HISTORY_READ_REQUEST, CREATE_MONITORED_ITEMS_REQUEST, MODIFY_MONITORED_ITEMS_REQUEST, SET_MONITORING_MODE_REQUEST, DELETE_MONITORED_ITEMS_REQUEST, CREATE_SUBSCRIPTION_REQUEST, MODIFY_SUBSCRIPTION_REQUEST, SET_PUBLISHING_MODE_REQUEST, DELETE_SUBSCRIPTIONS_REQUEST, PUBLISH_REQUEST, REPUBLISH_REQUEST}
 use Rattle.ua_requests.specs.declared.request.Request.{Request}
 use Rattle.ua_requests.specs.declared.setting.Setting.{Setting}
 use Rattle.service_messages.specs.Browsing.{browse_request_reading, browse_next_request_reading}
@@ -15,16 +16,34 @@ use Rattle.service_messages.specs.History.{history_read_request_reading}
 use Rattle.service_messages.specs.Reading.{read_request_reading}
 use Rattle.service_messages.specs.Writing.{write_request_reading}
 use Rattle.service_messages.specs.Sessions.{create_session_request_reading, activate_session_request_reading, close_session_request_reading}
+use Rattle.sub_messages.specs.MonitoredItems.{create_monitored_items_request_reading, modify_monitored_items_request_reading, set_monitoring_mode_request_reading, delete_monitored_items_request_reading}
+use Rattle.sub_messages.specs.Publishing.{publish_request_reading, republish_request_reading}
+use Rattle.sub_messages.specs.Subscriptions.{create_subscription_request_reading, modify_subscription_request_reading, set_publishing_mode_request_reading, delete_subscriptions_request_reading}
+use Rattle.subscription.specs.Ending.{without_conn}
+use Rattle.subscription.specs.Ranks.{is_any_due}
+use Rattle.subscription.specs.Subs.{SubsState}
 use Rattle.ua_session.specs.Sessions.{ticked, ended_by}
 use Rattle.ua_services.specs.ActivateSession.{activate_session_meaning}
 use Rattle.ua_services.specs.Browse.{browse_meaning}
 use Rattle.ua_services.specs.BrowseNext.{browse_next_meaning}
 use Rattle.ua_services.specs.CloseSession.{close_session_meaning}
+use Rattle.ua_services.specs.CreateMonitoredItems.{create_monitored_items_meaning}
 use Rattle.ua_services.specs.CreateSession.{create_session_meaning}
+use Rattle.ua_services.specs.CreateSubscription.{create_subscription_meaning}
+use Rattle.ua_services.specs.DeleteMonitoredItems.{delete_monitored_items_meaning}
+use Rattle.ua_services.specs.DeleteSubscriptions.{delete_subscriptions_meaning}
 use Rattle.ua_services.specs.GetEndpoints.{get_endpoints_meaning}
 use Rattle.ua_services.specs.HistoryRead.{history_read_meaning}
 use Rattle.ua_services.specs.InSession.{served_in_session}
+use Rattle.ua_services.specs.ModifyMonitoredItems.{modify_monitored_items_meaning}
+use Rattle.ua_services.specs.ModifySubscription.{modify_subscription_meaning}
+use Rattle.ua_services.specs.Publish.{publish_meaning}
 use Rattle.ua_services.specs.Read.{read_meaning}
+use Rattle.ua_services.specs.Republish.{republish_meaning}
+use Rattle.ua_services.specs.SessionServing.{with_sessions}
+use Rattle.ua_services.specs.SetMonitoringMode.{set_monitoring_mode_meaning}
+use Rattle.ua_services.specs.SetPublishingMode.{set_publishing_mode_meaning}
+use Rattle.ua_services.specs.SubServing.{and_then, all_timed_out, timers_met}
 use Rattle.ua_services.specs.Write.{write_meaning}
 use Rattle.ua_services.specs.ServicesState.{Services}
 use Rattle.ua_services.specs.Serving.{Serving, faulted, served_by}
@@ -33,7 +52,26 @@ use Rattle.ua_services.specs.declared.call.Call.{Call}
 abbrev pub call_of : Request → ℕ → Call
 call_of request handle = record { conn = request.conn; key = request.key; id = request.id; handle = handle }
 
--- by its type id
+-- by its type id: what is watched, and what is told of it
+abbrev pub picked_of_subscriptions : Setting → Call → NodeId → List ℕ → Services → ℕ → Serving
+picked_of_subscriptions setting call token body state id =
+    if id == CREATE_SUBSCRIPTION_REQUEST then served_in_session create_subscription_meaning setting call token state (message_of create_subscription_request_reading body)
+    else if id == MODIFY_SUBSCRIPTION_REQUEST then served_in_session modify_subscription_meaning setting call token state (message_of modify_subscription_request_reading body)
+    else if id == SET_PUBLISHING_MODE_REQUEST then served_in_session set_publishing_mode_meaning setting call token state (message_of set_publishing_mode_request_reading body)
+    else if id == DELETE_SUBSCRIPTIONS_REQUEST then served_in_session delete_subscriptions_meaning setting call token state (message_of delete_subscriptions_request_reading body)
+    else if id == PUBLISH_REQUEST then served_in_session publish_meaning setting call token state (message_of publish_request_reading body)
+    else if id == REPUBLISH_REQUEST then served_in_session republish_meaning setting call token state (message_of republish_request_reading body)
+    else faulted state call status.BAD_SERVICE_UNSUPPORTED setting.clock
+
+abbrev pub picked_of_items : Setting → Call → NodeId → List ℕ → Services → ℕ → Serving
+picked_of_items setting call token body state id =
+    if id == CREATE_MONITORED_ITEMS_REQUEST then served_in_session create_monitored_items_meaning setting call token state (message_of create_monitored_items_request_reading body)
+    else if id == MODIFY_MONITORED_ITEMS_REQUEST then served_in_session modify_monitored_items_meaning setting call token state (message_of modify_monitored_items_request_reading body)
+    else if id == SET_MONITORING_MODE_REQUEST then served_in_session set_monitoring_mode_meaning setting call token state (message_of set_monitoring_mode_request_reading body)
+    else if id == DELETE_MONITORED_ITEMS_REQUEST then served_in_session delete_monitored_items_meaning setting call token state (message_of delete_monitored_items_request_reading body)
+    else picked_of_subscriptions setting call token body state id
+
+-- all that is served
 abbrev pub picked : Setting → Call → NodeId → List ℕ → Services → ℕ → Serving
 picked setting call token body state id =
     if id == GET_ENDPOINTS_REQUEST then served_by get_endpoints_meaning setting call state (message_of get_endpoints_request_reading body)
@@ -45,7 +83,7 @@ picked setting call token body state id =
     else if id == BROWSE_REQUEST then served_in_session browse_meaning setting call token state (message_of browse_request_reading body)
     else if id == BROWSE_NEXT_REQUEST then served_in_session browse_next_meaning setting call token state (message_of browse_next_request_reading body)
     else if id == HISTORY_READ_REQUEST then served_in_session history_read_meaning setting call token state (message_of history_read_request_reading body)
-    else faulted state call status.BAD_SERVICE_UNSUPPORTED setting.clock
+    else picked_of_items setting call token body state id
 
 abbrev pub serving_by : Setting → Request → Services → Result ℕ TakeFault → Result RequestHeader TakeFault → Serving
 serving_by setting request state (Ok id) (Ok header) = picked setting (call_of request header.request_handle) header.authentication_token request.body state id
@@ -56,18 +94,21 @@ unfoldable pub serving_of : Setting → Request → Services → Serving
 serving_of setting request state =
     serving_by setting request state (message_id_of request.body) (message_of request_header_reading request.body)
 
--- what is due as time passes: sessions end
+-- what is due as time passes: sessions end that weren't used, by rising number, and leave their subscriptions to their
+-- lifetime; then the timers of subscriptions come, the best first
 abbrev pub ticking_of : Setting → Services → Serving
-ticking_of setting state = record { state = record state { sessions = ticked state.sessions setting.clock }; replies = []; acts = [] }
+ticking_of setting state =
+    and_then (all_timed_out setting (with_sessions state (ticked state.sessions setting.clock)) (ended_by state.sessions setting.clock)) (timers_met setting)
 
 abbrev pub is_none : List ℕ → Bool
 is_none [] = true
 is_none (number ∷ numbers) = false
 
--- whether nothing is due at a tick
+-- whether nothing is due at a tick, and the subscriptions go on
 abbrev pub is_idle : Setting → Services → Bool
-is_idle setting state = is_none (ended_by state.sessions setting.clock)
+is_idle setting state =
+    is_none (ended_by state.sessions setting.clock) && not (is_any_due setting.clock state.subs.table.subscriptions) && not (is_some state.subs.halted)
 
--- what is kept once a connection is closed or gone: nothing waits for one yet
+-- what is kept once a connection is closed or gone: the Publish requests that came by it wait no more
 abbrev pub forgotten : Services → ℕ → Services
-forgotten state conn = state
+forgotten state conn = let subs : SubsState = state.subs in record state { subs = record subs { table = without_conn conn subs.table } }

@@ -1,9 +1,17 @@
 -- What the services keep.
 use Rattle.ua_types.specs.Configuration.{Configuration}
+use Rattle.monitored_items.specs.Items.{no_items}
 use Rattle.raw_history.specs.Histories.{no_histories}
+use Rattle.subscription.specs.Subs.{no_subs}
 use Rattle.ua_session.specs.Sessions.{no_sessions}
 use Rattle.ua_space.specs.Nodes.{SpaceState}
 pub use Rattle.ua_services.specs.declared.services.Services.{Services}
 
 abbrev pub no_services_used : Configuration → SpaceState → Services
-no_services_used config space = record { space = space; sessions = no_sessions config; history = no_histories config }
+no_services_used config space = record {
+  space = space;
+  sessions = no_sessions config;
+  history = no_histories config;
+  items = no_items config;
+  subs = no_subs config;
+}

@@ -1,17 +1,32 @@
 //! The service CloseSession (IEC 62541-4, "CloseSession").
 
-ghost use Rattle.ua_services.specs.CloseSession.{close_session_meaning};
+ghost use Rattle.std.specs.Prelude.{◌≡◌, IfOk};
+ghost use Rattle.ua_services.specs.CloseSession.{close_session_body, close_session_meaning};
+ghost use Rattle.ua_services.specs.Serving.{replied, reply_of};
 
 use crate::call::Call;
 use crate::service::{Service, refuse, reply};
 use crate::services::Services;
+use crate::sub_serving::{end_session, joined};
 use service_messages::{CloseSessionRequest, CloseSessionResponse};
-use std::alloc::Global;
+use std::alloc::{AllocError, Global};
 use ua_messages::{ResponseHeader, body, type_ids};
 use ua_requests::{Halt, Served, Setting};
 use ua_types::Status;
 
-/// Ends a session, which need not have been activated.
+// The answer, once the session is no more.
+fn closed(alloc: Global, setting: &Setting, call: &Call) -> Result<Served, AllocError>
+    ensures { IfOk result (λ served. served ≡ replied (reply_of call.now (close_session_body setting.now call.now))) }
+{
+    let response = CloseSessionResponse {
+        response_header: ResponseHeader::new(call.handle, Status(0), setting.clock),
+    };
+    let body = body(alloc, type_ids::CLOSE_SESSION_RESPONSE, &response)?;
+    reply(alloc, call, body)
+}
+
+/// Ends a session, which need not have been activated. Its subscriptions are deleted, or left to their lifetime, as the
+/// client asks; its Publish requests that wait are answered before this one.
 ///
 /// The faults, in this order: `BAD_SESSION_ID_INVALID` where no session has the token, and
 /// `BAD_SECURE_CHANNEL_ID_INVALID` on another connection than the session's.
@@ -30,18 +45,14 @@ impl Service for CloseSession {
         services: &mut Services,
     ) -> Result<Served, Halt> {
         let token = &request.request_header.authentication_token;
-        match services.sessions.close(token, call.conn) {
-            Ok(_) => {
-                let response = CloseSessionResponse {
-                    response_header: ResponseHeader::new(call.handle, Status(0), setting.clock),
-                };
-                Ok(reply(
-                    alloc,
-                    call,
-                    body(alloc, type_ids::CLOSE_SESSION_RESPONSE, &response)?,
-                )?)
-            }
-            Err(status) => Ok(refuse(alloc, call, status, setting.clock)?),
+        let number = match services.sessions.close(token, call.conn) {
+            Ok(number) => number,
+            Err(status) => return Ok(refuse(alloc, call, status, setting.clock)?),
+        };
+        let deleting = request.delete_subscriptions;
+        match end_session(alloc, setting, number, deleting, services) {
+            Ok(ended) => Ok(joined(ended, closed(alloc, setting, call)?)?),
+            Err(halt) => Err(halt),
         }
     }
 }

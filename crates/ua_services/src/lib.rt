@@ -7,8 +7,8 @@
 //! Each service is a type that is a [`Service`], or a [`SessionService`] where it is one of a session, in a
 //! file of its own, and its meaning is a file of `specs/` with the same name. `specs/Serving` has what
 //! all of them share, `InSession` what those of a session begin with, `Services` the order in which a
-//! request is judged, and `Owing` to whom replies go. Tests that drive the services stand in
-//! `uaserver/src/tests`.
+//! request is judged, and `Owing` to whom replies go. What the services leave of other sessions, and that each
+//! comes by calls of subscriptions and items, the crate `server_laws` says; `service_tests` drives them.
 //!
 //! Read [`Services`] first, and `session_service.rt`, then `browse.rt` for a whole service.
 #![tactic(auto)]
@@ -19,17 +19,30 @@ mod browse_next;
 mod browse_results;
 mod call;
 mod close_session;
+mod create_monitored_items;
 mod create_session;
+mod create_subscription;
+mod delete_monitored_items;
+mod delete_subscriptions;
 mod endpoint_list;
 mod get_endpoints;
 mod history_read;
 mod history_results;
+mod item_serving;
+mod modify_monitored_items;
+mod modify_subscription;
 mod operations;
 mod paging;
+mod publish;
 mod read;
+mod republish;
 mod service;
 mod services;
 mod session_service;
+mod set_monitoring_mode;
+mod set_publishing_mode;
+mod status_results;
+mod sub_serving;
 mod write;
 
 pub use call::Call;

@@ -10,21 +10,34 @@ use crate::browse::Browse;
 use crate::browse_next::BrowseNext;
 use crate::call::Call;
 use crate::close_session::CloseSession;
+use crate::create_monitored_items::CreateMonitoredItems;
 use crate::create_session::CreateSession;
+use crate::create_subscription::CreateSubscription;
+use crate::delete_monitored_items::DeleteMonitoredItems;
+use crate::delete_subscriptions::DeleteSubscriptions;
 use crate::get_endpoints::GetEndpoints;
 use crate::history_read::HistoryRead;
+use crate::modify_monitored_items::ModifyMonitoredItems;
+use crate::modify_subscription::ModifySubscription;
+use crate::publish::Publish;
 use crate::read::Read;
+use crate::republish::Republish;
 use crate::service::{Service, refuse};
 use crate::session_service::SessionService;
+use crate::set_monitoring_mode::SetMonitoringMode;
+use crate::set_publishing_mode::SetPublishingMode;
+use crate::sub_serving::{end_sessions, joined, meet_timers};
 use crate::write::Write;
+use monitored_items::Items;
 use raw_history::History;
 use std::alloc::Global;
+use subscription::Subs;
 use ua_binary::TakeFault;
 use ua_messages::{RequestHeader, message, message_id, type_ids};
 use ua_requests::{Halt, Request, Served, Setting};
 use ua_session::Sessions;
 use ua_space::Space;
-use ua_types::{Config, Listed, Status};
+use ua_types::{Config, Status};
 
 /// The services, and what they keep.
 ///
@@ -41,6 +54,10 @@ pub struct Services {
     pub sessions: Sessions,
     /// The values that its variables had.
     pub history: History,
+    /// What is watched of its nodes.
+    pub items: Items,
+    /// The subscriptions of its clients, and the Publish requests that wait.
+    pub subs: Subs,
 }
 
 impl Services {
@@ -52,13 +69,15 @@ impl Services {
             space,
             sessions: Sessions::new(alloc, config),
             history: History::new(alloc, config),
+            items: Items::new(alloc, config),
+            subs: Subs::new(alloc, config),
         }
     }
 
     /// Does what a request asks for. The replies may be for it and for others that waited.
     ///
-    /// `Memory` comes only where an allocation failed, `Exhausted` only where the serials of nonces or of a
-    /// session's continuation points are used up.
+    /// `Memory` comes only where an allocation failed, `Exhausted` only where the serials of nonces, of a session's
+    /// continuation points, or of the messages of subscriptions are used up.
     #[tactic(auto, unfolding(crate::specs::Services::serving_of))]
     pub fn serve(
         &mut self,
@@ -109,26 +128,62 @@ impl Services {
             type_ids::HISTORY_READ_REQUEST => {
                 HistoryRead::take(alloc, setting, &call, token, body, self)
             }
+            type_ids::CREATE_MONITORED_ITEMS_REQUEST => {
+                CreateMonitoredItems::take(alloc, setting, &call, token, body, self)
+            }
+            type_ids::MODIFY_MONITORED_ITEMS_REQUEST => {
+                ModifyMonitoredItems::take(alloc, setting, &call, token, body, self)
+            }
+            type_ids::SET_MONITORING_MODE_REQUEST => {
+                SetMonitoringMode::take(alloc, setting, &call, token, body, self)
+            }
+            type_ids::DELETE_MONITORED_ITEMS_REQUEST => {
+                DeleteMonitoredItems::take(alloc, setting, &call, token, body, self)
+            }
+            type_ids::CREATE_SUBSCRIPTION_REQUEST => {
+                CreateSubscription::take(alloc, setting, &call, token, body, self)
+            }
+            type_ids::MODIFY_SUBSCRIPTION_REQUEST => {
+                ModifySubscription::take(alloc, setting, &call, token, body, self)
+            }
+            type_ids::SET_PUBLISHING_MODE_REQUEST => {
+                SetPublishingMode::take(alloc, setting, &call, token, body, self)
+            }
+            type_ids::DELETE_SUBSCRIPTIONS_REQUEST => {
+                DeleteSubscriptions::take(alloc, setting, &call, token, body, self)
+            }
+            type_ids::PUBLISH_REQUEST => Publish::take(alloc, setting, &call, token, body, self),
+            type_ids::REPUBLISH_REQUEST => {
+                Republish::take(alloc, setting, &call, token, body, self)
+            }
             _ => Ok(refuse(alloc, &call, Status::BAD_SERVICE_UNSUPPORTED, setting.clock)?),
         }
     }
 
-    /// Does what is due as time passes: the sessions end whose deadline the clock has reached. Takes no
-    /// memory where there is none.
+    /// Does what is due as time passes: the sessions end whose deadline the clock has reached, by rising number, and leave
+    /// their subscriptions to their lifetime; then the timers of the subscriptions that are due come, the best first. Takes
+    /// no memory where nothing is due.
     pub fn tick(&mut self, alloc: Global, setting: &Setting) -> Result<Served, Halt>
         ensures ticks { Serves result self.new (ticking_of setting.now self.old) }
         ensures idle { is_idle setting.now self.old ≡ true → IsOk result }
     {
-        self.sessions.tick(alloc, setting.clock)?;
-        Ok(Served {
-            replies: Listed::new(alloc),
-            rows: Listed::new(alloc),
-        })
+        let ended = self.sessions.tick(alloc, setting.clock)?;
+        if ended.is_empty() {
+            return meet_timers(alloc, setting, self);
+        }
+        match end_sessions(alloc, setting, ended.as_slice(), self) {
+            Ok(served) => match meet_timers(alloc, setting, self) {
+                Ok(more) => Ok(joined(served, more)?),
+                Err(halt) => Err(halt),
+            },
+            Err(halt) => Err(halt),
+        }
     }
 
-    /// Drops what a connection that is closed or gone still waited for, which is nothing yet. Takes no
-    /// memory.
-    pub fn forget(&mut self, _conn: u64)
-        ensures { self.new ≡ forgotten self.old _conn }
-    {}
+    /// Drops what a connection that is closed or gone still waited for: its Publish requests. Takes no memory.
+    pub fn forget(&mut self, conn: u64)
+        ensures { self.new ≡ forgotten self.old conn }
+    {
+        self.subs.gone(conn);
+    }
 }

@@ -9,11 +9,12 @@ use crate::operations::operations;
 use crate::service::{refuse, reply};
 use crate::services::Services;
 use crate::session_service::SessionService;
+use crate::status_results::statuses_body;
 use raw_history::History;
 use read_write::{Change, Written, write};
 use service_messages::WriteRequest;
 use std::alloc::{AllocError, Global};
-use ua_messages::{ResponseHeader, results_body, type_ids};
+use ua_messages::type_ids;
 use ua_requests::{Halt, Served, Setting};
 use ua_space::Space;
 use ua_types::{NodeId, Status};
@@ -46,7 +47,8 @@ fn keep_all(
     Ok(())
 }
 
-/// Gives variables new values, one after the other, and keeps those of variables that are historizing.
+/// Gives variables new values, one after the other, shows them to the items that watch them, and keeps those of variables
+/// that are historizing.
 ///
 /// The faults, in this order: `BAD_NOTHING_TO_DO` for a list that is null or empty,
 /// `BAD_TOO_MANY_OPERATIONS` for one with more entries than the configuration's `operations`; then nothing is written. What is
@@ -79,14 +81,10 @@ impl SessionService for Write {
             setting.clock,
             values,
         )?;
+        services.items.sample(alloc, changed.as_slice())?;
         keep_all(alloc, &services.space, &mut services.history, changed)?;
-        let header = ResponseHeader::new(call.handle, Status(0), setting.clock);
-        let body = results_body(
-            alloc,
-            type_ids::WRITE_RESPONSE,
-            &header,
-            statuses.as_slice(),
-        )?;
+        let type_id = type_ids::WRITE_RESPONSE;
+        let body = statuses_body(alloc, type_id, setting, call, statuses.as_slice())?;
         Ok(reply(alloc, call, body)?)
     }
 }

@@ -24,7 +24,7 @@ returns c =
     let ds = c.in-Some.descriptions.items in
     let no_view : is_null_id request.view_id ≡ true = sym c.is_null.ensures ∙ c.if-not-is_null.false in
     let good : is_ok (operations_of setting.config request.nodes_to_browse) ≡ true =
-    ap is_ok (sym c.operations.ensures) ∙ ap (λ r. is_ok (result_map_both (λ s. s.now) (λ code. code) r)) c.in_default.is
+    ap is_ok (sym c.operations.ensures.entries) ∙ ap (λ r. is_ok (result_map_both (λ s. s.now) (λ code. code) r)) c.in_default.is
     in
     let listed = listed_whole setting.config request.nodes_to_browse ds good (sym c.in-Some.ensures.items) in
     let is : browse_meaning setting call session request state ≡ browse_listed setting call session request.requested_max_references_per_node state (Ok ds) =

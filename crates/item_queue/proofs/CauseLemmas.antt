@@ -1,0 +1,124 @@
+-- A deed gives a value no fate but its own.
+use Rattle.std.proofs.Common.{◌≡◌, ℕ, ◌-◌, Bool, true, false, cond, List, [], ◌∷◌, ◌++◌, length, suc, zero, refl, ap, ◌∙◌}
+use Rattle.std.specs.Prelude.{⊤, nat_lt, nat_le, fold}
+use Rattle.item_queue.specs.Causes.{may_give, GetsOnly}
+use Rattle.item_queue.specs.ItemQueue.{Deed}
+use Rattle.item_queue.specs.ItemQueue.Act.{Queued, FrontDropped, NewestReplaced, OnlyReplaced, FrontCleared, BackCleared}
+use Rattle.item_queue.specs.ItemQueue.Deed.{Sample, Send, Clear, Resize}
+use Rattle.item_queue.specs.Fates.{Fate, Told, is_waiting, told, with_fate, waiting, first_get, others_get, first_marked, settled, accounted, account_after, GoesOn}
+use Rattle.item_queue.specs.Fates.Fate.{WasSent, WasLost, WasCleared}
+use Rattle.item_queue.proofs.KeptLemmas.{act_goes, first_marked_goes, settled_goes, deeds_go}
+use Rattle.item_queue.proofs.OrderLemmas.{both}
+
+module _ {V : Type 0} (may : Fate → Bool) where
+  gets_none : (ts : List (Told V)) → GetsOnly may ts ts
+  gets_none [] = tt
+  gets_none (t ∷ ts) = ((λ w u. both w u), gets_none ts)
+
+  gets_more : (ts us : List (Told V)) (v : V) (marked : Bool) → GetsOnly may ts us → GetsOnly may ts (us ++ told v marked ∷ [])
+  gets_more [] [] v marked h = ((λ u. absurd (cc)), tt)
+  gets_more [] (u ∷ us) v marked h = (h.0, gets_more [] us v marked h.1)
+  gets_more (t ∷ ts) [] v marked h = absurd h
+  gets_more (t ∷ ts) (u ∷ us) v marked h = (h.0, gets_more ts us v marked h.1)
+
+  gets_first : (f : Fate) → may f ≡ true → (n : ℕ) (ts : List (Told V)) → GetsOnly may ts (first_get f n ts)
+  gets_first f ok n [] = tt
+  gets_first f ok zero (t ∷ ts) = gets_none (t ∷ ts)
+  gets_first f ok (suc n) (t ∷ ts) = by (is_waiting t.fate) (gets_first f ok n ts) (gets_first f ok (suc n) ts)
+    where
+      by : (b : Bool) → GetsOnly may ts (first_get f n ts) → GetsOnly may ts (first_get f (suc n) ts) → GetsOnly may (t ∷ ts) (cond b (with_fate f t ∷ first_get f n ts) (t ∷ first_get f (suc n) ts))
+      by true h k = ((λ w u. ok), h)
+      by false h k = ((λ w u. both w u), k)
+
+  gets_others : (f : Fate) → may f ≡ true → (n : ℕ) (ts : List (Told V)) → GetsOnly may ts (others_get f n ts)
+  gets_others f ok n [] = tt
+  gets_others f ok zero (t ∷ ts) = by (is_waiting t.fate) (gets_others f ok zero ts)
+    where
+      by : (b : Bool) → GetsOnly may ts (others_get f zero ts) → GetsOnly may (t ∷ ts) (cond b (with_fate f t ∷ others_get f zero ts) (t ∷ others_get f zero ts))
+      by true h = ((λ w u. ok), h)
+      by false h = ((λ w u. both w u), h)
+  gets_others f ok (suc n) (t ∷ ts) = by (is_waiting t.fate) (gets_others f ok n ts) (gets_others f ok (suc n) ts)
+    where
+      by : (b : Bool) → GetsOnly may ts (others_get f n ts) → GetsOnly may ts (others_get f (suc n) ts) → GetsOnly may (t ∷ ts) (cond b (t ∷ others_get f n ts) (t ∷ others_get f (suc n) ts))
+      by true h k = ((λ w u. both w u), h)
+      by false h k = ((λ w u. both w u), k)
+
+  gets_marked : (ts : List (Told V)) → GetsOnly may ts (first_marked ts)
+  gets_marked [] = tt
+  gets_marked (t ∷ ts) = by (is_waiting t.fate) (gets_marked ts)
+    where
+      by : (b : Bool) → GetsOnly may ts (first_marked ts) → GetsOnly may (t ∷ ts) (cond b (record t { marked = true } ∷ ts) (t ∷ first_marked ts))
+      by true h = ((λ w u. both w u), gets_none ts)
+      by false h = ((λ w u. both w u), h)
+
+  gets_settled : (ts : List (Told V)) → GetsOnly may ts (settled ts)
+  gets_settled [] = tt
+  gets_settled (t ∷ ts) = ((λ w u. both w u), gets_settled ts)
+
+  -- a fate is for good
+  later : (u w : Told V) → (is_waiting u.fate ≡ false → w.fate ≡ u.fate) → (is_waiting u.fate ≡ false → may u.fate ≡ true) → (is_waiting u.fate ≡ true → may w.fate ≡ true) → may w.fate ≡ true
+  later u w last first second = by (is_waiting u.fate) refl
+    where
+      by : (b : Bool) → is_waiting u.fate ≡ b → may w.fate ≡ true
+      by true e = second e
+      by false e = ap may (last e) ∙ first e
+
+  gets_then : (ts us ws : List (Told V)) → GetsOnly may ts us → GoesOn us ws → GetsOnly may us ws → GetsOnly may ts ws
+  gets_then [] [] ws h g k = k
+  gets_then [] (u ∷ us) [] h g k = absurd k
+  gets_then [] (u ∷ us) (w ∷ ws) h g k = ((λ nw. later u w g.0.last_fate h.0 (λ e. k.0 e nw)), gets_then [] us ws h.1 g.1 k.1)
+  gets_then (t ∷ ts) [] ws h g k = absurd h
+  gets_then (t ∷ ts) (u ∷ us) [] h g k = absurd k
+  gets_then (t ∷ ts) (u ∷ us) (w ∷ ws) h g k = ((λ tw nw. later u w g.0.last_fate (h.0 tw) (λ e. k.0 e nw)), gets_then ts us ws h.1 g.1 k.1)
+
+  front_gets : may WasLost ≡ true → (ts : List (Told V)) → GetsOnly may ts (accounted ts FrontDropped)
+  front_gets lost ts = gets_then ts (first_get WasLost 1 ts) (first_marked (first_get WasLost 1 ts)) (gets_first WasLost lost 1 ts) (first_marked_goes (first_get WasLost 1 ts)) (gets_marked (first_get WasLost 1 ts))
+
+  others_settled : (f : Fate) → may f ≡ true → (n : ℕ) (ts : List (Told V)) → GetsOnly may ts (settled (others_get f n ts))
+  others_settled f ok n ts = gets_then ts (others_get f n ts) (settled (others_get f n ts)) (gets_others f ok n ts) (settled_goes (others_get f n ts)) (gets_settled (others_get f n ts))
+
+  first_settled : (f : Fate) → may f ≡ true → (n : ℕ) (ts : List (Told V)) → GetsOnly may ts (settled (first_get f n ts))
+  first_settled f ok n ts = gets_then ts (first_get f n ts) (settled (first_get f n ts)) (gets_first f ok n ts) (settled_goes (first_get f n ts)) (gets_settled (first_get f n ts))
+
+  sample_gets : may WasLost ≡ true → (size : ℕ) (oldest : Bool) (v : V) (ts : List (Told V)) → GetsOnly may ts (account_after ts (Sample size oldest v))
+  sample_gets lost size oldest v ts = by (nat_lt (length (waiting ts)) size) (nat_lt 1 size) oldest
+    where
+      queued : GetsOnly may ts (accounted ts (Queued v))
+      queued = gets_more ts ts v false (gets_none ts)
+
+      by : (a b c : Bool) → GetsOnly may ts (fold accounted ts (cond a (Queued v ∷ []) (cond b (cond c (Queued v ∷ FrontDropped ∷ []) (NewestReplaced v ∷ [])) (OnlyReplaced v ∷ []))))
+      by true b c = queued
+      by false true true =
+          gets_then ts (accounted ts (Queued v)) (accounted (accounted ts (Queued v)) FrontDropped) queued (act_goes (accounted ts (Queued v)) FrontDropped) (front_gets lost (accounted ts (Queued v)))
+      by false true false = gets_more ts (others_get WasLost (length (waiting ts) - 1) ts) v true (gets_others WasLost lost (length (waiting ts) - 1) ts)
+      by false false c = gets_more ts (settled (others_get WasLost 0 ts)) v false (others_settled WasLost lost 0 ts)
+
+  resize_gets : may WasCleared ≡ true → (size : ℕ) (oldest : Bool) (ts : List (Told V)) → GetsOnly may ts (account_after ts (Resize size oldest))
+  resize_gets cleared size oldest ts = by (nat_le (length (waiting ts)) size) oldest
+    where
+      by : (a b : Bool) → GetsOnly may ts (fold accounted ts (cond a [] (cond b (FrontCleared (length (waiting ts) - size) ∷ []) (BackCleared size ∷ []))))
+      by true b = gets_none ts
+      by false true = first_settled WasCleared cleared (length (waiting ts) - size) ts
+      by false false = others_settled WasCleared cleared size ts
+
+  -- each fate that a deed may give is such a one
+  abbrev pub IsWithin : Deed V → Type 0
+  IsWithin d = (f : Fate) → may_give d f ≡ true → may f ≡ true
+
+  deed_gets : (d : Deed V) (ts : List (Told V)) → IsWithin d → GetsOnly may ts (account_after ts d)
+  deed_gets (Sample size oldest v) ts ok = sample_gets (ok WasLost refl) size oldest v ts
+  deed_gets (Send n) ts ok = gets_first WasSent (ok WasSent refl) n ts
+  deed_gets Clear ts ok = others_settled WasCleared (ok WasCleared refl) 0 ts
+  deed_gets (Resize size oldest) ts ok = resize_gets (ok WasCleared refl) size oldest ts
+
+  abbrev pub AreWithin : List (Deed V) → Type 0
+  AreWithin [] = ⊤
+  AreWithin (d ∷ ds) = IsWithin d × AreWithin ds
+
+  pub deeds_get : (ds : List (Deed V)) (ts : List (Told V)) → AreWithin ds → GetsOnly may ts (fold account_after ts ds)
+  deeds_get [] ts ok = gets_none ts
+  deeds_get (d ∷ ds) ts ok =
+      gets_then ts (account_after ts d) (fold account_after (account_after ts d) ds) (deed_gets d ts ok.0) (deeds_go ds (account_after ts d)) (deeds_get ds (account_after ts d) ok.1)
+
+pub own_fates : {V : Type 0} → (d : Deed V) (ts : List (Told V)) → GetsOnly (may_give d) ts (account_after ts d)
+own_fates d ts = deed_gets (may_give d) d ts (λ f e. e)

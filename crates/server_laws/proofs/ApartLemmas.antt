@@ -1,0 +1,501 @@
+-- Each request leaves what is of other sessions as it was: the walk through all services, of which each is no call or one call
+-- of its own session.
+use Rattle.std.proofs.Common.{◌≡◌, ℕ, ◌==◌, arith, Bool, true, false, not, cond, List, [], ◌∷◌, length, fold, Option, Some, None, Result, Ok, Err, refl, sym, subst}
+use Rattle.std.proofs.lemmas.Bool.{false≢true, eqb-true}
+use Rattle.std.specs.Prelude.{nat_lt, IfOk, IfSome}
+use Rattle.ua_types.specs.Configuration.{Configuration}
+use Rattle.ua_types.specs.declared.moment.Moment.{Moment}
+use Rattle.ua_types.specs.declared.node_id.NodeId.{NodeId}
+use Rattle.ua_types.specs.NodeIds.{is_null_id}
+use Rattle.ua_types.specs.declared.status.Status.{Status}
+use Rattle.ua_types.specs.declared.status.TheConstants.Status as status
+use Rattle.ua_binary.specs.declared.fault.TakeFault.{TakeFault}
+use Rattle.ua_messages.specs.Bodies.{message_id_of, message_of}
+use Rattle.ua_messages.specs.GetEndpoints.{get_endpoints_request_reading}
+use Rattle.ua_messages.specs.Headers.{request_header_reading}
+use Rattle.ua_messages.specs.declared.headers.RequestHeader.{RequestHeader}
+use Rattle.ua_messages.specs.declared.read_value_ids.ReadValueId.{ReadValueId}
+use Rattle.ua_messages.specs.declared.type_ids.TheConstants.{BROWSE_RESPONSE, BROWSE_NEXT_RESPONSE, HISTORY_READ_RESPONSE, SET_PUBLISHING_MODE_RESPONSE, DELETE_SUBSCRIPTIONS_RESPONSE, WRITE_REQUEST}
+use Rattle.ua_requests.specs.declared.fired.Fired.{Fired}
+use Rattle.ua_requests.specs.declared.reply.Reply.{Reply}
+use Rattle.ua_requests.specs.declared.request.Request.{Request}
+use Rattle.ua_requests.specs.declared.setting.Setting.{Setting}
+use Rattle.service_messages.specs.Browsing.{browse_result_encoding, browse_request_reading, browse_next_request_reading}
+use Rattle.service_messages.specs.History.{history_read_result_encoding, history_read_request_reading}
+use Rattle.service_messages.specs.Reading.{read_request_reading}
+use Rattle.service_messages.specs.Sessions.{create_session_request_reading, activate_session_request_reading, close_session_request_reading}
+use Rattle.service_messages.specs.Writing.{write_request_reading}
+use Rattle.service_messages.specs.declared.browsing.BrowseDescription.{BrowseDescription}
+use Rattle.service_messages.specs.declared.browsing.BrowseNextRequest.{BrowseNextRequest}
+use Rattle.service_messages.specs.declared.browsing.BrowseRequest.{BrowseRequest}
+use Rattle.service_messages.specs.declared.history.HistoryReadRequest.{HistoryReadRequest}
+use Rattle.service_messages.specs.declared.history.HistoryReadValueId.{HistoryReadValueId}
+use Rattle.service_messages.specs.declared.reading.ReadRequest.{ReadRequest}
+use Rattle.service_messages.specs.declared.sessions.ActivateSessionRequest.{ActivateSessionRequest}
+use Rattle.service_messages.specs.declared.sessions.CloseSessionRequest.{CloseSessionRequest}
+use Rattle.service_messages.specs.declared.sessions.CreateSessionRequest.{CreateSessionRequest}
+use Rattle.service_messages.specs.declared.writing.WriteRequest.{WriteRequest}
+use Rattle.service_messages.specs.declared.writing.WriteValue.{WriteValue}
+use Rattle.sub_messages.specs.MonitoredItems.{create_monitored_items_request_reading, modify_monitored_items_request_reading, set_monitoring_mode_request_reading, delete_monitored_items_request_reading}
+use Rattle.sub_messages.specs.Publishing.{publish_request_reading, republish_request_reading}
+use Rattle.sub_messages.specs.Subscriptions.{create_subscription_request_reading, modify_subscription_request_reading, set_publishing_mode_request_reading, delete_subscriptions_request_reading}
+use Rattle.sub_messages.specs.declared.publishing.PublishRequest.{PublishRequest}
+use Rattle.sub_messages.specs.declared.publishing.RepublishRequest.{RepublishRequest}
+use Rattle.sub_messages.specs.declared.subscriptions.CreateSubscriptionRequest.{CreateSubscriptionRequest}
+use Rattle.sub_messages.specs.declared.subscriptions.DeleteSubscriptionsRequest.{DeleteSubscriptionsRequest}
+use Rattle.sub_messages.specs.declared.subscriptions.ModifySubscriptionRequest.{ModifySubscriptionRequest}
+use Rattle.sub_messages.specs.declared.subscriptions.SetPublishingModeRequest.{SetPublishingModeRequest}
+use Rattle.sub_table.specs.declared.vars.Vars.{Vars}
+use Rattle.read_write.specs.Timestamps.{timestamps_of}
+use Rattle.read_write.specs.Writing.{write_of}
+use Rattle.read_write.specs.declared.timestamps.Timestamps.{Timestamps}
+use Rattle.raw_history.specs.declared.reading.RawRange.{RawRange}
+use Rattle.monitored_items.specs.Items.{ItemsState, all_visits}
+use Rattle.monitored_items.specs.ItemTables.{item_at}
+use Rattle.monitored_items.specs.declared.item.Item.{Item}
+use Rattle.subscription.specs.Ending.{session_ended}
+use Rattle.subscription.specs.Making.{modified, republished}
+use Rattle.subscription.specs.Named.{is_own, named_all, deleted}
+use Rattle.subscription.specs.Publishing.{published}
+use Rattle.subscription.specs.Subs.{SubsState, Said, said, told, created}
+use Rattle.subscription_laws.specs.Apartness.{IsRequestOf, OthersStay}
+use Rattle.subscription_laws.specs.Runs.{Move, Ran, ran_by, moved, start}
+use Rattle.subscription_laws.proofs.Others.{requests_stay_apart}
+use Rattle.subscription.specs.Tables.{World, vars_found}
+use Rattle.subscription.specs.declared.call.Call.TheVariants as sub_call
+use Rattle.ua_browse.specs.Browsing.{page_size, browse_of}
+use Rattle.ua_session.specs.Sessions.{SessionsState, Named, named, points_of, with_points, create_of, activate_of, find_of, close_of, ticked, ended_by}
+use Rattle.ua_services.specs.ActivateSession.{is_anonymous, activate_session_body, activate_session_meaning}
+use Rattle.server_laws.specs.Apart.{NamesOnly, IsSampled, is_write_id, is_write, KeepsApart}
+use Rattle.ua_services.specs.Browse.{browse_listed, browse_meaning}
+use Rattle.ua_services.specs.BrowseNext.{go_on_of, browse_next_listed, browse_next_meaning}
+use Rattle.ua_services.specs.BrowseResults.{browse_told}
+use Rattle.ua_services.specs.CloseSession.{closed_by, close_session_meaning}
+use Rattle.ua_services.specs.CreateMonitoredItems.{items_created, create_monitored_items_meaning}
+use Rattle.ua_services.specs.CreateSession.{create_session_body, create_session_meaning}
+use Rattle.ua_services.specs.CreateSubscription.{settings_asked, create_subscription_body, create_subscription_meaning}
+use Rattle.ua_services.specs.DeleteMonitoredItems.{items_deleted, delete_monitored_items_meaning}
+use Rattle.ua_services.specs.DeleteSubscriptions.{delete_subscriptions_listed, delete_subscriptions_meaning}
+use Rattle.ua_services.specs.GetEndpoints.{get_endpoints_meaning}
+use Rattle.ua_services.specs.HistoryRead.{some_times, details_judged, node_read, history_ranged, history_listed, history_timed, history_read_meaning}
+use Rattle.ua_services.specs.InSession.{if_found, served_in_session}
+use Rattle.ua_services.specs.ItemServing.{Itemed, own_vars, items_called_by}
+use Rattle.ua_services.specs.ModifyMonitoredItems.{items_modified, modify_monitored_items_meaning}
+use Rattle.ua_services.specs.ModifySubscription.{settings_wanted, modify_subscription_body, modify_subscription_meaning}
+use Rattle.server_laws.specs.Moving.{Went, ran_at}
+use Rattle.ua_services.specs.Operations.{operations_of}
+use Rattle.ua_services.specs.Paging.{AllDone, all_done, paged}
+use Rattle.ua_services.specs.Publish.{acknowledged_in, publish_call, publish_meaning}
+use Rattle.ua_services.specs.Read.{read_listed, read_timed, read_meaning}
+use Rattle.ua_services.specs.Republish.{republish_answer, republish_meaning}
+use Rattle.ua_services.specs.Services.{call_of, picked_of_subscriptions, picked_of_items, picked, serving_by, serving_of, ticking_of}
+use Rattle.ua_services.specs.declared.services.Services.{Services}
+use Rattle.ua_services.specs.Serving.{Act, Serving, reply_of, faulted, served_by}
+use Rattle.ua_services.specs.SessionServing.{spent_by, taken, with_sessions}
+use Rattle.ua_services.specs.SetMonitoringMode.{items_moded, set_monitoring_mode_meaning}
+use Rattle.ua_services.specs.SetPublishingMode.{set_publishing_listed, set_publishing_mode_meaning}
+use Rattle.ua_services.specs.StatusResults.{statuses_body}
+use Rattle.ua_services.specs.SubServing.{world_at, called, no_reply, told_alone, nothing_done, session_over, timed_out}
+use Rattle.ua_services.specs.Write.{write_listed, write_meaning}
+use Rattle.ua_services.specs.declared.call.Call.{Call}
+use Rattle.ua_services.specs.declared.history_read.Wanted.{Wanted}
+use Rattle.server_laws.proofs.ItemSampling.{none_seen, all_sampled, none_made}
+use Rattle.server_laws.proofs.MovingLemmas.{Asks, created_asks, modified_asks, moded_asks, deleted_asks, items_left}
+use Rattle.server_laws.proofs.OtherSessions.{IsFresh, Keeps, unchanged, sessions_stay, named_given, fresh_after, ticked_fresh, activate_header, close_header, find_leaves, activate_leaves, close_leaves, create_stays, points_stay, stay_behind}
+
+-- ---- what is left as it was
+
+-- by each service but Write
+record KeepsRest (session : ℕ) (before after : Services) : Type 0 where
+  sessions : Keeps session before.sessions after.sessions
+  rest : OthersStay session before.subs.table before.items after.subs.table after.items
+
+-- by a Write
+record KeepsSampled (session : ℕ) (before after : Services) : Type 0 where
+  sessions : Keeps session before.sessions after.sessions
+  subs : after.subs ≡ before.subs
+  items : (number : ℕ) (item : Item) → item_at number before.items.items ≡ Some item → (later : Item) × (item_at number after.items.items ≡ Some later) × IsSampled item later
+  none : (number : ℕ) → item_at number before.items.items ≡ None → item_at number after.items.items ≡ None
+
+not_sampled : (session : ℕ) (state : Services) → KeepsSampled session state state
+not_sampled session state = record { sessions = unchanged session state.sessions; subs = refl; items = λ number item found. (item, found, none_seen item); none = λ number none. none }
+
+-- ---- one call of a session
+
+-- these subscriptions and items are where some calls lead from none on
+pub record CameBy (subs : SubsState) (items : ItemsState) : Type 0 where
+  pub config : Configuration
+  pub rows : List Fired
+  pub came : Went (start config) subs items rows
+
+nothing_stays : (session : ℕ) (state : Services) (sessions : SessionsState) → Keeps session state.sessions sessions → KeepsRest session state (with_sessions state sessions)
+nothing_stays session state sessions p = record {
+  sessions = p;
+  rest = record { parts = λ other apart. refl; subscriptions = λ number s found other. found; items_stay = λ number item found foreign. found };
+}
+
+none_stays : (session : ℕ) (state : Services) → KeepsRest session state state
+none_stays session state = nothing_stays session state state.sessions (unchanged session state.sessions)
+
+-- behind a step of the sessions
+later_stays : (session : ℕ) (state : Services) (sessions : SessionsState) (after : Services) → sessions.made ≡ state.sessions.made → Keeps session state.sessions sessions →
+    KeepsRest session (with_sessions state sessions) after → KeepsRest session state after
+later_stays session state sessions after made p q = record { sessions = stay_behind session state.sessions sessions after.sessions made p q.sessions; rest = q.rest }
+
+abbrev StaysIn : ℕ → Services → Ran → Type 0
+StaysIn session state r = OthersStay session state.subs.table state.items r.subs.table r.items
+
+call_stays : (session : ℕ) (state : Services) (from : CameBy state.subs state.items) (move : Move) → IsRequestOf session state.subs.table move →
+    StaysIn session state (moved (ran_at state from.rows from.came.replied) move)
+call_stays session state from move is =
+    subst (λ (r : Ran). IsRequestOf session r.subs.table move → OthersStay session r.subs.table r.items (moved r move).subs.table (moved r move).items) from.came.left
+    (requests_stay_apart from.config from.came.moves move session) is
+
+one_stays : {A : Type 0} (session : ℕ) (state : Services) (from : CameBy state.subs state.items) (own : A → List Reply) (s : Said A) (move : Move) →
+    ((so_far : List Fired) (replies : List Reply) → moved (ran_at state so_far replies) move ≡ ran_by (ran_at state so_far replies) s) → IsRequestOf session state.subs.table move → KeepsRest session state (called state own s).state
+one_stays session state from own s move f is = record {
+  sessions = unchanged session state.sessions;
+  rest = subst (StaysIn session state) (f from.rows from.came.replied) (call_stays session state from move is);
+}
+
+told_stays : (session : ℕ) (state : Services) (from : CameBy state.subs state.items) (w : World) (move : Move) →
+    ((so_far : List Fired) (replies : List Reply) → moved (ran_at state so_far replies) move ≡ ran_by (ran_at state so_far replies) (told state.subs w)) → IsRequestOf session state.subs.table move →
+    KeepsRest session state (told_alone state w).state
+unfolding told_alone
+told_stays session state from w move f is = one_stays session state from no_reply (told state.subs w) move f is
+
+-- the same, where the serving is seen to be one of two
+record Apart (session : ℕ) (state : Services) (s : Serving) : Type 0 where
+  stays : KeepsRest session state s.state
+
+either : (session : ℕ) (state : Services) (b : Bool) (x y : Serving) → Apart session state x → Apart session state y → Apart session state (cond b x y)
+either session state true x y p q = p
+either session state false x y p q = q
+
+by_fields : {A : Type 0} (session : ℕ) (meaning : Setting → Call → A → Services → Serving) (setting : Setting) (call : Call) (state : Services) (r : Result A TakeFault) →
+    ((request : A) → r ≡ Ok request → KeepsRest session state (meaning setting call request state).state) → Apart session state (served_by meaning setting call state r)
+by_fields session meaning setting call state (Ok request) f = record { stays = f request refl }
+by_fields session meaning setting call state (Err fault) f = record { stays = none_stays session state }
+
+-- ---- sessions
+
+abbrev NamesIn : ℕ → Services → NodeId → Type 0
+NamesIn session state token = IfSome (named state.sessions token) (λ (n : Named). n.number ≡ session)
+
+taken_stays : {A : Type 0} (session : ℕ) (call : Call) (state : Services) (clock : Moment) (acts : List Act) (body : A → List ℕ) (answer : Result A Status) (sessions : SessionsState) →
+    Keeps session state.sessions sessions → KeepsRest session state (taken state call clock acts body answer sessions).state
+taken_stays session call state clock acts body (Ok x) sessions p = nothing_stays session state sessions p
+taken_stays session call state clock acts body (Err code) sessions p = nothing_stays session state sessions p
+
+create_session_stays : (session : ℕ) (setting : Setting) (call : Call) (state : Services) (request : CreateSessionRequest) → KeepsRest session state (create_session_meaning setting call request state).state
+create_session_stays session setting call state request =
+    let s = create_of state.sessions call.conn call.key in
+    taken_stays session call state setting.clock (spent_by state.sessions) (create_session_body setting call) s.answer s.state (create_stays session state.sessions call.conn call.key)
+
+activate_session_stays : (session : ℕ) (setting : Setting) (call : Call) (state : Services) (request : ActivateSessionRequest) → NamesIn session state request.request_header.authentication_token →
+    KeepsRest session state (activate_session_meaning setting call request state).state
+activate_session_stays session setting call state request only =
+    let token = request.request_header.authentication_token in
+    let is_free = is_anonymous request.user_identity_token in
+    let s = activate_of state.sessions token call.conn call.key is_free in
+    taken_stays session call state setting.clock (spent_by state.sessions) (activate_session_body setting call) s.answer s.state
+    (activate_leaves session state.sessions token call.conn call.key is_free only).stay
+
+closed_stays : (session : ℕ) (setting : Setting) (call : Call) (deleting : Bool) (state : Services) (from : CameBy state.subs state.items) (answer : Result ℕ Status) (sessions : SessionsState) →
+    sessions.made ≡ state.sessions.made → Keeps session state.sessions sessions → IfOk answer (λ number. number ≡ session) → KeepsRest session state (closed_by setting call deleting state answer sessions).state
+closed_stays session setting call deleting state from (Ok number) sessions made p is =
+    let open_state = with_sessions state sessions in
+    later_stays session state sessions (session_over setting deleting number open_state).state made p
+    (told_stays session open_state from (session_ended number deleting (world_at setting open_state)) (Move.EndSession setting.clock number deleting) (λ so_far replies. refl) is)
+closed_stays session setting call deleting state from (Err code) sessions made p is = nothing_stays session state sessions p
+
+close_session_stays : (session : ℕ) (setting : Setting) (call : Call) (state : Services) (from : CameBy state.subs state.items) (request : CloseSessionRequest) → NamesIn session state request.request_header.authentication_token →
+    KeepsRest session state (close_session_meaning setting call request state).state
+close_session_stays session setting call state from request only =
+    let s = close_of state.sessions request.request_header.authentication_token call.conn in
+    let h = close_leaves session state.sessions request.request_header.authentication_token call.conn only in
+    closed_stays session setting call request.delete_subscriptions state from s.answer s.state h.made h.stay h.answer
+
+-- ---- every service of a session
+
+if_found_stays : (session : ℕ) (serve : ℕ → Services → Serving) (setting : Setting) (call : Call) (state : Services) (answer : Result ℕ Status) (sessions : SessionsState) →
+    sessions.made ≡ state.sessions.made → Keeps session state.sessions sessions → IfOk answer (λ number. number ≡ session) →
+    KeepsRest session (with_sessions state sessions) (serve session (with_sessions state sessions)).state → KeepsRest session state (if_found serve setting call state answer sessions).state
+if_found_stays session serve setting call state (Ok number) sessions made p is q =
+    subst (λ (n : ℕ). KeepsRest session state (serve n (with_sessions state sessions)).state) (sym is) (later_stays session state sessions (serve session (with_sessions state sessions)).state made p q)
+if_found_stays session serve setting call state (Err code) sessions made p is q = nothing_stays session state sessions p
+
+by_session : {A : Type 0} (session : ℕ) (meaning : Setting → Call → ℕ → A → Services → Serving) (setting : Setting) (call : Call) (token : NodeId) (state : Services) (from : CameBy state.subs state.items) → NamesIn session state token →
+    ((request : A) (after : Services) → CameBy after.subs after.items → KeepsRest session after (meaning setting call session request after).state) → (r : Result A TakeFault) → Apart session state (served_in_session meaning setting call token state r)
+by_session session meaning setting call token state from only f (Ok request) =
+    let s = find_of state.sessions token call.conn in
+    let h = find_leaves session state.sessions token call.conn only in
+    record { stays = if_found_stays session (λ number. meaning setting call number request) setting call state s.answer s.state h.made h.stay h.answer (f request (with_sessions state s.state) from) }
+by_session session meaning setting call token state from only f (Err fault) = record { stays = none_stays session state }
+
+-- ---- nodes
+
+read_listed_stays : (session : ℕ) (setting : Setting) (call : Call) (state : Services) (timestamps : Timestamps) (r : Result (List ReadValueId) Status) → KeepsRest session state (read_listed setting call state timestamps r).state
+read_listed_stays session setting call state timestamps (Ok nodes) = none_stays session state
+read_listed_stays session setting call state timestamps (Err code) = none_stays session state
+
+read_timed_stays : (session : ℕ) (setting : Setting) (call : Call) (state : Services) (nodes : Option (List ReadValueId)) (choice : Option Timestamps) → KeepsRest session state (read_timed setting call state nodes choice).state
+read_timed_stays session setting call state nodes None = none_stays session state
+read_timed_stays session setting call state nodes (Some timestamps) = read_listed_stays session setting call state timestamps (operations_of setting.config nodes)
+
+read_stays : (session : ℕ) (setting : Setting) (call : Call) (request : ReadRequest) (state : Services) → KeepsRest session state (read_meaning setting call session request state).state
+read_stays session setting call request state = read_timed_stays session setting call state request.nodes_to_read (timestamps_of request.timestamps_to_return)
+
+paged_stays : {R : Type 0} (session : ℕ) (encoding : R → List ℕ) (setting : Setting) (call : Call) (type_id : ℕ) (state : Services) (all : AllDone R) → KeepsRest session state (paged encoding setting call session type_id state all).state
+paged_stays session encoding setting call type_id state all = nothing_stays session state (with_points state.sessions session all.points) (points_stay session state.sessions all.points)
+
+browse_listed_stays : (session : ℕ) (setting : Setting) (call : Call) (requested : ℕ) (state : Services) (r : Result (List BrowseDescription) Status) → KeepsRest session state (browse_listed setting call session requested state r).state
+browse_listed_stays session setting call requested state (Ok descriptions) =
+    paged_stays session browse_result_encoding setting call BROWSE_RESPONSE state
+    (all_done (λ points d. browse_told (browse_of state.space points (page_size setting.config.references requested) d)) (points_of state.sessions session) descriptions)
+browse_listed_stays session setting call requested state (Err code) = none_stays session state
+
+browse_stays : (session : ℕ) (setting : Setting) (call : Call) (request : BrowseRequest) (state : Services) → KeepsRest session state (browse_meaning setting call session request state).state
+browse_stays session setting call request state =
+    let listed : Apart session state (browse_listed setting call session request.requested_max_references_per_node state (operations_of setting.config request.nodes_to_browse)) =
+    record { stays = browse_listed_stays session setting call request.requested_max_references_per_node state (operations_of setting.config request.nodes_to_browse) } in
+    let one : Apart session state (browse_meaning setting call session request state) = either session state (not (is_null_id request.view_id)) _ _ (record { stays = none_stays session state }) listed in
+    one.stays
+
+browse_next_listed_stays : (session : ℕ) (setting : Setting) (call : Call) (is_release : Bool) (state : Services) (r : Result (List (Option (List ℕ))) Status) → KeepsRest session state (browse_next_listed setting call session is_release state r).state
+browse_next_listed_stays session setting call is_release state (Ok named) =
+    paged_stays session browse_result_encoding setting call BROWSE_NEXT_RESPONSE state
+    (all_done (λ points bytes. browse_told (go_on_of state.space is_release points bytes)) (points_of state.sessions session) named)
+browse_next_listed_stays session setting call is_release state (Err code) = none_stays session state
+
+browse_next_stays : (session : ℕ) (setting : Setting) (call : Call) (request : BrowseNextRequest) (state : Services) → KeepsRest session state (browse_next_meaning setting call session request state).state
+browse_next_stays session setting call request state =
+    browse_next_listed_stays session setting call request.release_continuation_points state (operations_of setting.config request.continuation_points)
+
+history_ranged_stays : (session : ℕ) (setting : Setting) (call : Call) (request : HistoryReadRequest) (state : Services) (times : Timestamps) (nodes : List HistoryReadValueId) (r : Result RawRange Status) →
+    KeepsRest session state (history_ranged setting call session request state times nodes r).state
+history_ranged_stays session setting call request state times nodes (Ok range) =
+    let wanted : Wanted = record { timestamps = times; is_release = request.release_continuation_points; range = range } in
+    paged_stays session history_read_result_encoding setting call HISTORY_READ_RESPONSE state
+    (all_done (λ points asked. node_read state.history state.space.nodes wanted points asked) (points_of state.sessions session) nodes)
+history_ranged_stays session setting call request state times nodes (Err code) = none_stays session state
+
+history_listed_stays : (session : ℕ) (setting : Setting) (call : Call) (request : HistoryReadRequest) (state : Services) (times : Timestamps) (r : Result (List HistoryReadValueId) Status) →
+    KeepsRest session state (history_listed setting call session request state times r).state
+history_listed_stays session setting call request state times (Ok nodes) = history_ranged_stays session setting call request state times nodes (details_judged setting.config request.history_read_details)
+history_listed_stays session setting call request state times (Err code) = none_stays session state
+
+history_timed_stays : (session : ℕ) (setting : Setting) (call : Call) (request : HistoryReadRequest) (state : Services) (choice : Option Timestamps) → KeepsRest session state (history_timed setting call session request state choice).state
+history_timed_stays session setting call request state None = none_stays session state
+history_timed_stays session setting call request state (Some times) = history_listed_stays session setting call request state times (operations_of setting.config request.nodes_to_read)
+
+history_read_stays : (session : ℕ) (setting : Setting) (call : Call) (request : HistoryReadRequest) (state : Services) → KeepsRest session state (history_read_meaning setting call session request state).state
+history_read_stays session setting call request state = history_timed_stays session setting call request state (some_times (timestamps_of request.timestamps_to_return))
+
+-- ---- subscriptions
+
+create_subscription_stays : (session : ℕ) (setting : Setting) (call : Call) (request : CreateSubscriptionRequest) (state : Services) → CameBy state.subs state.items → KeepsRest session state (create_subscription_meaning setting call session request state).state
+create_subscription_stays session setting call request state from =
+    one_stays session state from (λ answer. reply_of call (create_subscription_body setting call answer) ∷ []) (created session (settings_asked request) request.publishing_enabled state.subs state.items setting.clock)
+    (Move.Create setting.clock session (settings_asked request) request.publishing_enabled) (λ so_far replies. refl) refl
+
+modify_subscription_stays : (session : ℕ) (setting : Setting) (call : Call) (request : ModifySubscriptionRequest) (state : Services) → CameBy state.subs state.items → KeepsRest session state (modify_subscription_meaning setting call session request state).state
+modify_subscription_stays session setting call request state from =
+    one_stays session state from (λ answer. reply_of call (modify_subscription_body setting call answer) ∷ []) (said state.subs (modified session request.subscription_id (settings_wanted request) (world_at setting state)))
+    (Move.Modify setting.clock session request.subscription_id (settings_wanted request)) (λ so_far replies. refl) refl
+
+publishing_listed_stays : (session : ℕ) (setting : Setting) (call : Call) (enabled : Bool) (state : Services) (from : CameBy state.subs state.items) (r : Result (List ℕ) Status) → KeepsRest session state (set_publishing_listed setting call session enabled state r).state
+publishing_listed_stays session setting call enabled state from (Ok numbers) =
+    one_stays session state from (λ statuses. reply_of call (statuses_body SET_PUBLISHING_MODE_RESPONSE setting call statuses) ∷ []) (said state.subs (named_all session (sub_call.SetMode enabled) (world_at setting state) numbers))
+    (Move.SetMode setting.clock session numbers enabled) (λ so_far replies. refl) refl
+publishing_listed_stays session setting call enabled state from (Err code) = none_stays session state
+
+set_publishing_mode_stays : (session : ℕ) (setting : Setting) (call : Call) (request : SetPublishingModeRequest) (state : Services) → CameBy state.subs state.items → KeepsRest session state (set_publishing_mode_meaning setting call session request state).state
+set_publishing_mode_stays session setting call request state from = publishing_listed_stays session setting call request.publishing_enabled state from (operations_of setting.config request.subscription_ids)
+
+subscriptions_deleted_stay : (session : ℕ) (setting : Setting) (call : Call) (state : Services) (from : CameBy state.subs state.items) (r : Result (List ℕ) Status) → KeepsRest session state (delete_subscriptions_listed setting call session state r).state
+subscriptions_deleted_stay session setting call state from (Ok numbers) =
+    one_stays session state from (λ statuses. reply_of call (statuses_body DELETE_SUBSCRIPTIONS_RESPONSE setting call statuses) ∷ []) (said state.subs (deleted session (world_at setting state) numbers))
+    (Move.Delete setting.clock session numbers) (λ so_far replies. refl) refl
+subscriptions_deleted_stay session setting call state from (Err code) = none_stays session state
+
+delete_subscriptions_stays : (session : ℕ) (setting : Setting) (call : Call) (request : DeleteSubscriptionsRequest) (state : Services) → CameBy state.subs state.items → KeepsRest session state (delete_subscriptions_meaning setting call session request state).state
+delete_subscriptions_stays session setting call request state from = subscriptions_deleted_stay session setting call state from (operations_of setting.config request.subscription_ids)
+
+publish_stays : (session : ℕ) (setting : Setting) (call : Call) (request : PublishRequest) (state : Services) → CameBy state.subs state.items → KeepsRest session state (publish_meaning setting call session request state).state
+publish_stays session setting call request state from =
+    let acks = acknowledged_in request.subscription_acknowledgements in
+    let w = published session (publish_call call) acks (world_at setting state) in
+    let told_so : Apart session state (told_alone state w) = record { stays = told_stays session state from w (Move.Publish setting.clock session (publish_call call) acks) (λ so_far replies. refl) refl } in
+    let one : Apart session state (publish_meaning setting call session request state) = either session state (nat_lt setting.config.operations (length acks)) _ _ (record { stays = none_stays session state }) told_so in
+    one.stays
+
+republish_stays : (session : ℕ) (setting : Setting) (call : Call) (request : RepublishRequest) (state : Services) → CameBy state.subs state.items → KeepsRest session state (republish_meaning setting call session request state).state
+republish_stays session setting call request state from =
+    one_stays session state from (λ answer. reply_of call (republish_answer setting call answer) ∷ []) (said state.subs (republished session request.subscription_id request.retransmit_sequence_number (world_at setting state)))
+    (Move.Republish setting.clock session request.subscription_id request.retransmit_sequence_number) (λ so_far replies. refl) refl
+
+-- ---- monitored items
+
+module _ (session : ℕ) (setting : Setting) (call : Call) (number : ℕ) (state : Services) (from : CameBy state.subs state.items) (items_done : Itemed) (asks : Asks number state.items items_done.items) where
+  found_stays : (found : Option Vars) → vars_found number state.items state.subs.table ≡ found → is_own state.subs.table session number ≡ true → KeepsRest session state (items_called_by setting call number state items_done found).state
+  found_stays None e own = none_stays session state
+  found_stays (Some before) e own = record {
+    sessions = unchanged session state.sessions;
+    rest = subst (StaysIn session state) (items_left setting call number state items_done asks before e from.rows from.came.replied) (call_stays session state from (Move.Items setting.clock number asks.asked) own);
+  }
+
+  own_stays : (own : Bool) → is_own state.subs.table session number ≡ own → KeepsRest session state (items_called_by setting call number state items_done (cond own (vars_found number state.items state.subs.table) None)).state
+  own_stays true e = found_stays (vars_found number state.items state.subs.table) refl e
+  own_stays false e = none_stays session state
+
+  items_stay : KeepsRest session state (items_called_by setting call number state items_done (own_vars session number state)).state
+  items_stay = own_stays (is_own state.subs.table session number) refl
+
+-- ---- all services but Write
+
+module _ (session : ℕ) (setting : Setting) (call : Call) (token : NodeId) (body : List ℕ) (state : Services) (from : CameBy state.subs state.items) (only : NamesIn session state token) where
+  of_subscriptions_stay : (id : ℕ) → Apart session state (picked_of_subscriptions setting call token body state id)
+  of_subscriptions_stay id =
+      let last : Apart session state (faulted state call status.BAD_SERVICE_UNSUPPORTED setting.clock) = record { stays = none_stays session state } in
+      either session state _ _ _ (by_session session create_subscription_meaning setting call token state from only (create_subscription_stays session setting call) (message_of create_subscription_request_reading body))
+      (either session state _ _ _ (by_session session modify_subscription_meaning setting call token state from only (modify_subscription_stays session setting call) (message_of modify_subscription_request_reading body))
+      (either session state _ _ _ (by_session session set_publishing_mode_meaning setting call token state from only (set_publishing_mode_stays session setting call) (message_of set_publishing_mode_request_reading body))
+      (either session state _ _ _ (by_session session delete_subscriptions_meaning setting call token state from only (delete_subscriptions_stays session setting call) (message_of delete_subscriptions_request_reading body))
+      (either session state _ _ _ (by_session session publish_meaning setting call token state from only (publish_stays session setting call) (message_of publish_request_reading body))
+      (either session state _ _ _ (by_session session republish_meaning setting call token state from only (republish_stays session setting call) (message_of republish_request_reading body))
+      last)))))
+
+  of_items_stay : (id : ℕ) → Apart session state (picked_of_items setting call token body state id)
+  of_items_stay id =
+      either session state _ _ _ (by_session session create_monitored_items_meaning setting call token state from only (λ request after came. items_stay session setting call request.subscription_id after came (items_created setting call request after) (created_asks setting call request after)) (message_of create_monitored_items_request_reading body))
+      (either session state _ _ _ (by_session session modify_monitored_items_meaning setting call token state from only (λ request after came. items_stay session setting call request.subscription_id after came (items_modified setting call request after) (modified_asks setting call request after)) (message_of modify_monitored_items_request_reading body))
+      (either session state _ _ _ (by_session session set_monitoring_mode_meaning setting call token state from only (λ request after came. items_stay session setting call request.subscription_id after came (items_moded setting call request after) (moded_asks setting call request after)) (message_of set_monitoring_mode_request_reading body))
+      (either session state _ _ _ (by_session session delete_monitored_items_meaning setting call token state from only (λ request after came. items_stay session setting call request.subscription_id after came (items_deleted setting call request after) (deleted_asks setting call request after)) (message_of delete_monitored_items_request_reading body))
+      (of_subscriptions_stay id))))
+
+  -- where the type isn't that of a Write
+  unless_write : (b : Bool) (x y : Serving) → b ≡ false → Apart session state y → Apart session state (cond b x y)
+  unless_write true x y e q = absurd (false≢true (sym e))
+  unless_write false x y e q = q
+
+  picked_stays : (id : ℕ) → (id == WRITE_REQUEST) ≡ false →
+      ((request : ActivateSessionRequest) → message_of activate_session_request_reading body ≡ Ok request → NamesIn session state request.request_header.authentication_token) →
+      ((request : CloseSessionRequest) → message_of close_session_request_reading body ≡ Ok request → NamesIn session state request.request_header.authentication_token) →
+      Apart session state (picked setting call token body state id)
+  picked_stays id other activating closing =
+      either session state _ _ _ (by_fields session get_endpoints_meaning setting call state (message_of get_endpoints_request_reading body) (λ request e. none_stays session state))
+      (either session state _ _ _ (by_fields session create_session_meaning setting call state (message_of create_session_request_reading body) (λ request e. create_session_stays session setting call state request))
+      (either session state _ _ _ (by_fields session activate_session_meaning setting call state (message_of activate_session_request_reading body) (λ request e. activate_session_stays session setting call state request (activating request e)))
+      (either session state _ _ _ (by_fields session close_session_meaning setting call state (message_of close_session_request_reading body) (λ request e. close_session_stays session setting call state from request (closing request e)))
+      (either session state _ _ _ (by_session session read_meaning setting call token state from only (λ request after came. read_stays session setting call request after) (message_of read_request_reading body))
+      (unless_write (id == WRITE_REQUEST) _ _ other
+      (either session state _ _ _ (by_session session browse_meaning setting call token state from only (λ request after came. browse_stays session setting call request after) (message_of browse_request_reading body))
+      (either session state _ _ _ (by_session session browse_next_meaning setting call token state from only (λ request after came. browse_next_stays session setting call request after) (message_of browse_next_request_reading body))
+      (either session state _ _ _ (by_session session history_read_meaning setting call token state from only (λ request after came. history_read_stays session setting call request after) (message_of history_read_request_reading body))
+      (of_items_stay id)))))))))
+
+-- ---- Write
+
+-- what is sampled by a Write
+write_stays : (session : ℕ) (setting : Setting) (call : Call) (state : Services) (request : WriteRequest) (sessions : SessionsState) → Keeps session state.sessions sessions →
+    KeepsSampled session state (write_meaning setting call session request (with_sessions state sessions)).state
+write_stays session setting call state request sessions p = by (operations_of setting.config request.nodes_to_write)
+  where
+    by : (r : Result (List WriteValue) Status) → KeepsSampled session state (write_listed setting call (with_sessions state sessions) r).state
+    by (Ok values) = record {
+      sessions = p;
+      subs = refl;
+      items = λ number item found. all_sampled (all_visits state.items.items (write_of setting.clock state.space.nodes values).changed) state.items.items number item found;
+      none = λ number none. none_made (all_visits state.items.items (write_of setting.clock state.space.nodes values).changed) state.items.items number none;
+    }
+    by (Err code) = record { sessions = p; subs = refl; items = λ number item found. (item, found, none_seen item); none = λ number none. none }
+
+write_found : (session : ℕ) (setting : Setting) (call : Call) (state : Services) (request : WriteRequest) (answer : Result ℕ Status) (sessions : SessionsState) → Keeps session state.sessions sessions →
+    IfOk answer (λ number. number ≡ session) → KeepsSampled session state (if_found (λ number. write_meaning setting call number request) setting call state answer sessions).state
+write_found session setting call state request (Ok number) sessions p is =
+    subst (λ (n : ℕ). KeepsSampled session state (write_meaning setting call n request (with_sessions state sessions)).state) (sym is) (write_stays session setting call state request sessions p)
+write_found session setting call state request (Err code) sessions p is = record { sessions = p; subs = refl; items = λ number item found. (item, found, none_seen item); none = λ number none. none }
+
+write_served : (session : ℕ) (setting : Setting) (call : Call) (token : NodeId) (state : Services) → NamesIn session state token → (r : Result WriteRequest TakeFault) →
+    KeepsSampled session state (served_in_session write_meaning setting call token state r).state
+write_served session setting call token state only (Ok request) =
+    let s = find_of state.sessions token call.conn in
+    let h = find_leaves session state.sessions token call.conn only in
+    write_found session setting call state request s.answer s.state h.stay h.answer
+write_served session setting call token state only (Err fault) = not_sampled session state
+
+-- ---- all services
+
+module _ (setting : Setting) (request : Request) (state : Services) (from : CameBy state.subs state.items) where
+  abbrev Only : ℕ → Result RequestHeader TakeFault → Type 0
+  Only session header = IfOk header (λ (h : RequestHeader). NamesIn session state h.authentication_token)
+
+  others_by : (session : ℕ) (id : Result ℕ TakeFault) (header : Result RequestHeader TakeFault) → message_of request_header_reading request.body ≡ header → Only session header → is_write_id id ≡ false →
+      KeepsRest session state (serving_by setting request state id header).state
+  others_by session (Ok id) (Ok header) e only other =
+      (picked_stays session setting (call_of request header.request_handle) header.authentication_token request.body state from only id other
+      (λ activating read. subst (λ (h : RequestHeader). NamesIn session state h.authentication_token) (sym (activate_header request.body activating header read e)) only)
+      (λ closing read. subst (λ (h : RequestHeader). NamesIn session state h.authentication_token) (sym (close_header request.body closing header read e)) only)).stays
+  others_by session (Ok id) (Err fault) e only other = none_stays session state
+  others_by session (Err fault) header e only other = none_stays session state
+
+  picked_written : (session : ℕ) (call : Call) (token : NodeId) → NamesIn session state token → (id : ℕ) → id ≡ WRITE_REQUEST → KeepsSampled session state (picked setting call token request.body state id).state
+  picked_written session call token only id is =
+      subst (λ (n : ℕ). KeepsSampled session state (picked setting call token request.body state n).state) (sym is)
+      (write_served session setting call token state only (message_of write_request_reading request.body))
+
+  sampled_by : (session : ℕ) (id : Result ℕ TakeFault) (header : Result RequestHeader TakeFault) → Only session header → is_write_id id ≡ true → KeepsSampled session state (serving_by setting request state id header).state
+  sampled_by session (Ok id) (Ok header) only is = picked_written session (call_of request header.request_handle) header.authentication_token only id (eqb-true id WRITE_REQUEST is)
+  sampled_by session (Ok id) (Err fault) only is = not_sampled session state
+  sampled_by session (Err fault) header only is = absurd (false≢true is)
+
+  others : (session : ℕ) → NamesOnly session state request → is_write request ≡ false → KeepsRest session state (serving_of setting request state).state
+  unfolding serving_of
+  others session only other = others_by session (message_id_of request.body) (message_of request_header_reading request.body) refl only other
+
+  written : (session : ℕ) → NamesOnly session state request → is_write request ≡ true → KeepsSampled session state (serving_of setting request state).state
+  unfolding serving_of
+  written session only is = sampled_by session (message_id_of request.body) (message_of request_header_reading request.body) only is
+
+  pub keeps_apart : IsFresh state.sessions → KeepsApart setting request state
+  keeps_apart fresh = record {
+    others = λ session only other.
+        let k = others session only other in
+        record { sessions = sessions_stay session state.sessions (serving_of setting request state).state.sessions fresh k.sessions; rest = k.rest };
+    sampled = λ session only is.
+        let k = written session only is in
+        record { sessions = sessions_stay session state.sessions (serving_of setting request state).state.sessions fresh k.sessions; subs = k.subs; items = k.items; none = k.none };
+  }
+
+  -- numbers of sessions are given one after the other
+  session_kept : (session : ℕ) → NamesOnly session state request → Keeps session state.sessions (serving_of setting request state).state.sessions
+  session_kept session only = by (is_write request) refl
+    where
+      by : (b : Bool) → is_write request ≡ b → Keeps session state.sessions (serving_of setting request state).state.sessions
+      by true is = (written session only is).sessions
+      by false is = (others session only is).sessions
+
+  fresh_by : IsFresh state.sessions → (header : Result RequestHeader TakeFault) → ((session : ℕ) → Only session header → Keeps session state.sessions (serving_of setting request state).state.sessions) → IsFresh (serving_of setting request state).state.sessions
+  fresh_by fresh (Err fault) keeps = fresh_after 0 state.sessions (serving_of setting request state).state.sessions (omega arith) fresh (keeps 0 tt)
+  fresh_by fresh (Ok header) keeps = by (named state.sessions header.authentication_token) refl (λ session only. keeps session only)
+    where
+      by : (o : Option Named) → named state.sessions header.authentication_token ≡ o → ((session : ℕ) → IfSome o (λ (n : Named). n.number ≡ session) → Keeps session state.sessions (serving_of setting request state).state.sessions) →
+          IsFresh (serving_of setting request state).state.sessions
+      by None e k = fresh_after 0 state.sessions (serving_of setting request state).state.sessions (omega arith) fresh (k 0 tt)
+      by (Some n) e k = fresh_after n.number state.sessions (serving_of setting request state).state.sessions (named_given state.sessions header.authentication_token n fresh e) fresh (k n.number refl)
+
+  pub stays_fresh : IsFresh state.sessions → IsFresh (serving_of setting request state).state.sessions
+  stays_fresh fresh = fresh_by fresh (message_of request_header_reading request.body) session_kept
+
+-- a tick ends sessions, and makes none
+timed_out_sessions : (setting : Setting) (numbers : List ℕ) (s : Serving) → (fold (timed_out setting) s numbers).state.sessions ≡ s.state.sessions
+unfolding timed_out told_alone
+timed_out_sessions setting [] s = refl
+timed_out_sessions setting (number ∷ numbers) s = timed_out_sessions setting numbers (timed_out setting s number)
+
+pub tick_fresh : (setting : Setting) (state : Services) → IsFresh state.sessions → IsFresh (ticking_of setting state).state.sessions
+unfolding told_alone
+tick_fresh setting state fresh =
+    let after = with_sessions state (ticked state.sessions setting.clock) in
+    subst IsFresh (sym (timed_out_sessions setting (ended_by state.sessions setting.clock) (nothing_done after))) (ticked_fresh state.sessions setting.clock fresh)

@@ -1,0 +1,486 @@
+-- The services go on by calls of the subscriptions and their items.
+use Rattle.std.proofs.Common.{◌≡◌, ℕ, Bool, true, false, not, cond, List, [], ◌∷◌, ◌++◌, length, fold, Option, Some, None, Result, Ok, Err, refl, sym, ap, subst, ◌∙◌, append-nil, append_assoc}
+use Rattle.std.proofs.lemmas.List.Sums.{fold-append}
+use Rattle.std.specs.Prelude.{nat_lt}
+use Rattle.ua_types.specs.declared.moment.Moment.{Moment}
+use Rattle.ua_types.specs.declared.node_id.NodeId.{NodeId}
+use Rattle.ua_types.specs.NodeIds.{is_null_id}
+use Rattle.ua_types.specs.declared.status.Status.{Status}
+use Rattle.ua_types.specs.declared.status.TheConstants.Status as status
+use Rattle.ua_binary.specs.declared.fault.TakeFault.{TakeFault}
+use Rattle.ua_messages.specs.Bodies.{message_id_of, message_of}
+use Rattle.ua_messages.specs.GetEndpoints.{get_endpoints_request_reading}
+use Rattle.ua_messages.specs.Headers.{request_header_reading}
+use Rattle.ua_messages.specs.declared.headers.RequestHeader.{RequestHeader}
+use Rattle.ua_messages.specs.declared.read_value_ids.ReadValueId.{ReadValueId}
+use Rattle.ua_messages.specs.declared.type_ids.TheConstants.{BROWSE_RESPONSE, BROWSE_NEXT_RESPONSE, HISTORY_READ_RESPONSE, SET_PUBLISHING_MODE_RESPONSE, DELETE_SUBSCRIPTIONS_RESPONSE}
+use Rattle.ua_requests.specs.declared.fired.Fired.{Fired}
+use Rattle.ua_requests.specs.declared.reply.Reply.{Reply}
+use Rattle.ua_requests.specs.declared.request.Request.{Request}
+use Rattle.ua_requests.specs.declared.setting.Setting.{Setting}
+use Rattle.service_messages.specs.Browsing.{browse_result_encoding, browse_request_reading, browse_next_request_reading}
+use Rattle.service_messages.specs.History.{history_read_result_encoding, history_read_request_reading}
+use Rattle.service_messages.specs.Reading.{read_request_reading}
+use Rattle.service_messages.specs.Sessions.{create_session_request_reading, activate_session_request_reading, close_session_request_reading}
+use Rattle.service_messages.specs.Writing.{write_request_reading}
+use Rattle.service_messages.specs.declared.browsing.BrowseDescription.{BrowseDescription}
+use Rattle.service_messages.specs.declared.browsing.BrowseNextRequest.{BrowseNextRequest}
+use Rattle.service_messages.specs.declared.browsing.BrowseRequest.{BrowseRequest}
+use Rattle.service_messages.specs.declared.history.HistoryReadRequest.{HistoryReadRequest}
+use Rattle.service_messages.specs.declared.history.HistoryReadValueId.{HistoryReadValueId}
+use Rattle.service_messages.specs.declared.reading.ReadRequest.{ReadRequest}
+use Rattle.service_messages.specs.declared.sessions.ActivateSessionRequest.{ActivateSessionRequest}
+use Rattle.service_messages.specs.declared.sessions.CloseSessionRequest.{CloseSessionRequest}
+use Rattle.service_messages.specs.declared.sessions.CreateSessionRequest.{CreateSessionRequest}
+use Rattle.service_messages.specs.declared.writing.WriteRequest.{WriteRequest}
+use Rattle.service_messages.specs.declared.writing.WriteValue.{WriteValue}
+use Rattle.sub_messages.specs.MonitoredItems.{create_monitored_items_request_reading, modify_monitored_items_request_reading, set_monitoring_mode_request_reading, delete_monitored_items_request_reading}
+use Rattle.sub_messages.specs.Publishing.{publish_request_reading, republish_request_reading}
+use Rattle.sub_messages.specs.Subscriptions.{create_subscription_request_reading, modify_subscription_request_reading, set_publishing_mode_request_reading, delete_subscriptions_request_reading}
+use Rattle.sub_messages.specs.declared.monitored_items.CreateMonitoredItemsRequest.{CreateMonitoredItemsRequest}
+use Rattle.sub_messages.specs.declared.monitored_items.DeleteMonitoredItemsRequest.{DeleteMonitoredItemsRequest}
+use Rattle.sub_messages.specs.declared.monitored_items.ModifyMonitoredItemsRequest.{ModifyMonitoredItemsRequest}
+use Rattle.sub_messages.specs.declared.monitored_items.MonitoredItemCreateRequest.{MonitoredItemCreateRequest}
+use Rattle.sub_messages.specs.declared.monitored_items.MonitoredItemModifyRequest.{MonitoredItemModifyRequest}
+use Rattle.sub_messages.specs.declared.monitored_items.SetMonitoringModeRequest.{SetMonitoringModeRequest}
+use Rattle.sub_messages.specs.declared.publishing.PublishRequest.{PublishRequest}
+use Rattle.sub_messages.specs.declared.publishing.RepublishRequest.{RepublishRequest}
+use Rattle.sub_messages.specs.declared.subscriptions.CreateSubscriptionRequest.{CreateSubscriptionRequest}
+use Rattle.sub_messages.specs.declared.subscriptions.DeleteSubscriptionsRequest.{DeleteSubscriptionsRequest}
+use Rattle.sub_messages.specs.declared.subscriptions.ModifySubscriptionRequest.{ModifySubscriptionRequest}
+use Rattle.sub_messages.specs.declared.subscriptions.SetPublishingModeRequest.{SetPublishingModeRequest}
+use Rattle.sub_table.specs.declared.vars.Vars.{Vars}
+use Rattle.read_write.specs.Timestamps.{timestamps_of}
+use Rattle.read_write.specs.Writing.{Writing, write_of}
+use Rattle.read_write.specs.declared.timestamps.Timestamps.{Timestamps}
+use Rattle.raw_history.specs.declared.reading.RawRange.{RawRange}
+use Rattle.monitored_items.specs.Items.{ItemsState}
+use Rattle.monitored_items.specs.Kinds.{mode_numbered}
+use Rattle.monitored_items.specs.Moves as item_moves
+use Rattle.monitored_items.specs.declared.kinds.Mode.{Mode}
+use Rattle.subscription.specs.Ending.{session_ended}
+use Rattle.subscription.specs.Making.{modified, republished, timed}
+use Rattle.subscription.specs.Named.{is_own, named_all, deleted}
+use Rattle.subscription.specs.Publishing.{published}
+use Rattle.subscription_laws.specs.Runs.{ItemsCall, on_items, Move, Ran, ran_by, items_ran, moved}
+use Rattle.subscription.specs.Subs.{Said, said, told, world_of, created}
+use Rattle.subscription.specs.Tables.{World, met, vars_found}
+use Rattle.subscription.specs.declared.call.Call.TheVariants as sub_call
+use Rattle.ua_browse.specs.Browsing.{page_size, browse_of}
+use Rattle.ua_session.specs.Points.{is_overspent}
+use Rattle.ua_session.specs.Sessions.{SessionsState, is_spent, points_of, with_points, create_of, activate_of, find_of, close_of, ticked, ended_by}
+use Rattle.ua_services.specs.ActivateSession.{is_anonymous, activate_session_body, activate_session_meaning}
+use Rattle.ua_services.specs.Browse.{browse_listed, browse_meaning}
+use Rattle.ua_services.specs.BrowseNext.{go_on_of, browse_next_listed, browse_next_meaning}
+use Rattle.ua_services.specs.BrowseResults.{browse_told}
+use Rattle.ua_services.specs.CloseSession.{close_session_body, closed_by, close_session_meaning}
+use Rattle.ua_services.specs.CreateMonitoredItems.{create_listed, create_timed, items_created, create_monitored_items_meaning}
+use Rattle.ua_services.specs.CreateSession.{create_session_body, create_session_meaning}
+use Rattle.ua_services.specs.CreateSubscription.{settings_asked, create_subscription_body, create_subscription_meaning}
+use Rattle.ua_services.specs.DeleteMonitoredItems.{deleted_listed, items_deleted, delete_monitored_items_meaning}
+use Rattle.ua_services.specs.DeleteSubscriptions.{delete_subscriptions_listed, delete_subscriptions_meaning}
+use Rattle.ua_services.specs.GetEndpoints.{get_endpoints_meaning}
+use Rattle.ua_services.specs.HistoryRead.{some_times, details_judged, node_read, history_ranged, history_listed, history_timed, history_read_meaning}
+use Rattle.ua_services.specs.InSession.{if_found, served_in_session}
+use Rattle.ua_services.specs.ItemServing.{with_items, Itemed, own_vars, items_called_by}
+use Rattle.ua_services.specs.ModifyMonitoredItems.{modify_listed, modify_timed, items_modified, modify_monitored_items_meaning}
+use Rattle.ua_services.specs.ModifySubscription.{settings_wanted, modify_subscription_body, modify_subscription_meaning}
+use Rattle.server_laws.specs.Moving.{ran_at, GoesOn, GoesOnBy}
+use Rattle.ua_services.specs.Operations.{operations_of}
+use Rattle.ua_services.specs.Paging.{AllDone, all_done, paged}
+use Rattle.ua_services.specs.Publish.{acknowledged_in, publish_call, publish_meaning}
+use Rattle.ua_services.specs.Read.{read_listed, read_timed, read_meaning}
+use Rattle.ua_services.specs.Republish.{republish_answer, republish_meaning}
+use Rattle.ua_services.specs.Services.{call_of, picked_of_subscriptions, picked_of_items, picked, serving_by, serving_of, ticking_of, forgotten}
+use Rattle.ua_services.specs.declared.services.Services.{Services}
+use Rattle.ua_services.specs.Serving.{Act, Serving, rows_of, reply_of, answered, faulted, served_by}
+use Rattle.ua_services.specs.SessionServing.{spent_by, taken, with_sessions}
+use Rattle.ua_services.specs.SetMonitoringMode.{moded_all, moded_listed, items_moded, set_monitoring_mode_meaning}
+use Rattle.ua_services.specs.SetPublishingMode.{set_publishing_listed, set_publishing_mode_meaning}
+use Rattle.ua_services.specs.StatusResults.{statuses_body}
+use Rattle.ua_services.specs.SubServing.{world_at, called, no_reply, told_alone, nothing_done, and_then, session_over, timed_out, all_timed_out, timers_met}
+use Rattle.ua_services.specs.Write.{with_written, write_listed, write_meaning}
+use Rattle.ua_services.specs.declared.call.Call.{Call}
+use Rattle.ua_services.specs.declared.history_read.Wanted.{Wanted}
+use Rattle.ua_services.proofs.SubLemmas.{rows_joined, no_rows, rows_of_turn}
+
+-- ---- no call, one call, and calls behind others
+
+-- no call
+pub none : (state : Services) → GoesOn state state []
+none state so_far replies = record {
+  moves = [];
+  replied = replies;
+  left = ap (λ (rows : List Fired). ran_at state rows replies) (sym (append-nil so_far));
+}
+
+-- calls behind others
+pub and_on : (before mid after : Services) (xs ys : List Fired) → GoesOn before mid xs → GoesOn mid after ys → GoesOn before after (xs ++ ys)
+and_on before mid after xs ys p q so_far replies =
+    let first = p so_far replies in
+    let second = q (so_far ++ xs) first.replied in
+    record {
+      moves = first.moves ++ second.moves;
+      replied = second.replied;
+      left = fold-append moved (ran_at before so_far replies) first.moves second.moves
+          ∙ ap (λ (r : Ran). fold moved r second.moves) first.left
+          ∙ second.left
+          ∙ ap (λ (rows : List Fired). ran_at after rows second.replied) (append_assoc so_far xs ys);
+    }
+
+said_at : {A : Type 0} (state : Services) (own : A → List Reply) (s : Said A) (so_far : List Fired) (replies : List Reply) →
+    ran_by (ran_at state so_far replies) s ≡ ran_at (called state own s).state (so_far ++ rows_of (called state own s).acts) (replies ++ s.outcome.world.turn.replies)
+said_at state own s so_far replies =
+    let turn = s.outcome.world.turn in
+    ap (λ (rows : List Fired). ran_at (called state own s).state (so_far ++ rows) (replies ++ turn.replies)) (sym (rows_of_turn state.subs.halted turn))
+
+-- one call of the subscriptions
+one_call : {A : Type 0} (state : Services) (own : A → List Reply) (s : Said A) (move : Move) →
+    ((so_far : List Fired) (replies : List Reply) → moved (ran_at state so_far replies) move ≡ ran_by (ran_at state so_far replies) s) → GoesOnBy state (called state own s)
+one_call state own s move f so_far replies = record {
+  moves = move ∷ [];
+  replied = replies ++ s.outcome.world.turn.replies;
+  left = f so_far replies ∙ said_at state own s so_far replies;
+}
+
+told_call : (state : Services) (w : World) (move : Move) →
+    ((so_far : List Fired) (replies : List Reply) → moved (ran_at state so_far replies) move ≡ ran_by (ran_at state so_far replies) (told state.subs w)) → GoesOnBy state (told_alone state w)
+unfolding told_alone
+told_call state w move f = one_call state no_reply (told state.subs w) move f
+
+then_on : (state : Services) (s : Serving) (more : Services → Serving) → GoesOnBy state s → ((mid : Services) → GoesOnBy mid (more mid)) → GoesOnBy state (and_then s more)
+then_on state s more p f =
+    let t = more s.state in
+    subst (λ (rows : List Fired). GoesOn state t.state rows) (sym (rows_joined s.acts t.acts))
+    (and_on state s.state t.state (rows_of s.acts) (rows_of t.acts) p (f s.state))
+
+-- the same, where the serving is seen to be one of two
+record IsOn (state : Services) (s : Serving) : Type 0 where
+  goes : GoesOnBy state s
+
+either : (state : Services) (b : Bool) (x y : Serving) → IsOn state x → IsOn state y → IsOn state (cond b x y)
+either state true x y p q = p
+either state false x y p q = q
+
+by_fields : {A : Type 0} (meaning : Setting → Call → A → Services → Serving) (setting : Setting) (call : Call) (state : Services) →
+    ((request : A) → GoesOnBy state (meaning setting call request state)) → (r : Result A TakeFault) → IsOn state (served_by meaning setting call state r)
+by_fields meaning setting call state f (Ok request) = record { goes = f request }
+by_fields meaning setting call state f (Err fault) = record { goes = none state }
+
+-- ---- sessions
+
+taken_on : {A : Type 0} (call : Call) (state : Services) (clock : Moment) (acts : List Act) (body : A → List ℕ) → rows_of acts ≡ [] → (answer : Result A Status) (sessions : SessionsState) →
+    GoesOnBy state (taken state call clock acts body answer sessions)
+taken_on call state clock acts body e (Ok x) sessions = subst (λ (rows : List Fired). GoesOn state (with_sessions state sessions) rows) (sym e) (none state)
+taken_on call state clock acts body e (Err code) sessions = none state
+
+no_rows_spent : (sessions : SessionsState) → rows_of (spent_by sessions) ≡ []
+no_rows_spent sessions = no_rows (is_spent sessions)
+
+create_session_on : (setting : Setting) (call : Call) (state : Services) (request : CreateSessionRequest) → GoesOnBy state (create_session_meaning setting call request state)
+create_session_on setting call state request =
+    let s = create_of state.sessions call.conn call.key in
+    taken_on call state setting.clock (spent_by state.sessions) (create_session_body setting call) (no_rows_spent state.sessions) s.answer s.state
+
+activate_session_on : (setting : Setting) (call : Call) (state : Services) (request : ActivateSessionRequest) → GoesOnBy state (activate_session_meaning setting call request state)
+activate_session_on setting call state request =
+    let s = activate_of state.sessions request.request_header.authentication_token call.conn call.key (is_anonymous request.user_identity_token) in
+    taken_on call state setting.clock (spent_by state.sessions) (activate_session_body setting call) (no_rows_spent state.sessions) s.answer s.state
+
+over_on : (setting : Setting) (deleting : Bool) (number : ℕ) (state : Services) → GoesOnBy state (session_over setting deleting number state)
+over_on setting deleting number state =
+    told_call state (session_ended number deleting (world_at setting state)) (Move.EndSession setting.clock number deleting) (λ so_far replies. refl)
+
+all_timed_out_on : (setting : Setting) (state : Services) (numbers : List ℕ) (s : Serving) → GoesOnBy state s → GoesOnBy state (fold (timed_out setting) s numbers)
+unfolding timed_out
+all_timed_out_on setting state [] s p = p
+all_timed_out_on setting state (number ∷ numbers) s p =
+    all_timed_out_on setting state numbers (timed_out setting s number) (then_on state s (session_over setting false number) p (over_on setting false number))
+
+closed_on : (setting : Setting) (call : Call) (deleting : Bool) (state : Services) (answer : Result ℕ Status) (sessions : SessionsState) → GoesOnBy state (closed_by setting call deleting state answer sessions)
+closed_on setting call deleting state (Ok number) sessions =
+    then_on (with_sessions state sessions) (session_over setting deleting number (with_sessions state sessions)) (λ (after : Services). answered after call (close_session_body setting call))
+    (over_on setting deleting number (with_sessions state sessions)) none
+closed_on setting call deleting state (Err code) sessions = none state
+
+close_session_on : (setting : Setting) (call : Call) (state : Services) (request : CloseSessionRequest) → GoesOnBy state (close_session_meaning setting call request state)
+close_session_on setting call state request =
+    let s = close_of state.sessions request.request_header.authentication_token call.conn in
+    closed_on setting call request.delete_subscriptions state s.answer s.state
+
+if_found_on : (serve : ℕ → Services → Serving) (setting : Setting) (call : Call) (state : Services) → ((number : ℕ) (after : Services) → GoesOnBy after (serve number after)) → (answer : Result ℕ Status) (sessions : SessionsState) →
+    GoesOnBy state (if_found serve setting call state answer sessions)
+if_found_on serve setting call state f (Ok number) sessions = f number (with_sessions state sessions)
+if_found_on serve setting call state f (Err code) sessions = none state
+
+by_session : {A : Type 0} (meaning : Setting → Call → ℕ → A → Services → Serving) (setting : Setting) (call : Call) (token : NodeId) (state : Services) →
+    ((number : ℕ) (request : A) (after : Services) → GoesOnBy after (meaning setting call number request after)) → (r : Result A TakeFault) → IsOn state (served_in_session meaning setting call token state r)
+by_session meaning setting call token state f (Ok request) =
+    let s = find_of state.sessions token call.conn in
+    record { goes = if_found_on (λ number. meaning setting call number request) setting call state (λ number. f number request) s.answer s.state }
+by_session meaning setting call token state f (Err fault) = record { goes = none state }
+
+-- ---- nodes
+
+read_listed_on : (setting : Setting) (call : Call) (state : Services) (timestamps : Timestamps) (r : Result (List ReadValueId) Status) → GoesOnBy state (read_listed setting call state timestamps r)
+read_listed_on setting call state timestamps (Ok nodes) = none state
+read_listed_on setting call state timestamps (Err code) = none state
+
+read_timed_on : (setting : Setting) (call : Call) (state : Services) (nodes : Option (List ReadValueId)) (choice : Option Timestamps) → GoesOnBy state (read_timed setting call state nodes choice)
+read_timed_on setting call state nodes None = none state
+read_timed_on setting call state nodes (Some timestamps) = read_listed_on setting call state timestamps (operations_of setting.config nodes)
+
+read_on : (setting : Setting) (call : Call) (session : ℕ) (request : ReadRequest) (state : Services) → GoesOnBy state (read_meaning setting call session request state)
+read_on setting call session request state = read_timed_on setting call state request.nodes_to_read (timestamps_of request.timestamps_to_return)
+
+-- what is written is shown to the items
+shown_on : (state : Services) (writing : Writing) → GoesOn state (with_written state writing) []
+shown_on state writing so_far replies = record {
+  moves = Move.Show writing.changed ∷ [];
+  replied = replies;
+  left = ap (λ (rows : List Fired). ran_at (with_written state writing) rows replies) (sym (append-nil so_far));
+}
+
+write_listed_on : (setting : Setting) (call : Call) (state : Services) (r : Result (List WriteValue) Status) → GoesOnBy state (write_listed setting call state r)
+write_listed_on setting call state (Ok values) = shown_on state (write_of setting.clock state.space.nodes values)
+write_listed_on setting call state (Err code) = none state
+
+write_on : (setting : Setting) (call : Call) (session : ℕ) (request : WriteRequest) (state : Services) → GoesOnBy state (write_meaning setting call session request state)
+write_on setting call session request state = write_listed_on setting call state (operations_of setting.config request.nodes_to_write)
+
+-- a page is no call
+paged_on : {R : Type 0} (encoding : R → List ℕ) (setting : Setting) (call : Call) (session type_id : ℕ) (state : Services) (all : AllDone R) → GoesOnBy state (paged encoding setting call session type_id state all)
+paged_on encoding setting call session type_id state all =
+    subst (λ (rows : List Fired). GoesOn state (with_sessions state (with_points state.sessions session all.points)) rows) (sym (no_rows (is_overspent all.points))) (none state)
+
+browse_listed_on : (setting : Setting) (call : Call) (session requested : ℕ) (state : Services) (r : Result (List BrowseDescription) Status) → GoesOnBy state (browse_listed setting call session requested state r)
+browse_listed_on setting call session requested state (Ok descriptions) =
+    paged_on browse_result_encoding setting call session BROWSE_RESPONSE state
+    (all_done (λ points d. browse_told (browse_of state.space points (page_size setting.config.references requested) d)) (points_of state.sessions session) descriptions)
+browse_listed_on setting call session requested state (Err code) = none state
+
+browse_on : (setting : Setting) (call : Call) (session : ℕ) (request : BrowseRequest) (state : Services) → GoesOnBy state (browse_meaning setting call session request state)
+browse_on setting call session request state =
+    let listed : IsOn state (browse_listed setting call session request.requested_max_references_per_node state (operations_of setting.config request.nodes_to_browse)) =
+    record { goes = browse_listed_on setting call session request.requested_max_references_per_node state (operations_of setting.config request.nodes_to_browse) } in
+    let one : IsOn state (browse_meaning setting call session request state) = either state (not (is_null_id request.view_id)) _ _ (record { goes = none state }) listed in
+    one.goes
+
+browse_next_listed_on : (setting : Setting) (call : Call) (session : ℕ) (is_release : Bool) (state : Services) (r : Result (List (Option (List ℕ))) Status) → GoesOnBy state (browse_next_listed setting call session is_release state r)
+browse_next_listed_on setting call session is_release state (Ok named) =
+    paged_on browse_result_encoding setting call session BROWSE_NEXT_RESPONSE state
+    (all_done (λ points bytes. browse_told (go_on_of state.space is_release points bytes)) (points_of state.sessions session) named)
+browse_next_listed_on setting call session is_release state (Err code) = none state
+
+browse_next_on : (setting : Setting) (call : Call) (session : ℕ) (request : BrowseNextRequest) (state : Services) → GoesOnBy state (browse_next_meaning setting call session request state)
+browse_next_on setting call session request state =
+    browse_next_listed_on setting call session request.release_continuation_points state (operations_of setting.config request.continuation_points)
+
+history_ranged_on : (setting : Setting) (call : Call) (session : ℕ) (request : HistoryReadRequest) (state : Services) (times : Timestamps) (nodes : List HistoryReadValueId) (r : Result RawRange Status) →
+    GoesOnBy state (history_ranged setting call session request state times nodes r)
+history_ranged_on setting call session request state times nodes (Ok range) =
+    let wanted : Wanted = record { timestamps = times; is_release = request.release_continuation_points; range = range } in
+    paged_on history_read_result_encoding setting call session HISTORY_READ_RESPONSE state
+    (all_done (λ points asked. node_read state.history state.space.nodes wanted points asked) (points_of state.sessions session) nodes)
+history_ranged_on setting call session request state times nodes (Err code) = none state
+
+history_listed_on : (setting : Setting) (call : Call) (session : ℕ) (request : HistoryReadRequest) (state : Services) (times : Timestamps) (r : Result (List HistoryReadValueId) Status) →
+    GoesOnBy state (history_listed setting call session request state times r)
+history_listed_on setting call session request state times (Ok nodes) = history_ranged_on setting call session request state times nodes (details_judged setting.config request.history_read_details)
+history_listed_on setting call session request state times (Err code) = none state
+
+history_timed_on : (setting : Setting) (call : Call) (session : ℕ) (request : HistoryReadRequest) (state : Services) (choice : Option Timestamps) → GoesOnBy state (history_timed setting call session request state choice)
+history_timed_on setting call session request state None = none state
+history_timed_on setting call session request state (Some times) = history_listed_on setting call session request state times (operations_of setting.config request.nodes_to_read)
+
+history_read_on : (setting : Setting) (call : Call) (session : ℕ) (request : HistoryReadRequest) (state : Services) → GoesOnBy state (history_read_meaning setting call session request state)
+history_read_on setting call session request state = history_timed_on setting call session request state (some_times (timestamps_of request.timestamps_to_return))
+
+-- ---- subscriptions
+
+create_subscription_on : (setting : Setting) (call : Call) (session : ℕ) (request : CreateSubscriptionRequest) (state : Services) → GoesOnBy state (create_subscription_meaning setting call session request state)
+create_subscription_on setting call session request state =
+    one_call state (λ answer. reply_of call (create_subscription_body setting call answer) ∷ []) (created session (settings_asked request) request.publishing_enabled state.subs state.items setting.clock)
+    (Move.Create setting.clock session (settings_asked request) request.publishing_enabled) (λ so_far replies. refl)
+
+modify_subscription_on : (setting : Setting) (call : Call) (session : ℕ) (request : ModifySubscriptionRequest) (state : Services) → GoesOnBy state (modify_subscription_meaning setting call session request state)
+modify_subscription_on setting call session request state =
+    one_call state (λ answer. reply_of call (modify_subscription_body setting call answer) ∷ []) (said state.subs (modified session request.subscription_id (settings_wanted request) (world_at setting state)))
+    (Move.Modify setting.clock session request.subscription_id (settings_wanted request)) (λ so_far replies. refl)
+
+publishing_listed_on : (setting : Setting) (call : Call) (session : ℕ) (enabled : Bool) (state : Services) (r : Result (List ℕ) Status) → GoesOnBy state (set_publishing_listed setting call session enabled state r)
+publishing_listed_on setting call session enabled state (Ok numbers) =
+    one_call state (λ statuses. reply_of call (statuses_body SET_PUBLISHING_MODE_RESPONSE setting call statuses) ∷ []) (said state.subs (named_all session (sub_call.SetMode enabled) (world_at setting state) numbers))
+    (Move.SetMode setting.clock session numbers enabled) (λ so_far replies. refl)
+publishing_listed_on setting call session enabled state (Err code) = none state
+
+set_publishing_mode_on : (setting : Setting) (call : Call) (session : ℕ) (request : SetPublishingModeRequest) (state : Services) → GoesOnBy state (set_publishing_mode_meaning setting call session request state)
+set_publishing_mode_on setting call session request state = publishing_listed_on setting call session request.publishing_enabled state (operations_of setting.config request.subscription_ids)
+
+subscriptions_deleted_on : (setting : Setting) (call : Call) (session : ℕ) (state : Services) (r : Result (List ℕ) Status) → GoesOnBy state (delete_subscriptions_listed setting call session state r)
+subscriptions_deleted_on setting call session state (Ok numbers) =
+    one_call state (λ statuses. reply_of call (statuses_body DELETE_SUBSCRIPTIONS_RESPONSE setting call statuses) ∷ []) (said state.subs (deleted session (world_at setting state) numbers))
+    (Move.Delete setting.clock session numbers) (λ so_far replies. refl)
+subscriptions_deleted_on setting call session state (Err code) = none state
+
+delete_subscriptions_on : (setting : Setting) (call : Call) (session : ℕ) (request : DeleteSubscriptionsRequest) (state : Services) → GoesOnBy state (delete_subscriptions_meaning setting call session request state)
+delete_subscriptions_on setting call session request state = subscriptions_deleted_on setting call session state (operations_of setting.config request.subscription_ids)
+
+publish_on : (setting : Setting) (call : Call) (session : ℕ) (request : PublishRequest) (state : Services) → GoesOnBy state (publish_meaning setting call session request state)
+publish_on setting call session request state =
+    let acks = acknowledged_in request.subscription_acknowledgements in
+    let told_so : IsOn state (told_alone state (published session (publish_call call) acks (world_at setting state))) =
+    record { goes = told_call state (published session (publish_call call) acks (world_at setting state)) (Move.Publish setting.clock session (publish_call call) acks) (λ so_far replies. refl) } in
+    let one : IsOn state (publish_meaning setting call session request state) = either state (nat_lt setting.config.operations (length acks)) _ _ (record { goes = none state }) told_so in
+    one.goes
+
+republish_on : (setting : Setting) (call : Call) (session : ℕ) (request : RepublishRequest) (state : Services) → GoesOnBy state (republish_meaning setting call session request state)
+republish_on setting call session request state =
+    one_call state (λ answer. reply_of call (republish_answer setting call answer) ∷ []) (said state.subs (republished session request.subscription_id request.retransmit_sequence_number (world_at setting state)))
+    (Move.Republish setting.clock session request.subscription_id request.retransmit_sequence_number) (λ so_far replies. refl)
+
+-- ---- monitored items
+
+-- something that is asked of the items of a subscription leaves them so
+pub record Asks (number : ℕ) (before after : ItemsState) : Type 0 where
+  pub asked : ItemsCall
+  pub same : (item_moves.moved before (on_items number asked)).state ≡ after
+
+-- a request that is refused asks nothing
+asks_none : (number : ℕ) (items : ItemsState) → Asks number items items
+asks_none number items = record { asked = ItemsCall.Delete []; same = refl }
+
+create_listed_asks : (setting : Setting) (call : Call) (number : ℕ) (state : Services) (times : Timestamps) (r : Result (List MonitoredItemCreateRequest) Status) → Asks number state.items (create_listed setting call number state times r).items
+create_listed_asks setting call number state times (Ok requests) = record { asked = ItemsCall.Create state.space.nodes setting.clock times requests; same = refl }
+create_listed_asks setting call number state times (Err code) = asks_none number state.items
+
+create_timed_asks : (setting : Setting) (call : Call) (number : ℕ) (state : Services) (requests : Option (List MonitoredItemCreateRequest)) (choice : Option Timestamps) →
+    Asks number state.items (create_timed setting call number state requests choice).items
+create_timed_asks setting call number state requests None = asks_none number state.items
+create_timed_asks setting call number state requests (Some times) = create_listed_asks setting call number state times (operations_of setting.config requests)
+
+pub created_asks : (setting : Setting) (call : Call) (request : CreateMonitoredItemsRequest) (state : Services) → Asks request.subscription_id state.items (items_created setting call request state).items
+unfolding items_created
+created_asks setting call request state = create_timed_asks setting call request.subscription_id state request.items_to_create (timestamps_of request.timestamps_to_return)
+
+modify_listed_asks : (setting : Setting) (call : Call) (number : ℕ) (state : Services) (times : Timestamps) (r : Result (List MonitoredItemModifyRequest) Status) → Asks number state.items (modify_listed setting call number state times r).items
+modify_listed_asks setting call number state times (Ok requests) = record { asked = ItemsCall.Modify times requests; same = refl }
+modify_listed_asks setting call number state times (Err code) = asks_none number state.items
+
+modify_timed_asks : (setting : Setting) (call : Call) (number : ℕ) (state : Services) (requests : Option (List MonitoredItemModifyRequest)) (choice : Option Timestamps) →
+    Asks number state.items (modify_timed setting call number state requests choice).items
+modify_timed_asks setting call number state requests None = asks_none number state.items
+modify_timed_asks setting call number state requests (Some times) = modify_listed_asks setting call number state times (operations_of setting.config requests)
+
+pub modified_asks : (setting : Setting) (call : Call) (request : ModifyMonitoredItemsRequest) (state : Services) → Asks request.subscription_id state.items (items_modified setting call request state).items
+unfolding items_modified
+modified_asks setting call request state = modify_timed_asks setting call request.subscription_id state request.items_to_modify (timestamps_of request.timestamps_to_return)
+
+moded_all_asks : (setting : Setting) (call : Call) (number : ℕ) (state : Services) (numbers : List ℕ) (choice : Option Mode) → Asks number state.items (moded_all setting call number state numbers choice).items
+moded_all_asks setting call number state numbers None = asks_none number state.items
+moded_all_asks setting call number state numbers (Some mode) = record { asked = ItemsCall.SetMode state.space.nodes setting.clock mode numbers; same = refl }
+
+moded_listed_asks : (setting : Setting) (call : Call) (number : ℕ) (state : Services) (choice : Option Mode) (r : Result (List ℕ) Status) → Asks number state.items (moded_listed setting call number state choice r).items
+moded_listed_asks setting call number state choice (Ok numbers) = moded_all_asks setting call number state numbers choice
+moded_listed_asks setting call number state choice (Err code) = asks_none number state.items
+
+pub moded_asks : (setting : Setting) (call : Call) (request : SetMonitoringModeRequest) (state : Services) → Asks request.subscription_id state.items (items_moded setting call request state).items
+unfolding items_moded
+moded_asks setting call request state = moded_listed_asks setting call request.subscription_id state (mode_numbered request.monitoring_mode) (operations_of setting.config request.monitored_item_ids)
+
+deleted_listed_asks : (setting : Setting) (call : Call) (number : ℕ) (state : Services) (r : Result (List ℕ) Status) → Asks number state.items (deleted_listed setting call number state r).items
+deleted_listed_asks setting call number state (Ok numbers) = record { asked = ItemsCall.Delete numbers; same = refl }
+deleted_listed_asks setting call number state (Err code) = asks_none number state.items
+
+pub deleted_asks : (setting : Setting) (call : Call) (request : DeleteMonitoredItemsRequest) (state : Services) → Asks request.subscription_id state.items (items_deleted setting call request state).items
+unfolding items_deleted
+deleted_asks setting call request state = deleted_listed_asks setting call request.subscription_id state (operations_of setting.config request.monitored_item_ids)
+
+module _ (setting : Setting) (call : Call) (number : ℕ) (state : Services) (done : Itemed) (asks : Asks number state.items done.items) where
+  abbrev fires : ItemsState → Vars → Said (Unit {0})
+  fires items before = told state.subs (met (world_of state.subs items setting.clock) number (sub_call.Items before))
+
+  -- what its call leaves
+  pub items_left : (before : Vars) → vars_found number state.items state.subs.table ≡ Some before → (so_far : List Fired) (replies : List Reply) →
+      (let s = items_called_by setting call number state done (Some before) in
+      moved (ran_at state so_far replies) (Move.Items setting.clock number asks.asked) ≡ ran_at s.state (so_far ++ rows_of s.acts) (replies ++ (fires done.items before).outcome.world.turn.replies))
+  items_left before e so_far replies =
+      let from = ran_at state so_far replies in
+      ap (items_ran setting.clock number asks.asked from) e
+      ∙ ap (λ (items : ItemsState). ran_by from (fires items before)) asks.same
+      ∙ said_at (with_items state done.items) (λ (x : Unit {0}). reply_of call done.body ∷ []) (fires done.items before) so_far replies
+
+  found_on : (found : Option Vars) → vars_found number state.items state.subs.table ≡ found → GoesOnBy state (items_called_by setting call number state done found)
+  found_on None e so_far replies = none state so_far replies
+  found_on (Some before) e so_far replies = record {
+    moves = Move.Items setting.clock number asks.asked ∷ [];
+    replied = replies ++ (fires done.items before).outcome.world.turn.replies;
+    left = items_left before e so_far replies;
+  }
+
+  own_on : (own : Bool) → GoesOnBy state (items_called_by setting call number state done (cond own (vars_found number state.items state.subs.table) None))
+  own_on true = found_on (vars_found number state.items state.subs.table) refl
+  own_on false = none state
+
+  items_on : (session : ℕ) → GoesOnBy state (items_called_by setting call number state done (own_vars session number state))
+  items_on session = own_on (is_own state.subs.table session number)
+
+-- ---- all services
+
+of_subscriptions_on : (setting : Setting) (call : Call) (token : NodeId) (body : List ℕ) (state : Services) (id : ℕ) → IsOn state (picked_of_subscriptions setting call token body state id)
+of_subscriptions_on setting call token body state id =
+    let last : IsOn state (faulted state call status.BAD_SERVICE_UNSUPPORTED setting.clock) = record { goes = none state } in
+    either state _ _ _ (by_session create_subscription_meaning setting call token state (create_subscription_on setting call) (message_of create_subscription_request_reading body))
+    (either state _ _ _ (by_session modify_subscription_meaning setting call token state (modify_subscription_on setting call) (message_of modify_subscription_request_reading body))
+    (either state _ _ _ (by_session set_publishing_mode_meaning setting call token state (set_publishing_mode_on setting call) (message_of set_publishing_mode_request_reading body))
+    (either state _ _ _ (by_session delete_subscriptions_meaning setting call token state (delete_subscriptions_on setting call) (message_of delete_subscriptions_request_reading body))
+    (either state _ _ _ (by_session publish_meaning setting call token state (publish_on setting call) (message_of publish_request_reading body))
+    (either state _ _ _ (by_session republish_meaning setting call token state (republish_on setting call) (message_of republish_request_reading body))
+    last)))))
+
+of_items_on : (setting : Setting) (call : Call) (token : NodeId) (body : List ℕ) (state : Services) (id : ℕ) → IsOn state (picked_of_items setting call token body state id)
+of_items_on setting call token body state id =
+    either state _ _ _ (by_session create_monitored_items_meaning setting call token state (λ session request after. items_on setting call request.subscription_id after (items_created setting call request after) (created_asks setting call request after) session) (message_of create_monitored_items_request_reading body))
+    (either state _ _ _ (by_session modify_monitored_items_meaning setting call token state (λ session request after. items_on setting call request.subscription_id after (items_modified setting call request after) (modified_asks setting call request after) session) (message_of modify_monitored_items_request_reading body))
+    (either state _ _ _ (by_session set_monitoring_mode_meaning setting call token state (λ session request after. items_on setting call request.subscription_id after (items_moded setting call request after) (moded_asks setting call request after) session) (message_of set_monitoring_mode_request_reading body))
+    (either state _ _ _ (by_session delete_monitored_items_meaning setting call token state (λ session request after. items_on setting call request.subscription_id after (items_deleted setting call request after) (deleted_asks setting call request after) session) (message_of delete_monitored_items_request_reading body))
+    (of_subscriptions_on setting call token body state id))))
+
+picked_on : (setting : Setting) (call : Call) (token : NodeId) (body : List ℕ) (state : Services) (id : ℕ) → IsOn state (picked setting call token body state id)
+picked_on setting call token body state id =
+    either state _ _ _ (by_fields get_endpoints_meaning setting call state (λ request. none state) (message_of get_endpoints_request_reading body))
+    (either state _ _ _ (by_fields create_session_meaning setting call state (create_session_on setting call state) (message_of create_session_request_reading body))
+    (either state _ _ _ (by_fields activate_session_meaning setting call state (activate_session_on setting call state) (message_of activate_session_request_reading body))
+    (either state _ _ _ (by_fields close_session_meaning setting call state (close_session_on setting call state) (message_of close_session_request_reading body))
+    (either state _ _ _ (by_session read_meaning setting call token state (read_on setting call) (message_of read_request_reading body))
+    (either state _ _ _ (by_session write_meaning setting call token state (write_on setting call) (message_of write_request_reading body))
+    (either state _ _ _ (by_session browse_meaning setting call token state (browse_on setting call) (message_of browse_request_reading body))
+    (either state _ _ _ (by_session browse_next_meaning setting call token state (browse_next_on setting call) (message_of browse_next_request_reading body))
+    (either state _ _ _ (by_session history_read_meaning setting call token state (history_read_on setting call) (message_of history_read_request_reading body))
+    (of_items_on setting call token body state id)))))))))
+
+by_header : (setting : Setting) (request : Request) (state : Services) (id : Result ℕ TakeFault) (header : Result RequestHeader TakeFault) → GoesOnBy state (serving_by setting request state id header)
+by_header setting request state (Ok id) (Ok header) = (picked_on setting (call_of request header.request_handle) header.authentication_token request.body state id).goes
+by_header setting request state (Ok id) (Err fault) = none state
+by_header setting request state (Err fault) header = none state
+
+pub serving_on : (setting : Setting) (request : Request) (state : Services) → GoesOnBy state (serving_of setting request state)
+unfolding serving_of
+serving_on setting request state = by_header setting request state (message_id_of request.body) (message_of request_header_reading request.body)
+
+timers_on : (setting : Setting) (state : Services) → GoesOnBy state (timers_met setting state)
+timers_on setting state = told_call state (timed (world_at setting state)) (Move.Timers setting.clock) (λ so_far replies. refl)
+
+pub ticking_on : (setting : Setting) (state : Services) → GoesOnBy state (ticking_of setting state)
+ticking_on setting state =
+    let after = with_sessions state (ticked state.sessions setting.clock) in
+    let ended = ended_by state.sessions setting.clock in
+    then_on after (all_timed_out setting after ended) (timers_met setting) (all_timed_out_on setting after ended (nothing_done after) (none after)) (timers_on setting)
+
+-- a connection that is forgotten is one call
+pub forgotten_on : (state : Services) (conn : ℕ) → GoesOn state (forgotten state conn) []
+forgotten_on state conn so_far replies = record {
+  moves = Move.Gone conn ∷ [];
+  replied = replies;
+  left = ap (λ (rows : List Fired). ran_at (forgotten state conn) rows replies) (sym (append-nil so_far));
+}

@@ -1,0 +1,271 @@
+-- Whatever happens to a server, its subscriptions are where some calls lead.
+use Rattle.std.proofs.Common.{◌≡◌, ℕ, Bool, true, false, not, cond, List, [], ◌∷◌, ◌++◌, fold, Option, Some, None, Result, Ok, Err, refl, sym, ap, subst, ◌∙◌}
+use Rattle.std.proofs.lemmas.List.Sums.{fold-append}
+use Rattle.std.specs.Prelude.{⊤}
+use Rattle.std.specs.FinMap.{get, get-empty}
+use Rattle.std.specs.Ordering.{nat_cmp}
+use Rattle.ua_types.specs.Configuration.{Configuration}
+use Rattle.ua_types.specs.Moments.{later}
+use Rattle.ua_types.specs.declared.moment.Moment.{Moment}
+use Rattle.ua_tcp.specs.Feeding.{Framing, framed_of}
+use Rattle.ua_tcp.specs.Frames.{End, Rest, Broken}
+use Rattle.ua_tcp.specs.Pieces.{Done, and_then, all_handled, at_end}
+use Rattle.ua_tcp.specs.declared.frame.Frame.{Frame}
+use Rattle.ua_tcp.specs.declared.frame.FrameFault.{FrameFault}
+use Rattle.ua_requests.specs.declared.fired.Fired.{Fired}
+use Rattle.ua_requests.specs.declared.request.Request.{Request}
+use Rattle.ua_requests.specs.declared.setting.Setting.{Setting}
+use Rattle.ua_space.specs.Nodes.{SpaceState}
+use Rattle.ua_connections.specs.Connecting.{is_known, is_new, turned_away, taking_of, break_of}
+use Rattle.ua_connections.specs.Delivering.{delivery_of}
+use Rattle.ua_connections.specs.declared.asked.Asked.{Asked}
+use Rattle.ua_connections.specs.declared.asked.Asked.TheVariants as asked
+use Rattle.ua_connections.specs.declared.connections.Connections.{Connections}
+use Rattle.ua_connections.specs.declared.out.Out.{Out}
+use Rattle.subscription_laws.specs.Calm.{AreSteady}
+use Rattle.subscription_laws.specs.Histories.{AreLawful}
+use Rattle.subscription_laws.specs.Runs.{Ran, moved, start}
+use Rattle.subscription.specs.Tables.{TableState}
+use Rattle.subscription_laws.proofs.Reached.{rows_are_lawful, all_steady, none_beside, lives_count, none_skipped}
+use Rattle.server_laws.specs.Moving.{Went, GoesOn}
+use Rattle.ua_services.specs.Serving.{Serving, rows_of}
+use Rattle.ua_services.specs.Services.{serving_of, ticking_of, forgotten}
+use Rattle.ua_services.specs.declared.services.Services.{Services}
+use Rattle.server_laws.proofs.ApartLemmas.{CameBy, keeps_apart, stays_fresh, tick_fresh}
+use Rattle.server_laws.proofs.OtherSessions.{IsFresh}
+use Rattle.server_laws.proofs.MovingLemmas.{none, and_on, serving_on, ticking_on, forgotten_on}
+use Rattle.ua_core.specs.Coherent.{reached, IfRuns}
+use Rattle.ua_core.specs.Effects.{Effect, doing, effects_of, fired_of}
+use Rattle.ua_core.specs.Handling.{answered, asked_for, handled, broken, ticked_core}
+use Rattle.ua_core.specs.Running.{Running, joined_effects, then_run, run_of}
+use Rattle.server_laws.specs.SessionsApart.{KeepsSessionsApart, ServesByFrames}
+use Rattle.ua_core.specs.Stepping as stepping
+use Rattle.ua_core.specs.Stepping.{Served, served, fed_to, fed, step_of}
+use Rattle.server_laws.specs.Tables.{rows_of_run, IfShown, ComesByCalls, StaysSteady, NoneWaitsBesideARequest, LivesCountTimers, NoKeepAliveIsSkipped}
+use Rattle.ua_core.specs.World.{opening}
+use Rattle.ua_core.specs.declared.world.World.{World}
+use Rattle.ua_core.specs.declared.parts.Core.{Core}
+use Rattle.ua_core.specs.declared.event.Event.{Event}
+use Rattle.ua_core.specs.declared.event.Event.TheVariants.{Opened, Bytes, Gone, Tick}
+use Rattle.ua_core.specs.declared.out.StepFault.{StepFault}
+use Rattle.ua_core.specs.declared.out.StepFault.TheVariants.{KnownConnection, UnknownConnection}
+use Rattle.ua_core.proofs.EffectLemmas.{fired_of-append, fired_of_doing, fired_of_effects}
+
+-- ---- calls, and the numbers of sessions
+
+-- services come from others by calls that fire these rows; and where no session had a number that wasn't given, none has
+pub record Goes (before after : Services) (rows : List Fired) : Type 0 where
+  pub goes : GoesOn before after rows
+  pub fresh : CameBy before.subs before.items → IsFresh before.sessions → IsFresh after.sessions
+
+came_on : (before after : Services) (rows : List Fired) → GoesOn before after rows → CameBy before.subs before.items → CameBy after.subs after.items
+came_on before after rows p from =
+    let next = p from.rows from.came.replied in
+    record {
+      config = from.config;
+      rows = from.rows ++ rows;
+      came = record {
+        moves = from.came.moves ++ next.moves;
+        replied = next.replied;
+        left = fold-append moved (start from.config) from.came.moves next.moves ∙ ap (λ (r : Ran). fold moved r next.moves) from.came.left ∙ next.left;
+      };
+    }
+
+nothing : (services : Services) → Goes services services []
+nothing services = record { goes = none services; fresh = λ from fresh. fresh }
+
+and_then_goes : (before mid after : Services) (xs ys : List Fired) → Goes before mid xs → Goes mid after ys → Goes before after (xs ++ ys)
+and_then_goes before mid after xs ys p q = record {
+  goes = and_on before mid after xs ys p.goes q.goes;
+  fresh = λ from fresh. q.fresh (came_on before mid xs p.goes from) (p.fresh from fresh);
+}
+
+serving_goes : (setting : Setting) (request : Request) (services : Services) → (let s = serving_of setting request services in Goes services s.state (rows_of s.acts))
+serving_goes setting request services = record { goes = serving_on setting request services; fresh = λ from fresh. stays_fresh setting request services from fresh }
+
+ticking_goes : (setting : Setting) (services : Services) → (let s = ticking_of setting services in Goes services s.state (rows_of s.acts))
+ticking_goes setting services = record { goes = ticking_on setting services; fresh = λ from fresh. tick_fresh setting services fresh }
+
+forgetting : (services : Services) (conn : ℕ) → Goes services (forgotten services conn) []
+forgetting services conn = record { goes = forgotten_on services conn; fresh = λ from fresh. fresh }
+
+-- ---- requests, frames and ticks
+
+-- effects in which no row fired
+no_rows : (services : Services) (effects : List Effect) → fired_of effects ≡ [] → Goes services services (fired_of effects)
+no_rows services effects e = subst (λ (rows : List Fired). Goes services services rows) (sym e) (nothing services)
+
+-- effects behind others
+both_go : (before mid after : Services) (xs ys : List Effect) → Goes before mid (fired_of xs) → Goes mid after (fired_of ys) → Goes before after (fired_of (xs ++ ys))
+both_go before mid after xs ys p q =
+    subst (λ (rows : List Fired). Goes before after rows) (sym (fired_of-append xs ys)) (and_then_goes before mid after (fired_of xs) (fired_of ys) p q)
+
+answered_goes : (core : Core) (outs : List Out) (before : Services) (s : Serving) → Goes before s.state (rows_of s.acts) → (let d = answered core outs s in Goes before d.state.services (fired_of d.outs))
+answered_goes core outs before s p =
+    let d = delivery_of core.setting core.connections s.replies in
+    both_go before before s.state (doing outs) (effects_of s.acts d) (no_rows before (doing outs) (fired_of_doing outs))
+    (subst (λ (rows : List Fired). Goes before s.state rows) (sym (fired_of_effects s.acts d)) p)
+
+forgotten_goes : (services : Services) (conn : ℕ) (outs : List Out) → Goes services (forgotten services conn) (fired_of (doing outs))
+forgotten_goes services conn outs =
+    subst (λ (rows : List Fired). Goes services (forgotten services conn) rows) (sym (fired_of_doing outs)) (forgetting services conn)
+
+asked_goes : (conn : ℕ) (core : Core) (connections : Connections) (outs : List Out) (found : Asked) →
+    (let d = asked_for conn (record core { connections = connections }) outs found in Goes core.services d.state.services (fired_of d.outs))
+asked_goes conn core connections outs asked.Nothing = no_rows core.services (doing outs) (fired_of_doing outs)
+asked_goes conn core connections outs asked.Closed = forgotten_goes core.services conn outs
+asked_goes conn core connections outs (asked.Request request) =
+    let at : Core = record core { connections = connections } in
+    answered_goes at outs core.services (serving_of core.setting request core.services) (serving_goes core.setting request core.services)
+
+handled_goes : (conn : ℕ) (core : Core) (frame : Frame) → (let d = handled conn core frame in Goes core.services d.state.services (fired_of d.outs))
+unfolding handled
+handled_goes conn core frame =
+    let t = taking_of core.setting conn core.connections frame in
+    asked_goes conn core t.connections t.outs t.asked
+
+broken_goes : (conn : ℕ) (core : Core) (fault : FrameFault) → (let d = broken conn core fault in Goes core.services d.state.services (fired_of d.outs))
+unfolding broken
+broken_goes conn core fault = forgotten_goes core.services conn (break_of conn core.connections fault).outs
+
+ticked_goes : (core : Core) (clock : Moment) → (let d = ticked_core core clock in Goes core.services d.state.services (fired_of d.outs))
+ticked_goes core clock =
+    let setting : Setting = record core.setting { clock = clock } in
+    let at : Core = record core { setting = setting } in
+    answered_goes at [] core.services (ticking_of setting core.services) (ticking_goes setting core.services)
+
+-- ---- pieces
+
+then_goes : (before : Services) (mid : Core) (effects : List Effect) (b : Bool) (more : Core → Done Core Effect) → Goes before mid.services (fired_of effects) → Goes mid.services (more mid).state.services (fired_of (more mid).outs) →
+    (let d = and_then (record { state = mid; outs = effects; goes_on = b }) more in Goes before d.state.services (fired_of d.outs))
+then_goes before mid effects true more p q = both_go before mid.services (more mid).state.services effects (more mid).outs p q
+then_goes before mid effects false more p q = p
+
+frames_go : (conn : ℕ) (frames : List Frame) (core : Core) → (let d = all_handled (handled conn) core frames in Goes core.services d.state.services (fired_of d.outs))
+frames_go conn [] core = nothing core.services
+frames_go conn (frame ∷ frames) core =
+    let d = handled conn core frame in
+    then_goes core.services d.state d.outs d.goes_on (λ s. all_handled (handled conn) s frames) (handled_goes conn core frame) (frames_go conn frames d.state)
+
+end_goes : (conn : ℕ) (before : Services) (end : End) (d : Done Core Effect) → Goes before d.state.services (fired_of d.outs) →
+    (let s = at_end (broken conn) end d in Goes before s.stream.state.services (fired_of s.outs))
+end_goes conn before (Rest bytes) d p = p
+end_goes conn before (Broken fault) d p = then_goes before d.state d.outs d.goes_on (λ s. broken conn s fault) p (broken_goes conn d.state fault)
+
+fed_goes_by : (world : World) (conn : ℕ) (piece : List ℕ) (found : Option Framing) → (let s = fed_to world conn piece found in Goes world.core.services s.world.core.services (fired_of s.effects))
+fed_goes_by world conn piece None = nothing world.core.services
+fed_goes_by world conn piece (Some framing) =
+    let framed = framed_of framing.limit framing.held piece in
+    end_goes conn world.core.services framed.end (all_handled (handled conn) world.core framed.frames) (frames_go conn framed.frames world.core)
+
+fed_goes : (world : World) (conn : ℕ) (piece : List ℕ) → (let s = fed world conn piece in Goes world.core.services s.world.core.services (fired_of s.effects))
+unfolding fed
+fed_goes world conn piece = fed_goes_by world conn piece (get world.links conn)
+
+-- ---- any event
+
+-- what is said of an event, unless it is refused
+abbrev pub StepGoes : World → Result Served StepFault → Type 0
+StepGoes world (Ok s) = Goes world.core.services s.world.core.services (fired_of s.effects)
+StepGoes world (Err fault) = ⊤
+
+either_goes : (world : World) (b : Bool) (x y : Result Served StepFault) → StepGoes world x → StepGoes world y → StepGoes world (cond b x y)
+either_goes world true x y p q = p
+either_goes world false x y p q = q
+
+opened_goes : (world : World) (conn : ℕ) (key : List ℕ) → StepGoes world (stepping.opened world conn key)
+opened_goes world conn key =
+    let greeted : Result Served StepFault = Ok (served (stepping.greeted world conn key) []) in
+    let away : Result Served StepFault = Ok (stepping.refused world conn key) in
+    let r = turned_away world.core.connections conn key in
+    either_goes world (not (is_new world.core.connections conn)) (Err KnownConnection) (cond (stepping.has_room world) greeted away) tt
+    (either_goes world (stepping.has_room world) greeted away (nothing world.core.services) (no_rows world.core.services (doing r.outs) (fired_of_doing r.outs)))
+
+if_known_goes : (world : World) (conn : ℕ) (s : Served) → Goes world.core.services s.world.core.services (fired_of s.effects) → StepGoes world (stepping.if_known world conn s)
+if_known_goes world conn s p = either_goes world (is_known world.core.connections conn) (Ok s) (Err UnknownConnection) p tt
+
+pub step_goes : (world : World) (event : Event) → StepGoes world (step_of world event)
+step_goes world (Opened conn key) = opened_goes world conn key
+step_goes world (Bytes conn bytes) = if_known_goes world conn (fed world conn bytes) (fed_goes world conn bytes)
+step_goes world (Gone conn) = if_known_goes world conn (served (stepping.forgotten world conn) []) (forgetting world.core.services conn)
+step_goes world (Tick now) = ticked_goes world.core (later world.core.setting.clock now)
+
+-- ---- any run
+
+-- a server that some events left, and the calls by which its services came to be
+record HasGone (before : Services) (r : Running) : Type 0 where
+  world : World
+  there : r.server ≡ Some world
+  goes : Goes before world.core.services (rows_of_run r)
+
+run_goes_by : (world : World) (r : Result Served StepFault) (more : Option World → Running) → StepGoes world r → ((next : World) → HasGone next.core.services (more (Some next))) →
+    HasGone world.core.services (then_run (Some world) r more)
+run_goes_by world (Ok s) more p f =
+    let rest = f s.world in
+    record {
+      world = rest.world;
+      there = rest.there;
+      goes = both_go world.core.services s.world.core.services rest.world.core.services s.effects (joined_effects (more (Some s.world)).steps) p rest.goes;
+    }
+run_goes_by world (Err fault) more p f = record { world = world; there = refl; goes = nothing world.core.services }
+
+run_goes : (events : List Event) (world : World) → HasGone world.core.services (run_of (Some world) events)
+run_goes [] world = record { world = world; there = refl; goes = nothing world.core.services }
+run_goes (event ∷ events) world = run_goes_by world (step_of world event) (λ s. run_of s events) (step_goes world event) (λ next. run_goes events next)
+
+-- ---- what holds of the subscriptions after any calls, holds of a server's
+
+module _ (config : Configuration) (space : SpaceState) (events : List Event) where
+  abbrev r : Running
+  r = reached config space events
+
+  gone : HasGone (opening config space).core.services r
+  gone = run_goes events (opening config space)
+
+  went : let services : Services = gone.world.core.services in Went (start config) services.subs services.items (rows_of_run r)
+  went = gone.goes.goes [] []
+
+  seen : (P : World → Type 0) → P gone.world → IfRuns P r.server
+  seen P p = subst (λ (server : Option World). IfRuns P server) (sym gone.there) p
+
+  shown : (P : TableState → Type 0) → (let services : Services = gone.world.core.services in P services.subs.table) → IfShown P r.server
+  shown P p = subst (λ (server : Option World). IfShown P server) (sym gone.there) p
+
+  pub comes_by_calls : IfRuns (ComesByCalls config (rows_of_run r)) r.server
+  comes_by_calls = seen (ComesByCalls config (rows_of_run r)) went
+
+  pub stays_steady : IfRuns (StaysSteady (rows_of_run r)) r.server
+  stays_steady = seen (StaysSteady (rows_of_run r)) (subst (λ (ran : Ran). AreSteady ran.subs.table ran.items ran.rows) went.left (all_steady config went.moves))
+
+  pub reached_lawful : AreLawful (rows_of_run r)
+  reached_lawful = subst (λ (ran : Ran). AreLawful ran.rows) went.left (rows_are_lawful config went.moves)
+
+  pub none_waits : IfShown NoneWaitsBesideARequest r.server
+  none_waits = shown NoneWaitsBesideARequest (subst (λ (ran : Ran). NoneWaitsBesideARequest ran.subs.table) went.left (none_beside config went.moves))
+
+  pub lives_are_counted : IfShown (LivesCountTimers (rows_of_run r)) r.server
+  lives_are_counted = shown (LivesCountTimers (rows_of_run r)) (subst (λ (ran : Ran). LivesCountTimers ran.rows ran.subs.table) went.left (lives_count config went.moves))
+
+  pub none_is_skipped : IfShown (NoKeepAliveIsSkipped (rows_of_run r)) r.server
+  none_is_skipped = shown (NoKeepAliveIsSkipped (rows_of_run r)) (subst (λ (ran : Ran). NoKeepAliveIsSkipped ran.rows ran.subs.table) went.left (none_skipped config went.moves))
+
+  -- ---- the sessions
+
+  begun : CameBy (opening config space).core.services.subs (opening config space).core.services.items
+  begun = record { config = config; rows = []; came = record { moves = []; replied = []; left = refl } }
+
+  came : CameBy gone.world.core.services.subs gone.world.core.services.items
+  came = record { config = config; rows = rows_of_run r; came = went }
+
+  fresh : IsFresh gone.world.core.services.sessions
+  fresh = gone.goes.fresh begun (λ number above. get-empty nat_cmp number)
+
+  pub keeps_sessions_apart : IfRuns KeepsSessionsApart r.server
+  keeps_sessions_apart = seen KeepsSessionsApart (λ request. keeps_apart gone.world.core.setting request gone.world.core.services came fresh)
+
+-- a frame that completes a request
+pub serves_by_frames : (core : Core) → ServesByFrames core
+unfolding handled
+serves_by_frames core conn frame request e =
+    let t = taking_of core.setting conn core.connections frame in
+    ap (λ (a : Asked). (asked_for conn (record core { connections = t.connections }) t.outs a).state.services) e

@@ -1,0 +1,58 @@
+-- What becomes of the values that items queue, whatever happens to a server.
+use Rattle.std.specs.Prelude.{◌≡◌, ℕ, List, [], ◌∷◌, ◌++◌, take}
+use Rattle.ua_types.specs.Configuration.{Configuration}
+use Rattle.ua_requests.specs.declared.fired.Fired.{Fired}
+use Rattle.ua_space.specs.Nodes.{SpaceState}
+use Rattle.ua_values.specs.declared.data_value.DataValue.{DataValue}
+use Rattle.item_queue.specs.Fates.{Told, waiting}
+use Rattle.item_queue.specs.ItemQueue.{Deed}
+use Rattle.monitored_items.specs.Moves as item_moves
+use Rattle.monitored_items.specs.Moves.{queue_at}
+use Rattle.subscription_laws.specs.Fates.{deeds_at, account_at}
+use Rattle.subscription_laws.specs.ItemCalls.{item_calls}
+use Rattle.subscription_laws.specs.Runs.{Move, run}
+use Rattle.ua_services.specs.declared.services.Services.{Services}
+use Rattle.ua_core.specs.Coherent.{reached, IfRuns}
+use Rattle.ua_core.specs.Running.{Running}
+use Rattle.server_laws.specs.Tables.{rows_of_run}
+use Rattle.ua_core.specs.declared.world.World.{World}
+use Rattle.ua_core.specs.declared.event.Event.{Event}
+
+-- the server after the first n of some events
+abbrev pub reached_at : Configuration → SpaceState → List Event → ℕ → Running
+reached_at config space events n = reached config space (take n events)
+
+abbrev pub all_of : List (List Move) → List Move
+all_of [] = []
+all_of (moves ∷ rest) = moves ++ all_of rest
+
+-- the calls of the first n events
+abbrev pub first_calls : ℕ → List (List Move) → List Move
+first_calls n calls = all_of (take n calls)
+
+-- calls that lead to the subscriptions and items of a server, and fire these rows
+pub record LeadTo (config : Configuration) (moves : List Move) (rows : List Fired) (world : World) : Type 0 where
+  pub subs : let services : Services = world.core.services in (run config moves).subs ≡ services.subs
+  pub items : let services : Services = world.core.services in (run config moves).items ≡ services.items
+  pub fired : (run config moves).rows ≡ rows
+
+-- the calls that each event comes to: those of the first n events lead to the server after them, for every n
+pub record CallsOf (config : Configuration) (space : SpaceState) (events : List Event) : Type 0 where
+  pub calls : List (List Move)
+  pub lead : (n : ℕ) → let r = reached_at config space events n in IfRuns (LeadTo config (first_calls n calls) (rows_of_run r)) r.server
+
+-- what these events come to at the items
+abbrev pub first_item_calls : Configuration → ℕ → List (List Move) → List item_moves.Move
+first_item_calls config n calls = item_calls config (first_calls n calls)
+
+-- all that the first n events did with the queue of the item of a number, and the account of all values that it ever queued,
+-- oldest first, each with its fate and its mark
+abbrev pub deeds_after : Configuration → List (List Move) → ℕ → ℕ → List (Deed DataValue)
+deeds_after config calls n number = deeds_at config (first_calls n calls) number
+
+abbrev pub account_after : Configuration → List (List Move) → ℕ → ℕ → List (Told DataValue)
+account_after config calls n number = account_at config (first_calls n calls) number
+
+-- the values of an account that wait are what the queue of the server's item of a number holds
+abbrev pub HoldsWhatWaits : List (Told DataValue) → ℕ → World → Type 0
+HoldsWhatWaits account number world = let services : Services = world.core.services in waiting account ≡ queue_at number services.items.items

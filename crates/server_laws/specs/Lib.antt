@@ -1,0 +1,6 @@
+pub mod Moving
+pub mod Apart
+pub mod Tables
+pub mod Messages
+pub mod SessionsApart
+pub mod Fates

@@ -1,0 +1,54 @@
+-- The messages with notifications that a server makes (IEC 62541-4, 5.13: SequenceNumber, and the retransmission queue).
+use Rattle.std.specs.Prelude.{◌≡◌, ℕ, true, List, ◌++◌, Some, is_some}
+use Rattle.std.specs.List.{AllByRecursion}
+use Rattle.ua_types.specs.Configuration.{Configuration}
+use Rattle.ua_requests.specs.declared.fired.Fired.{Fired}
+use Rattle.ua_space.specs.Nodes.{SpaceState}
+use Rattle.subscription.specs.Subs.{SubsState}
+use Rattle.subscription.specs.Tables.{TableState, part_at, subscription_at}
+use Rattle.subscription.specs.declared.subscription.Subscription.{Subscription}
+use Rattle.subscription_laws.specs.Messaging.{Made, run_made, messages_for, IsAmong, AreNotes}
+use Rattle.subscription_laws.specs.Numbering.{AreNumbered, last_number}
+use Rattle.subscription_laws.specs.Runs.{start}
+use Rattle.ua_core.specs.Coherent.{reached, IfRuns}
+use Rattle.ua_core.specs.Subscriptions.{kept_numbers_on, kept_on}
+use Rattle.server_laws.specs.Tables.{rows_of_run, ComesByCalls}
+use Rattle.ua_core.specs.declared.world.World.{World}
+use Rattle.ua_core.specs.declared.event.Event.{Event}
+
+-- those of each subscription are numbered from 1 without a gap, after the last of 32 bits comes 1; also once it is no more
+abbrev pub AllAreNumbered : List Made → Type 0
+AllAreNumbered made = (number : ℕ) → AreNumbered 0 (messages_for number made)
+
+-- a live subscription has the number of its last message
+abbrev pub LastsAreTheirs : List Made → TableState → Type 0
+LastsAreTheirs made t = (number : ℕ) (s : Subscription) → subscription_at number t.subscriptions ≡ Some s → last_number 0 (messages_for number made) ≡ s.number
+
+-- the note of a time-out has the number that its subscription's next message would have had
+abbrev pub NotesComeNext : List Made → TableState → Type 0
+NotesComeNext made t = (session : ℕ) → AreNotes made (part_at session t.sessions).notes
+
+-- what the server keeps is, byte for byte, a message that was made under that number
+abbrev pub KeepsWhatWasMade : List Made → World → Type 0
+KeepsWhatWasMade made world = (number wanted : ℕ) (bytes : List ℕ) → kept_on (Some world) number wanted ≡ Some bytes →
+    IsAmong (record { number = wanted; bytes = bytes }) (messages_for number made)
+
+-- under each number that it shows it keeps a message
+abbrev pub KeepsWhatItShows : World → Type 0
+KeepsWhatItShows world = (number : ℕ) → AllByRecursion (λ wanted. is_some (kept_on (Some world) number wanted) ≡ true) (kept_numbers_on (Some world) number)
+
+-- the messages that were made by calls which lead from no subscriptions to a server's, and by which these rows fire
+pub record MadeThese (config : Configuration) (made : List Made) (rows : List Fired) (world : World) : Type 0 where
+  pub came : ComesByCalls config rows world
+  pub by_calls : run_made (start config) came.moves ≡ made
+  pub numbered : AllAreNumbered made
+  pub lasts : let subs : SubsState = world.core.services.subs in LastsAreTheirs made subs.table
+  pub notes : let subs : SubsState = world.core.services.subs in NotesComeNext made subs.table
+  pub kept : KeepsWhatWasMade made world
+  pub shown : KeepsWhatItShows world
+
+-- what a server makes, whatever happens: after each list of events these messages were made, and more events only add some
+pub record MakesMessages (config : Configuration) (space : SpaceState) : Type 0 where
+  pub made : List Event → List Made
+  pub adds : (events more : List Event) → (later : List Made) × (made (events ++ more) ≡ made events ++ later)
+  pub so : (events : List Event) → let r = reached config space events in IfRuns (MadeThese config (made events) (rows_of_run r)) r.server

@@ -1,0 +1,49 @@
+-- What holds of the subscriptions of a server, after any events.
+use Rattle.std.specs.Prelude.{◌≡◌, ◌<◌, ◌+◌, ℕ, true, List, [], Option, Some}
+use Rattle.ua_types.specs.Configuration.{Configuration}
+use Rattle.ua_requests.specs.declared.fired.Fired.{Fired}
+use Rattle.subscription_laws.specs.Calm.{AreSteady}
+use Rattle.subscription_laws.specs.Histories.{counts_at, life_at}
+use Rattle.subscription.specs.Ranks.{is_waiting}
+use Rattle.subscription_laws.specs.Runs.{start}
+use Rattle.subscription.specs.Subs.{SubsState}
+use Rattle.subscription.specs.Tables.{TableState, part_at, subscription_at}
+use Rattle.subscription.specs.declared.subscription.Subscription.{Subscription}
+use Rattle.server_laws.specs.Moving.{Went}
+use Rattle.ua_services.specs.declared.services.Services.{Services}
+use Rattle.ua_core.specs.Coherent.{IfRuns}
+use Rattle.ua_core.specs.Effects.{fired_of}
+use Rattle.ua_core.specs.Running.{Running, joined_effects}
+use Rattle.ua_core.specs.declared.world.World.{World}
+
+-- the rows of all events, the oldest first
+abbrev pub rows_of_run : Running → List Fired
+rows_of_run r = fired_of (joined_effects r.steps)
+
+-- of the subscriptions of a server, if it isn't halted
+abbrev pub IfShown : (TableState → Type 0) → Option World → Type 0
+IfShown P server = IfRuns (λ (world : World). let subs : SubsState = world.core.services.subs in P subs.table) server
+
+-- calls lead from no subscriptions to those of a server, and these are the rows that they fire
+abbrev pub ComesByCalls : Configuration → List Fired → World → Type 0
+ComesByCalls config rows world = let services : Services = world.core.services in Went (start config) services.subs services.items rows
+
+-- each live subscription is steady, with the counts that the rows tell
+abbrev pub StaysSteady : List Fired → World → Type 0
+StaysSteady rows world = let services : Services = world.core.services in AreSteady services.subs.table services.items rows
+
+-- a session with a subscription that waits has no queued request
+abbrev pub NoneWaitsBesideARequest : TableState → Type 0
+NoneWaitsBesideARequest t = (number session : ℕ) (s : Subscription) → subscription_at number t.subscriptions ≡ Some s → s.session ≡ Some session →
+    is_waiting s ≡ true → (part_at session t.sessions).requests ≡ []
+
+-- the life counter of each subscription was last set to its lifetime count, and lacks of it one for each timer since
+abbrev pub LivesCountTimers : List Fired → TableState → Type 0
+LivesCountTimers rows t = (number : ℕ) (s : Subscription) → subscription_at number t.subscriptions ≡ Some s →
+    (life_at number rows ≡ s.life_count) × (s.life + (counts_at number rows).started ≡ s.life_count)
+
+-- the timers of each subscription that found a request, since it sent a message, or one of them found none, or its counts
+-- were set, are fewer than its keep-alive count
+abbrev pub NoKeepAliveIsSkipped : List Fired → TableState → Type 0
+NoKeepAliveIsSkipped rows t = (number : ℕ) (s : Subscription) → subscription_at number t.subscriptions ≡ Some s →
+    (counts_at number rows).answerable < s.keep_count

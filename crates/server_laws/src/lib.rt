@@ -1,0 +1,151 @@
+//! Laws of the server: what holds of its sessions and subscriptions after every list of events.
+//!
+//! The laws have no code: their contracts state them, over the definitions of the crate [`ua_core`] and those below it.
+//! `Moving` says that each service comes by calls of subscriptions and items, and `Apart` what a request leaves of other
+//! sessions; `Tables`, `Messages`, `Fates` and `SessionsApart` have what is said of the runs of a server. What follows of calls alone,
+//! the crate `subscription_laws` says.
+//!
+//! Read docs/SUBSCRIPTIONS.md first, then [`subscriptions_come_by_calls`].
+#![tactic(auto)]
+
+ghost use Rattle.std.specs.Prelude.{◌≡◌, ◌+◌, ℕ, List};
+ghost use Rattle.ua_types.specs.Configuration.{Configuration};
+ghost use Rattle.ua_space.specs.Nodes.{SpaceState};
+ghost use Rattle.item_queue.specs.Fates.{GoesOn, IsInOrder, TellsLosses};
+ghost use Rattle.item_queue.specs.Sendings.{values_of, sampled_by, sent_of};
+ghost use Rattle.subscription_laws.specs.Fates.{AreCaused, TellsEachLoss};
+ghost use Rattle.subscription_laws.specs.Histories.{AreLawful};
+ghost use Rattle.subscription_laws.specs.Messaging.{run_made};
+ghost use Rattle.subscription_laws.specs.Runs.{start};
+ghost use Rattle.subscription_laws.specs.Tellings.{all_taken, AreTold, entries_told};
+ghost use Rattle.ua_core.specs.Coherent.{reached, IfRuns};
+ghost use Rattle.ua_core.specs.declared.event.Event.{Event};
+ghost use Rattle.server_laws.specs.Messages.{MakesMessages};
+ghost use Rattle.server_laws.specs.SessionsApart.{KeepsSessionsApart, ServesByFrames};
+ghost use Rattle.server_laws.specs.Fates.{CallsOf, reached_at, first_calls, first_item_calls, deeds_after, account_after, HoldsWhatWaits};
+ghost use Rattle.server_laws.specs.Tables.{rows_of_run, IfShown, ComesByCalls, StaysSteady, NoneWaitsBesideARequest, LivesCountTimers, NoKeepAliveIsSkipped};
+ghost use Rattle.ua_core.specs.declared.parts.Core.{Core};
+
+/// Whatever happens, the subscriptions and items of a server are where calls of them lead from none on, and
+/// the rows of all events are those that these calls fire. So what `subscription_laws` says of any calls
+/// holds of every server.
+pub fn subscriptions_come_by_calls()
+    ensures { (config : Configuration) (space : SpaceState) (events : List Event) → let r = reached config space events in
+        IfRuns (ComesByCalls config (rows_of_run r)) r.server }
+{}
+
+/// Whatever happens, each row that fires is the only one that the subscriptions' state table allows at its
+/// variables, which are sound.
+///
+/// A subscription times out at exactly the timer that finds as many timers started, this one included, as
+/// its life counter was last set to; it is late then, and no request of its session is queued.
+pub fn all_rows_are_lawful()
+    ensures { (config : Configuration) (space : SpaceState) (events : List Event) →
+        AreLawful (rows_of_run (reached config space events)) }
+{}
+
+/// Whatever happens, each live subscription is steady, with the counts that the rows tell.
+pub fn subscriptions_stay_steady()
+    ensures { (config : Configuration) (space : SpaceState) (events : List Event) → let r = reached config space events in
+        IfRuns (StaysSteady (rows_of_run r)) r.server }
+{}
+
+/// Whatever happens, a session with a subscription that waits has no queued request.
+pub fn none_waits_beside_a_request()
+    ensures { (config : Configuration) (space : SpaceState) (events : List Event) →
+        IfShown NoneWaitsBesideARequest (reached config space events).server }
+{}
+
+/// Whatever happens, the life counter of a subscription was last set to its lifetime count, and lacks of it
+/// one for each timer that was started since.
+pub fn life_counters_count_timers()
+    ensures { (config : Configuration) (space : SpaceState) (events : List Event) → let r = reached config space events in
+        IfShown (LivesCountTimers (rows_of_run r)) r.server }
+{}
+
+/// Whatever happens, no keep-alive is skipped: the timers of a subscription that found a request, since it
+/// sent a message, or one of them found none, or its counts were set, are fewer than its keep-alive count.
+pub fn no_keep_alive_is_skipped()
+    ensures { (config : Configuration) (space : SpaceState) (events : List Event) → let r = reached config space events in
+        IfShown (NoKeepAliveIsSkipped (rows_of_run r)) r.server }
+{}
+
+/// Whatever happens, the messages with notifications that a server has made are a list, in the order in
+/// which they were made, to which more events only add: those of the calls of subscriptions by which it came
+/// (`subscriptions_come_by_calls`).
+///
+/// - The messages of a subscription are numbered from 1 without a gap, after the last of 32 bits comes 1,
+///   also once it is no more. A live one has the number of its last message.
+/// - What [`Server::kept`](ua_core::Server::kept) gives is, byte for byte, a message that was made under that
+///   number, and under each number that [`Server::kept_numbers`](ua_core::Server::kept_numbers) shows there is
+///   one.
+/// - The note of a time-out has the number that its subscription's next message would have had.
+pub fn all_messages_are_numbered()
+    ensures { (config : Configuration) (space : SpaceState) → MakesMessages config space }
+{}
+
+/// Whatever happened, the next request, served or refused, leaves what is of other sessions than the one
+/// that its header names: those sessions with their continuation points, their queued Publish requests and
+/// notes of time-outs, the subscriptions that aren't its own, with all variables, counters, kept messages
+/// and numbers, and the items of those. So where a header names no session, nothing of any is changed.
+///
+/// A Write changes nothing of any subscription, and of items, its own and others, only what waits in their
+/// queues and the value that was queued last, since they see the values that were written.
+///
+/// A request is what a frame completes. Of several in one piece of a stream, each is the next one once the
+/// piece is cut before it (`any_cut`).
+pub fn sessions_stay_apart()
+    ensures requests { (config : Configuration) (space : SpaceState) (events : List Event) →
+        IfRuns KeepsSessionsApart (reached config space events).server }
+    ensures frames { (core : Core) → ServesByFrames core }
+{}
+
+/// Whatever happens, each event comes to some calls of the subscriptions and their items: those of the first
+/// events, however many, lead from none to the subscriptions and items of the server after them, and fire
+/// the rows of those events.
+pub fn events_come_to_calls()
+    ensures { (config : Configuration) (space : SpaceState) (events : List Event) → CallsOf config space events }
+{}
+
+/// Whatever happens, each value that an item ever queued has one fate: it waits, was sent, was lost where the
+/// queue was full, or was cleared. By the calls that the events come to, the item's account has each of them
+/// once, in the order of sampling; those that wait are what its queue in the server holds; none is sent
+/// before an older one that waits; once a value doesn't wait, its fate and its mark are final, whatever
+/// events come; and each call of the items gives a value no fate but its own: a row's message sends values,
+/// only another value of the item drives one out, and only a smaller queue, a disabled or deleted item, or
+/// the end of the subscription clears any.
+pub fn values_have_one_fate()
+    ensures all { (config : Configuration) (space : SpaceState) (events : List Event) (c : CallsOf config space events) (n number : ℕ) →
+        values_of (account_after config c.calls n number) ≡ sampled_by (deeds_after config c.calls n number) }
+    ensures waiting { (config : Configuration) (space : SpaceState) (events : List Event) (c : CallsOf config space events) (n number : ℕ) →
+        IfRuns (HoldsWhatWaits (account_after config c.calls n number) number) (reached_at config space events n).server }
+    ensures ordered { (config : Configuration) (space : SpaceState) (events : List Event) (c : CallsOf config space events) (n number : ℕ) →
+        IsInOrder (account_after config c.calls n number) }
+    ensures for_good { (config : Configuration) (space : SpaceState) (events : List Event) (c : CallsOf config space events) (n more number : ℕ) →
+        GoesOn (account_after config c.calls n number) (account_after config c.calls (n + more) number) }
+    ensures caused { (config : Configuration) (space : SpaceState) (events : List Event) (c : CallsOf config space events) (n number : ℕ) →
+        AreCaused config (first_item_calls config n c.calls) number }
+{}
+
+/// Whatever happens, no value of an item is lost in silence. Where the queue holds more than one value, each
+/// loss is told of at once: behind the value that is lost a later one waits with the mark of an overflow,
+/// which it keeps, also when it is sent. And behind each value that was lost the first one that was neither
+/// lost nor cleared carries the mark, until something of the item is cleared, or its queue holds one value
+/// only.
+pub fn no_value_is_lost_in_silence()
+    ensures told { (config : Configuration) (space : SpaceState) (events : List Event) (c : CallsOf config space events) (n number : ℕ) →
+        TellsLosses (account_after config c.calls n number) }
+    ensures at_once { (config : Configuration) (space : SpaceState) (events : List Event) (c : CallsOf config space events) (n number : ℕ) →
+        TellsEachLoss (deeds_after config c.calls n number) }
+{}
+
+/// Whatever happens, each value that was sent stands in one message that a row made, with its mark. The
+/// messages are those of what the items gave, one for each time that values were taken, in order: their
+/// bytes are the notes of that and nothing else. And what an item gave, message after message, are the
+/// values of its account that were sent, in the order of sampling.
+pub fn sent_values_stand_in_messages()
+    ensures told { (config : Configuration) (space : SpaceState) (events : List Event) (c : CallsOf config space events) (n : ℕ) →
+        AreTold (run_made (start config) (first_calls n c.calls)) (all_taken config (first_calls n c.calls)) }
+    ensures sent { (config : Configuration) (space : SpaceState) (events : List Event) (c : CallsOf config space events) (n number : ℕ) →
+        entries_told number (all_taken config (first_calls n c.calls)) ≡ sent_of (account_after config c.calls n number) }
+{}

@@ -1,0 +1,218 @@
+-- Whether the items of a subscription have values to send, while those of another change, and while values are shown.
+use Rattle.std.proofs.Common.{◌≡◌, ◌≢◌, ◌⊎◌, inl, inr, ℕ, arith, Bool, true, false, cond, ◌||◌, List, [], ◌∷◌, ◌++◌, length, Option, Some, None, refl, sym, ap, ◌∙◌, subst}
+use Rattle.std.proofs.lemmas.Bool.{eqb-true}
+use Rattle.std.proofs.lemmas.List.Sums.{fold-append}
+use Rattle.std.specs.BTreeMap.{is_at}
+use Rattle.std.specs.Map.{set_value}
+use Rattle.std.specs.Ordering.{nat_cmp, is_eq}
+use Rattle.std.specs.Prelude.{◌==◌, fold, nat_lt}
+use Rattle.ua_types.proofs.NumberMaps.{same_number}
+use Rattle.ua_types.specs.Configuration.{Configuration}
+use Rattle.ua_values.specs.declared.data_value.DataValue.{DataValue}
+use Rattle.read_write.specs.declared.writing.Change.{Change}
+use Rattle.item_queue.specs.ItemQueue.{acted, queue_after, marked_front}
+use Rattle.item_queue.specs.ItemQueue.Act.{Queued, FrontDropped, NewestReplaced, OnlyReplaced}
+use Rattle.item_queue.specs.ItemQueue.Deed.{Sample}
+use Rattle.item_queue.specs.declared.entry.Entry.{Entry}
+use Rattle.monitored_items.specs.Item.{is_reporting, takes, queued, seen}
+use Rattle.monitored_items.specs.ItemTables.{Numbered, item_at, is_of, numbers_of, with_found, AreAbove, AreRising}
+use Rattle.monitored_items.specs.Items.{ItemsState, no_items, is_available, any_waits, waits_in, Visit, visited, sampled_items, all_visits}
+use Rattle.monitored_items.specs.Moves.{Move, Moved, moved, moved_on, run, OthersStay, IsOfSubscription}
+use Rattle.monitored_items.specs.Moves.Move.{Show}
+use Rattle.monitored_items.specs.declared.item.Item.{Item}
+use Rattle.monitored_items.proofs.Apart.{subscriptions_stay_apart}
+use Rattle.monitored_items.proofs.Runs.{run_step}
+use Rattle.monitored_items.proofs.Tables.{greater}
+use Rattle.subscription_laws.specs.Calm.{AreReached}
+use Rattle.subscription_laws.proofs.Entries.{at_itself, same_or_not, set_here, set_other}
+
+-- an item of a subscription that has a value to send
+pub record Waiting (items : Numbered) (subscription : ℕ) : Type 0 where
+  pub number : ℕ
+  pub item : Item
+  pub found : item_at number items ≡ Some item
+  pub own : is_of subscription item ≡ true
+  pub waits : waits_in (Some item) ≡ true
+
+either : (a b : Bool) → b ≡ true → (a || b) ≡ true
+either true b h = refl
+either false b h = h
+
+-- one whose number is among those that are asked
+waits_among : (items es : Numbered) (subscription number : ℕ) (item : Item) → item_at number es ≡ Some item → is_of subscription item ≡ true → waits_in (item_at number items) ≡ true →
+    any_waits items (numbers_of subscription es) ≡ true
+waits_among items [] subscription number item found own waits = absurd (cc)
+waits_among items (e ∷ es) subscription number item found own waits = by (is_at (nat_cmp number) e.0) refl found (λ it. waits_among items es subscription number item it own waits)
+  where
+    rest : (b : Bool) → any_waits items (numbers_of subscription es) ≡ true → any_waits items (cond b (e.0 ∷ numbers_of subscription es) (numbers_of subscription es)) ≡ true
+    rest true h = either (waits_in (item_at e.0 items)) _ h
+    rest false h = h
+
+    here : (b : Bool) → is_of subscription e.1 ≡ b → b ≡ true → waits_in (item_at e.0 items) ≡ true → any_waits items (cond b (e.0 ∷ numbers_of subscription es) (numbers_of subscription es)) ≡ true
+    here true is said h = rw h refl
+    here false is said h = absurd (cc)
+
+    by : (b : Bool) → is_at (nat_cmp number) e.0 ≡ b → cond b (Some e.1) (item_at number es) ≡ Some item → (item_at number es ≡ Some item → any_waits items (numbers_of subscription es) ≡ true) → any_waits items (numbers_of subscription (e ∷ es)) ≡ true
+    by true is it more =
+        let same : e.1 ≡ item = cc in
+        here (is_of subscription e.1) refl (ap (is_of subscription) same ∙ own)
+        (ap (λ (n : ℕ). waits_in (item_at n items)) (sym (same_number number e.0 is)) ∙ waits)
+    by false is it more = rest (is_of subscription e.1) (more it)
+
+pub is_there : (s : ItemsState) (subscription : ℕ) → Waiting s.items subscription → is_available s subscription ≡ true
+is_there s subscription w = waits_among s.items s.items subscription w.number w.item w.found w.own (ap waits_in w.found ∙ w.waits)
+
+-- and the other way round
+both_cases : (a b : Bool) → (a || b) ≡ true → a ≡ false → b ≡ true
+both_cases true b h e = absurd (cc)
+both_cases false b h e = h
+
+waits_found : (items : Numbered) (number : ℕ) (o : Option Item) → o ≡ item_at number items → waits_in o ≡ true → (item : Item) × (item_at number items ≡ Some item) × (waits_in (Some item) ≡ true)
+waits_found items number None is h = absurd (cc)
+waits_found items number (Some item) is h = (item, sym is, h)
+
+-- all these entries are found in the items
+abbrev AreFound : Numbered → Numbered → Type 0
+AreFound items [] = Unit {0}
+AreFound items (e ∷ es) = (item_at e.0 items ≡ Some e.1) × AreFound items es
+
+found_behind : (e : ℕ × Item) (items es : Numbered) → AreAbove e.0 es → AreFound items es → AreFound (e ∷ items) es
+found_behind e items [] above found = tt
+found_behind e items (x ∷ es) above found =
+    let other : is_at (nat_cmp x.0) e.0 ≡ false = ap is_eq (greater x.0 e.0 above.0) in
+    (rw other found.0, found_behind e items es above.1 found.1)
+
+all_found : (items : Numbered) → AreRising items → AreFound items items
+all_found [] rising = tt
+all_found (e ∷ es) rising = (rw (at_itself e.0) refl, found_behind e es es rising.0 (all_found es rising.1))
+
+among_waits : (items es : Numbered) (subscription : ℕ) → AreFound items es → any_waits items (numbers_of subscription es) ≡ true → Waiting items subscription
+among_waits items [] subscription found h = absurd (cc)
+among_waits items (e ∷ es) subscription found h = by (is_of subscription e.1) refl h (among_waits items es subscription found.1)
+  where
+    here : (b : Bool) → waits_in (item_at e.0 items) ≡ b → is_of subscription e.1 ≡ true → (b || any_waits items (numbers_of subscription es)) ≡ true → (any_waits items (numbers_of subscription es) ≡ true → Waiting items subscription) → Waiting items subscription
+    here true is own k more = record { number = e.0; item = e.1; found = found.0; own = own; waits = sym (ap waits_in found.0) ∙ is }
+    here false is own k more = more k
+
+    by : (b : Bool) → is_of subscription e.1 ≡ b → any_waits items (cond b (e.0 ∷ numbers_of subscription es) (numbers_of subscription es)) ≡ true → (any_waits items (numbers_of subscription es) ≡ true → Waiting items subscription) → Waiting items subscription
+    by true own k more = here (waits_in (item_at e.0 items)) refl own k more
+    by false own k more = more k
+
+pub waiting : (s : ItemsState) (subscription : ℕ) → AreRising s.items → is_available s subscription ≡ true → Waiting s.items subscription
+waiting s subscription rising h = among_waits s.items s.items subscription (all_found s.items rising) h
+
+-- ---- the items of another subscription change
+
+not_own : (a b : ℕ) (item : Item) → a ≢ b → is_of a item ≡ true → is_of b item ≡ false
+not_own a b item other own = by (item.subscription == b) refl
+  where
+    by : (c : Bool) → (item.subscription == b) ≡ c → c ≡ false
+    by false e = refl
+    by true e = absurd (other (sym (eqb-true item.subscription a own) ∙ eqb-true item.subscription b e))
+
+pub stays_available : (other subscription : ℕ) (before after : ItemsState) → subscription ≢ other → AreRising before.items → OthersStay other before.items after.items →
+    is_available before subscription ≡ true → is_available after subscription ≡ true
+stays_available other subscription before after apart rising stay h =
+    let w = waiting before subscription rising h in
+    is_there after subscription (record { number = w.number; item = w.item; found = stay w.number w.item w.found (not_own subscription other w.item apart w.own); own = w.own; waits = w.waits })
+
+-- ---- items that were reached
+
+rising_of : (config : Configuration) (moves : List Move) (items : ItemsState) → items ≡ (run config moves).state → AreRising items.items
+rising_of config moves items left = subst (λ (s : ItemsState). AreRising s.items) (sym left) (run_step config moves).sound.rising
+
+pub reached_rise : (items : ItemsState) → AreReached items → AreRising items.items
+reached_rise items r = rising_of r.config r.moves items r.left
+
+one_more : (config : Configuration) (moves : List Move) (m : Move) → (run config (moves ++ m ∷ [])).state ≡ (moved (run config moves).state m).state
+one_more config moves m = ap (λ (x : Moved). x.state) (fold-append moved_on (record { state = no_items config; deeds = [] }) moves (m ∷ []))
+
+pub reached_on : (items : ItemsState) (m : Move) → AreReached items → AreReached (moved items m).state
+reached_on items m r = record {
+  config = r.config;
+  moves = r.moves ++ m ∷ [];
+  left = ap (λ (s : ItemsState). (moved s m).state) r.left ∙ sym (one_more r.config r.moves m);
+}
+
+pub reached_stay : (subscription : ℕ) (items : ItemsState) (m : Move) → IsOfSubscription subscription m → AreReached items → OthersStay subscription items.items (moved items m).state.items
+reached_stay subscription items m of r =
+    let after : (moved items m).state ≡ (run r.config (r.moves ++ m ∷ [])).state = ap (λ (s : ItemsState). (moved s m).state) r.left ∙ sym (one_more r.config r.moves m) in
+    subst (λ (s : ItemsState). OthersStay subscription s.items (moved items m).state.items) (sym r.left)
+    (subst (λ (s : ItemsState). OthersStay subscription (run r.config r.moves).state.items s.items) (sym after) (subscriptions_stay_apart r.config r.moves m subscription of))
+
+-- ---- values that are shown
+
+filled : {V : Type 0} (es : List (Entry V)) (e : Entry V) → nat_lt 0 (length (es ++ e ∷ [])) ≡ true
+filled [] e = refl
+filled (x ∷ es) e = grind arith
+
+marked_filled : {V : Type 0} (es : List (Entry V)) → nat_lt 0 (length es) ≡ true → nat_lt 0 (length (marked_front es)) ≡ true
+marked_filled [] h = h
+marked_filled (e ∷ es) h = h
+
+-- a queue with a value has one after another is queued
+sample_fills : {V : Type 0} (q : List (Entry V)) (size : ℕ) (oldest : Bool) (v : V) → nat_lt 0 (length q) ≡ true → nat_lt 0 (length (queue_after q (Sample size oldest v))) ≡ true
+sample_fills [] size oldest v h = absurd (cc)
+sample_fills (e ∷ es) size oldest v h = by (nat_lt (length (e ∷ es)) size) (nat_lt 1 size) oldest
+  where
+    by : (a b c : Bool) → nat_lt 0 (length (fold acted (e ∷ es) (cond a (Queued v ∷ []) (cond b (cond c (Queued v ∷ FrontDropped ∷ []) (NewestReplaced v ∷ [])) (OnlyReplaced v ∷ []))))) ≡ true
+    by true b c = filled (e ∷ es) _
+    by false true true = marked_filled (es ++ _ ∷ []) (filled es _)
+    by false true false = filled _ _
+    by false false c = refl
+
+queued_waits : (v : DataValue) (item : Item) → waits_in (Some item) ≡ true → waits_in (Some (queued v item)) ≡ true
+queued_waits v item h = by (is_reporting item.mode) h
+  where
+    by : (b : Bool) → nat_lt 0 (cond b (length item.queue.entries) 0) ≡ true → nat_lt 0 (cond b (length (queue_after item.queue.entries (Sample item.queue.size item.queue.discard_oldest v))) 0) ≡ true
+    by true k = sample_fills item.queue.entries item.queue.size item.queue.discard_oldest v k
+    by false k = k
+
+seen_waits : (v : DataValue) (item : Item) → waits_in (Some item) ≡ true → waits_in (Some (seen v item)) ≡ true
+seen_waits v item h = by (takes item v)
+  where
+    by : (b : Bool) → waits_in (Some (cond b (queued v item) item)) ≡ true
+    by true = queued_waits v item h
+    by false = h
+
+seen_own : (v : DataValue) (item : Item) → (seen v item).subscription ≡ item.subscription
+seen_own v item = by (takes item v)
+  where
+    by : (b : Bool) → (cond b (queued v item) item).subscription ≡ item.subscription
+    by true = refl
+    by false = refl
+
+visit_waits : (items : Numbered) (subscription : ℕ) (visit : Visit) → Waiting items subscription → Waiting (visited items visit) subscription
+visit_waits items subscription visit w = by (item_at visit.number items) refl
+  where
+    there : (old : Item) → item_at visit.number items ≡ Some old → (visit.number ≡ w.number) ⊎ (visit.number ≢ w.number) → Waiting (set_value (is_at (nat_cmp visit.number)) items (seen visit.value old)) subscription
+    there old found (inl same) =
+        let again : Some old ≡ Some w.item = sym found ∙ ap (λ (n : ℕ). item_at n items) same ∙ w.found in
+        let it : old ≡ w.item = cc in
+        record {
+          number = visit.number;
+          item = seen visit.value old;
+          found = set_here visit.number old (seen visit.value old) items found;
+          own = ap (λ (s : ℕ). s == subscription) (seen_own visit.value old ∙ ap (λ (i : Item). i.subscription) it) ∙ w.own;
+          waits = seen_waits visit.value old (ap (λ (i : Item). waits_in (Some i)) it ∙ w.waits);
+        }
+    there old found (inr other) = record {
+      number = w.number;
+      item = w.item;
+      found = set_other visit.number w.number (seen visit.value old) (λ same. other (sym same)) items ∙ w.found;
+      own = w.own;
+      waits = w.waits;
+    }
+
+    by : (o : Option Item) → item_at visit.number items ≡ o → Waiting (with_found visit.number (seen visit.value) items o) subscription
+    by None found = w
+    by (Some old) found = there old found (same_or_not visit.number w.number)
+
+all_visits_wait : (items : Numbered) (subscription : ℕ) (visits : List Visit) → Waiting items subscription → Waiting (sampled_items items visits) subscription
+all_visits_wait items subscription [] w = w
+all_visits_wait items subscription (v ∷ vs) w = all_visits_wait (visited items v) subscription vs (visit_waits items subscription v w)
+
+-- values that are shown take none away
+pub shown_available : (items : ItemsState) (changed : List Change) (subscription : ℕ) → AreRising items.items → is_available items subscription ≡ true → is_available (moved items (Show changed)).state subscription ≡ true
+shown_available items changed subscription rising h =
+    is_there (moved items (Show changed)).state subscription (all_visits_wait items.items subscription (all_visits items.items changed) (waiting items subscription rising h))

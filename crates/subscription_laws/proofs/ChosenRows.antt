@@ -1,0 +1,151 @@
+-- Which rows queue a request, and which leave their session, by what comes.
+use Rattle.std.proofs.Common.{◌≡◌, ◌≢◌, Bool, true, false, cond, ◌||◌, refl}
+use Rattle.std.specs.Prelude.{not}
+use Rattle.sub_table.specs.Chosen.{Answers, answers, timer_row, publish_row, chosen}
+use Rattle.sub_table.specs.Doing.{enqueues}
+use Rattle.sub_table.specs.Events.{fits}
+use Rattle.sub_table.specs.declared.row.RowId.TheVariants.{N1, N2, N3, N4, N5, N6, L1, L2, K2, K3, K4, K5, G6}
+use Rattle.sub_table.specs.declared.state.State.{State}
+use Rattle.sub_table.specs.declared.state.State.TheVariants.{Closed, Normal, Late, KeepAlive}
+use Rattle.sub_table.specs.declared.vars.Vars.{Vars}
+use Rattle.subscription.specs.declared.call.Call.{Call}
+use Rattle.subscription.specs.declared.call.Call.TheVariants.{Create, Publish, Timer, Modify, SetMode, Republish, Delete, Items, SessionEnd}
+use Rattle.subscription.specs.Calls.{event_of}
+use Rattle.subscription.specs.Ranks.{waits_in}
+use Rattle.subscription_laws.proofs.Remains.{leaves}
+
+-- a call that comes to live subscriptions, and is no Publish; its items weren't changed before
+abbrev pub is_plain : Call → Bool
+is_plain (Create full settings enabled) = false
+is_plain Publish = false
+is_plain (Items before) = false
+is_plain call = true
+
+abbrev pub is_create : Call → Bool
+is_create (Create full settings enabled) = true
+is_create call = false
+
+abbrev pub is_end : Call → Bool
+is_end (SessionEnd deleting) = true
+is_end call = false
+
+timer_none : (s : State) (a : Answers) → enqueues (timer_row s a) ≡ false
+timer_none Normal a = by a.queued a.enabled_available a.sent
+  where
+    by : (q ea se : Bool) → enqueues (cond q (cond ea N3 (cond se N6 N4)) (cond (not se || ea) N5 N6)) ≡ false
+    by true true se = refl
+    by true false true = refl
+    by true false false = refl
+    by false true true = refl
+    by false true false = refl
+    by false false true = refl
+    by false false false = refl
+timer_none Late a = refl
+timer_none KeepAlive a = by a.queued a.enabled_available a.last_keep
+  where
+    by : (q ea k1 : Bool) → enqueues (cond q (cond ea K2 (cond k1 K3 K4)) (cond (k1 || ea) K5 K4)) ≡ false
+    by true true k1 = refl
+    by true false true = refl
+    by true false false = refl
+    by false true true = refl
+    by false true false = refl
+    by false false true = refl
+    by false false false = refl
+timer_none Closed a = refl
+
+timer_stays : (s : State) (a : Answers) → leaves (timer_row s a) ≡ false
+timer_stays Normal a = by a.queued a.enabled_available a.sent
+  where
+    by : (q ea se : Bool) → leaves (cond q (cond ea N3 (cond se N6 N4)) (cond (not se || ea) N5 N6)) ≡ false
+    by true true se = refl
+    by true false true = refl
+    by true false false = refl
+    by false true true = refl
+    by false true false = refl
+    by false false true = refl
+    by false false false = refl
+timer_stays Late a = refl
+timer_stays KeepAlive a = by a.queued a.enabled_available a.last_keep
+  where
+    by : (q ea k1 : Bool) → leaves (cond q (cond ea K2 (cond k1 K3 K4)) (cond (k1 || ea) K5 K4)) ≡ false
+    by true true k1 = refl
+    by true false true = refl
+    by true false false = refl
+    by false true true = refl
+    by false true false = refl
+    by false false true = refl
+    by false false false = refl
+timer_stays Closed a = refl
+
+-- no other call but Publish queues a request
+pub plain_none : (v : Vars) (call : Call) → is_plain call ≡ true → enqueues (chosen v (event_of call)) ≡ false
+plain_none v (Create full settings enabled) e = absurd (cc)
+plain_none v Publish e = absurd (cc)
+plain_none v (Items before) e = absurd (cc)
+plain_none v Timer e = by (answers v).last_life
+  where
+    by : (l : Bool) → enqueues (cond l G6 (timer_row v.state (answers v))) ≡ false
+    by true = refl
+    by false = timer_none v.state (answers v)
+plain_none v (Modify settings) e = refl
+plain_none v (SetMode enabled) e = refl
+plain_none v (Republish true) e = refl
+plain_none v (Republish false) e = refl
+plain_none v Delete e = refl
+plain_none v (SessionEnd true) e = refl
+plain_none v (SessionEnd false) e = refl
+
+-- no other call but the end of its session makes it leave that
+pub plain_stays : (v : Vars) (call : Call) → is_plain call ≡ true → is_end call ≡ false → leaves (chosen v (event_of call)) ≡ false
+plain_stays v (Create full settings enabled) e f = absurd (cc)
+plain_stays v Publish e f = absurd (cc)
+plain_stays v (Items before) e f = absurd (cc)
+plain_stays v Timer e f = by (answers v).last_life
+  where
+    by : (l : Bool) → leaves (cond l G6 (timer_row v.state (answers v))) ≡ false
+    by true = refl
+    by false = timer_stays v.state (answers v)
+plain_stays v (Modify settings) e f = refl
+plain_stays v (SetMode enabled) e f = refl
+plain_stays v (Republish true) e f = refl
+plain_stays v (Republish false) e f = refl
+plain_stays v Delete e f = refl
+plain_stays v (SessionEnd deleting) e f = absurd (cc)
+
+pub publish_stays : (s : State) (a : Answers) → s ≢ Closed → leaves (publish_row s a) ≡ false
+publish_stays Normal a live = by a.enabled_more
+  where
+    by : (b : Bool) → leaves (cond b N2 N1) ≡ false
+    by true = refl
+    by false = refl
+publish_stays Late a live = by a.enabled_available
+  where
+    by : (b : Bool) → leaves (cond b L1 L2) ≡ false
+    by true = refl
+    by false = refl
+publish_stays KeepAlive a live = refl
+publish_stays Closed a live = absurd (live refl)
+
+-- one that waits answers a request at once
+pub waiting_none : (s : State) (a : Answers) → waits_in s a.enabled_more ≡ true → enqueues (publish_row s a) ≡ false
+waiting_none Normal a e = rw e refl
+waiting_none Late a e = by a.enabled_available
+  where
+    by : (b : Bool) → enqueues (cond b L1 L2) ≡ false
+    by true = refl
+    by false = refl
+waiting_none KeepAlive a e = absurd (cc)
+waiting_none Closed a e = absurd (cc)
+
+pub live_fits : (s : State) (call : Call) → is_create call ≡ false → s ≢ Closed → fits s (event_of call) ≡ true
+live_fits Closed call e live = absurd (live refl)
+live_fits Normal (Create full settings enabled) e live = absurd (cc)
+live_fits Late (Create full settings enabled) e live = absurd (cc)
+live_fits KeepAlive (Create full settings enabled) e live = absurd (cc)
+live_fits Normal call e live = refl
+live_fits Late call e live = refl
+live_fits KeepAlive call e live = refl
+
+pub plain_creates : (call : Call) → is_plain call ≡ true → is_create call ≡ false
+plain_creates (Create full settings enabled) e = absurd (cc)
+plain_creates call e = refl

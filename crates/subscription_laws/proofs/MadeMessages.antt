@@ -1,0 +1,95 @@
+-- Messages are numbered without a gap, and what is kept is what was made.
+use Rattle.std.proofs.Common.{◌≡◌, Bool, true, false, List, [], ◌∷◌, drop, refl, cond, ap, ◌∙◌, subst}
+use Rattle.sub_table.specs.declared.row.RowId.{RowId}
+use Rattle.sub_table.specs.declared.row.RowId.TheVariants.{C1, C2, N1, N2, N3, N4, N5, N6, L1, L2, L3, K1, K2, K3, K4, K5, G1, G2, G3, G4, G5, G6, G7, G8, G9}
+use Rattle.subscription.specs.declared.publish_call.PublishCall.{PublishCall}
+use Rattle.subscription_laws.specs.Numbering.{note_made, rest_made, notes_made, AreNumbered, last_number, all_kept, IsMade, messages_of, begins_or_ends}
+use Rattle.subscription.specs.Scenes.{Scene, Noting, sending, noting, note_sent, rest_sent, notes_sent, with_asked, kept_with, dequeued, started, life_reset, row_done}
+use Rattle.subscription_laws.proofs.Owners.{Frame, note_frame}
+
+note_bound : (n : Noting) → (note_sent n).turn.bounds.kept ≡ n.turn.bounds.kept
+note_bound n = ap (λ (f : Frame). f.bounds.kept) (note_frame n)
+
+note_number : (n : Noting) → (note_sent n).subscription.number ≡ (note_made n).number
+unfolding note_sent
+note_number n = refl
+
+note_kept : (n : Noting) → (note_sent n).subscription.kept ≡ kept_with n.turn.bounds.kept n.subscription.kept (note_made n)
+unfolding note_sent
+note_kept n = refl
+
+-- what is sent after a message
+abbrev Follows : List PublishCall → Noting → Type 0
+Follows calls n = IsMade n.turn.bounds.kept n.subscription (rest_sent calls n).noting.subscription (rest_made calls n)
+
+follows_if : (more : Bool) (call : PublishCall) (calls : List PublishCall) (n : Noting) → Follows calls (note_sent (with_asked n call)) →
+    IsMade n.turn.bounds.kept n.subscription (cond more (rest_sent calls (note_sent (with_asked n call))) (sending n (call ∷ calls))).noting.subscription (cond more (note_made (with_asked n call) ∷ rest_made calls (note_sent (with_asked n call))) [])
+follows_if false call calls n h = record { numbered = tt; number = refl; kept = refl }
+follows_if true call calls n h =
+    let m = with_asked n call in
+    record {
+      numbered = (refl, subst (λ k. AreNumbered k (rest_made calls (note_sent m))) (note_number m) h.numbered);
+      number = h.number ∙ ap (λ k. last_number k (rest_made calls (note_sent m))) (note_number m);
+      kept = h.kept ∙ ap (λ b. all_kept b (note_sent m).subscription.kept (rest_made calls (note_sent m))) (note_bound m) ∙ ap (λ ks. all_kept n.turn.bounds.kept ks (rest_made calls (note_sent m))) (note_kept m);
+    }
+
+follows : (calls : List PublishCall) (n : Noting) → Follows calls n
+follows [] n = record { numbered = tt; number = refl; kept = refl }
+follows (call ∷ calls) n = follows_if n.subscription.more call calls n (follows calls (note_sent (with_asked n call)))
+
+notes_follow : (calls : List PublishCall) (n : Noting) → IsMade n.turn.bounds.kept n.subscription (notes_sent calls n).noting.subscription (notes_made calls n)
+unfolding notes_sent
+notes_follow calls n =
+    let h = follows calls (note_sent n) in
+    record {
+      numbered = (refl, subst (λ k. AreNumbered k (rest_made calls (note_sent n))) (note_number n) h.numbered);
+      number = h.number ∙ ap (λ k. last_number k (rest_made calls (note_sent n))) (note_number n);
+      kept = h.kept ∙ ap (λ b. all_kept b (note_sent n).subscription.kept (rest_made calls (note_sent n))) (note_bound n) ∙ ap (λ ks. all_kept n.turn.bounds.kept ks (rest_made calls (note_sent n))) (note_kept n);
+    }
+
+abbrev Makes : RowId → Scene → Type 0
+Makes r c = IsMade c.turn.bounds.kept c.subscription (row_done r c).subscription (messages_of r c)
+
+makes_N2 : (c : Scene) → Makes N2 c
+unfolding row_done
+makes_N2 c = let h = notes_follow c.part.requests (noting c.turn (life_reset c.subscription) c.items) in record { numbered = h.numbered; number = h.number; kept = h.kept }
+
+makes_L1 : (c : Scene) → Makes L1 c
+unfolding row_done
+makes_L1 c = let h = notes_follow c.part.requests (noting c.turn (life_reset c.subscription) c.items) in record { numbered = h.numbered; number = h.number; kept = h.kept }
+
+makes_N3 : (c : Scene) → Makes N3 c
+unfolding row_done
+makes_N3 c = let h = notes_follow (drop 1 c.part.requests) (noting (dequeued c.turn c.part).turn (started c.turn (life_reset c.subscription)) c.items) in record { numbered = h.numbered; number = h.number; kept = h.kept }
+
+makes_K2 : (c : Scene) → Makes K2 c
+unfolding row_done
+makes_K2 c = let h = notes_follow (drop 1 c.part.requests) (noting (dequeued c.turn c.part).turn (started c.turn (life_reset c.subscription)) c.items) in record { numbered = h.numbered; number = h.number; kept = h.kept }
+
+pub row_makes : (r : RowId) (c : Scene) → begins_or_ends r ≡ false → Makes r c
+unfolding row_done
+row_makes N2 c h = makes_N2 c
+row_makes N3 c h = makes_N3 c
+row_makes L1 c h = makes_L1 c
+row_makes K2 c h = makes_K2 c
+row_makes C2 c h = absurd (cc)
+row_makes G5 c h = absurd (cc)
+row_makes G6 c h = absurd (cc)
+row_makes G8 c h = absurd (cc)
+row_makes C1 c h = record { numbered = tt; number = refl; kept = refl }
+row_makes N1 c h = record { numbered = tt; number = refl; kept = refl }
+row_makes N4 c h = record { numbered = tt; number = refl; kept = refl }
+row_makes N5 c h = record { numbered = tt; number = refl; kept = refl }
+row_makes N6 c h = record { numbered = tt; number = refl; kept = refl }
+row_makes L2 c h = record { numbered = tt; number = refl; kept = refl }
+row_makes L3 c h = record { numbered = tt; number = refl; kept = refl }
+row_makes K1 c h = record { numbered = tt; number = refl; kept = refl }
+row_makes K3 c h = record { numbered = tt; number = refl; kept = refl }
+row_makes K4 c h = record { numbered = tt; number = refl; kept = refl }
+row_makes K5 c h = record { numbered = tt; number = refl; kept = refl }
+row_makes G1 c h = record { numbered = tt; number = refl; kept = refl }
+row_makes G2 c h = record { numbered = tt; number = refl; kept = refl }
+row_makes G3 c h = record { numbered = tt; number = refl; kept = refl }
+row_makes G4 c h = record { numbered = tt; number = refl; kept = refl }
+row_makes G7 c h = record { numbered = tt; number = refl; kept = refl }
+row_makes G9 c h = record { numbered = tt; number = refl; kept = refl }

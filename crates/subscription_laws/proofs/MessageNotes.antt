@@ -1,0 +1,233 @@
+-- The notes of time-outs have the numbers of the messages that would have come next.
+use Rattle.std.proofs.Common.{◌≡◌, ◌≢◌, ◌⊎◌, inl, inr, ℕ, ◌≤◌, Bool, true, false, ◌||◌, cond, List, [], ◌∷◌, ◌++◌, drop, append-nil, append_assoc, nat_le, length, Option, Some, None, refl, sym, ap, ◌∙◌, subst}
+use Rattle.std.specs.BTreeMap.{is_at}
+use Rattle.std.specs.List.{list_any}
+use Rattle.std.specs.Map.{set_value, remove_entry}
+use Rattle.std.specs.Ordering.{nat_cmp}
+use Rattle.sub_table.specs.StateTable.{actions_of}
+use Rattle.sub_table.specs.declared.action.Action.{Action}
+use Rattle.sub_table.specs.declared.action.Action.TheVariants.{Enqueue, NoteTimeout}
+use Rattle.sub_table.specs.declared.row.RowId.{RowId}
+use Rattle.sub_table.specs.declared.row.RowId.TheVariants.{G6}
+use Rattle.subscription.specs.declared.call.Call.{Call}
+use Rattle.subscription.specs.declared.messages.KeptMessage.{KeptMessage}
+use Rattle.subscription.specs.declared.publish_call.PublishCall.{PublishCall}
+use Rattle.subscription.specs.declared.session_part.SessionPart.{SessionPart}
+use Rattle.subscription.specs.declared.session_part.TimeoutNote.{TimeoutNote}
+use Rattle.subscription.specs.declared.subscription.Subscription.{Subscription}
+use Rattle.subscription.specs.declared.turn.Turn.{Turn}
+use Rattle.subscription_laws.specs.Calm.{AreRising}
+use Rattle.subscription.specs.Firing.{is_closed, row_of, fired}
+use Rattle.subscription.specs.Messages.{number_after}
+use Rattle.subscription_laws.specs.Messaging.{Made, made_of, made_by, met_made, all_made, messages_for, AreNotes}
+use Rattle.subscription_laws.specs.Numbering.{last_number, messages_of}
+use Rattle.subscription.specs.Scenes.{Scene, Queueing, enqueued, enqueued_by, done, all_done, row_done}
+use Rattle.subscription.specs.Tables.{TableState, World, with_call, without_closed, met_found, met, all_met, part_at, part_of, set_part, subscription_at}
+use Rattle.subscription_laws.proofs.ChosenRows.{is_create}
+use Rattle.subscription_laws.proofs.Entries.{gone_here, rising_set}
+use Rattle.subscription_laws.proofs.Keeping.{scene_at}
+use Rattle.subscription_laws.proofs.KeepingParts.{set_part_is}
+use Rattle.subscription_laws.proofs.MessageLists.{more_own, more_other}
+use Rattle.subscription_laws.proofs.MessagesKept.{IsNumbered, met_numbered}
+use Rattle.subscription_laws.proofs.Settling.{put_back, back_other, part_rises}
+
+-- ---- notes of subscriptions that are over
+
+pub record IsNote (made : ℕ) (ms : List Made) (subscriptions : List (ℕ × Subscription)) (note : TimeoutNote) : Type 0 where
+  pub number : note.number ≡ number_after (last_number 0 (messages_for note.subscription ms))
+  pub over : subscription_at note.subscription subscriptions ≡ None
+  pub given : note.subscription ≤ made
+
+abbrev pub AllNotes : ℕ → List Made → List (ℕ × Subscription) → List TimeoutNote → Type 0
+AllNotes made ms subscriptions [] = Unit {0}
+AllNotes made ms subscriptions (note ∷ notes) = IsNote made ms subscriptions note × AllNotes made ms subscriptions notes
+
+-- messages, and the notes of all sessions
+pub record IsMessaged (made : ℕ) (ms : List Made) (t : TableState) : Type 0 where
+  pub rising : AreRising t.sessions
+  pub numbered : IsNumbered made ms t.subscriptions
+  pub notes : (session : ℕ) → AllNotes made ms t.subscriptions (part_at session t.sessions).notes
+
+pub all_notes : (made : ℕ) (ms : List Made) (subscriptions : List (ℕ × Subscription)) (notes : List TimeoutNote) → AllNotes made ms subscriptions notes → AreNotes ms notes
+all_notes made ms subscriptions [] h = tt
+all_notes made ms subscriptions (note ∷ notes) h = (h.0.number, all_notes made ms subscriptions notes h.1)
+
+-- what holds of each note of one state holds in another
+pub notes_map : (made made2 : ℕ) (ms ms2 : List Made) (subscriptions subscriptions2 : List (ℕ × Subscription)) → ((note : TimeoutNote) → IsNote made ms subscriptions note → IsNote made2 ms2 subscriptions2 note) → (notes : List TimeoutNote) →
+    AllNotes made ms subscriptions notes → AllNotes made2 ms2 subscriptions2 notes
+notes_map made made2 ms ms2 subscriptions subscriptions2 f [] h = tt
+notes_map made made2 ms ms2 subscriptions subscriptions2 f (note ∷ notes) h = (f note h.0, notes_map made made2 ms ms2 subscriptions subscriptions2 f notes h.1)
+
+notes_append : (made : ℕ) (ms : List Made) (subscriptions : List (ℕ × Subscription)) (xs ys : List TimeoutNote) → AllNotes made ms subscriptions xs → AllNotes made ms subscriptions ys → AllNotes made ms subscriptions (xs ++ ys)
+notes_append made ms subscriptions [] ys h k = k
+notes_append made ms subscriptions (x ∷ xs) ys h k = (h.0, notes_append made ms subscriptions xs ys h.1 k)
+
+pub notes_rest : (made : ℕ) (ms : List Made) (subscriptions : List (ℕ × Subscription)) (notes : List TimeoutNote) → AllNotes made ms subscriptions notes → AllNotes made ms subscriptions (drop 1 notes)
+notes_rest made ms subscriptions [] h = tt
+notes_rest made ms subscriptions (note ∷ notes) h = h.1
+
+-- the subscription of a note isn't one that lives
+pub note_apart : (made : ℕ) (ms : List Made) (subscriptions : List (ℕ × Subscription)) (note : TimeoutNote) (n : ℕ) (s : Subscription) → IsNote made ms subscriptions note → subscription_at n subscriptions ≡ Some s → note.subscription ≢ n
+note_apart made ms subscriptions note n s h found same = let clash = sym (ap (λ (i : ℕ). subscription_at i subscriptions) same ∙ found) ∙ h.over in absurd (cc)
+
+note_on : (made : ℕ) (ms : List Made) (subscriptions : List (ℕ × Subscription)) (n : ℕ) (s d : Subscription) (messages : List KeptMessage) → subscription_at n subscriptions ≡ Some s → (note : TimeoutNote) →
+    IsNote made ms subscriptions note → IsNote made (ms ++ made_of n messages) (put_back n d subscriptions) note
+note_on made ms subscriptions n s d messages found note h =
+    let other = note_apart made ms subscriptions note n s h found in
+    record {
+      number = h.number ∙ ap (λ (l : List KeptMessage). number_after (last_number 0 l)) (sym (more_other note.subscription n ms messages (λ same. other (sym same))));
+      over = back_other n note.subscription d subscriptions other ∙ h.over;
+      given = h.given;
+    }
+
+-- ---- the one row that leaves a note
+
+abbrev pub is_noting : Action → Bool
+is_noting NoteTimeout = true
+is_noting action = false
+
+enqueued_notes_if : (full : Bool) (part : SessionPart) (a b : Queueing) → a.part.notes ≡ part.notes → b.part.notes ≡ part.notes → (cond full a b).part.notes ≡ part.notes
+enqueued_notes_if true part a b g h = g
+enqueued_notes_if false part a b g h = h
+
+enqueued_notes_by : (asked : Option PublishCall) (turn : Turn) (part : SessionPart) → (enqueued_by asked turn part).part.notes ≡ part.notes
+enqueued_notes_by None turn part = refl
+enqueued_notes_by (Some call) turn part = enqueued_notes_if (nat_le turn.bounds.publish_queue (length part.requests)) part _ _ refl refl
+
+enqueued_notes : (turn : Turn) (part : SessionPart) → (enqueued turn part).part.notes ≡ part.notes
+unfolding enqueued
+enqueued_notes turn part = enqueued_notes_by turn.asked turn part
+
+done_notes : (c : Scene) (action : Action) → is_noting action ≡ false → (done c action).part.notes ≡ c.part.notes
+done_notes c Enqueue e = enqueued_notes c.turn c.part
+done_notes c NoteTimeout e = absurd (cc)
+done_notes c action e = refl
+
+neither : (a b : Bool) → (a || b) ≡ false → (a ≡ false) × (b ≡ false)
+neither true b h = absurd (cc)
+neither false b h = (refl, h)
+
+same_notes : (actions : List Action) (c : Scene) → list_any is_noting actions ≡ false → (all_done c actions).part.notes ≡ c.part.notes
+same_notes [] c e = refl
+same_notes (action ∷ actions) c e =
+    let split = neither (is_noting action) (list_any is_noting actions) e in
+    same_notes actions (done c action) split.1 ∙ done_notes c action split.0
+
+row_notes : (r : RowId) (c : Scene) → list_any is_noting (actions_of r) ≡ false → (row_done r c).part.notes ≡ c.part.notes
+unfolding row_done
+row_notes r c e = same_notes (actions_of r) c e
+
+only_G6 : (r : RowId) → list_any is_noting (actions_of r) ≡ true → r ≡ G6
+only_G6 G6 e = refl
+only_G6 r e = absurd (cc)
+
+abbrev note_left : Scene → TimeoutNote
+note_left c = record { subscription = c.turn.own; number = number_after c.subscription.number }
+
+-- what it leaves
+record IsTimeout (r : RowId) (c : Scene) : Type 0 where
+  notes : (row_done r c).part.notes ≡ c.part.notes ++ note_left c ∷ []
+  closed : is_closed (row_done r c).subscription ≡ true
+  none : messages_of r c ≡ []
+
+timeout_G6 : (c : Scene) → IsTimeout G6 c
+unfolding row_done
+timeout_G6 c = record { notes = refl; closed = refl; none = refl }
+
+pub fired_same_notes : (c : Scene) → list_any is_noting (actions_of (row_of c)) ≡ false → (fired c).part.notes ≡ c.part.notes
+unfolding fired
+fired_same_notes c e = row_notes (row_of c) c e
+
+-- notes are as before, or it is that row
+fired_notes : (c : Scene) → ((fired c).part.notes ≡ c.part.notes) ⊎ (((fired c).part.notes ≡ c.part.notes ++ note_left c ∷ []) × (is_closed (fired c).subscription ≡ true) × (messages_of (row_of c) c ≡ []))
+unfolding fired
+fired_notes c = by (list_any is_noting (actions_of (row_of c))) refl
+  where
+    by : (b : Bool) → list_any is_noting (actions_of (row_of c)) ≡ b →
+        ((row_done (row_of c) c).part.notes ≡ c.part.notes)
+        ⊎ (((row_done (row_of c) c).part.notes ≡ c.part.notes ++ note_left c ∷ []) × (is_closed (row_done (row_of c) c).subscription ≡ true) × (messages_of (row_of c) c ≡ []))
+    by false e = inl (row_notes (row_of c) c e)
+    by true e =
+        let t = subst (λ (r : RowId). IsTimeout r c) (sym (only_G6 (row_of c) e)) (timeout_G6 c) in
+        inr (t.notes, t.closed, t.none)
+
+-- ---- what a live subscription meets
+
+back_gone : (n : ℕ) (d : Subscription) (subscriptions : List (ℕ × Subscription)) → AreRising subscriptions → is_closed d ≡ true → subscription_at n (put_back n d subscriptions) ≡ None
+back_gone n d subscriptions rising closed = by (is_closed d) closed
+  where
+    by : (b : Bool) → b ≡ true → subscription_at n (cond b (remove_entry (is_at (nat_cmp n)) (set_value (is_at (nat_cmp n)) subscriptions d)) (set_value (is_at (nat_cmp n)) subscriptions d)) ≡ None
+    by true e = gone_here n (set_value (is_at (nat_cmp n)) subscriptions d) (rising_set n d subscriptions rising)
+    by false e = absurd (cc)
+
+module _ (made : ℕ) (ms : List Made) (w : World) (n : ℕ) (call : Call) (s : Subscription) (h : IsMessaged made ms w.table) (found : subscription_at n w.table.subscriptions ≡ Some s) where
+  abbrev here : Scene
+  here = scene_at w n call s
+
+  abbrev after : List Made
+  after = ms ++ made_of n (messages_of (row_of here) here)
+
+  abbrev left : List (ℕ × Subscription)
+  left = put_back n (fired here).subscription w.table.subscriptions
+
+  notes_before : (k : ℕ) → AllNotes made after left (part_at k w.table.sessions).notes
+  notes_before k =
+      notes_map made made ms after w.table.subscriptions left (note_on made ms w.table.subscriptions n s (fired here).subscription (messages_of (row_of here) here) found)
+      (part_at k w.table.sessions).notes (h.notes k)
+
+  part_before : (o : Option ℕ) → AllNotes made after left (part_of o w.table.sessions).notes
+  part_before None = tt
+  part_before (Some k) = notes_before k
+
+  new_note : is_closed (fired here).subscription ≡ true → messages_of (row_of here) here ≡ [] → IsNote made after left (note_left here)
+  new_note closed none = record {
+    number = ap number_after (sym (h.numbered.live n s found).last)
+        ∙ ap (λ (l : List KeptMessage). number_after (last_number 0 l)) (sym (more_own n ms (messages_of (row_of here) here) ∙ ap (λ (l : List KeptMessage). messages_for n ms ++ l) none ∙ append-nil (messages_for n ms)));
+    over = back_gone n (fired here).subscription w.table.subscriptions h.numbered.rising closed;
+    given = h.numbered.given n s found;
+  }
+
+  own_notes : AllNotes made after left (fired here).part.notes
+  own_notes = by (fired_notes here)
+    where
+      by : ((fired here).part.notes ≡ here.part.notes) ⊎ (((fired here).part.notes ≡ here.part.notes ++ note_left here ∷ []) × (is_closed (fired here).subscription ≡ true) × (messages_of (row_of here) here ≡ [])) →
+          AllNotes made after left (fired here).part.notes
+      by (inl same) = subst (AllNotes made after left) (sym same) (part_before s.session)
+      by (inr (more, closed, none)) =
+          subst (AllNotes made after left) (sym more)
+          (notes_append made after left (part_of s.session w.table.sessions).notes (note_left here ∷ []) (part_before s.session) (new_note closed none, tt))
+
+  notes_after : (o : Option ℕ) (k : ℕ) → AllNotes made after left (part_at k (set_part o w.table.sessions (fired here).part)).notes
+  notes_after None k = notes_before k
+  notes_after (Some j) k = by (set_part_is j k (fired here).part w.table.sessions)
+    where
+      by : (part_at k (set_value (is_at (nat_cmp j)) w.table.sessions (fired here).part) ≡ part_at k w.table.sessions) ⊎ ((k ≡ j) × (part_at k (set_value (is_at (nat_cmp j)) w.table.sessions (fired here).part) ≡ (fired here).part)) →
+          AllNotes made after left (part_at k (set_value (is_at (nat_cmp j)) w.table.sessions (fired here).part)).notes
+      by (inl same) = subst (λ (p : SessionPart). AllNotes made after left p.notes) (sym same) (notes_before k)
+      by (inr (at, is)) = subst (λ (p : SessionPart). AllNotes made after left p.notes) (sym is) own_notes
+
+met_notes : (made : ℕ) (ms : List Made) (w : World) (n : ℕ) (call : Call) → IsMessaged made ms w.table → (k : ℕ) → AllNotes made (ms ++ met_made w n call) (met w n call).table.subscriptions (part_at k (met w n call).table.sessions).notes
+unfolding met
+met_notes made ms w n call h k = by (subscription_at n w.table.subscriptions) refl
+  where
+    by : (o : Option Subscription) → subscription_at n w.table.subscriptions ≡ o → let t : TableState = (without_closed n (met_found (with_call w.turn n call) w.table.subscriptions w.table.sessions w.items o)).table in
+        AllNotes made (ms ++ made_by w n call o) t.subscriptions (part_at k t.sessions).notes
+    by None found = subst (λ (xs : List Made). AllNotes made xs w.table.subscriptions (part_at k w.table.sessions).notes) (sym (append-nil ms)) (h.notes k)
+    by (Some s) found = notes_after made ms w n call s h found s.session k
+
+met_rises : (w : World) (n : ℕ) (call : Call) → AreRising w.table.sessions → AreRising (met w n call).table.sessions
+unfolding met
+met_rises w n call rising = by (subscription_at n w.table.subscriptions)
+  where
+    by : (o : Option Subscription) → AreRising (without_closed n (met_found (with_call w.turn n call) w.table.subscriptions w.table.sessions w.items o)).table.sessions
+    by None = rising
+    by (Some s) = part_rises s.session (fired (scene_at w n call s)).part w.table.sessions rising
+
+pub met_messaged : (made : ℕ) (ms : List Made) (w : World) (n : ℕ) (call : Call) → is_create call ≡ false → IsMessaged made ms w.table → IsMessaged made (ms ++ met_made w n call) (met w n call).table
+met_messaged made ms w n call begins h = record { rising = met_rises w n call h.rising; numbered = met_numbered made ms w n call begins h.numbered; notes = met_notes made ms w n call h }
+
+pub all_messaged : (made : ℕ) (call : Call) → is_create call ≡ false → (ns : List ℕ) (ms : List Made) (w : World) → IsMessaged made ms w.table → IsMessaged made (ms ++ all_made call w ns) (all_met call w ns).table
+all_messaged made call begins [] ms w h = subst (λ (xs : List Made). IsMessaged made xs w.table) (sym (append-nil ms)) h
+all_messaged made call begins (n ∷ ns) ms w h =
+    subst (λ (xs : List Made). IsMessaged made xs (all_met call w (n ∷ ns)).table) (append_assoc ms (met_made w n call) (all_made call (met w n call) ns))
+    (all_messaged made call begins ns (ms ++ met_made w n call) (met w n call) (met_messaged made ms w n call begins h))

@@ -1,0 +1,61 @@
+-- What holds after any calls.
+use Rattle.std.proofs.Common.{◌≡◌, ◌<◌, ◌+◌, ℕ, Bool, true, false, ◌&&◌, List, [], ◌∷◌, Option, Some, refl, sym, ap, ◌∙◌}
+use Rattle.std.proofs.lemmas.Bool.{false≢true}
+use Rattle.std.specs.Option.{is_some}
+use Rattle.ua_types.specs.Configuration.{Configuration}
+use Rattle.sub_table.proofs.SteadyLemmas.{patient}
+use Rattle.subscription.specs.declared.publish_call.PublishCall.{PublishCall}
+use Rattle.subscription.specs.declared.subscription.Subscription.{Subscription}
+use Rattle.subscription_laws.specs.Calm.{IsListed, ListsItsOwn, AreLists, standing_at, AreSteady}
+use Rattle.subscription_laws.specs.Histories.{counts_at, life_at, AreLawful}
+use Rattle.subscription.specs.Ranks.{is_waiting}
+use Rattle.subscription_laws.specs.Runs.{Move, run}
+use Rattle.subscription.specs.Subscriptions.{is_any}
+use Rattle.subscription.specs.Tables.{part_at, part_of, subscription_at}
+use Rattle.subscription_laws.proofs.RunsKept.{run_kept}
+use Rattle.subscription_laws.proofs.Settling.{waits_same}
+
+pub rows_are_lawful : (config : Configuration) (moves : List Move) → AreLawful (run config moves).rows
+rows_are_lawful config moves = (run_kept config moves).calm.lawful
+
+pub all_steady : (config : Configuration) (moves : List Move) → let r = run config moves in AreSteady r.subs.table r.items r.rows
+all_steady config moves = (run_kept config moves).calm.steady
+
+pub sessions_list : (config : Configuration) (moves : List Move) → IsListed (run config moves).subs.table
+sessions_list config moves = (run_kept config moves).calm.listed
+
+pub lists_numbers : (config : Configuration) (moves : List Move) → let subs = (run config moves).subs in AreLists subs.made subs.table
+lists_numbers config moves = (run_kept config moves).within
+
+pub lists_own : (config : Configuration) (moves : List Move) (session : ℕ) → ListsItsOwn (run config moves).subs.table session
+lists_own config moves session = (run_kept config moves).own session
+
+-- ---- none waits beside a request
+
+none_left : (calls : List PublishCall) → is_any calls ≡ false → calls ≡ []
+none_left [] e = refl
+none_left (call ∷ calls) e = absurd (cc)
+
+pub none_beside : (config : Configuration) (moves : List Move) (number session : ℕ) (s : Subscription) → let r = run config moves in subscription_at number r.subs.table.subscriptions ≡ Some s → s.session ≡ Some session →
+    is_waiting s ≡ true → (part_at session r.subs.table.sessions).requests ≡ []
+none_beside config moves number session s found own waits =
+    none_left (part_at session (run config moves).subs.table.sessions).requests (by (is_any (part_at session (run config moves).subs.table.sessions).requests) refl)
+  where
+    queued : is_any (part_at session (run config moves).subs.table.sessions).requests ≡ true → (is_some s.session && is_any (part_of s.session (run config moves).subs.table.sessions).requests) ≡ true
+    queued e = ap (λ (o : Option ℕ). is_some o && is_any (part_of o (run config moves).subs.table.sessions).requests) own ∙ e
+
+    by : (b : Bool) → is_any (part_at session (run config moves).subs.table.sessions).requests ≡ b → b ≡ false
+    by false e = refl
+    by true e =
+        let calm = (all_steady config moves number s found).calm (queued e) in
+        absurd (false≢true (sym calm ∙ waits_same s.state (s.enabled && s.more) ∙ waits))
+
+-- ---- the counts
+
+pub lives_count : (config : Configuration) (moves : List Move) (number : ℕ) (s : Subscription) → let r = run config moves in subscription_at number r.subs.table.subscriptions ≡ Some s →
+    (life_at number r.rows ≡ s.life_count) × (s.life + (counts_at number r.rows).started ≡ s.life_count)
+lives_count config moves number s found = ((run_kept config moves).calm.lives number s found, (all_steady config moves number s found).life_counted)
+
+pub none_skipped : (config : Configuration) (moves : List Move) (number : ℕ) (s : Subscription) → let r = run config moves in subscription_at number r.subs.table.subscriptions ≡ Some s →
+    (counts_at number r.rows).answerable < s.keep_count
+none_skipped config moves number s found = patient (standing_at (run config moves).subs.table (run config moves).items (run config moves).rows number s) (all_steady config moves number s found)

@@ -1,0 +1,55 @@
+-- What becomes of the values that items queue, whatever is called.
+use Rattle.std.proofs.Common.{◌≡◌, ℕ, List, [], ◌∷◌, ◌++◌, append_assoc, sym, ap, ◌∙◌, subst}
+use Rattle.std.proofs.lemmas.List.Sums.{fold-append}
+use Rattle.ua_types.specs.Configuration.{Configuration}
+use Rattle.ua_values.specs.declared.data_value.DataValue.{DataValue}
+use Rattle.item_queue.specs.Fates.{Told, account, account_after, waiting, GoesOn, IsInOrder, TellsLosses, MarksLosses}
+use Rattle.item_queue.specs.ItemQueue.{Deed}
+use Rattle.item_queue.specs.ItemQueue.Deed.{Sample}
+use Rattle.item_queue.specs.Sendings.{values_of, sampled_by}
+use Rattle.item_queue.proofs.KeptLemmas.{deeds_go}
+use Rattle.item_queue.proofs.MarkLemmas.{marks_losses}
+use Rattle.item_queue.proofs.ValueLemmas.{values_are_told}
+use Rattle.monitored_items.specs.Items.{ItemsState}
+use Rattle.monitored_items.specs.Moves as item_moves
+use Rattle.monitored_items.specs.Moves.{queue_at}
+use Rattle.monitored_items.proofs.Causing.{fates_have_their_causes}
+use Rattle.monitored_items.proofs.Runs.{queues_are_what_waits, fates_are_final, accounts_are_in_order, accounts_tell_losses}
+use Rattle.subscription_laws.specs.Fates.{deeds_at, account_at, AreCaused, TellsEachLoss}
+use Rattle.subscription_laws.specs.ItemCalls.{calls_from, item_calls}
+use Rattle.subscription_laws.specs.Runs.{Move, run}
+use Rattle.subscription_laws.proofs.ItemsCalled.{items_come_by_their_calls, calls_go_on}
+
+module _ (config : Configuration) (moves : List Move) (number : ℕ) where
+  pub all_are_told : values_of (account_at config moves number) ≡ sampled_by (deeds_at config moves number)
+  all_are_told = values_are_told (deeds_at config moves number)
+
+  pub those_wait : waiting (account_at config moves number) ≡ queue_at number (run config moves).items.items
+  those_wait = queues_are_what_waits config (item_calls config moves) number ∙ ap (λ (s : ItemsState). queue_at number s.items) (sym (items_come_by_their_calls config moves))
+
+  pub they_stay : (more : List Move) → GoesOn (account_at config moves number) (account_at config (moves ++ more) number)
+  they_stay more =
+      subst (λ (calls : List item_moves.Move). GoesOn (account_at config moves number) (item_moves.account_of config calls number)) (sym (calls_go_on config moves more))
+      (fates_are_final config (item_calls config moves) (calls_from (run config moves) more) number)
+
+  pub sent_in_order : IsInOrder (account_at config moves number)
+  sent_in_order = accounts_are_in_order config (item_calls config moves) number
+
+  pub losses_are_told : TellsLosses (account_at config moves number)
+  losses_are_told = accounts_tell_losses config (item_calls config moves) number
+
+pub are_caused : (config : Configuration) (calls : List item_moves.Move) (number : ℕ) → AreCaused config calls number
+are_caused config calls number before after call is = fates_have_their_causes config before call number
+
+-- what stands in the account stays, whatever else is done
+stays : (before : List (Deed DataValue)) (deed : Deed DataValue) (after : List (Deed DataValue)) → GoesOn (account (before ++ deed ∷ [])) (account (before ++ deed ∷ after))
+stays before deed after =
+    subst (λ (ts : List (Told DataValue)). GoesOn (account (before ++ deed ∷ [])) ts)
+    (sym (fold-append account_after [] (before ++ deed ∷ []) after) ∙ ap (λ (deeds : List (Deed DataValue)). account deeds) (append_assoc before (deed ∷ []) after))
+    (deeds_go after (account (before ++ deed ∷ [])))
+
+pub each_loss_is_told : (deeds : List (Deed DataValue)) → TellsEachLoss deeds
+each_loss_is_told deeds before after size oldest value is large = record {
+  at_once = subst (λ (ts : List (Told DataValue)). MarksLosses (account before) ts) (sym (fold-append account_after [] before (Sample size oldest value ∷ []))) (marks_losses (account before) size oldest value large);
+  for_good = stays before (Sample size oldest value) after;
+}

@@ -1,0 +1,12 @@
+use Rattle.subscription_laws.specs.ItemCalls.{item_calls}
+use Rattle.subscription_laws.proofs.ValueFates.{all_are_told, those_wait, sent_in_order, they_stay, are_caused}
+use Rattle.subscription_laws.proofs.values_have_one_fate.Goals as goal
+
+pub returns : goal.returns
+returns c = record {
+  all = all_are_told;
+  waiting = those_wait;
+  ordered = sent_in_order;
+  for_good = λ config moves more number. they_stay config moves number more;
+  caused = λ config moves number. are_caused config (item_calls config moves) number;
+}

@@ -1,0 +1,36 @@
+-- What becomes of the values that items queue, whatever is called.
+use Rattle.std.specs.Prelude.{◌≡◌, ◌<◌, ℕ, Bool, List, [], ◌∷◌, ◌++◌}
+use Rattle.ua_types.specs.Configuration.{Configuration}
+use Rattle.ua_values.specs.declared.data_value.DataValue.{DataValue}
+use Rattle.item_queue.specs.Causes.{GetsOnly}
+use Rattle.item_queue.specs.Fates.{Told, account, GoesOn, MarksLosses}
+use Rattle.item_queue.specs.ItemQueue.{Deed}
+use Rattle.item_queue.specs.ItemQueue.Deed.{Sample}
+use Rattle.monitored_items.specs.Causes.{call_may_give}
+use Rattle.monitored_items.specs.Moves as item_moves
+use Rattle.subscription_laws.specs.ItemCalls.{item_calls}
+use Rattle.subscription_laws.specs.Runs.{Move}
+
+-- all that was done with the queue of the item of a number
+abbrev pub deeds_at : Configuration → List Move → ℕ → List (Deed DataValue)
+deeds_at config moves number = item_moves.deeds_of number (item_moves.run config (item_calls config moves)).deeds
+
+-- the account of all values that the item ever queued, oldest first, each with its fate and its mark
+abbrev pub account_at : Configuration → List Move → ℕ → List (Told DataValue)
+account_at config moves number = account (deeds_at config moves number)
+
+-- each of some calls of the items gives a value no fate but its own: a message sends values, and so on
+abbrev pub AreCaused : Configuration → List item_moves.Move → ℕ → Type 0
+AreCaused config calls number = (before after : List item_moves.Move) (call : item_moves.Move) → calls ≡ before ++ call ∷ after →
+    GetsOnly (call_may_give call) (item_moves.account_of config before number) (item_moves.account_of config (before ++ call ∷ []) number)
+
+-- a value that is queued, between what was done before and after: behind each value that is lost then, a marked one waits at
+-- once; and what stands in the account stays in its place, the mark too
+pub record IsToldOf (before : List (Deed DataValue)) (deed : Deed DataValue) (after : List (Deed DataValue)) : Type 0 where
+  pub at_once : MarksLosses (account before) (account (before ++ deed ∷ []))
+  pub for_good : GoesOn (account (before ++ deed ∷ [])) (account (before ++ deed ∷ after))
+
+-- so it is wherever a value is queued in a queue of a size above 1
+abbrev pub TellsEachLoss : List (Deed DataValue) → Type 0
+TellsEachLoss deeds = (before after : List (Deed DataValue)) (size : ℕ) (discard_oldest : Bool) (value : DataValue) →
+    deeds ≡ before ++ Sample size discard_oldest value ∷ after → 1 < size → IsToldOf before (Sample size discard_oldest value) after

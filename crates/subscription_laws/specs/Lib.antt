@@ -1,0 +1,10 @@
+pub mod Standings
+pub mod Numbering
+pub mod Histories
+pub mod Calm
+pub mod Runs
+pub mod Messaging
+pub mod Apartness
+pub mod ItemCalls
+pub mod Fates
+pub mod Tellings

@@ -1,0 +1,94 @@
+-- Any calls, one after the other.
+use Rattle.std.specs.Prelude.{ℕ, Bool, List, [], ◌++◌, fold, Option, Some, None}
+use Rattle.ua_types.specs.Configuration.{Configuration}
+use Rattle.ua_types.specs.declared.moment.Moment.{Moment}
+use Rattle.ua_requests.specs.declared.fired.Fired.{Fired}
+use Rattle.ua_requests.specs.declared.reply.Reply.{Reply}
+use Rattle.ua_space.specs.Nodes.{Nodes}
+use Rattle.read_write.specs.declared.timestamps.Timestamps.{Timestamps}
+use Rattle.read_write.specs.declared.writing.Change.{Change}
+use Rattle.sub_messages.specs.declared.monitored_items.MonitoredItemCreateRequest.{MonitoredItemCreateRequest}
+use Rattle.sub_messages.specs.declared.monitored_items.MonitoredItemModifyRequest.{MonitoredItemModifyRequest}
+use Rattle.sub_messages.specs.declared.publishing.SubscriptionAcknowledgement.{SubscriptionAcknowledgement}
+use Rattle.sub_table.specs.declared.vars.Vars.{Vars}
+use Rattle.monitored_items.specs.Items.{ItemsState, no_items}
+use Rattle.monitored_items.specs.Moves as item_moves
+use Rattle.monitored_items.specs.declared.kinds.Mode.{Mode}
+use Rattle.subscription.specs.declared.call.Call.TheVariants as call
+use Rattle.subscription.specs.declared.publish_call.PublishCall.{PublishCall}
+use Rattle.subscription.specs.declared.settings.Settings.{Settings}
+use Rattle.subscription.specs.Ending.{session_ended, without_conn}
+use Rattle.subscription.specs.Making.{modified, republished, timed}
+use Rattle.subscription.specs.Named.{named_all, deleted}
+use Rattle.subscription.specs.Publishing.{published}
+use Rattle.subscription.specs.Subs.{SubsState, no_subs, world_of, Said, said, told, created}
+use Rattle.subscription.specs.Tables.{met, vars_found}
+
+-- what a client asks of the items of a subscription
+pub data ItemsCall : Type 0 where
+  Create : Nodes → Moment → Timestamps → List MonitoredItemCreateRequest → ItemsCall
+  Modify : Timestamps → List MonitoredItemModifyRequest → ItemsCall
+  SetMode : Nodes → Moment → Mode → List ℕ → ItemsCall
+  Delete : List ℕ → ItemsCall
+
+abbrev pub on_items : ℕ → ItemsCall → item_moves.Move
+on_items number (ItemsCall.Create nodes clock timestamps requests) = item_moves.Move.Create nodes clock number timestamps requests
+on_items number (ItemsCall.Modify timestamps requests) = item_moves.Move.Modify number timestamps requests
+on_items number (ItemsCall.SetMode nodes clock mode numbers) = item_moves.Move.SetMode nodes clock number mode numbers
+on_items number (ItemsCall.Delete numbers) = item_moves.Move.Delete number numbers
+
+-- a call: of `Subs`; of the items of a subscription, of which `Subs` is told then; or the items are shown what was written
+pub data Move : Type 0 where
+  Create : (clock : Moment) → (session : ℕ) → Settings → (enabled : Bool) → Move
+  Modify : (clock : Moment) → (session number : ℕ) → Settings → Move
+  SetMode : (clock : Moment) → (session : ℕ) → (numbers : List ℕ) → (enabled : Bool) → Move
+  Delete : (clock : Moment) → (session : ℕ) → (numbers : List ℕ) → Move
+  Publish : (clock : Moment) → (session : ℕ) → PublishCall → List SubscriptionAcknowledgement → Move
+  Republish : (clock : Moment) → (session number wanted : ℕ) → Move
+  Timers : (clock : Moment) → Move
+  EndSession : (clock : Moment) → (session : ℕ) → (deleting : Bool) → Move
+  Gone : (conn : ℕ) → Move
+  Items : (clock : Moment) → (number : ℕ) → ItemsCall → Move
+  Show : List Change → Move
+
+-- the subscriptions and the items, and what was done so far: the rows that fired, and what was answered to Publish requests
+pub record Ran : Type 0 where
+  pub subs : SubsState
+  pub items : ItemsState
+  pub rows : List Fired
+  pub replies : List Reply
+
+abbrev pub start : Configuration → Ran
+start config = record { subs = no_subs config; items = no_items config; rows = []; replies = [] }
+
+abbrev pub ran_by : {A : Type 0} → Ran → Said A → Ran
+ran_by before s = record {
+  subs = s.state;
+  items = s.outcome.world.items;
+  rows = before.rows ++ s.outcome.world.turn.rows;
+  replies = before.replies ++ s.outcome.world.turn.replies;
+}
+
+-- where the subscription has these variables, its items are served, and the row sees both
+abbrev pub items_ran : Moment → ℕ → ItemsCall → Ran → Option Vars → Ran
+items_ran clock number asked before None = before
+items_ran clock number asked before (Some vars) =
+    ran_by before (told before.subs (met (world_of before.subs (item_moves.moved before.items (on_items number asked)).state clock) number (call.Items vars)))
+
+-- what a call leaves: what its contract says
+abbrev pub moved : Ran → Move → Ran
+moved r (Move.Create clock session settings enabled) = ran_by r (created session settings enabled r.subs r.items clock)
+moved r (Move.Modify clock session number settings) = ran_by r (said r.subs (modified session number settings (world_of r.subs r.items clock)))
+moved r (Move.SetMode clock session numbers enabled) = ran_by r (said r.subs (named_all session (call.SetMode enabled) (world_of r.subs r.items clock) numbers))
+moved r (Move.Delete clock session numbers) = ran_by r (said r.subs (deleted session (world_of r.subs r.items clock) numbers))
+moved r (Move.Publish clock session asked acks) = ran_by r (told r.subs (published session asked acks (world_of r.subs r.items clock)))
+moved r (Move.Republish clock session number wanted) = ran_by r (said r.subs (republished session number wanted (world_of r.subs r.items clock)))
+moved r (Move.Timers clock) = ran_by r (told r.subs (timed (world_of r.subs r.items clock)))
+moved r (Move.EndSession clock session deleting) = ran_by r (told r.subs (session_ended session deleting (world_of r.subs r.items clock)))
+moved r (Move.Gone conn) = let subs : SubsState = r.subs in record r { subs = record subs { table = without_conn conn subs.table } }
+moved r (Move.Items clock number asked) = items_ran clock number asked r (vars_found number r.items r.subs.table)
+moved r (Move.Show changed) = record r { items = (item_moves.moved r.items (item_moves.Move.Show changed)).state }
+
+-- what any calls leave, from the first on
+abbrev pub run : Configuration → List Move → Ran
+run config moves = fold moved (start config) moves

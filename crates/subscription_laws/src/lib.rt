@@ -1,0 +1,170 @@
+//! Laws of subscriptions: what follows from what the rows do, and from any calls, one after the other.
+//!
+//! The laws have no code: their contracts state them, over the definitions of the crate [`subscription`]. `Runs` has the list
+//! of calls and what it comes to, from no subscription on; `Standings` how a subscription stands, and `Histories` what the
+//! rows that fired count; `Numbering` and `Messaging` the messages that were made, `Calm` what always holds, and `Apartness`
+//! what is of other sessions.
+//!
+//! Read docs/SUBSCRIPTIONS.md first, then `specs/Runs`.
+#![tactic(auto)]
+
+ghost use Rattle.std.specs.Prelude.{◌≡◌, ◌<◌, ◌+◌, ℕ, true, false, List, [], ◌∷◌, ◌++◌, Some};
+ghost use Rattle.item_queue.specs.Fates.{waiting, GoesOn, IsInOrder, TellsLosses};
+ghost use Rattle.item_queue.specs.Sendings.{values_of, sampled_by, sent_of};
+ghost use Rattle.monitored_items.specs.Moves.{queue_at};
+ghost use Rattle.sub_table.specs.Doing.{enqueues};
+ghost use Rattle.sub_table.specs.Events.{fits, is_closed};
+ghost use Rattle.sub_table.specs.StateTable.{fires};
+ghost use Rattle.sub_table.specs.Steady.{IsSteady};
+ghost use Rattle.sub_table.specs.declared.row.RowId.{RowId};
+ghost use Rattle.subscription_laws.specs.Apartness.{IsRequestOf, OthersStay};
+ghost use Rattle.subscription.specs.Calls.{event_of};
+ghost use Rattle.subscription_laws.specs.Calm.{IsListed, ListsItsOwn, AreLists, AreSteady};
+ghost use Rattle.subscription.specs.Firing.{fired, before_of, vars_in, row_of};
+ghost use Rattle.subscription_laws.specs.Fates.{deeds_at, account_at, AreCaused, TellsEachLoss};
+ghost use Rattle.subscription_laws.specs.Histories.{counts_at, life_at, AreLawful};
+ghost use Rattle.subscription_laws.specs.ItemCalls.{ItemsComeByTheirCalls, item_calls};
+ghost use Rattle.subscription.specs.Making.{kept_at};
+ghost use Rattle.subscription_laws.specs.Messaging.{messages_for, run_made, IsAmong, AreNotes, AreItsMessages};
+ghost use Rattle.subscription_laws.specs.Numbering.{AreNumbered, IsMade, messages_of, begins_or_ends};
+ghost use Rattle.subscription.specs.Ranks.{is_waiting};
+ghost use Rattle.subscription_laws.specs.Runs.{Move, run, moved, start};
+ghost use Rattle.subscription.specs.Scenes.{Scene, row_done};
+ghost use Rattle.subscription_laws.specs.Standings.{Counts, standing_in, row_counts, IsAsked};
+ghost use Rattle.subscription.specs.Tables.{part_at, subscription_at};
+ghost use Rattle.subscription_laws.specs.Tellings.{all_taken, AreTold, entries_told};
+ghost use Rattle.subscription.specs.declared.subscription.Subscription.{Subscription};
+ghost use Rattle.ua_types.specs.Configuration.{Configuration};
+
+/// Exactly one row fires of what comes to a steady subscription, the one that is chosen.
+pub fn one_row_fires()
+    ensures { (c : Scene) (counts : Counts) → before_of c ≡ vars_in c → fits c.subscription.state (event_of c.turn.call) ≡ true →
+        IsSteady (standing_in c.turn.own c counts) → fires (before_of c) (event_of c.turn.call) ≡ row_of c ∷ [] }
+{}
+
+/// What comes to a steady subscription leaves it steady, unless it is closed: the counters are within their bounds, values
+/// are left over only where they are there, and it doesn't wait beside a request. A request is there, or waits already,
+/// where the row is one that queues it.
+pub fn rows_keep_subscriptions_steady()
+    ensures { (c : Scene) (counts : Counts) → before_of c ≡ vars_in c → fits c.subscription.state (event_of c.turn.call) ≡ true →
+        IsSteady (standing_in c.turn.own c counts) → (enqueues (row_of c) ≡ true → IsAsked c) →
+        is_closed (fired c).subscription.state ≡ false → IsSteady (standing_in c.turn.own (fired c) (row_counts (row_of c) c counts)) }
+{}
+
+/// The messages that a row makes are numbered without a gap from the subscription's last number on, after the last of 32
+/// bits comes 1; what is kept after it is what was kept and those messages, the oldest going where there are more than may
+/// be. A keep-alive uses no number and isn't kept.
+pub fn rows_number_messages()
+    ensures { (r : RowId) (c : Scene) → begins_or_ends r ≡ false →
+        IsMade c.turn.bounds.kept c.subscription (row_done r c).subscription (messages_of r c) }
+{}
+
+/// Whatever is called, each row that fires is the only one that the table allows at its variables, which are sound.
+///
+/// A subscription times out at exactly the timer that finds as many timers started, this one included, as its life counter
+/// was last set to; it is late then, and no request of its session is queued: nobody times out beside a request.
+pub fn all_rows_are_lawful()
+    ensures { (config : Configuration) (moves : List Move) → AreLawful (run config moves).rows }
+{}
+
+/// Whatever is called, each live subscription is steady, with the counts that the rows tell.
+pub fn subscriptions_stay_steady()
+    ensures { (config : Configuration) (moves : List Move) → let r = run config moves in AreSteady r.subs.table r.items r.rows }
+{}
+
+/// Whatever is called, a session lists the number of each live subscription of its own and no other, by rising number, and
+/// none that wasn't given yet.
+pub fn sessions_list_their_subscriptions()
+    ensures listed { (config : Configuration) (moves : List Move) → IsListed (run config moves).subs.table }
+    ensures own { (config : Configuration) (moves : List Move) (session : ℕ) → ListsItsOwn (run config moves).subs.table session }
+    ensures lists { (config : Configuration) (moves : List Move) → let subs = (run config moves).subs in AreLists subs.made subs.table }
+{}
+
+/// Whatever is called, a session with a subscription that waits has no queued request.
+pub fn none_waits_beside_a_request()
+    ensures { (config : Configuration) (moves : List Move) (number session : ℕ) (s : Subscription) → let r = run config moves in
+        subscription_at number r.subs.table.subscriptions ≡ Some s → s.session ≡ Some session → is_waiting s ≡ true →
+        (part_at session r.subs.table.sessions).requests ≡ [] }
+{}
+
+/// Whatever is called, the life counter of a subscription was last set to its lifetime count, and lacks of it one for each
+/// timer that was started since.
+pub fn life_counters_count_timers()
+    ensures { (config : Configuration) (moves : List Move) (number : ℕ) (s : Subscription) → let r = run config moves in
+        subscription_at number r.subs.table.subscriptions ≡ Some s →
+        (life_at number r.rows ≡ s.life_count) × (s.life + (counts_at number r.rows).started ≡ s.life_count) }
+{}
+
+/// Whatever is called, no keep-alive is skipped: the timers of a subscription that found a request, since it sent a message,
+/// or one of them found none, or its counts were set, are fewer than its keep-alive count.
+pub fn no_keep_alive_is_skipped()
+    ensures { (config : Configuration) (moves : List Move) (number : ℕ) (s : Subscription) → let r = run config moves in
+        subscription_at number r.subs.table.subscriptions ≡ Some s → (counts_at number r.rows).answerable < s.keep_count }
+{}
+
+/// Whatever is called, the messages of a subscription are numbered from 1 without a gap, after the last of 32 bits comes 1,
+/// also once it is no more. The last has the number of a live one, and what that one keeps was made. What Republish and
+/// [`subscription::Subs::kept`] give is, byte for byte, a message that was made, under the number that is wanted. The note of a
+/// time-out has the number that would have come next.
+pub fn all_messages_are_numbered()
+    ensures numbered { (config : Configuration) (moves : List Move) (number : ℕ) →
+        AreNumbered 0 (messages_for number (run_made (start config) moves)) }
+    ensures live { (config : Configuration) (moves : List Move) (number : ℕ) (s : Subscription) →
+        subscription_at number (run config moves).subs.table.subscriptions ≡ Some s →
+        AreItsMessages s (messages_for number (run_made (start config) moves)) }
+    ensures kept { (config : Configuration) (moves : List Move) (number wanted : ℕ) (bytes : List ℕ) →
+        kept_at number wanted (run config moves).subs.table ≡ Some bytes →
+        IsAmong (record { number = wanted; bytes = bytes }) (messages_for number (run_made (start config) moves)) }
+    ensures notes { (config : Configuration) (moves : List Move) (session : ℕ) →
+        AreNotes (run_made (start config) moves) (part_at session (run config moves).subs.table.sessions).notes }
+{}
+
+/// Whatever was called, a request of a session leaves what is of other sessions, or of none, as it was: their queued
+/// requests and notes, their subscriptions with all counters, messages and numbers, and the items of those.
+pub fn sessions_stay_apart()
+    ensures { (config : Configuration) (moves : List Move) (move : Move) (session : ℕ) → let r = run config moves in
+        IsRequestOf session r.subs.table move →
+        OthersStay session r.subs.table r.items (moved r move).subs.table (moved r move).items }
+{}
+
+/// Whatever is called, the items come by their own calls, from no items on: by what clients ask of them, by what the rows of
+/// subscriptions take of them and end, and by the values that they are shown. So what `monitored_items::laws` says of any calls
+/// of the items holds of those of a server.
+#[tactic(auto, using(crate::proofs::ItemsCalled::items_come_by_their_calls))]
+pub fn items_come_by_their_calls()
+    ensures { ItemsComeByTheirCalls }
+{}
+
+/// Whatever is called, each value that an item ever queued has one fate: it waits, was sent, was lost where the queue was full,
+/// or was cleared. The item's account has each of them once, in the order of sampling; those that wait are what its queue holds;
+/// none is sent before an older one that waits; once a value doesn't wait, its fate and its mark are final; and each call of the
+/// items gives a value no fate but its own: a row's message sends values, only another value of the item drives one out, and only
+/// a smaller queue, a disabled or deleted item, or the end of the subscription clears any.
+pub fn values_have_one_fate()
+    ensures all { (config : Configuration) (moves : List Move) (number : ℕ) →
+        values_of (account_at config moves number) ≡ sampled_by (deeds_at config moves number) }
+    ensures waiting { (config : Configuration) (moves : List Move) (number : ℕ) →
+        waiting (account_at config moves number) ≡ queue_at number (run config moves).items.items }
+    ensures ordered { (config : Configuration) (moves : List Move) (number : ℕ) → IsInOrder (account_at config moves number) }
+    ensures for_good { (config : Configuration) (moves more : List Move) (number : ℕ) →
+        GoesOn (account_at config moves number) (account_at config (moves ++ more) number) }
+    ensures caused { (config : Configuration) (moves : List Move) (number : ℕ) → AreCaused config (item_calls config moves) number }
+{}
+
+/// Whatever is called, no value of an item is lost in silence. Where the queue holds more than one value, each loss is told of
+/// at once: behind the value that is lost a later one waits with the mark of an overflow, which it keeps, also when it is sent.
+/// And behind each value that was lost the first one that was neither lost nor cleared carries the mark, until something of the
+/// item is cleared, or its queue holds one value only.
+pub fn no_value_is_lost_in_silence()
+    ensures told { (config : Configuration) (moves : List Move) (number : ℕ) → TellsLosses (account_at config moves number) }
+    ensures at_once { (config : Configuration) (moves : List Move) (number : ℕ) → TellsEachLoss (deeds_at config moves number) }
+{}
+
+/// Whatever is called, each value that was sent stands in one message that a row made, with its mark. The messages are those
+/// of what the items gave, one for each time that values were taken, in order: their bytes are the notes of that and nothing
+/// else. And what an item gave, message after message, are the values of its account that were sent, in the order of sampling.
+pub fn sent_values_stand_in_messages()
+    ensures told { (config : Configuration) (moves : List Move) → AreTold (run_made (start config) moves) (all_taken config moves) }
+    ensures sent { (config : Configuration) (moves : List Move) (number : ℕ) →
+        entries_told number (all_taken config moves) ≡ sent_of (account_at config moves number) }
+{}

@@ -1,0 +1,232 @@
+-- What calls of the subscriptions come to, one after the other.
+use Rattle.std.proofs.Common.{◌≡◌, ℕ, zero, suc, ◌+◌, ◌<◌, Bool, true, false, cond, List, [], ◌∷◌, ◌++◌, length, take, fold, slice_index_or, Option, Some, None, Ok, Err, refl, sym, ap, subst, ◌∙◌, arith}
+use Rattle.std.specs.List.{list_any}
+use Rattle.std.specs.Option.{is_some}
+use Rattle.std.specs.Prelude.{◌&&◌, not}
+use Rattle.std.proofs.lemmas.Bool.{false≢true}
+use Rattle.ua_types.specs.declared.status.Status.{Status}
+use Rattle.monitored_items.specs.Items.{ItemsState, One, Served as ItemsServed, nothing_served, with_one, all_served}
+use Rattle.subscription.specs.Named.{Outcome, outcome, own_met, named_one, named_all, deleted}
+use Rattle.subscription.specs.Subs as subs
+use Rattle.subscription.specs.Subs.{SubsState, Said, told, Halts}
+use Rattle.subscription.specs.Ranks.{due_numbers, is_any_due}
+use Rattle.subscription.specs.Tables.{World, all_met}
+use Rattle.subscription.proofs.Dues.{none_due}
+use Rattle.ua_session.specs.Sessions.{ticked, ended_by}
+use Rattle.ua_services.specs.Services.{is_none, is_idle, ticking_of}
+use Rattle.ua_services.specs.SessionServing.{with_sessions}
+use Rattle.subscription.specs.declared.answered.Answered.{Answered}
+use Rattle.subscription.specs.declared.call.Call.{Call as SubCall}
+use Rattle.subscription.specs.declared.call.Call.TheVariants.{Delete, Timer}
+use Rattle.subscription.specs.declared.turn.Turn.{Turn}
+use Rattle.ua_requests.specs.declared.fired.Fired.{Fired}
+use Rattle.ua_requests.specs.declared.halt.Halt.{Halt}
+use Rattle.ua_requests.specs.declared.halt.Halt.TheVariants.{Memory, Exhausted}
+use Rattle.ua_requests.specs.declared.reply.Reply.{Reply}
+use Rattle.ua_requests.specs.declared.served.Served.{Served}
+use Rattle.ua_requests.specs.declared.setting.Setting.{Setting}
+use Rattle.ua_services.specs.ServicesState.{Services}
+use Rattle.ua_services.specs.Serving.{Act, Serving, Serves, is_spent, given, given_of, rows_of, reply_of}
+use Rattle.ua_services.specs.Serving.Act.{Fire, Spent}
+use Rattle.ua_services.specs.declared.call.Call.{Call}
+use Rattle.ua_services.specs.SubServing.{with_subs, fires, uncounted, is_uncounted, acts_of, called, no_reply, told_alone, nothing_done, both, and_then, session_over, timed_out, all_timed_out, timers_met, world_at}
+
+-- ---- rows, and serials that are spent
+
+pub rows_joined : (xs ys : List Act) → rows_of (xs ++ ys) ≡ rows_of xs ++ rows_of ys
+rows_joined [] ys = refl
+rows_joined (Fire fired ∷ xs) ys = ap (λ (rows : List Fired). fired ∷ rows) (rows_joined xs ys)
+rows_joined (Spent ∷ xs) ys = rows_joined xs ys
+
+rows_fired : (rows : List Fired) (more : List Act) → rows_of more ≡ [] → rows_of (fires rows ++ more) ≡ rows
+rows_fired [] more none = none
+rows_fired (fired ∷ rows) more none = ap (λ (rs : List Fired). fired ∷ rs) (rows_fired rows more none)
+
+pub no_rows : (b : Bool) → rows_of (cond b (Spent ∷ []) []) ≡ []
+no_rows true = refl
+no_rows false = refl
+
+pub rows_of_turn : (halted : Option Halt) (turn : Turn) → rows_of (acts_of halted turn) ≡ turn.rows
+rows_of_turn halted turn = rows_fired turn.rows (uncounted halted turn) (no_rows (is_uncounted halted turn))
+
+spent_left : (xs ys : List Act) → list_any is_spent xs ≡ true → list_any is_spent (xs ++ ys) ≡ true
+spent_left [] ys e = absurd cc
+spent_left (Fire fired ∷ xs) ys e = spent_left xs ys e
+spent_left (Spent ∷ xs) ys e = refl
+
+spent_right : (xs ys : List Act) → list_any is_spent ys ≡ true → list_any is_spent (xs ++ ys) ≡ true
+spent_right [] ys e = e
+spent_right (Fire fired ∷ xs) ys e = spent_right xs ys e
+spent_right (Spent ∷ xs) ys e = refl
+
+any_spent : (b : Bool) → b ≡ true → list_any is_spent (cond b (Spent ∷ []) []) ≡ true
+any_spent b e = ap (λ (t : Bool). list_any is_spent (cond t (Spent ∷ []) [])) e
+
+counted_out : (halted : Option Halt) (turn : Turn) → Halts halted Exhausted turn → is_uncounted halted turn ≡ true
+counted_out None turn h = h
+counted_out (Some halt) turn h = refl
+
+-- ---- one call
+
+module _ {A : Type 0} (state : Services) (own : A → List Reply) (said : Said A) where
+  pub called_gives : (x : Answered A) (new : SubsState) (items : ItemsState) (served : Served) → subs.Serves (Ok x) state.subs new items said → served ≡ record { replies = own x.answer ++ x.replies; rows = x.rows } →
+      given (with_subs state new items) served ≡ given_of (called state own said)
+  called_gives x new items served h e =
+      let turn = said.outcome.world.turn in
+      ap (given (with_subs state new items)) e
+      ∙ ap (λ (y : Answered A). given (with_subs state new items) (record { replies = own y.answer ++ y.replies; rows = y.rows })) h.1
+      ∙ ap (λ (s : SubsState). given (with_subs state s items) (record { replies = own said.outcome.answer ++ turn.replies; rows = turn.rows })) h.2
+      ∙ ap (λ (i : ItemsState). given (with_subs state said.state i) (record { replies = own said.outcome.answer ++ turn.replies; rows = turn.rows })) h.3
+      ∙ ap (λ (rows : List Fired). given (with_subs state said.state said.outcome.world.items) (record { replies = own said.outcome.answer ++ turn.replies; rows = rows })) (sym (rows_of_turn state.subs.halted turn))
+
+  pub called_halts : (halt : Halt) (new : SubsState) (items : ItemsState) → subs.Serves (Err halt) state.subs new items said → Serves (Err halt) (with_subs state new items) (called state own said)
+  called_halts Memory new items h = tt
+  called_halts Exhausted new items h =
+      let turn = said.outcome.world.turn in
+      spent_right (fires turn.rows) (uncounted state.subs.halted turn) (any_spent (is_uncounted state.subs.halted turn) (counted_out state.subs.halted turn h.1))
+
+-- a call that answers Publish requests alone
+module _ (state : Services) (w : World) where
+  pub told_gives : (x : Answered (Unit {0})) (new : SubsState) (items : ItemsState) → subs.Serves (Ok x) state.subs new items (told state.subs w) →
+      given (with_subs state new items) (record { replies = x.replies; rows = x.rows }) ≡ given_of (told_alone state w)
+  unfolding told_alone
+  told_gives x new items h = called_gives state no_reply (told state.subs w) x new items _ h refl
+
+  pub told_halts : (halt : Halt) (new : SubsState) (items : ItemsState) → subs.Serves (Err halt) state.subs new items (told state.subs w) → Serves (Err halt) (with_subs state new items) (told_alone state w)
+  unfolding told_alone
+  told_halts halt new items h = called_halts state no_reply (told state.subs w) halt new items h
+
+-- a call whose answer is told first
+pub called_first : {A : Type 0} (state : Services) (call : Call) (body : A → List ℕ) (said : Said A) (x : Answered A) (new : SubsState) (items : ItemsState) (bytes : List ℕ) (served : Served) → subs.Serves (Ok x) state.subs new items said → bytes ≡ body x.answer →
+    served ≡ record { replies = reply_of call bytes ∷ x.replies; rows = x.rows } → given (with_subs state new items) served ≡ given_of (called state (λ answer. reply_of call (body answer) ∷ []) said)
+called_first state call body said x new items bytes served h b e =
+    called_gives state (λ answer. reply_of call (body answer) ∷ []) said x new items served h
+    (e ∙ ap (λ (bs : List ℕ). let s : Served = record { replies = reply_of call bs ∷ x.replies; rows = x.rows } in s) b)
+
+-- ---- one step behind another
+
+pub joined_gives : (s t : Serving) (mid new : Services) (a b all : Served) → given mid a ≡ given_of s → given new b ≡ given_of t → all ≡ record { replies = a.replies ++ b.replies; rows = a.rows ++ b.rows } →
+    given new all ≡ given_of (both s t)
+joined_gives s t mid new a b all p q e =
+    ap (given new) e
+    ∙ ap (λ (g : _). given new (record { replies = g.served.replies ++ b.replies; rows = g.served.rows ++ b.rows })) p
+    ∙ ap (λ (g : _). given g.state (record { replies = s.replies ++ g.served.replies; rows = rows_of s.acts ++ g.served.rows })) q
+    ∙ ap (λ (rows : List Fired). given t.state (record { replies = s.replies ++ t.replies; rows = rows })) (sym (rows_joined s.acts t.acts))
+
+pub then_gives : (s : Serving) (more : Services → Serving) (mid new : Services) (a b all : Served) → given mid a ≡ given_of s → given new b ≡ given_of (more mid) → all ≡ record { replies = a.replies ++ b.replies; rows = a.rows ++ b.rows } →
+    given new all ≡ given_of (and_then s more)
+then_gives s more mid new a b all p q e = joined_gives s (more s.state) mid new a b all p (q ∙ ap (λ (g : _). given_of (more g.state)) p) e
+
+pub first_halts : (s t : Serving) (halt : Halt) (after other : Services) → Serves (Err halt) after s → Serves (Err halt) other (both s t)
+first_halts s t Memory after other h = tt
+first_halts s t Exhausted after other h = spent_left s.acts t.acts h
+
+pub second_halts : (s t : Serving) (halt : Halt) (after other : Services) → Serves (Err halt) after t → Serves (Err halt) other (both s t)
+second_halts s t Memory after other h = tt
+second_halts s t Exhausted after other h = spent_right s.acts t.acts h
+
+-- ---- sessions that have timed out
+
+module _ (setting : Setting) where
+  pub one_more : (s : Serving) (number : ℕ) (mid new : Services) (a b all : Served) → given mid a ≡ given_of s → given new b ≡ given_of (session_over setting false number mid) → all ≡ record { replies = a.replies ++ b.replies; rows = a.rows ++ b.rows } →
+      given new all ≡ given_of (timed_out setting s number)
+  unfolding timed_out
+  one_more s number mid new a b all p q e = then_gives s (session_over setting false number) mid new a b all p q e
+
+  taken_none : (numbers : List ℕ) (s : Serving) → fold (timed_out setting) s (take 0 numbers) ≡ s
+  taken_none [] s = refl
+  taken_none (number ∷ numbers) s = refl
+
+  taken_on : (numbers : List ℕ) (i d : ℕ) (s : Serving) → i < length numbers → fold (timed_out setting) s (take (suc i) numbers) ≡ timed_out setting (fold (timed_out setting) s (take i numbers)) (slice_index_or numbers i d)
+  taken_on [] i d s lt = absurd (omega (arith, lt))
+  taken_on (number ∷ numbers) zero d s lt = taken_none numbers (timed_out setting s number)
+  taken_on (number ∷ numbers) (suc i) d s lt = taken_on numbers i d (timed_out setting s number) (omega (arith, lt))
+
+  -- one more session is over, behind those before it
+  pub goes_on : (numbers : List ℕ) (i d : ℕ) (state mid new : Services) (a b all : Served) → i < length numbers → given mid a ≡ given_of (all_timed_out setting state (take i numbers)) → given new b ≡ given_of (session_over setting false (slice_index_or numbers i d) mid) →
+      all ≡ record { replies = a.replies ++ b.replies; rows = a.rows ++ b.rows } → given new all ≡ given_of (all_timed_out setting state (take (i + 1) numbers))
+  goes_on numbers i d state mid new a b all lt p q e =
+      let next : suc i ≡ i + 1 = omega arith in
+      one_more (all_timed_out setting state (take i numbers)) (slice_index_or numbers i d) mid new a b all p q e
+      ∙ ap given_of (sym (taken_on numbers i d (nothing_done state) lt))
+      ∙ ap (λ (n : ℕ). given_of (all_timed_out setting state (take n numbers))) next
+
+  all_keep : (numbers : List ℕ) (s : Serving) → list_any is_spent s.acts ≡ true → list_any is_spent (fold (timed_out setting) s numbers).acts ≡ true
+  unfolding timed_out
+  all_keep [] s e = e
+  all_keep (number ∷ numbers) s e = all_keep numbers (timed_out setting s number) (spent_left s.acts (session_over setting false number s.state).acts e)
+
+  stops_at : (numbers : List ℕ) (i d : ℕ) (s : Serving) → i < length numbers → list_any is_spent (session_over setting false (slice_index_or numbers i d) (fold (timed_out setting) s (take i numbers)).state).acts ≡ true →
+      list_any is_spent (fold (timed_out setting) s numbers).acts ≡ true
+  unfolding timed_out
+  stops_at [] i d s lt h = absurd (omega (arith, lt))
+  stops_at (number ∷ numbers) zero d s lt h = all_keep numbers (timed_out setting s number) (spent_right s.acts (session_over setting false number s.state).acts h)
+  stops_at (number ∷ numbers) (suc i) d s lt h = stops_at numbers i d (timed_out setting s number) (omega (arith, lt)) h
+
+  -- a halt at one session is one of all
+  pub halts_among : (halt : Halt) (numbers : List ℕ) (i d : ℕ) (state mid after : Services) (served : Served) → i < length numbers → given mid served ≡ given_of (all_timed_out setting state (take i numbers)) →
+      Serves (Err halt) after (session_over setting false (slice_index_or numbers i d) mid) → Serves (Err halt) after (all_timed_out setting state numbers)
+  halts_among Memory numbers i d state mid after served lt p h = tt
+  halts_among Exhausted numbers i d state mid after served lt p h =
+      stops_at numbers i d _ lt (subst (λ (m : Services). list_any is_spent (session_over setting false (slice_index_or numbers i d) m).acts ≡ true) (ap (λ (g : _). g.state) p) h)
+
+-- ---- as many answers as were asked for
+
+pushed_length : {A : Type 0} (xs : List A) (x : A) → length (xs ++ x ∷ []) ≡ suc (length xs)
+pushed_length [] x = refl
+pushed_length (y ∷ ys) x = ap suc (pushed_length ys x)
+
+named_more : (session : ℕ) (call : SubCall) (numbers : List ℕ) (b : Outcome (List Status)) → length (fold (named_one session call) b numbers).answer ≡ length b.answer + length numbers
+named_more session call [] b = omega arith
+named_more session call (number ∷ numbers) b =
+    let rest = named_more session call numbers (named_one session call b number) in
+    let one = pushed_length b.answer (own_met session call b.world number).answer in
+    omega (arith, rest, one)
+
+pub named_length : (session : ℕ) (call : SubCall) (w : World) (numbers : List ℕ) → length (named_all session call w numbers).answer ≡ length numbers
+named_length session call w numbers = omega (arith, named_more session call numbers (outcome [] w))
+
+pub deleted_length : (session : ℕ) (w : World) (numbers : List ℕ) → length (deleted session w numbers).answer ≡ length numbers
+unfolding deleted
+deleted_length session w numbers = omega (arith, named_more session Delete numbers (outcome [] w))
+
+served_more : {A R : Type 0} (serve : ItemsState → A → One R) (xs : List A) (b : ItemsServed R) → length (fold (with_one serve) b xs).results ≡ length b.results + length xs
+served_more serve [] b = omega arith
+served_more serve (x ∷ xs) b =
+    let rest = served_more serve xs (with_one serve b x) in
+    let one = pushed_length b.results (serve b.state x).result in
+    omega (arith, rest, one)
+
+pub served_length : {A R : Type 0} (serve : ItemsState → A → One R) (s : ItemsState) (xs : List A) → length (all_served serve s xs).results ≡ length xs
+served_length serve s xs = omega (arith, served_more serve xs (nothing_served s))
+
+-- ---- nothing is due
+
+both_true : (a b : Bool) → (a && b) ≡ true → (a ≡ true) × (b ≡ true)
+both_true true b h = (refl, h)
+both_true false b h = absurd (false≢true h)
+
+is_false : (b : Bool) → not b ≡ true → b ≡ false
+is_false true h = absurd (false≢true h)
+is_false false h = refl
+
+is_nothing : (numbers : List ℕ) → is_none numbers ≡ true → numbers ≡ []
+is_nothing [] h = refl
+is_nothing (number ∷ numbers) h = absurd (false≢true h)
+
+says_nothing : (setting : Setting) (state : Services) (numbers : List ℕ) → numbers ≡ [] → due_numbers setting.clock state.subs.table.subscriptions ≡ [] →
+    (and_then (all_timed_out setting state numbers) (timers_met setting)).replies ≡ []
+unfolding told_alone
+says_nothing setting state numbers none not_due =
+    ap (λ (ns : List ℕ). (and_then (all_timed_out setting state ns) (timers_met setting)).replies) none
+    ∙ ap (λ (ns : List ℕ). (all_met Timer (world_at setting state) ns).turn.replies) not_due
+
+-- a tick at which nothing is due answers no one
+pub idle_is_silent : (setting : Setting) (state : Services) → is_idle setting state ≡ true → (ticking_of setting state).replies ≡ []
+idle_is_silent setting state h =
+    let ended = is_none (ended_by state.sessions setting.clock) in
+    let due = is_any_due setting.clock state.subs.table.subscriptions in
+    let going = both_true (ended && not due) (not (is_some state.subs.halted)) h in
+    let still = both_true ended (not due) going.0 in
+    says_nothing setting (with_sessions state (ticked state.sessions setting.clock)) (ended_by state.sessions setting.clock) (is_nothing (ended_by state.sessions setting.clock) still.0)
+    (none_due setting.clock state.subs.table.subscriptions (is_false due still.1))

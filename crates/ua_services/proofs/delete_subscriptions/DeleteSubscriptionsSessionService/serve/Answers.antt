@@ -1,0 +1,28 @@
+use Rattle.std.proofs.Common.{◌≡◌, ◌∙◌, ap, arith, length, subst}
+use Rattle.subscription.specs.Subs.{said}
+use Rattle.ua_services.specs.Serving.{Serving, given, given_of}
+use Rattle.ua_services.specs.StatusResults.{statuses_body}
+use Rattle.ua_services.specs.SubServing.{with_subs, world_at}
+use Rattle.ua_services.proofs.SubLemmas.{deleted_length}
+use Rattle.subscription.specs.Named.{deleted}
+use Rattle.ua_services.specs.DeleteSubscriptions.{delete_subscriptions_listed}
+use Rattle.ua_messages.specs.declared.type_ids.TheConstants.{DELETE_SUBSCRIPTIONS_RESPONSE}
+use Rattle.ua_services.proofs.SubLemmas.{called_first}
+use Rattle.ua_services.proofs.delete_subscriptions.DeleteSubscriptionsSessionService.serve.Goals as goal
+
+pub statuses_body-requires : goal.statuses_body-requires
+statuses_body-requires c =
+    let same = ap length (c.as_slice.ensures ∙ ap (λ x. x.answer) c.in-Ok-delete.ensures.1) in
+    let count = deleted_length c.args.session (world_at c.args.setting.now c.args.services.now) c.in-Ok.numbers.now in
+    let few = c.in-Ok.ensures.short in
+    omega (arith, same, count, few)
+
+pub returns-in-Ok-delete : goal.returns-in-Ok-delete
+returns-in-Ok-delete c =
+    let state = c.args.services.now in
+    let setting = c.args.setting.now in
+    let call = c.args.call.now in
+    let request = c.args.request in
+    subst (λ r. given (with_subs state c.delete.new.self c.delete.new.items) c.in_ok-reply_first-in-Ok-delete.field-0 ≡ given_of (delete_subscriptions_listed setting call c.args.session state r)) c.in-Ok.ensures.entries
+    (called_first state call (statuses_body DELETE_SUBSCRIPTIONS_RESPONSE setting call) (said state.subs (deleted c.args.session (world_at setting state) c.in-Ok.numbers.now))
+    c.in-Ok-delete.answered c.delete.new.self c.delete.new.items c.in_ok-body-in-Ok-delete.body.items c.in_ok-reply_first-in-Ok-delete.field-0 c.in-Ok-delete.ensures (c.in_ok-body-in-Ok-delete.ensures ∙ ap (statuses_body DELETE_SUBSCRIPTIONS_RESPONSE setting call) c.as_slice.ensures) c.in_ok-reply_first-in-Ok-delete.ensures)

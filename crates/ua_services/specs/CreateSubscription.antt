@@ -1,0 +1,44 @@
+-- The service CreateSubscription.
+use Rattle.std.specs.Prelude.{ℕ, List, [], ◌∷◌, Result, Ok, Err}
+use Rattle.ua_types.specs.declared.status.Status.{Status}
+use Rattle.ua_messages.specs.Bodies.{body_encoding}
+use Rattle.ua_messages.specs.Headers.{plain_header}
+use Rattle.ua_messages.specs.ServiceFaults.{fault_body}
+use Rattle.ua_messages.specs.declared.type_ids.TheConstants.{CREATE_SUBSCRIPTION_RESPONSE}
+use Rattle.ua_requests.specs.declared.setting.Setting.{Setting}
+use Rattle.sub_messages.specs.Subscriptions.{create_subscription_response_encoding}
+use Rattle.sub_messages.specs.declared.subscriptions.CreateSubscriptionRequest.{CreateSubscriptionRequest}
+use Rattle.subscription.specs.Subs.{created}
+use Rattle.subscription.specs.declared.settings.Settings.{Settings}
+use Rattle.subscription.specs.declared.subs.Created.{Created}
+use Rattle.ua_services.specs.ServicesState.{Services}
+use Rattle.ua_services.specs.Serving.{Serving, reply_of}
+use Rattle.ua_services.specs.SubServing.{called}
+use Rattle.ua_services.specs.declared.call.Call.{Call}
+
+-- what the client asks of its subscription; the publishing interval is the server's
+abbrev pub settings_asked : CreateSubscriptionRequest → Settings
+settings_asked request = record {
+  keep_count = request.requested_max_keep_alive_count;
+  life_count = request.requested_lifetime_count;
+  notifications = request.max_notifications_per_publish;
+  priority = request.priority;
+}
+
+-- what it is told of it, or why there is none
+abbrev pub create_subscription_body : Setting → Call → Result Created Status → List ℕ
+create_subscription_body setting call (Ok created) =
+    body_encoding create_subscription_response_encoding CREATE_SUBSCRIPTION_RESPONSE (record {
+      response_header = plain_header call.handle (record { 0 = 0 }) setting.clock;
+      subscription_id = created.number;
+      revised_publishing_interval = setting.config.publish_duration;
+      revised_lifetime_count = created.revised.life_count;
+      revised_max_keep_alive_count = created.revised.keep_count;
+    })
+create_subscription_body setting call (Err code) = fault_body call.handle code setting.clock
+
+-- a subscription for the session
+abbrev pub create_subscription_meaning : Setting → Call → ℕ → CreateSubscriptionRequest → Services → Serving
+create_subscription_meaning setting call session request state =
+    called state (λ answer. reply_of call (create_subscription_body setting call answer) ∷ [])
+    (created session (settings_asked request) request.publishing_enabled state.subs state.items setting.clock)

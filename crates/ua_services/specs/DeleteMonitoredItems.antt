@@ -1,0 +1,27 @@
+-- The service DeleteMonitoredItems.
+use Rattle.std.specs.Prelude.{ℕ, List, Result, Ok, Err}
+use Rattle.ua_types.specs.declared.status.Status.{Status}
+use Rattle.ua_binary.specs.Scalars.{status_encoding}
+use Rattle.ua_messages.specs.declared.type_ids.TheConstants.{DELETE_MONITORED_ITEMS_RESPONSE}
+use Rattle.ua_requests.specs.declared.setting.Setting.{Setting}
+use Rattle.monitored_items.specs.Items.{all_served, delete_one}
+use Rattle.sub_messages.specs.declared.monitored_items.DeleteMonitoredItemsRequest.{DeleteMonitoredItemsRequest}
+use Rattle.ua_services.specs.ItemServing.{Itemed, items_refused, items_answered, items_called}
+use Rattle.ua_services.specs.Operations.{operations_of}
+use Rattle.ua_services.specs.ServicesState.{Services}
+use Rattle.ua_services.specs.Serving.{Serving}
+use Rattle.ua_services.specs.declared.call.Call.{Call}
+
+abbrev pub deleted_listed : Setting → Call → ℕ → Services → Result (List ℕ) Status → Itemed
+deleted_listed setting call number state (Ok numbers) =
+    items_answered status_encoding DELETE_MONITORED_ITEMS_RESPONSE setting call (all_served (delete_one number) state.items numbers)
+deleted_listed setting call number state (Err code) = items_refused setting call state code
+
+-- the list is judged first, then each item goes
+unfoldable pub items_deleted : Setting → Call → DeleteMonitoredItemsRequest → Services → Itemed
+items_deleted setting call request state =
+    deleted_listed setting call request.subscription_id state (operations_of setting.config request.monitored_item_ids)
+
+abbrev pub delete_monitored_items_meaning : Setting → Call → ℕ → DeleteMonitoredItemsRequest → Services → Serving
+delete_monitored_items_meaning setting call session request state =
+    items_called setting call session request.subscription_id state (items_deleted setting call request state)

@@ -1,0 +1,26 @@
+-- The service DeleteSubscriptions.
+use Rattle.std.specs.Prelude.{ℕ, List, [], ◌∷◌, Result, Ok, Err}
+use Rattle.ua_types.specs.declared.status.Status.{Status}
+use Rattle.ua_messages.specs.declared.type_ids.TheConstants.{DELETE_SUBSCRIPTIONS_RESPONSE}
+use Rattle.ua_requests.specs.declared.setting.Setting.{Setting}
+use Rattle.sub_messages.specs.declared.subscriptions.DeleteSubscriptionsRequest.{DeleteSubscriptionsRequest}
+use Rattle.subscription.specs.Named.{deleted}
+use Rattle.subscription.specs.Subs.{said}
+use Rattle.ua_services.specs.Operations.{operations_of}
+use Rattle.ua_services.specs.ServicesState.{Services}
+use Rattle.ua_services.specs.Serving.{Serving, reply_of, faulted}
+use Rattle.ua_services.specs.StatusResults.{statuses_body}
+use Rattle.ua_services.specs.SubServing.{called, world_at}
+use Rattle.ua_services.specs.declared.call.Call.{Call}
+
+abbrev pub delete_subscriptions_listed : Setting → Call → ℕ → Services → Result (List ℕ) Status → Serving
+delete_subscriptions_listed setting call session state (Ok numbers) =
+    called state (λ statuses. reply_of call (statuses_body DELETE_SUBSCRIPTIONS_RESPONSE setting call statuses) ∷ [])
+    (said state.subs (deleted session (world_at setting state) numbers))
+delete_subscriptions_listed setting call session state (Err code) = faulted state call code setting.clock
+
+-- the list is judged first; then each subscription goes. Where the session has none left, its Publish requests are answered
+-- after this one
+abbrev pub delete_subscriptions_meaning : Setting → Call → ℕ → DeleteSubscriptionsRequest → Services → Serving
+delete_subscriptions_meaning setting call session request state =
+    delete_subscriptions_listed setting call session state (operations_of setting.config request.subscription_ids)

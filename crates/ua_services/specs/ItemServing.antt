@@ -1,0 +1,59 @@
+-- What the services of monitored items share: each names a subscription of its session.
+use Rattle.std.specs.Prelude.{ℕ, List, [], ◌∷◌, Option, Some, None, if◌then◌else◌}
+use Rattle.ua_types.specs.declared.status.Status.{Status}
+use Rattle.ua_types.specs.declared.status.TheConstants.Status as status
+use Rattle.ua_messages.specs.Bodies.{body_encoding}
+use Rattle.ua_messages.specs.Headers.{plain_header}
+use Rattle.ua_messages.specs.ResultLists.{results_encoding, results_of}
+use Rattle.ua_messages.specs.ServiceFaults.{fault_body}
+use Rattle.ua_requests.specs.declared.setting.Setting.{Setting}
+use Rattle.monitored_items.specs.Items.{ItemsState, Served}
+use Rattle.sub_table.specs.declared.vars.Vars.{Vars}
+use Rattle.subscription.specs.Named.{is_own}
+use Rattle.subscription.specs.Subs.{told}
+use Rattle.subscription.specs.Tables.{met, vars_found}
+use Rattle.subscription.specs.declared.call.Call.TheVariants.{Items}
+use Rattle.ua_services.specs.ServicesState.{Services}
+use Rattle.ua_services.specs.Serving.{Serving, reply_of, faulted}
+use Rattle.ua_services.specs.SubServing.{called, world_at}
+use Rattle.ua_services.specs.declared.call.Call.{Call}
+
+abbrev pub with_items : Services → ItemsState → Services
+with_items state items = record state { items = items }
+
+-- ---- what is done with the items
+
+-- what the items are after a request, and its answer: a response, or a fault
+pub record Itemed : Type 0 where
+  pub items : ItemsState
+  pub body : List ℕ
+
+-- a request that is refused leaves the items as they were
+abbrev pub items_refused : Setting → Call → Services → Status → Itemed
+items_refused setting call state code = record { items = state.items; body = fault_body call.handle code setting.clock }
+
+-- one result for each thing, in the order of the request
+abbrev pub items_answered : {R : Type 0} → (R → List ℕ) → ℕ → Setting → Call → Served R → Itemed
+items_answered encoding type_id setting call served = record {
+  items = served.state;
+  body = body_encoding (results_encoding encoding) type_id (results_of (plain_header call.handle (record { 0 = 0 }) setting.clock) served.results);
+}
+
+-- ---- and the row that its subscription fires
+
+-- the variables of a subscription, if it is one of the session's
+abbrev pub own_vars : ℕ → ℕ → Services → Option Vars
+own_vars session number state = if is_own state.subs.table session number then vars_found number state.items state.subs.table else None
+
+-- its subscription fires a row, whatever became of the request
+abbrev pub fired_after : Setting → Call → ℕ → Services → Vars → List ℕ → Serving
+fired_after setting call number state before body =
+    called state (λ done. reply_of call body ∷ []) (told state.subs (met (world_at setting state) number (Items before)))
+
+abbrev pub items_called_by : Setting → Call → ℕ → Services → Itemed → Option Vars → Serving
+items_called_by setting call number state done None = faulted state call status.BAD_SUBSCRIPTION_ID_INVALID setting.clock
+items_called_by setting call number state done (Some before) = fired_after setting call number (with_items state done.items) before done.body
+
+-- the subscription is looked up first of all
+abbrev pub items_called : Setting → Call → ℕ → ℕ → Services → Itemed → Serving
+items_called setting call session number state done = items_called_by setting call number state done (own_vars session number state)

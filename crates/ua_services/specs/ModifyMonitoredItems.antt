@@ -1,0 +1,36 @@
+-- The service ModifyMonitoredItems.
+use Rattle.std.specs.Prelude.{ℕ, List, Option, Some, None, Result, Ok, Err}
+use Rattle.ua_types.specs.declared.status.Status.{Status}
+use Rattle.ua_types.specs.declared.status.TheConstants.Status as status
+use Rattle.ua_messages.specs.declared.type_ids.TheConstants.{MODIFY_MONITORED_ITEMS_RESPONSE}
+use Rattle.ua_requests.specs.declared.setting.Setting.{Setting}
+use Rattle.monitored_items.specs.Items.{all_served, modify_one}
+use Rattle.read_write.specs.Timestamps.{timestamps_of}
+use Rattle.read_write.specs.declared.timestamps.Timestamps.{Timestamps}
+use Rattle.sub_messages.specs.MonitoredItems.{monitored_item_modify_result_encoding}
+use Rattle.sub_messages.specs.declared.monitored_items.ModifyMonitoredItemsRequest.{ModifyMonitoredItemsRequest}
+use Rattle.sub_messages.specs.declared.monitored_items.MonitoredItemModifyRequest.{MonitoredItemModifyRequest}
+use Rattle.ua_services.specs.ItemServing.{Itemed, items_refused, items_answered, items_called}
+use Rattle.ua_services.specs.Operations.{operations_of}
+use Rattle.ua_services.specs.ServicesState.{Services}
+use Rattle.ua_services.specs.Serving.{Serving}
+use Rattle.ua_services.specs.declared.call.Call.{Call}
+
+abbrev pub modify_listed : Setting → Call → ℕ → Services → Timestamps → Result (List MonitoredItemModifyRequest) Status → Itemed
+modify_listed setting call number state times (Ok requests) =
+    items_answered monitored_item_modify_result_encoding MODIFY_MONITORED_ITEMS_RESPONSE setting call
+    (all_served (modify_one number times) state.items requests)
+modify_listed setting call number state times (Err code) = items_refused setting call state code
+
+abbrev pub modify_timed : Setting → Call → ℕ → Services → Option (List MonitoredItemModifyRequest) → Option Timestamps → Itemed
+modify_timed setting call number state requests None = items_refused setting call state status.BAD_TIMESTAMPS_TO_RETURN_INVALID
+modify_timed setting call number state requests (Some times) = modify_listed setting call number state times (operations_of setting.config requests)
+
+-- the times that are wanted are judged first, then the list, then each item gets its other parameters
+unfoldable pub items_modified : Setting → Call → ModifyMonitoredItemsRequest → Services → Itemed
+items_modified setting call request state =
+    modify_timed setting call request.subscription_id state request.items_to_modify (timestamps_of request.timestamps_to_return)
+
+abbrev pub modify_monitored_items_meaning : Setting → Call → ℕ → ModifyMonitoredItemsRequest → Services → Serving
+modify_monitored_items_meaning setting call session request state =
+    items_called setting call session request.subscription_id state (items_modified setting call request state)

@@ -1,0 +1,44 @@
+-- The service ModifySubscription.
+use Rattle.std.specs.Prelude.{ℕ, List, [], ◌∷◌, Result, Ok, Err}
+use Rattle.ua_types.specs.declared.status.Status.{Status}
+use Rattle.ua_messages.specs.Bodies.{body_encoding}
+use Rattle.ua_messages.specs.Headers.{plain_header}
+use Rattle.ua_messages.specs.ServiceFaults.{fault_body}
+use Rattle.ua_messages.specs.declared.type_ids.TheConstants.{MODIFY_SUBSCRIPTION_RESPONSE}
+use Rattle.ua_requests.specs.declared.setting.Setting.{Setting}
+use Rattle.sub_messages.specs.Subscriptions.{modify_subscription_response_encoding}
+use Rattle.sub_messages.specs.declared.subscriptions.ModifySubscriptionRequest.{ModifySubscriptionRequest}
+use Rattle.subscription.specs.Making.{modified}
+use Rattle.subscription.specs.Subs.{said}
+use Rattle.subscription.specs.declared.making.Revised.{Revised}
+use Rattle.subscription.specs.declared.settings.Settings.{Settings}
+use Rattle.ua_services.specs.ServicesState.{Services}
+use Rattle.ua_services.specs.Serving.{Serving, reply_of}
+use Rattle.ua_services.specs.SubServing.{called, world_at}
+use Rattle.ua_services.specs.declared.call.Call.{Call}
+
+-- what the client asks of its subscription from now on
+abbrev pub settings_wanted : ModifySubscriptionRequest → Settings
+settings_wanted request = record {
+  keep_count = request.requested_max_keep_alive_count;
+  life_count = request.requested_lifetime_count;
+  notifications = request.max_notifications_per_publish;
+  priority = request.priority;
+}
+
+-- what it is told of it, or why nothing changed
+abbrev pub modify_subscription_body : Setting → Call → Result Revised Status → List ℕ
+modify_subscription_body setting call (Ok revised) =
+    body_encoding modify_subscription_response_encoding MODIFY_SUBSCRIPTION_RESPONSE (record {
+      response_header = plain_header call.handle (record { 0 = 0 }) setting.clock;
+      revised_publishing_interval = setting.config.publish_duration;
+      revised_lifetime_count = revised.life_count;
+      revised_max_keep_alive_count = revised.keep_count;
+    })
+modify_subscription_body setting call (Err code) = fault_body call.handle code setting.clock
+
+-- the session's subscription gets other counts, another size of messages and another priority
+abbrev pub modify_subscription_meaning : Setting → Call → ℕ → ModifySubscriptionRequest → Services → Serving
+modify_subscription_meaning setting call session request state =
+    called state (λ answer. reply_of call (modify_subscription_body setting call answer) ∷ [])
+    (said state.subs (modified session request.subscription_id (settings_wanted request) (world_at setting state)))

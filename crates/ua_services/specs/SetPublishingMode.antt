@@ -1,0 +1,26 @@
+-- The service SetPublishingMode.
+use Rattle.std.specs.Prelude.{ℕ, Bool, List, [], ◌∷◌, Result, Ok, Err}
+use Rattle.ua_types.specs.declared.status.Status.{Status}
+use Rattle.ua_messages.specs.declared.type_ids.TheConstants.{SET_PUBLISHING_MODE_RESPONSE}
+use Rattle.ua_requests.specs.declared.setting.Setting.{Setting}
+use Rattle.sub_messages.specs.declared.subscriptions.SetPublishingModeRequest.{SetPublishingModeRequest}
+use Rattle.subscription.specs.Named.{named_all}
+use Rattle.subscription.specs.Subs.{said}
+use Rattle.subscription.specs.declared.call.Call.TheVariants.{SetMode}
+use Rattle.ua_services.specs.Operations.{operations_of}
+use Rattle.ua_services.specs.ServicesState.{Services}
+use Rattle.ua_services.specs.Serving.{Serving, reply_of, faulted}
+use Rattle.ua_services.specs.StatusResults.{statuses_body}
+use Rattle.ua_services.specs.SubServing.{called, world_at}
+use Rattle.ua_services.specs.declared.call.Call.{Call}
+
+abbrev pub set_publishing_listed : Setting → Call → ℕ → Bool → Services → Result (List ℕ) Status → Serving
+set_publishing_listed setting call session enabled state (Ok numbers) =
+    called state (λ statuses. reply_of call (statuses_body SET_PUBLISHING_MODE_RESPONSE setting call statuses) ∷ [])
+    (said state.subs (named_all session (SetMode enabled) (world_at setting state) numbers))
+set_publishing_listed setting call session enabled state (Err code) = faulted state call code setting.clock
+
+-- the list is judged first; then the notifications of each subscription are switched on or off
+abbrev pub set_publishing_mode_meaning : Setting → Call → ℕ → SetPublishingModeRequest → Services → Serving
+set_publishing_mode_meaning setting call session request state =
+    set_publishing_listed setting call session request.publishing_enabled state (operations_of setting.config request.subscription_ids)

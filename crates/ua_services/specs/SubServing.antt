@@ -1,0 +1,82 @@
+-- What the services of subscriptions share.
+use Rattle.std.specs.Prelude.{ℕ, Bool, true, false, List, [], ◌∷◌, ◌++◌, fold, Option, Some, None, if◌then◌else◌}
+use Rattle.monitored_items.specs.Items.{ItemsState}
+use Rattle.subscription.specs.Ending.{session_ended}
+use Rattle.subscription.specs.Making.{timed}
+use Rattle.subscription.specs.Scenes.{is_overspent}
+use Rattle.subscription.specs.Subs.{SubsState, Said, told, world_of}
+use Rattle.subscription.specs.Tables.{World}
+use Rattle.subscription.specs.declared.turn.Turn.{Turn}
+use Rattle.ua_requests.specs.declared.fired.Fired.{Fired}
+use Rattle.ua_requests.specs.declared.halt.Halt.{Halt}
+use Rattle.ua_requests.specs.declared.reply.Reply.{Reply}
+use Rattle.ua_requests.specs.declared.setting.Setting.{Setting}
+use Rattle.ua_services.specs.ServicesState.{Services}
+use Rattle.ua_services.specs.Serving.{Act, Serving}
+use Rattle.ua_services.specs.Serving.Act.{Fire, Spent}
+
+abbrev pub with_subs : Services → SubsState → ItemsState → Services
+with_subs state subs items = record state { items = items; subs = subs }
+
+abbrev pub fires : List Fired → List Act
+fires [] = []
+fires (fired ∷ rows) = Fire fired ∷ fires rows
+
+-- messages can't be counted any more, or couldn't before
+abbrev pub is_uncounted : Option Halt → Turn → Bool
+is_uncounted None turn = is_overspent turn
+is_uncounted (Some halt) turn = true
+
+abbrev pub uncounted : Option Halt → Turn → List Act
+uncounted halted turn = if is_uncounted halted turn then Spent ∷ [] else []
+
+-- the rows that fired in a turn
+abbrev pub acts_of : Option Halt → Turn → List Act
+acts_of halted turn = fires turn.rows ++ uncounted halted turn
+
+-- what a call of the subscriptions comes to: the reply to its own request, then those to Publish requests
+abbrev pub called : {A : Type 0} → Services → (A → List Reply) → Said A → Serving
+called state own said = record {
+  state = with_subs state said.state said.outcome.world.items;
+  replies = own said.outcome.answer ++ said.outcome.world.turn.replies;
+  acts = acts_of state.subs.halted said.outcome.world.turn;
+}
+
+-- where a call of the subscriptions begins
+abbrev pub world_at : Setting → Services → World
+world_at setting state = world_of state.subs state.items setting.clock
+
+abbrev pub no_reply : {A : Type 0} → A → List Reply
+no_reply x = []
+
+-- a call that answers Publish requests alone
+unfoldable pub told_alone : Services → World → Serving
+told_alone state w = called state no_reply (told state.subs w)
+
+-- ---- one step of the services behind another
+
+abbrev pub nothing_done : Services → Serving
+nothing_done state = record { state = state; replies = []; acts = [] }
+
+abbrev pub both : Serving → Serving → Serving
+both s t = record { state = t.state; replies = s.replies ++ t.replies; acts = s.acts ++ t.acts }
+
+abbrev pub and_then : Serving → (Services → Serving) → Serving
+and_then s more = both s (more s.state)
+
+-- ---- what is due
+
+-- a session is over: its subscriptions are deleted with it, or left to their lifetime
+abbrev pub session_over : Setting → Bool → ℕ → Services → Serving
+session_over setting deleting number state = told_alone state (session_ended number deleting (world_at setting state))
+
+-- one more session has timed out, and its subscriptions are left to their lifetime
+unfoldable pub timed_out : Setting → Serving → ℕ → Serving
+timed_out setting s number = and_then s (session_over setting false number)
+
+abbrev pub all_timed_out : Setting → Services → List ℕ → Serving
+all_timed_out setting state numbers = fold (timed_out setting) (nothing_done state) numbers
+
+-- the timers of the subscriptions that are due
+abbrev pub timers_met : Setting → Services → Serving
+timers_met setting state = told_alone state (timed (world_at setting state))

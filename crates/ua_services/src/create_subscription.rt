@@ -1,0 +1,85 @@
+//! The service CreateSubscription (IEC 62541-4, "CreateSubscription").
+
+ghost use Rattle.std.specs.Prelude.{◌≡◌, IfOk};
+ghost use Rattle.ua_services.specs.CreateSubscription.{create_subscription_body, create_subscription_meaning};
+
+use crate::call::Call;
+use crate::services::Services;
+use crate::session_service::SessionService;
+use crate::sub_serving::reply_first;
+use std::alloc::{AllocError, Global};
+use sub_messages::{CreateSubscriptionRequest, CreateSubscriptionResponse};
+use subscription::{Answered, Created, Settings};
+use ua_messages::{ResponseHeader, body, fault, type_ids};
+use ua_requests::{Halt, Served, Setting};
+use ua_types::Status;
+
+// What a client is told of its new subscription, or why there is none.
+fn answer_body(
+    alloc: Global,
+    setting: &Setting,
+    call: &Call,
+    answer: Result<Created, Status>,
+) -> Result<Vec<u8>, AllocError>
+    ensures { IfOk result (λ body. body.items ≡ create_subscription_body setting.now call.now answer) }
+{
+    match answer {
+        Ok(created) => {
+            let response = CreateSubscriptionResponse {
+                response_header: ResponseHeader::new(call.handle, Status(0), setting.clock),
+                subscription_id: created.number,
+                revised_publishing_interval: setting.config.publish_duration,
+                revised_lifetime_count: created.revised.life_count,
+                revised_max_keep_alive_count: created.revised.keep_count,
+            };
+            body(alloc, type_ids::CREATE_SUBSCRIPTION_RESPONSE, &response)
+        }
+        Err(status) => fault(alloc, call.handle, status, setting.clock),
+    }
+}
+
+/// Makes a subscription of the session. Its counts and the size of its messages are revised into what the server allows
+/// ([`subscription::Subs::create`]), and its publishing interval is the configuration's, whatever was asked.
+///
+/// The fault is `BAD_TOO_MANY_SUBSCRIPTIONS` where the session has as many as the configuration allows, or the numbers
+/// are used up.
+pub struct CreateSubscription;
+
+impl SessionService for CreateSubscription {
+    type Request = CreateSubscriptionRequest;
+
+    ghost meaning = { create_subscription_meaning };
+
+    fn serve(
+        alloc: Global,
+        setting: &Setting,
+        call: &Call,
+        session: u32,
+        request: CreateSubscriptionRequest,
+        services: &mut Services,
+    ) -> Result<Served, Halt> {
+        let settings = Settings {
+            keep_count: request.requested_max_keep_alive_count,
+            life_count: request.requested_lifetime_count,
+            notifications: request.max_notifications_per_publish,
+            priority: request.priority,
+        };
+        let enabled = request.publishing_enabled;
+        let items = &mut services.items;
+        match services
+            .subs
+            .create(alloc, items, setting.clock, session, settings, enabled)
+        {
+            Ok(answered) => {
+                let Answered {
+                    answer,
+                    replies,
+                    rows,
+                } = answered;
+                let body = answer_body(alloc, setting, call, answer)?;
+                Ok(reply_first(alloc, call, body, replies, rows)?)
+            }
+            Err(halt) => Err(halt),
+        }
+    }
+}

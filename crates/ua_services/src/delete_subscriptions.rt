@@ -1,0 +1,60 @@
+//! The service DeleteSubscriptions (IEC 62541-4, "DeleteSubscriptions").
+
+ghost use Rattle.ua_services.specs.DeleteSubscriptions.{delete_subscriptions_meaning};
+
+use crate::call::Call;
+use crate::operations::operations;
+use crate::service::refuse;
+use crate::services::Services;
+use crate::session_service::SessionService;
+use crate::status_results::statuses_body;
+use crate::sub_serving::reply_first;
+use std::alloc::Global;
+use sub_messages::DeleteSubscriptionsRequest;
+use subscription::Answered;
+use ua_messages::type_ids;
+use ua_requests::{Halt, Served, Setting};
+
+/// Deletes subscriptions of the session with their items, one after the other. Where the session has none left, its
+/// Publish requests that wait are answered `BAD_NO_SUBSCRIPTION`, behind the answer to this one.
+///
+/// The faults are those of a list that is null, empty or too long ([`operations`]). A subscription that isn't the
+/// session's has the result `BAD_SUBSCRIPTION_ID_INVALID`.
+pub struct DeleteSubscriptions;
+
+impl SessionService for DeleteSubscriptions {
+    type Request = DeleteSubscriptionsRequest;
+
+    ghost meaning = { delete_subscriptions_meaning };
+
+    fn serve(
+        alloc: Global,
+        setting: &Setting,
+        call: &Call,
+        session: u32,
+        request: DeleteSubscriptionsRequest,
+        services: &mut Services,
+    ) -> Result<Served, Halt> {
+        let numbers = match operations(&setting.config, &request.subscription_ids) {
+            Ok(numbers) => numbers,
+            Err(status) => return Ok(refuse(alloc, call, status, setting.clock)?),
+        };
+        let items = &mut services.items;
+        match services
+            .subs
+            .delete(alloc, items, setting.clock, session, numbers)
+        {
+            Ok(answered) => {
+                let Answered {
+                    answer,
+                    replies,
+                    rows,
+                } = answered;
+                let type_id = type_ids::DELETE_SUBSCRIPTIONS_RESPONSE;
+                let body = statuses_body(alloc, type_id, setting, call, answer.as_slice())?;
+                Ok(reply_first(alloc, call, body, replies, rows)?)
+            }
+            Err(halt) => Err(halt),
+        }
+    }
+}

@@ -1,0 +1,83 @@
+//! The service ModifySubscription (IEC 62541-4, "ModifySubscription").
+
+ghost use Rattle.std.specs.Prelude.{◌≡◌, IfOk};
+ghost use Rattle.ua_services.specs.ModifySubscription.{modify_subscription_body, modify_subscription_meaning};
+
+use crate::call::Call;
+use crate::services::Services;
+use crate::session_service::SessionService;
+use crate::sub_serving::reply_first;
+use std::alloc::{AllocError, Global};
+use sub_messages::{ModifySubscriptionRequest, ModifySubscriptionResponse};
+use subscription::{Answered, Revised, Settings};
+use ua_messages::{ResponseHeader, body, fault, type_ids};
+use ua_requests::{Halt, Served, Setting};
+use ua_types::Status;
+
+// What a client is told of its subscription, or why nothing changed.
+fn answer_body(
+    alloc: Global,
+    setting: &Setting,
+    call: &Call,
+    answer: Result<Revised, Status>,
+) -> Result<Vec<u8>, AllocError>
+    ensures { IfOk result (λ body. body.items ≡ modify_subscription_body setting.now call.now answer) }
+{
+    match answer {
+        Ok(revised) => {
+            let response = ModifySubscriptionResponse {
+                response_header: ResponseHeader::new(call.handle, Status(0), setting.clock),
+                revised_publishing_interval: setting.config.publish_duration,
+                revised_lifetime_count: revised.life_count,
+                revised_max_keep_alive_count: revised.keep_count,
+            };
+            body(alloc, type_ids::MODIFY_SUBSCRIPTION_RESPONSE, &response)
+        }
+        Err(status) => fault(alloc, call.handle, status, setting.clock),
+    }
+}
+
+/// Gives a subscription of the session other counts, another size of messages and another priority. They are revised as
+/// for [`crate::create_subscription::CreateSubscription`].
+///
+/// The fault is `BAD_SUBSCRIPTION_ID_INVALID` where the session has no such subscription.
+pub struct ModifySubscription;
+
+impl SessionService for ModifySubscription {
+    type Request = ModifySubscriptionRequest;
+
+    ghost meaning = { modify_subscription_meaning };
+
+    fn serve(
+        alloc: Global,
+        setting: &Setting,
+        call: &Call,
+        session: u32,
+        request: ModifySubscriptionRequest,
+        services: &mut Services,
+    ) -> Result<Served, Halt> {
+        let settings = Settings {
+            keep_count: request.requested_max_keep_alive_count,
+            life_count: request.requested_lifetime_count,
+            notifications: request.max_notifications_per_publish,
+            priority: request.priority,
+        };
+        let number = request.subscription_id;
+        let items = &mut services.items;
+        match services
+            .subs
+            .modify(alloc, items, setting.clock, session, number, settings)
+        {
+            Ok(answered) => {
+                let Answered {
+                    answer,
+                    replies,
+                    rows,
+                } = answered;
+                let body = answer_body(alloc, setting, call, answer)?;
+                Ok(reply_first(alloc, call, body, replies, rows)?)
+            }
+            Err(halt) => Err(halt),
+        }
+    }
+}

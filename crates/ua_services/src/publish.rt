@@ -1,0 +1,96 @@
+//! The service Publish (IEC 62541-4, "Publish").
+
+ghost use Rattle.std.specs.Prelude.{◌≡◌};
+ghost use Rattle.subscription.specs.Publishing.{published};
+ghost use Rattle.ua_services.specs.Publish.{acknowledged_in, publish_call, publish_meaning};
+ghost use Rattle.ua_services.specs.Serving.{Serves};
+ghost use Rattle.ua_services.specs.SubServing.{told_alone, world_at};
+
+use crate::call::Call;
+use crate::service::refuse;
+use crate::services::Services;
+use crate::session_service::SessionService;
+use std::alloc::Global;
+use sub_messages::{PublishRequest, SubscriptionAcknowledgement};
+use subscription::{Answered, PublishCall};
+use ua_requests::{Halt, Served, Setting};
+use ua_types::{Array, Listed, Status};
+
+// The messages that the client has; none where the list is null.
+fn acknowledged(
+    acknowledgements: &Array<SubscriptionAcknowledgement>,
+) -> &[SubscriptionAcknowledgement]
+    ensures { result.now ≡ acknowledged_in acknowledgements.now }
+{
+    match acknowledgements.as_slice() {
+        None => &[],
+        Some(entries) => entries,
+    }
+}
+
+// Takes a request whose acknowledgements aren't too many.
+fn taken(
+    alloc: Global,
+    setting: &Setting,
+    call: &Call,
+    session: u32,
+    acknowledgements: &[SubscriptionAcknowledgement],
+    services: &mut Services,
+) -> Result<Served, Halt>
+    ensures { Serves result services.new (told_alone services.old (published session (publish_call call.now) acknowledgements.now (world_at setting.now services.old))) }
+{
+    let publish = PublishCall {
+        conn: call.conn,
+        id: call.id,
+        handle: call.handle,
+        results: Listed::new(alloc),
+    };
+    let items = &mut services.items;
+    match services.subs.publish(
+        alloc,
+        items,
+        setting.clock,
+        session,
+        publish,
+        acknowledgements,
+    ) {
+        Ok(answered) => {
+            let Answered {
+                answer: _,
+                replies,
+                rows,
+            } = answered;
+            Ok(Served { replies, rows })
+        }
+        Err(halt) => Err(halt),
+    }
+}
+
+/// Acknowledges messages, and waits for the next one of any subscription of the session ([`subscription::Subs::publish`]).
+/// The answer goes by the connection that the request came by, now or at a later event.
+///
+/// The faults, in this order: `BAD_TOO_MANY_OPERATIONS` for more acknowledgements than the configuration's `operations`;
+/// `BAD_NO_SUBSCRIPTION` where the session has no subscription, and `BAD_TOO_MANY_PUBLISH_REQUESTS` for the oldest request
+/// where more wait than the configuration allows.
+pub struct Publish;
+
+impl SessionService for Publish {
+    type Request = PublishRequest;
+
+    ghost meaning = { publish_meaning };
+
+    fn serve(
+        alloc: Global,
+        setting: &Setting,
+        call: &Call,
+        session: u32,
+        request: PublishRequest,
+        services: &mut Services,
+    ) -> Result<Served, Halt> {
+        let acknowledgements = acknowledged(&request.subscription_acknowledgements);
+        if acknowledgements.len() > setting.config.operations as usize {
+            return Ok(refuse(alloc, call, Status::BAD_TOO_MANY_OPERATIONS, setting.clock)?);
+        }
+        taken(alloc, setting, call, session, acknowledgements, services)
+    }
+}

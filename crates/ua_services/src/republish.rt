@@ -1,0 +1,74 @@
+//! The service Republish (IEC 62541-4, "Republish").
+
+ghost use Rattle.std.specs.Prelude.{◌≡◌, IfOk};
+ghost use Rattle.ua_services.specs.Republish.{republish_answer, republish_meaning};
+
+use crate::call::Call;
+use crate::services::Services;
+use crate::session_service::SessionService;
+use crate::sub_serving::reply_first;
+use bytes::Bytes;
+use std::alloc::{AllocError, Global};
+use sub_messages::{RepublishRequest, republish_body};
+use subscription::Answered;
+use ua_messages::{ResponseHeader, fault};
+use ua_requests::{Halt, Served, Setting};
+use ua_types::Status;
+
+// The response with a message's bytes as they were made, or why there is none.
+fn answer_body(
+    alloc: Global,
+    setting: &Setting,
+    call: &Call,
+    answer: Result<Bytes, Status>,
+) -> Result<Vec<u8>, AllocError>
+    ensures { IfOk result (λ body. body.items ≡ republish_answer setting.now call.now answer) }
+{
+    match answer {
+        Ok(message) => {
+            let header = ResponseHeader::new(call.handle, Status(0), setting.clock);
+            republish_body(alloc, &header, message.as_slice())
+        }
+        Err(status) => fault(alloc, call.handle, status, setting.clock),
+    }
+}
+
+/// Gives a message of a subscription of the session once more, byte for byte as it was first sent.
+///
+/// The faults, in this order: `BAD_SUBSCRIPTION_ID_INVALID` where the session has no such subscription,
+/// `BAD_MESSAGE_NOT_AVAILABLE` where the message isn't kept.
+pub struct Republish;
+
+impl SessionService for Republish {
+    type Request = RepublishRequest;
+
+    ghost meaning = { republish_meaning };
+
+    fn serve(
+        alloc: Global,
+        setting: &Setting,
+        call: &Call,
+        session: u32,
+        request: RepublishRequest,
+        services: &mut Services,
+    ) -> Result<Served, Halt> {
+        let number = request.subscription_id;
+        let wanted = request.retransmit_sequence_number;
+        let items = &mut services.items;
+        match services
+            .subs
+            .republish(alloc, items, setting.clock, session, number, wanted)
+        {
+            Ok(answered) => {
+                let Answered {
+                    answer,
+                    replies,
+                    rows,
+                } = answered;
+                let body = answer_body(alloc, setting, call, answer)?;
+                Ok(reply_first(alloc, call, body, replies, rows)?)
+            }
+            Err(halt) => Err(halt),
+        }
+    }
+}

@@ -1,0 +1,60 @@
+//! The service SetPublishingMode (IEC 62541-4, "SetPublishingMode").
+
+ghost use Rattle.ua_services.specs.SetPublishingMode.{set_publishing_mode_meaning};
+
+use crate::call::Call;
+use crate::operations::operations;
+use crate::service::refuse;
+use crate::services::Services;
+use crate::session_service::SessionService;
+use crate::status_results::statuses_body;
+use crate::sub_serving::reply_first;
+use std::alloc::Global;
+use sub_messages::SetPublishingModeRequest;
+use subscription::Answered;
+use ua_messages::type_ids;
+use ua_requests::{Halt, Served, Setting};
+
+/// Switches the notifications of subscriptions of the session on or off, one after the other.
+///
+/// The faults are those of a list that is null, empty or too long ([`operations`]). A subscription that isn't the
+/// session's has the result `BAD_SUBSCRIPTION_ID_INVALID`.
+pub struct SetPublishingMode;
+
+impl SessionService for SetPublishingMode {
+    type Request = SetPublishingModeRequest;
+
+    ghost meaning = { set_publishing_mode_meaning };
+
+    fn serve(
+        alloc: Global,
+        setting: &Setting,
+        call: &Call,
+        session: u32,
+        request: SetPublishingModeRequest,
+        services: &mut Services,
+    ) -> Result<Served, Halt> {
+        let numbers = match operations(&setting.config, &request.subscription_ids) {
+            Ok(numbers) => numbers,
+            Err(status) => return Ok(refuse(alloc, call, status, setting.clock)?),
+        };
+        let enabled = request.publishing_enabled;
+        let items = &mut services.items;
+        match services
+            .subs
+            .set_mode(alloc, items, setting.clock, session, numbers, enabled)
+        {
+            Ok(answered) => {
+                let Answered {
+                    answer,
+                    replies,
+                    rows,
+                } = answered;
+                let type_id = type_ids::SET_PUBLISHING_MODE_RESPONSE;
+                let body = statuses_body(alloc, type_id, setting, call, answer.as_slice())?;
+                Ok(reply_first(alloc, call, body, replies, rows)?)
+            }
+            Err(halt) => Err(halt),
+        }
+    }
+}

@@ -1,0 +1,25 @@
+//! Responses that have one status for each thing that their request names.
+
+ghost use Rattle.std.specs.Prelude.{◌≡◌, ◌<◌, ◌^◌, length, IfOk};
+ghost use Rattle.ua_services.specs.StatusResults.{statuses_body as statuses_body_lem};
+
+use crate::call::Call;
+use std::alloc::{AllocError, Global};
+use ua_messages::{ResponseHeader, results_body};
+use ua_requests::Setting;
+use ua_types::Status;
+
+/// The response with what became of each thing, in the order of the request.
+pub(crate) fn statuses_body(
+    alloc: Global,
+    type_id: u32,
+    setting: &Setting,
+    call: &Call,
+    statuses: &[Status],
+) -> Result<Vec<u8>, AllocError>
+    requires { length statuses.now < 2 ^ 31 }
+    ensures { IfOk result (λ body. body.items ≡ statuses_body_lem type_id setting.now call.now statuses.now) }
+{
+    let header = ResponseHeader::new(call.handle, Status(0), setting.clock);
+    results_body(alloc, type_id, &header, statuses)
+}
