@@ -14,7 +14,7 @@ use Rattle.clap.proofs.OnLiterals.{clap_on_literals}
 use Rattle.command_line.specs.Words.{Answers, Asked, AsksFor, Found, HasOptions, IsAskedBy, IsNoCommand, IsPlainWord, IsStopOf, StopsBy, asked, asked_of, faults, option_of, port_of, program, turns_of, words_of}
 use Rattle.command_line.proofs.PlainWord.{asked-check, asked-pipe_nodes, faults-check, faults-pipe_nodes}
 use Rattle.command_line.specs.declared.command.Command.{Command}
-use Rattle.command_line.specs.declared.command.Command.TheVariants.{Pipe, Check, Serve}
+use Rattle.command_line.specs.declared.command.Command.TheVariants.{Pipe, Check, Asm, Run, Trace, Serve}
 use Rattle.command_line.specs.declared.stop.Stop.{Stop}
 use Rattle.command_line.specs.declared.stop.Stop.TheVariants.{Help, Usage, Memory}
 
@@ -82,8 +82,77 @@ no_nodes f is (Pipe nodes) (named, _) =
     let first : ◌≡◌ {A = ℕ} 99 112 = first_letter (asked_of f) _ _ is named in
     absurd (omega (arith, first))
 no_nodes f is (Check nodes) (named, _) = absurd (none-some nodes.now (nodes_same (asked_of f) _ _ is named))
+no_nodes f is (Asm scenario) (named, _) =
+    let first : ◌≡◌ {A = ℕ} 99 97 = first_letter (asked_of f) _ _ is named in
+    absurd (omega (arith, first))
+no_nodes f is (Run nodes scenario) (named, _) =
+    let first : ◌≡◌ {A = ℕ} 99 114 = first_letter (asked_of f) _ _ is named in
+    absurd (omega (arith, first))
+no_nodes f is (Trace nodes scenario) (named, _) =
+    let first : ◌≡◌ {A = ℕ} 99 116 = first_letter (asked_of f) _ _ is named in
+    absurd (omega (arith, first))
 no_nodes f is (Serve nodes port turns) (named, _) =
     let first : ◌≡◌ {A = ℕ} 99 115 = first_letter (asked_of f) _ _ is named in
+    absurd (omega (arith, first))
+
+-- `asm` is no command where it has NODES, or no SCENARIO
+pub no_asm : (f : Found) (nodes : Option Text) → asked_of f ≡ Some (codes "asm", nodes)
+    → ((scenario : Text) → nodes ≡ None → option_of (codes "SCENARIO") f ≡ Some scenario → ⊥) → IsNoCommand f
+no_asm f nodes is none (Pipe given) (named, _) =
+    let first : ◌≡◌ {A = ℕ} 97 112 = first_letter (asked_of f) _ _ is named in
+    absurd (omega (arith, first))
+no_asm f nodes is none (Check given) (named, _) =
+    let first : ◌≡◌ {A = ℕ} 97 99 = first_letter (asked_of f) _ _ is named in
+    absurd (omega (arith, first))
+no_asm f nodes is none (Asm scenario) (named, has) = none scenario.now (nodes_same (asked_of f) _ _ is named) has
+no_asm f nodes is none (Run given scenario) (named, _) =
+    let first : ◌≡◌ {A = ℕ} 97 114 = first_letter (asked_of f) _ _ is named in
+    absurd (omega (arith, first))
+no_asm f nodes is none (Trace given scenario) (named, _) =
+    let first : ◌≡◌ {A = ℕ} 97 116 = first_letter (asked_of f) _ _ is named in
+    absurd (omega (arith, first))
+no_asm f nodes is none (Serve given port turns) (named, _) =
+    let first : ◌≡◌ {A = ℕ} 97 115 = first_letter (asked_of f) _ _ is named in
+    absurd (omega (arith, first))
+
+-- `run` is no command where it has no NODES, or no SCENARIO
+pub no_run : (f : Found) (nodes : Option Text) → asked_of f ≡ Some (codes "run", nodes)
+    → ((n scenario : Text) → nodes ≡ Some n → option_of (codes "SCENARIO") f ≡ Some scenario → ⊥) → IsNoCommand f
+no_run f nodes is none (Pipe given) (named, _) =
+    let first : ◌≡◌ {A = ℕ} 114 112 = first_letter (asked_of f) _ _ is named in
+    absurd (omega (arith, first))
+no_run f nodes is none (Check given) (named, _) =
+    let first : ◌≡◌ {A = ℕ} 114 99 = first_letter (asked_of f) _ _ is named in
+    absurd (omega (arith, first))
+no_run f nodes is none (Asm scenario) (named, _) =
+    let first : ◌≡◌ {A = ℕ} 114 97 = first_letter (asked_of f) _ _ is named in
+    absurd (omega (arith, first))
+no_run f nodes is none (Run given scenario) (named, has) = none given.now scenario.now (nodes_same (asked_of f) _ _ is named) has
+no_run f nodes is none (Trace given scenario) (named, _) =
+    let first : ◌≡◌ {A = ℕ} 114 116 = first_letter (asked_of f) _ _ is named in
+    absurd (omega (arith, first))
+no_run f nodes is none (Serve given port turns) (named, _) =
+    let first : ◌≡◌ {A = ℕ} 114 115 = first_letter (asked_of f) _ _ is named in
+    absurd (omega (arith, first))
+
+-- `trace` is no command where it has no NODES, or no SCENARIO
+pub no_trace : (f : Found) (nodes : Option Text) → asked_of f ≡ Some (codes "trace", nodes)
+    → ((n scenario : Text) → nodes ≡ Some n → option_of (codes "SCENARIO") f ≡ Some scenario → ⊥) → IsNoCommand f
+no_trace f nodes is none (Pipe given) (named, _) =
+    let first : ◌≡◌ {A = ℕ} 116 112 = first_letter (asked_of f) _ _ is named in
+    absurd (omega (arith, first))
+no_trace f nodes is none (Check given) (named, _) =
+    let first : ◌≡◌ {A = ℕ} 116 99 = first_letter (asked_of f) _ _ is named in
+    absurd (omega (arith, first))
+no_trace f nodes is none (Asm scenario) (named, _) =
+    let first : ◌≡◌ {A = ℕ} 116 97 = first_letter (asked_of f) _ _ is named in
+    absurd (omega (arith, first))
+no_trace f nodes is none (Run given scenario) (named, _) =
+    let first : ◌≡◌ {A = ℕ} 116 114 = first_letter (asked_of f) _ _ is named in
+    absurd (omega (arith, first))
+no_trace f nodes is none (Trace given scenario) (named, has) = none given.now scenario.now (nodes_same (asked_of f) _ _ is named) has
+no_trace f nodes is none (Serve given port turns) (named, _) =
+    let first : ◌≡◌ {A = ℕ} 116 115 = first_letter (asked_of f) _ _ is named in
     absurd (omega (arith, first))
 
 -- `serve` is no command where its NODES, its port or its turns are none
@@ -94,6 +163,15 @@ no_serve f nodes is none (Pipe given) (named, _) =
     absurd (omega (arith, first))
 no_serve f nodes is none (Check given) (named, _) =
     let first : ◌≡◌ {A = ℕ} 115 99 = first_letter (asked_of f) _ _ is named in
+    absurd (omega (arith, first))
+no_serve f nodes is none (Asm scenario) (named, _) =
+    let first : ◌≡◌ {A = ℕ} 115 97 = first_letter (asked_of f) _ _ is named in
+    absurd (omega (arith, first))
+no_serve f nodes is none (Run given scenario) (named, _) =
+    let first : ◌≡◌ {A = ℕ} 115 114 = first_letter (asked_of f) _ _ is named in
+    absurd (omega (arith, first))
+no_serve f nodes is none (Trace given scenario) (named, _) =
+    let first : ◌≡◌ {A = ℕ} 115 116 = first_letter (asked_of f) _ _ is named in
     absurd (omega (arith, first))
 no_serve f nodes is none (Serve given port turns) (named, numbers) =
     none given.now port turns (nodes_same (asked_of f) _ _ is named) numbers.0 numbers.1

@@ -8,7 +8,7 @@ use Rattle.clap.specs.Words.{App, Kinds, IsAmong, Row, Rule, Text, fault_of, fir
 use Rattle.clap.specs.declared.error.kind.ErrorKind.{ErrorKind}
 use Rattle.clap.specs.declared.error.kind.ErrorKind.TheVariants.{DisplayHelp, OutOfMemory}
 use Rattle.command_line.specs.declared.command.Command.{Command}
-use Rattle.command_line.specs.declared.command.Command.TheVariants.{Pipe, Check, Serve}
+use Rattle.command_line.specs.declared.command.Command.TheVariants.{Pipe, Check, Asm, Run, Trace, Serve}
 use Rattle.command_line.specs.declared.stop.Stop.{Stop}
 use Rattle.command_line.specs.declared.stop.Stop.TheVariants.{Help, Usage, Memory}
 
@@ -16,11 +16,23 @@ use Rattle.command_line.specs.declared.stop.Stop.TheVariants.{Help, Usage, Memor
 abbrev pub nodes_rule : Rule
 nodes_rule = new_rule (codes "NODES")
 
+abbrev pub scenario_rule : Rule
+scenario_rule = record (new_rule (codes "SCENARIO")) { required = true }
+
 abbrev pub pipe_app : App
 pipe_app = with_rule (new_app (codes "pipe")) nodes_rule
 
 abbrev pub check_app : App
 check_app = with_rule (new_app (codes "check")) (record nodes_rule { required = true })
+
+abbrev pub asm_app : App
+asm_app = with_rule (new_app (codes "asm")) scenario_rule
+
+abbrev pub run_app : App
+run_app = with_rule (with_rule (new_app (codes "run")) (record nodes_rule { required = true })) scenario_rule
+
+abbrev pub trace_app : App
+trace_app = with_rule (with_rule (new_app (codes "trace")) (record nodes_rule { required = true })) scenario_rule
 
 -- an option of this name, which takes a value
 abbrev pub option_rule : Text → Rule
@@ -41,7 +53,11 @@ bare_program = record (new_app (codes "uaserver")) {
 }
 
 abbrev pub program : App
-program = with_subcommand (with_subcommand (with_subcommand bare_program pipe_app.top) check_app.top) serve_app.top
+program =
+    with_subcommand
+    (with_subcommand (with_subcommand (with_subcommand (with_subcommand (with_subcommand bare_program pipe_app.top) check_app.top) asm_app.top) run_app.top)
+    trace_app.top)
+    serve_app.top
 
 -- a command in words: the one that names it, and its NODES
 abbrev pub Asked : Type 0
@@ -50,6 +66,9 @@ Asked = Text × Option Text
 abbrev pub words_of : Command → Asked
 words_of (Pipe nodes) = (codes "pipe", option_map (λ n. n.now) nodes)
 words_of (Check nodes) = (codes "check", Some nodes.now)
+words_of (Asm scenario) = (codes "asm", None)
+words_of (Run nodes scenario) = (codes "run", Some nodes.now)
+words_of (Trace nodes scenario) = (codes "trace", Some nodes.now)
 words_of (Serve nodes port turns) = (codes "serve", Some nodes.now)
 
 -- the subcommand of a parse, where there is one, with what its arguments are
@@ -60,7 +79,7 @@ Found = Option (Text × List Row)
 abbrev pub asked_of : Found → Option Asked
 asked_of = option_map (λ p. (p.0, first_of (codes "NODES") p.1))
 
--- the word behind an option
+-- the word of an argument, or the one behind an option
 abbrev pub option_of : Text → Found → Option Text
 option_of name = option_and_then (λ p. first_of name p.1)
 
@@ -81,8 +100,11 @@ abbrev pub turns_of : Option Text → Option ℕ
 turns_of None = Some 0
 turns_of (Some digits) = number_of digits
 
--- the numbers behind the options of a command
+-- SCENARIO, and the numbers behind the options of a command
 abbrev pub HasOptions : Found → Command → Type 0
+HasOptions found (Asm scenario) = option_of (codes "SCENARIO") found ≡ Some scenario.now
+HasOptions found (Run nodes scenario) = option_of (codes "SCENARIO") found ≡ Some scenario.now
+HasOptions found (Trace nodes scenario) = option_of (codes "SCENARIO") found ≡ Some scenario.now
 HasOptions found (Serve nodes port turns) =
     (port_of (option_of (codes "port") found) ≡ Some port) × (turns_of (option_of (codes "turns") found) ≡ Some turns)
 HasOptions found c = ⊤
@@ -98,7 +120,7 @@ asked words = asked_of (subcommand_of program words)
 abbrev pub faults : List Text → Kinds
 faults = fault_of program
 
--- nothing is wrong with the words, and they name the command, its NODES and its numbers
+-- nothing is wrong with the words, and they name the command, its NODES, its SCENARIO and its numbers
 abbrev pub AsksFor : List Text → Command → Type 0
 AsksFor words c = (faults words ≡ []) × IsAskedBy (subcommand_of program words) c
 

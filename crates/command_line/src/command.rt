@@ -1,6 +1,7 @@
 //! What can be asked for.
 
-/// What `uaserver` is asked to do. NODES is the path of a node file, as it stands in the words.
+/// What `uaserver` is asked to do. NODES is the path of a node file and SCENARIO that of a scenario, as
+/// they stand in the words.
 #[derive(Clone, Copy, Debug, PartialEq, Eq)]
 pub enum Command<'a> {
     /// `uaserver pipe [NODES]`: one connection over standard input and output, with the
@@ -12,6 +13,25 @@ pub enum Command<'a> {
     /// `uaserver check NODES`: the number of nodes and references of the node file.
     Check {
         nodes: &'a str,
+    },
+
+    /// `uaserver asm SCENARIO`: the events of the scenario.
+    Asm {
+        scenario: &'a str,
+    },
+
+    /// `uaserver run NODES SCENARIO`: what the server of the node file sends when the scenario happens
+    /// to it.
+    Run {
+        nodes: &'a str,
+        scenario: &'a str,
+    },
+
+    /// `uaserver trace NODES SCENARIO`: the rows of the subscriptions' state table that fire when the
+    /// scenario happens to the server of the node file.
+    Trace {
+        nodes: &'a str,
+        scenario: &'a str,
     },
 
     /// `uaserver serve NODES --port P [--turns N]`: the server of the node file over sockets, at this port

@@ -17,6 +17,3 @@ mod stop;
 pub use command::Command;
 pub use parsing::parse;
 pub use stop::Stop;
-
-#[cfg(test)]
-mod tests;

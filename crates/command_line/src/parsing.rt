@@ -63,9 +63,24 @@ fn command_of<'a>(matches: &ArgMatches<'a>) -> Option<Command<'a>>
 {
     let (name, given) = matches.subcommand()?;
     let nodes = given.get_str("NODES");
+    let scenario = given.get_str("SCENARIO");
     match name {
         "pipe" => Some(Command::Pipe { nodes }),
         "check" => Some(Command::Check { nodes: nodes? }),
+        "asm" => match nodes {
+            None => Some(Command::Asm {
+                scenario: scenario?,
+            }),
+            Some(_) => None,
+        },
+        "run" => Some(Command::Run {
+            nodes: nodes?,
+            scenario: scenario?,
+        }),
+        "trace" => Some(Command::Trace {
+            nodes: nodes?,
+            scenario: scenario?,
+        }),
         "serve" => Some(Command::Serve {
             nodes: nodes?,
             port: port_of(given.get_str("port"))?,

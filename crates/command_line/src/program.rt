@@ -3,7 +3,7 @@
 ghost use Rattle.std.specs.Prelude.{◌≡◌, IfOk, false};
 ghost use Rattle.clap.specs.Words.{app_of, rule_of};
 ghost use Rattle.clap.specs.declared.builder.command.Command.TheViews.{out-Command as fields_of};
-ghost use Rattle.command_line.specs.Words.{nodes_rule, option_rule, program, serve_app};
+ghost use Rattle.command_line.specs.Words.{asm_app, check_app, nodes_rule, option_rule, pipe_app, program, run_app, scenario_rule, serve_app, trace_app};
 
 use clap::{Arg, Command};
 use std::alloc::{AllocError, Global};
@@ -20,12 +20,11 @@ pub(crate) fn uaserver<'a>(alloc: Global) -> Result<Command<'a>, AllocError>
 fn with_commands<'a>(alloc: Global) -> Result<Command<'a>, AllocError>
     ensures { IfOk result (λ c. app_of c ≡ program) }
 {
-    let pipe = Command::new(alloc, "pipe")
-        .about("Serves one connection on standard input and standard output")
-        .arg(nodes(alloc))?;
-    let check = Command::new(alloc, "check")
-        .about("Counts the nodes and references of a node file")
-        .arg(nodes(alloc).required(true))?;
+    let pipe = pipe(alloc)?;
+    let check = check(alloc)?;
+    let asm = asm(alloc)?;
+    let run = run(alloc)?;
+    let trace = trace(alloc)?;
     let serve = serve(alloc)?;
     Command::new(alloc, "uaserver")
         .about("An OPC UA server")
@@ -34,7 +33,52 @@ fn with_commands<'a>(alloc: Global) -> Result<Command<'a>, AllocError>
         .arg_required_else_help(true)
         .subcommand(pipe)?
         .subcommand(check)?
+        .subcommand(asm)?
+        .subcommand(run)?
+        .subcommand(trace)?
         .subcommand(serve)
+}
+
+fn pipe<'a>(alloc: Global) -> Result<Command<'a>, AllocError>
+    ensures { IfOk result (λ c. (app_of c ≡ pipe_app) × ((fields_of c).has_globals ≡ false)) }
+{
+    Command::new(alloc, "pipe")
+        .about("Serves one connection on standard input and standard output")
+        .arg(nodes(alloc))
+}
+
+fn check<'a>(alloc: Global) -> Result<Command<'a>, AllocError>
+    ensures { IfOk result (λ c. (app_of c ≡ check_app) × ((fields_of c).has_globals ≡ false)) }
+{
+    Command::new(alloc, "check")
+        .about("Counts the nodes and references of a node file")
+        .arg(nodes(alloc).required(true))
+}
+
+fn asm<'a>(alloc: Global) -> Result<Command<'a>, AllocError>
+    ensures { IfOk result (λ c. (app_of c ≡ asm_app) × ((fields_of c).has_globals ≡ false)) }
+{
+    Command::new(alloc, "asm")
+        .about("Prints the events of a scenario")
+        .arg(scenario(alloc))
+}
+
+fn run<'a>(alloc: Global) -> Result<Command<'a>, AllocError>
+    ensures { IfOk result (λ c. (app_of c ≡ run_app) × ((fields_of c).has_globals ≡ false)) }
+{
+    Command::new(alloc, "run")
+        .about("Prints what is sent when a scenario happens to the server")
+        .arg(nodes(alloc).required(true))?
+        .arg(scenario(alloc))
+}
+
+fn trace<'a>(alloc: Global) -> Result<Command<'a>, AllocError>
+    ensures { IfOk result (λ c. (app_of c ≡ trace_app) × ((fields_of c).has_globals ≡ false)) }
+{
+    Command::new(alloc, "trace")
+        .about("Prints the state table rows that fire when a scenario happens to the server")
+        .arg(nodes(alloc).required(true))?
+        .arg(scenario(alloc))
 }
 
 fn serve<'a>(alloc: Global) -> Result<Command<'a>, AllocError>
@@ -69,4 +113,14 @@ fn nodes<'a>(alloc: Global) -> Arg<'a>
     ensures local { result.global ≡ false }
 {
     Arg::new(alloc, "NODES").help("a node file (TOML)")
+}
+
+// SCENARIO, which may not be left out.
+fn scenario<'a>(alloc: Global) -> Arg<'a>
+    ensures rule { rule_of result ≡ scenario_rule }
+    ensures local { result.global ≡ false }
+{
+    Arg::new(alloc, "SCENARIO")
+        .help("a scenario")
+        .required(true)
 }

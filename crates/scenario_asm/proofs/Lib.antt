@@ -3,4 +3,5 @@ pub mod RunLemmas
 pub mod EventLemmas
 pub mod AssemblyLemmas
 pub mod ReadLemmas
+pub mod FrameLemmas
 pub mod CountLemmas

@@ -8,7 +8,7 @@
 //! `specs/Assembly` defines the events, a group for each line; `Members` what a line comes to and what is so
 //! after it; `Sendings` what a client sends, with its numbers; `Runs` the chunks of a request; `Pieces` how
 //! bytes are cut. [`laws`] states that what was cut is whole again, and that a server reads each request from
-//! its chunks (`Reading`).
+//! its chunks, and each Hello and each opening and end of a channel from its frame (`Reading`).
 //!
 //! Read docs/SCENARIOS.md first, then [`assemble`].
 #![tactic(auto)]
@@ -22,6 +22,3 @@ mod runs;
 pub use assembler::{Assembler, Member, Session};
 pub use assembly::assemble;
 pub use clients::Client;
-
-#[cfg(test)]
-mod tests;

@@ -8,17 +8,9 @@ use Rattle.scenario_text.specs.declared.verbs.RequestVerb.TheVariants as request
 use Rattle.scenario_text.specs.declared.verbs.Verb.{Verb}
 use Rattle.scenario_text.specs.declared.verbs.Verb.TheVariants as verbs
 
--- what a session asks
-unfoldable pub request_verb_of : List ℕ → Result RequestVerb Cause
-request_verb_of t =
-    if bytes_eq t (codes "activate") then Ok requests.ActivateSession else
-    if bytes_eq t (codes "close") then Ok requests.CloseSession else
-    if bytes_eq t (codes "read") then Ok requests.Read else
-    if bytes_eq t (codes "write") then Ok requests.Write else
-    if bytes_eq t (codes "browse") then Ok requests.Browse else
-    if bytes_eq t (codes "next") then Ok requests.BrowseNext else
-    if bytes_eq t (codes "release") then Ok requests.ReleasePoints else
-    if bytes_eq t (codes "history") then Ok requests.ReadHistory else
+-- what a session asks of subscriptions and their items
+unfoldable pub subscription_verb_of : List ℕ → Result RequestVerb Cause
+subscription_verb_of t =
     if bytes_eq t (codes "sub") then Ok requests.CreateSubscription else
     if bytes_eq t (codes "modsub") then Ok requests.ModifySubscription else
     if bytes_eq t (codes "mode") then Ok requests.SetPublishing else
@@ -30,6 +22,19 @@ request_verb_of t =
     if bytes_eq t (codes "republish") then Ok requests.Republish else
     if bytes_eq t (codes "delsub") then Ok requests.DeleteSubscriptions else
     Err Word
+
+-- what a session asks
+unfoldable pub request_verb_of : List ℕ → Result RequestVerb Cause
+request_verb_of t =
+    if bytes_eq t (codes "activate") then Ok requests.ActivateSession else
+    if bytes_eq t (codes "close") then Ok requests.CloseSession else
+    if bytes_eq t (codes "read") then Ok requests.Read else
+    if bytes_eq t (codes "write") then Ok requests.Write else
+    if bytes_eq t (codes "browse") then Ok requests.Browse else
+    if bytes_eq t (codes "next") then Ok requests.BrowseNext else
+    if bytes_eq t (codes "release") then Ok requests.ReleasePoints else
+    if bytes_eq t (codes "history") then Ok requests.ReadHistory else
+    subscription_verb_of t
 
 abbrev pub asking : Result RequestVerb Cause → Result Verb Cause
 asking (Ok verb) = Ok (verbs.Ask verb)

@@ -36,6 +36,3 @@ pub use requests::{
 };
 pub use scenario::{Line, Scenario, read, readable};
 pub use statement::{Request, Statement};
-
-#[cfg(test)]
-mod tests;

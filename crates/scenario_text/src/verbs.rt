@@ -1,7 +1,7 @@
 //! The first word of a line.
 
 ghost use Rattle.std.specs.Prelude.{◌≡◌};
-ghost use Rattle.scenario_text.specs.Verbs.{request_verb_of, verb_of};
+ghost use Rattle.scenario_text.specs.Verbs.{request_verb_of, subscription_verb_of, verb_of};
 
 use crate::fault::Cause;
 
@@ -46,34 +46,11 @@ pub(crate) enum Verb {
     Ask(RequestVerb),
 }
 
-#[tactic(auto, unfolding(crate::specs::Verbs::request_verb_of))]
-fn request_verb_of(word: &str) -> Result<RequestVerb, Cause>
-    ensures { result ≡ request_verb_of word.now }
+// What a session asks of subscriptions and their items.
+#[tactic(auto, unfolding(crate::specs::Verbs::subscription_verb_of))]
+fn subscription_verb_of(word: &str) -> Result<RequestVerb, Cause>
+    ensures { result ≡ subscription_verb_of word.now }
 {
-    if word == "activate" {
-        return Ok(RequestVerb::ActivateSession);
-    }
-    if word == "close" {
-        return Ok(RequestVerb::CloseSession);
-    }
-    if word == "read" {
-        return Ok(RequestVerb::Read);
-    }
-    if word == "write" {
-        return Ok(RequestVerb::Write);
-    }
-    if word == "browse" {
-        return Ok(RequestVerb::Browse);
-    }
-    if word == "next" {
-        return Ok(RequestVerb::BrowseNext);
-    }
-    if word == "release" {
-        return Ok(RequestVerb::ReleasePoints);
-    }
-    if word == "history" {
-        return Ok(RequestVerb::ReadHistory);
-    }
     if word == "sub" {
         return Ok(RequestVerb::CreateSubscription);
     }
@@ -105,6 +82,37 @@ fn request_verb_of(word: &str) -> Result<RequestVerb, Cause>
         return Ok(RequestVerb::DeleteSubscriptions);
     }
     Err(Cause::Word)
+}
+
+#[tactic(auto, unfolding(crate::specs::Verbs::request_verb_of))]
+fn request_verb_of(word: &str) -> Result<RequestVerb, Cause>
+    ensures { result ≡ request_verb_of word.now }
+{
+    if word == "activate" {
+        return Ok(RequestVerb::ActivateSession);
+    }
+    if word == "close" {
+        return Ok(RequestVerb::CloseSession);
+    }
+    if word == "read" {
+        return Ok(RequestVerb::Read);
+    }
+    if word == "write" {
+        return Ok(RequestVerb::Write);
+    }
+    if word == "browse" {
+        return Ok(RequestVerb::Browse);
+    }
+    if word == "next" {
+        return Ok(RequestVerb::BrowseNext);
+    }
+    if word == "release" {
+        return Ok(RequestVerb::ReleasePoints);
+    }
+    if word == "history" {
+        return Ok(RequestVerb::ReadHistory);
+    }
+    subscription_verb_of(word)
 }
 
 /// What the first word of a line says.

@@ -15,6 +15,3 @@ mod socket;
 pub use peer::{Heard, Peer};
 pub use peers::Peers;
 pub use socket::Socket;
-
-#[cfg(test)]
-mod tests;

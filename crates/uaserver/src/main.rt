@@ -1,14 +1,12 @@
 //! The program `uaserver`: an OPC UA server.
 //!
 //! `uaserver pipe` serves one connection over standard input and output, `uaserver serve` any number over
-//! sockets, and `uaserver check` counts what a node file holds. What a run does stands in [`commands::run`], over words, files and streams,
-//! so that tests can drive it; `main` only hands it the words of the command line and the three
-//! standard streams, and ends with its status.
+//! sockets, and `uaserver check` counts what a node file holds. `uaserver asm` prints the events of a
+//! scenario, `uaserver run` what is sent when they happen to a server, and `uaserver trace` which rows of the
+//! subscriptions' state table fire then. What a run does stands in [`commands::run`], over words, files and
+//! streams, so that tests can drive it; `main` hands it the words of the command line and the three standard
+//! streams, and ends with its status.
 #![tactic(auto)]
-
-mod commands;
-mod node_file;
-mod status;
 
 use std::alloc::Global;
 use std::env;
@@ -43,6 +41,3 @@ fn main(rt: HostRuntime) -> ExitCode {
     let ended = commands::run(&rt, words.as_slice(), &mut input, &mut output, &mut errors);
     ExitCode::from(ended.status.code())
 }
-
-#[cfg(test)]
-mod tests;

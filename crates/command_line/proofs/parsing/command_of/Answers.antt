@@ -1,8 +1,9 @@
 use Rattle.std.proofs.Common.{◌≡◌, ◌∙◌, Option, None, Some, ap, ap₂, sym, codes, option_map}
 use Rattle.std.proofs.lemmas.Option.{none-some}
+use Rattle.std.specs.Borrow.{Bor}
 use Rattle.clap.specs.Words.{Text, subcommand_rows_of}
 use Rattle.command_line.specs.Words.{asked_of, option_of, port_of, turns_of}
-use Rattle.command_line.proofs.ProgramLemmas.{asked_met, no_nodes, no_serve, option_met}
+use Rattle.command_line.proofs.ProgramLemmas.{asked_met, no_asm, no_nodes, no_run, no_serve, no_trace, option_met}
 use Rattle.command_line.proofs.parsing.command_of.Goals as goal
 
 pub returns-in-pipe-clause-some : goal.returns-in-pipe-clause-some
@@ -47,3 +48,61 @@ returns-in_ok-turns_of-in-serve-clause-some c =
       met ∙ ap₂ (λ n m. Some (n, option_map (λ n. n.now) m)) c.in-serve.is c.in_ok-nodes-in-serve.was,
       (ap port_of port_there ∙ sym c.port_of.ensures ∙ c.in_ok-port_of-in-serve.was, ap turns_of turns_there ∙ sym c.turns_of.ensures ∙ c.in_ok-turns_of-in-serve.was),
     )
+
+-- `asm`, `run` and `trace`
+abbrev texts : Option (Bor Text) → Option Text
+texts = option_map (λ t. t.now)
+
+pub returns-in_ok-scenario-in-None-clause-some : goal.returns-in_ok-scenario-in-None-clause-some
+returns-in_ok-scenario-in-None-clause-some c =
+    let met = asked_met c.args.matches.now c.in_ok-name.name c.in_ok-name.given c.get_str-nodes.result c.in_ok-name.ensures.name c.in_ok-name.ensures.rows c.get_str-nodes.ensures in
+    let there = option_met c.args.matches.now c.in_ok-name.given (codes "SCENARIO") c.get_str-scenario.result c.in_ok-name.name c.in_ok-name.ensures.name c.in_ok-name.ensures.rows c.get_str-scenario.ensures in
+    (met ∙ ap₂ (λ n m. Some (n, texts m)) c.in-asm.is c.in-None.is, there ∙ ap texts c.in_ok-scenario-in-None.was)
+
+pub returns-in_err-scenario-in-None-clause-none : goal.returns-in_err-scenario-in-None-clause-none
+returns-in_err-scenario-in-None-clause-none c = λ is_none.
+    let met = asked_met c.args.matches.now c.in_ok-name.name c.in_ok-name.given c.get_str-nodes.result c.in_ok-name.ensures.name c.in_ok-name.ensures.rows c.get_str-nodes.ensures in
+    let there = option_met c.args.matches.now c.in_ok-name.given (codes "SCENARIO") c.get_str-scenario.result c.in_ok-name.name c.in_ok-name.ensures.name c.in_ok-name.ensures.rows c.get_str-scenario.ensures in
+    no_asm _ _ (met ∙ ap (λ n. Some (n, texts c.get_str-nodes.result)) c.in-asm.is)
+    (λ s none has. none-some s (sym (there ∙ ap texts c.in_err-scenario-in-None.was) ∙ has))
+
+pub returns-in-Some-clause-none : goal.returns-in-Some-clause-none
+returns-in-Some-clause-none c = λ is_none.
+    let met = asked_met c.args.matches.now c.in_ok-name.name c.in_ok-name.given c.get_str-nodes.result c.in_ok-name.ensures.name c.in_ok-name.ensures.rows c.get_str-nodes.ensures in
+    no_asm _ _ (met ∙ ap₂ (λ n m. Some (n, texts m)) c.in-asm.is c.in-Some.is) (λ s none has. none-some _ (sym none))
+
+pub returns-in_ok-scenario-in-run-clause-some : goal.returns-in_ok-scenario-in-run-clause-some
+returns-in_ok-scenario-in-run-clause-some c =
+    let met = asked_met c.args.matches.now c.in_ok-name.name c.in_ok-name.given c.get_str-nodes.result c.in_ok-name.ensures.name c.in_ok-name.ensures.rows c.get_str-nodes.ensures in
+    let there = option_met c.args.matches.now c.in_ok-name.given (codes "SCENARIO") c.get_str-scenario.result c.in_ok-name.name c.in_ok-name.ensures.name c.in_ok-name.ensures.rows c.get_str-scenario.ensures in
+    (met ∙ ap₂ (λ n m. Some (n, texts m)) c.in-run.is c.in_ok-nodes-in-run.was, there ∙ ap texts c.in_ok-scenario-in-run.was)
+
+pub returns-in_err-nodes-in-run-clause-none : goal.returns-in_err-nodes-in-run-clause-none
+returns-in_err-nodes-in-run-clause-none c = λ is_none.
+    let met = asked_met c.args.matches.now c.in_ok-name.name c.in_ok-name.given c.get_str-nodes.result c.in_ok-name.ensures.name c.in_ok-name.ensures.rows c.get_str-nodes.ensures in
+    no_run _ _ (met ∙ ap₂ (λ n m. Some (n, texts m)) c.in-run.is c.in_err-nodes-in-run.was) (λ n s is has. none-some n is)
+
+pub returns-in_err-scenario-in-run-clause-none : goal.returns-in_err-scenario-in-run-clause-none
+returns-in_err-scenario-in-run-clause-none c = λ is_none.
+    let met = asked_met c.args.matches.now c.in_ok-name.name c.in_ok-name.given c.get_str-nodes.result c.in_ok-name.ensures.name c.in_ok-name.ensures.rows c.get_str-nodes.ensures in
+    let there = option_met c.args.matches.now c.in_ok-name.given (codes "SCENARIO") c.get_str-scenario.result c.in_ok-name.name c.in_ok-name.ensures.name c.in_ok-name.ensures.rows c.get_str-scenario.ensures in
+    no_run _ _ (met ∙ ap (λ n. Some (n, texts c.get_str-nodes.result)) c.in-run.is)
+    (λ n s is has. none-some s (sym (there ∙ ap texts c.in_err-scenario-in-run.was) ∙ has))
+
+pub returns-in_ok-scenario-in-trace-clause-some : goal.returns-in_ok-scenario-in-trace-clause-some
+returns-in_ok-scenario-in-trace-clause-some c =
+    let met = asked_met c.args.matches.now c.in_ok-name.name c.in_ok-name.given c.get_str-nodes.result c.in_ok-name.ensures.name c.in_ok-name.ensures.rows c.get_str-nodes.ensures in
+    let there = option_met c.args.matches.now c.in_ok-name.given (codes "SCENARIO") c.get_str-scenario.result c.in_ok-name.name c.in_ok-name.ensures.name c.in_ok-name.ensures.rows c.get_str-scenario.ensures in
+    (met ∙ ap₂ (λ n m. Some (n, texts m)) c.in-trace.is c.in_ok-nodes-in-trace.was, there ∙ ap texts c.in_ok-scenario-in-trace.was)
+
+pub returns-in_err-nodes-in-trace-clause-none : goal.returns-in_err-nodes-in-trace-clause-none
+returns-in_err-nodes-in-trace-clause-none c = λ is_none.
+    let met = asked_met c.args.matches.now c.in_ok-name.name c.in_ok-name.given c.get_str-nodes.result c.in_ok-name.ensures.name c.in_ok-name.ensures.rows c.get_str-nodes.ensures in
+    no_trace _ _ (met ∙ ap₂ (λ n m. Some (n, texts m)) c.in-trace.is c.in_err-nodes-in-trace.was) (λ n s is has. none-some n is)
+
+pub returns-in_err-scenario-in-trace-clause-none : goal.returns-in_err-scenario-in-trace-clause-none
+returns-in_err-scenario-in-trace-clause-none c = λ is_none.
+    let met = asked_met c.args.matches.now c.in_ok-name.name c.in_ok-name.given c.get_str-nodes.result c.in_ok-name.ensures.name c.in_ok-name.ensures.rows c.get_str-nodes.ensures in
+    let there = option_met c.args.matches.now c.in_ok-name.given (codes "SCENARIO") c.get_str-scenario.result c.in_ok-name.name c.in_ok-name.ensures.name c.in_ok-name.ensures.rows c.get_str-scenario.ensures in
+    no_trace _ _ (met ∙ ap (λ n. Some (n, texts c.get_str-nodes.result)) c.in-trace.is)
+    (λ n s is has. none-some s (sym (there ∙ ap texts c.in_err-scenario-in-trace.was) ∙ has))

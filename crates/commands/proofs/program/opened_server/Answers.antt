@@ -1,0 +1,15 @@
+use Rattle.std.proofs.Common.{◌∙◌, ap, [], ◌∷◌}
+use Rattle.std.specs.Prelude.{replicate}
+use Rattle.ua_core.specs.Running.{run_of}
+use Rattle.ua_core.specs.World.{world_of}
+use Rattle.ua_core.specs.declared.event.Event.TheVariants.{Opened}
+use Rattle.pump.specs.Pumped.{State}
+use Rattle.commands.specs.Commands.{opened}
+use Rattle.commands.proofs.PipeLemmas.{stepped}
+use Rattle.commands.proofs.program.opened_server.Goals as goal
+
+pub returns-in-Ok : goal.returns-in-Ok
+unfolding opened
+returns-in-Ok c =
+    stepped (world_of c.new-server.result) (world_of c.step.new.self) c.in-Ok.field-0 _ c.in-Ok.ensures.step
+    ∙ ap (λ (s : State). (run_of s (Opened 1 (replicate 32 0) ∷ [])).server) c.new-server.ensures

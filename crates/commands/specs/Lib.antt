@@ -1,0 +1,4 @@
+pub mod Statuses
+pub mod NodeFiles
+pub mod Scenarios
+pub mod Commands

@@ -1,0 +1,413 @@
+//! What the commands do, over words, texts and streams. Those that take a scenario stand in `scenarios`.
+
+ghost use Rattle.std.specs.Prelude.{◌≡◌, ◌⊎◌, Option, Some, None, IfOk, IfErr, map, option_map};
+ghost use Rattle.ua_core.specs.World.{world_of};
+ghost use Rattle.ua_space.specs.Build.{space_of};
+ghost use Rattle.commands.specs.NodeFiles.{Made, ReadsNone, built, made_in, made_of_none};
+ghost use Rattle.commands.specs.Commands.{MadeBy, Checks, ChecksFile, opened, status_of, status_served, Pipes, PipesMade, PipesFile, ServesBy, ServesMade, ServesFile, Runs};
+
+use crate::scenarios::{asm_at, run_at, trace_at};
+use crate::status::Status;
+use crate::text_file::{FileFault, TextFile};
+use command_line::{Command, Stop, parse};
+use node_loader::{Cause, Loaded, load};
+use pump::{Pump, PumpFault};
+use socket_server::{Serve, ServeFault};
+use std::alloc::Global;
+use std::io::{Read, Write};
+use std::net::Net;
+use std::random::RandomSource;
+use std::rt::Files;
+use std::sync::Wait;
+use std::time::Clock;
+use ua_core::{Event, Server, StepFault};
+use ua_space::{Node, Space, SpaceFault, Triple};
+use ua_tcp::Tap;
+use ua_types::Config;
+
+/// The one connection of `pipe`.
+const CONNECTION: u64 = 1;
+
+/// How a run of the program ended, and the node file and the scenario that it read.
+#[derive(Debug, Drop)]
+pub struct Ended {
+    pub status: Status,
+    pub file: Option<TextFile>,
+    pub scenario: Option<TextFile>,
+}
+
+impl Ended {
+    // No file was read.
+    pub(crate) fn by(status: Status) -> Ended
+        ensures { result ≡ record { status = status; file = None; scenario = None } }
+    {
+        Ended {
+            status,
+            file: None,
+            scenario: None,
+        }
+    }
+
+    // Of the two the node file alone was read.
+    pub(crate) fn with_nodes(status: Status, file: TextFile) -> Ended
+        ensures { result ≡ record { status = status; file = Some file; scenario = None } }
+    {
+        Ended {
+            status,
+            file: Some(file),
+            scenario: None,
+        }
+    }
+}
+
+/// Says that memory ran out.
+pub fn no_memory<E: Write>(errors: &mut E) -> Status
+    ensures { result ≡ Status.Halted }
+{
+    let _ = writeln!(errors, "memory");
+    Status::Halted
+}
+
+pub(crate) fn step_fault<E: Write>(fault: StepFault, errors: &mut E) -> Status
+    ensures { result ≡ Status.Halted }
+{
+    match fault {
+        StepFault::Memory => no_memory(errors),
+        _ => {
+            let _ = writeln!(errors, "halted");
+            Status::Halted
+        }
+    }
+}
+
+pub(crate) fn stream<E: Write>(errors: &mut E) -> Status
+    ensures { result ≡ Status.Stream }
+{
+    let _ = writeln!(errors, "stream");
+    Status::Stream
+}
+
+// Reads the file at this path, or says why there is none.
+pub(crate) fn read_file<R: Files + AllocGlobal, E: Write>(
+    rt: &R,
+    path: &str,
+    errors: &mut E,
+) -> Result<TextFile, Status>
+    ensures file { IfOk result (λ file. file.path ≡ path.now) }
+    ensures status { IfErr result ReadsNone }
+{
+    match TextFile::read(rt, path) {
+        Ok(file) => Ok(file),
+        Err(FileFault::Memory) => Err(no_memory(errors)),
+        Err(FileFault::Unreadable) => {
+            let _ = writeln!(errors, "file {path}");
+            Err(Status::File)
+        }
+    }
+}
+
+// The address space of a configuration, or the status of why there is none.
+fn build<E: Write>(
+    alloc: Global,
+    config: Config,
+    nodes: Vec<Node>,
+    triples: Vec<Triple>,
+    errors: &mut E,
+) -> Result<(Config, Space), Status>
+    ensures { MadeBy result (built config (space_of config nodes.items triples.items)) }
+{
+    match Space::build(alloc, &config, nodes, triples) {
+        Ok(space) => Ok((config, space)),
+        Err(SpaceFault::Memory) => Err(no_memory(errors)),
+        Err(fault) => {
+            let _ = writeln!(errors, "nodes: {fault}");
+            Err(Status::Nodes)
+        }
+    }
+}
+
+// The configuration and the address space that the text of a node file means.
+pub(crate) fn nodes_in<E: Write>(
+    alloc: Global,
+    text: &str,
+    errors: &mut E,
+) -> Result<(Config, Space), Status>
+    ensures { MadeBy result (made_in text.now) }
+{
+    let Loaded {
+        config,
+        nodes,
+        triples,
+    } = match load(alloc, text) {
+        Ok(loaded) => loaded,
+        Err(fault) if fault.cause == Cause::Memory => return Err(no_memory(errors)),
+        Err(fault) => {
+            let _ = writeln!(errors, "nodes: {fault}");
+            return Err(Status::Nodes);
+        }
+    };
+    build(alloc, config, nodes.into_vec(), triples.into_vec(), errors)
+}
+
+// The standard configuration, and the base set alone.
+fn no_nodes<E: Write>(alloc: Global, errors: &mut E) -> Result<(Config, Space), Status>
+    ensures { MadeBy result made_of_none }
+{
+    match Config::standard(alloc) {
+        Ok(config) => build(alloc, config, Vec::new(alloc), Vec::new(alloc), errors),
+        Err(_) => Err(no_memory(errors)),
+    }
+}
+
+/// Counts the nodes and the references that the text of a node file means, those that every server has
+/// included.
+pub fn check<O: Write, E: Write>(
+    alloc: Global,
+    text: &str,
+    output: &mut O,
+    errors: &mut E,
+) -> Status
+    ensures { Checks text.now result }
+{
+    let (_config, space) = match nodes_in(alloc, text, errors) {
+        Ok(found) => found,
+        Err(status) => return status,
+    };
+    let nodes = space.node_count();
+    let references = space.triple_count();
+    if writeln!(output, "{nodes} nodes, {references} references").is_err()
+        || output.flush().is_err()
+    {
+        return stream(errors);
+    }
+    Status::Done
+}
+
+// `check` of the node file at this path.
+fn check_at<R: Files + AllocGlobal, O: Write, E: Write>(
+    rt: &R,
+    path: &str,
+    output: &mut O,
+    errors: &mut E,
+) -> Ended
+    ensures { ChecksFile path.now result.status result.file }
+{
+    match read_file(rt, path, errors) {
+        Ok(file) => {
+            let status = check(rt.alloc(), file.text(), output, errors);
+            Ended::with_nodes(status, file)
+        }
+        Err(status) => Ended::by(status),
+    }
+}
+
+// A server whose one connection is open.
+fn opened_server(alloc: Global, config: Config, space: Space) -> Result<Server, StepFault>
+    ensures { IfOk result (λ server. world_of server ≡ opened (config, space)) }
+{
+    let mut server = Server::new(alloc, config, space);
+    let opening = Event::Opened {
+        conn: CONNECTION,
+        key: [0; 32],
+    };
+    match server.step(alloc, &opening) {
+        Ok(_) => Ok(server),
+        Err(fault) => Err(fault),
+    }
+}
+
+// How a run of the pump ends the program.
+fn pumped<E: Write>(ran: Result<(), PumpFault>, errors: &mut E) -> Status
+    ensures { result ≡ status_of ran }
+{
+    match ran {
+        Ok(()) => Status::Done,
+        Err(PumpFault::Step(fault)) => step_fault(fault, errors),
+        Err(PumpFault::Read | PumpFault::Write | PumpFault::Turns) => stream(errors),
+    }
+}
+
+/// Hands the input to a server of this configuration and address space, as its only connection, and
+/// writes the server's answers.
+pub fn pipe<I: Read, O: Write, E: Write>(
+    alloc: Global,
+    config: Config,
+    space: Space,
+    input: &mut Tap<I>,
+    output: &mut Tap<O>,
+    errors: &mut E,
+) -> Status
+    ensures { Pipes I.remaining O.contents input.old input.new output.old output.new (config, space) result }
+{
+    let mut server = match opened_server(alloc, config, space) {
+        Ok(server) => server,
+        Err(fault) => return step_fault(fault, errors),
+    };
+    let ran = Pump::new().run(alloc, &mut server, CONNECTION, input, output);
+    pumped(ran, errors)
+}
+
+// `pipe` of what was made.
+fn pipe_made<I: Read, O: Write, E: Write>(
+    alloc: Global,
+    made: Result<(Config, Space), Status>,
+    input: &mut Tap<I>,
+    output: &mut Tap<O>,
+    errors: &mut E,
+) -> Status
+    ensures { (said : Option Made) → MadeBy made said →
+        PipesMade I.remaining O.contents input.old input.new output.old output.new said result }
+{
+    match made {
+        Ok((config, space)) => pipe(alloc, config, space, input, output, errors),
+        Err(status) => status,
+    }
+}
+
+// `pipe`, with the configuration and the nodes of the file at this path where there is one.
+fn pipe_with<R: Files + AllocGlobal, I: Read, O: Write, E: Write>(
+    rt: &R,
+    nodes: Option<&str>,
+    input: &mut Tap<I>,
+    output: &mut Tap<O>,
+    errors: &mut E,
+) -> Ended
+    ensures { PipesFile I.remaining O.contents input.old input.new output.old output.new
+        (option_map (λ n. n.now) nodes.entry) result.status result.file }
+{
+    let alloc = rt.alloc();
+    match nodes {
+        None => {
+            let made = no_nodes(alloc, errors);
+            Ended::by(pipe_made(alloc, made, input, output, errors))
+        }
+        Some(path) => match read_file(rt, path, errors) {
+            Ok(file) => {
+                let made = nodes_in(alloc, file.text(), errors);
+                let status = pipe_made(alloc, made, input, output, errors);
+                Ended::with_nodes(status, file)
+            }
+            Err(status) => Ended::by(status),
+        },
+    }
+}
+
+// How the end of serving ends the program.
+fn served<E: Write>(ran: Result<(), ServeFault>, errors: &mut E) -> Status
+    ensures { result ≡ status_served ran }
+{
+    match ran {
+        Ok(()) => Status::Done,
+        Err(ServeFault::Step(fault)) => step_fault(fault, errors),
+        Err(ServeFault::Memory) => no_memory(errors),
+        Err(ServeFault::Network) => {
+            let _ = writeln!(errors, "network");
+            Status::Network
+        }
+    }
+}
+
+/// Serves connections to a port of 127.0.0.1 by a server of this configuration and address space, for so
+/// many turns, or without end for 0. Says `listening` and the port once clients can connect.
+pub fn serve<R: Net + RandomSource + Clock + Wait, O: Write, E: Write>(
+    rt: &R,
+    alloc: Global,
+    config: Config,
+    space: Space,
+    port: u16,
+    turns: u64,
+    output: &mut O,
+    errors: &mut E,
+) -> Status
+    ensures { ServesBy (config, space) turns result }
+{
+    let mut server = Server::new(alloc, config, space);
+    let mut serve = match Serve::bind(rt, alloc, port) {
+        Ok(serve) => serve,
+        Err(fault) => return served(Err(fault), errors),
+    };
+    if writeln!(output, "listening {port}").is_err() || output.flush().is_err() {
+        return stream(errors);
+    }
+    let ran = serve.run(rt, alloc, &mut server, turns);
+    served(ran, errors)
+}
+
+// `serve` of what was made.
+fn serve_made<R: Net + RandomSource + Clock + Wait, O: Write, E: Write>(
+    rt: &R,
+    alloc: Global,
+    made: Result<(Config, Space), Status>,
+    port: u16,
+    turns: u64,
+    output: &mut O,
+    errors: &mut E,
+) -> Status
+    ensures { (said : Option Made) → MadeBy made said → ServesMade said turns result }
+{
+    match made {
+        Ok((config, space)) => serve(rt, alloc, config, space, port, turns, output, errors),
+        Err(status) => status,
+    }
+}
+
+// `serve` of the node file at this path.
+fn serve_at<R: Files + AllocGlobal + Net + RandomSource + Clock + Wait, O: Write, E: Write>(
+    rt: &R,
+    path: &str,
+    port: u16,
+    turns: u64,
+    output: &mut O,
+    errors: &mut E,
+) -> Ended
+    ensures { ServesFile path.now turns result.status result.file }
+{
+    let alloc = rt.alloc();
+    match read_file(rt, path, errors) {
+        Ok(file) => {
+            let made = nodes_in(alloc, file.text(), errors);
+            let status = serve_made(rt, alloc, made, port, turns, output, errors);
+            Ended::with_nodes(status, file)
+        }
+        Err(status) => Ended::by(status),
+    }
+}
+
+// Writes the text of a request for help.
+fn help<O: Write, E: Write>(text: &str, output: &mut O, errors: &mut E) -> Status
+    ensures { (result ≡ Status.Done) ⊎ (result ≡ Status.Stream) }
+{
+    if write!(output, "{text}").is_err() || output.flush().is_err() {
+        return stream(errors);
+    }
+    Status::Done
+}
+
+/// Does what these words ask for: the words after the program's name. What is asked for goes to
+/// `output`, what went wrong to `errors`, each as a line.
+pub fn run<R: Files + AllocGlobal + Net + RandomSource + Clock + Wait, I: Read, O: Write, E: Write>(
+    rt: &R,
+    words: &[&str],
+    input: &mut Tap<I>,
+    output: &mut Tap<O>,
+    errors: &mut E,
+) -> Ended
+    ensures { Runs I.remaining O.contents input.old input.new output.old output.new (map (λ w. w.now) words.now) result }
+{
+    match parse(rt.alloc(), words) {
+        Ok(Command::Pipe { nodes }) => pipe_with(rt, nodes, input, output, errors),
+        Ok(Command::Check { nodes }) => check_at(rt, nodes, output, errors),
+        Ok(Command::Asm { scenario }) => asm_at(rt, scenario, output, errors),
+        Ok(Command::Run { nodes, scenario }) => run_at(rt, nodes, scenario, output, errors),
+        Ok(Command::Trace { nodes, scenario }) => trace_at(rt, nodes, scenario, output, errors),
+        Ok(Command::Serve { nodes, port, turns }) => {
+            serve_at(rt, nodes, port, turns, output, errors)
+        }
+        Err(Stop::Help(text)) => Ended::by(help(text.as_str(), output, errors)),
+        Err(Stop::Usage(text)) => {
+            let _ = write!(errors, "{text}");
+            Ended::by(Status::Usage)
+        }
+        Err(Stop::Memory) => Ended::by(no_memory(errors)),
+    }
+}

@@ -1,0 +1,247 @@
+//! What the commands do that take a scenario.
+
+ghost use Rattle.std.specs.Prelude.{◌≡◌};
+ghost use Rattle.scenario_asm.specs.Assembly.{events_of};
+ghost use Rattle.scenario_lines.specs.Held.{place};
+ghost use Rattle.commands.specs.Scenarios.{AssembledBy, Assembles, AssemblesFile, Tells, TellsFile, TellsFiles, Traces, TracesFile, TracesFiles, status_printed, status_told, status_traced};
+
+use crate::program::{Ended, no_memory, nodes_in, read_file, step_fault, stream};
+use crate::status::Status;
+use crate::text_file::TextFile;
+use row_tracer::TraceFault;
+use scenario_asm::assemble;
+use scenario_lines::{PrintFault, RunFault, print_events, print_run};
+use scenario_text::Cause;
+use std::alloc::Global;
+use std::io::Write;
+use std::rt::Files;
+use ua_core::{Event, Server};
+use ua_space::Space;
+use ua_tcp::Tap;
+use ua_types::{Config, Listed};
+
+// The events of a scenario, or the status of why there are none.
+fn events_in<E: Write>(alloc: Global, text: &str, errors: &mut E) -> Result<Listed<Event>, Status>
+    ensures { AssembledBy result (events_of text.now) }
+{
+    match assemble(alloc, text) {
+        Ok(events) => Ok(events),
+        Err(fault) if fault.cause == Cause::Memory => Err(no_memory(errors)),
+        Err(fault) => {
+            let _ = writeln!(errors, "scenario: {fault}");
+            Err(Status::Scenario)
+        }
+    }
+}
+
+// How printing ends the program.
+fn printed<E: Write>(done: Result<(), PrintFault>, errors: &mut E) -> Status
+    ensures { result ≡ status_printed done }
+{
+    match done {
+        Ok(()) => Status::Done,
+        Err(PrintFault::Write) => stream(errors),
+        Err(PrintFault::Memory) => no_memory(errors),
+    }
+}
+
+/// Prints the events that a scenario comes to, a line for each.
+pub fn asm<O: Write, E: Write>(
+    alloc: Global,
+    text: &str,
+    output: &mut Tap<O>,
+    errors: &mut E,
+) -> Status
+    ensures { Assembles (place O.contents output.old) (place O.contents output.new) (events_of text.now) result }
+{
+    match events_in(alloc, text, errors) {
+        Ok(events) => {
+            let done = print_events(alloc, events.as_slice(), output);
+            printed(done, errors)
+        }
+        Err(status) => status,
+    }
+}
+
+/// `asm` of the scenario at this path.
+pub(crate) fn asm_at<R: Files + AllocGlobal, O: Write, E: Write>(
+    rt: &R,
+    path: &str,
+    output: &mut Tap<O>,
+    errors: &mut E,
+) -> Ended
+    ensures { AssemblesFile (place O.contents output.old) (place O.contents output.new) path.now result.status result.scenario }
+{
+    match read_file(rt, path, errors) {
+        Ok(file) => Ended {
+            status: asm(rt.alloc(), file.text(), output, errors),
+            file: None,
+            scenario: Some(file),
+        },
+        Err(status) => Ended::by(status),
+    }
+}
+
+// How a run of events ends the program.
+fn told<E: Write>(ran: Result<(), RunFault>, errors: &mut E) -> Status
+    ensures { result ≡ status_told ran }
+{
+    match ran {
+        Ok(()) => Status::Done,
+        Err(RunFault::Write) => stream(errors),
+        Err(RunFault::Memory) => no_memory(errors),
+        Err(RunFault::Step(fault)) => step_fault(fault, errors),
+    }
+}
+
+/// Hands the events of a scenario to a server of this configuration and address space, and prints what it
+/// sends.
+pub(crate) fn run<O: Write, E: Write>(
+    alloc: Global,
+    config: Config,
+    space: Space,
+    text: &str,
+    output: &mut Tap<O>,
+    errors: &mut E,
+) -> Status
+    ensures { Tells (place O.contents output.old) (place O.contents output.new) (config, space) (events_of text.now) result }
+{
+    match events_in(alloc, text, errors) {
+        Ok(events) => {
+            let mut server = Server::new(alloc, config, space);
+            let ran = print_run(alloc, &mut server, events.as_slice(), output);
+            told(ran, errors)
+        }
+        Err(status) => status,
+    }
+}
+
+// `run` of what was made, with the scenario at this path.
+fn run_with<R: Files + AllocGlobal, O: Write, E: Write>(
+    rt: &R,
+    config: Config,
+    space: Space,
+    path: &str,
+    output: &mut Tap<O>,
+    errors: &mut E,
+) -> (Status, Option<TextFile>)
+    ensures { TellsFile (place O.contents output.old) (place O.contents output.new) (config, space) path.now result.0 result.1 }
+{
+    match read_file(rt, path, errors) {
+        Ok(file) => {
+            let status = run(rt.alloc(), config, space, file.text(), output, errors);
+            (status, Some(file))
+        }
+        Err(status) => (status, None),
+    }
+}
+
+/// `run` of the node file and the scenario at these paths.
+pub(crate) fn run_at<R: Files + AllocGlobal, O: Write, E: Write>(
+    rt: &R,
+    nodes: &str,
+    scenario: &str,
+    output: &mut Tap<O>,
+    errors: &mut E,
+) -> Ended
+    ensures { TellsFiles (place O.contents output.old) (place O.contents output.new) nodes.now scenario.now
+        result.status result.file result.scenario }
+{
+    let file = match read_file(rt, nodes, errors) {
+        Ok(file) => file,
+        Err(status) => return Ended::by(status),
+    };
+    match nodes_in(rt.alloc(), file.text(), errors) {
+        Ok((config, space)) => {
+            let (status, told) = run_with(rt, config, space, scenario, output, errors);
+            Ended {
+                status,
+                file: Some(file),
+                scenario: told,
+            }
+        }
+        Err(status) => Ended::with_nodes(status, file),
+    }
+}
+
+// How a trace of events ends the program.
+fn traced<E: Write>(ran: Result<(), TraceFault>, errors: &mut E) -> Status
+    ensures { result ≡ status_traced ran }
+{
+    match ran {
+        Ok(()) => Status::Done,
+        Err(TraceFault::Write) => stream(errors),
+        Err(TraceFault::Memory) => no_memory(errors),
+        Err(TraceFault::Step(fault)) => step_fault(fault, errors),
+    }
+}
+
+/// Hands the events of a scenario to a server of this configuration and address space, and prints which
+/// rows of the subscriptions' state table fire.
+pub(crate) fn trace<O: Write, E: Write>(
+    alloc: Global,
+    config: Config,
+    space: Space,
+    text: &str,
+    output: &mut Tap<O>,
+    errors: &mut E,
+) -> Status
+    ensures { Traces (place O.contents output.old) (place O.contents output.new) (config, space) (events_of text.now) result }
+{
+    match events_in(alloc, text, errors) {
+        Ok(events) => {
+            let mut server = Server::new(alloc, config, space);
+            let ran = row_tracer::trace(alloc, &mut server, events.as_slice(), output);
+            traced(ran, errors)
+        }
+        Err(status) => status,
+    }
+}
+
+// `trace` of what was made, with the scenario at this path.
+fn trace_with<R: Files + AllocGlobal, O: Write, E: Write>(
+    rt: &R,
+    config: Config,
+    space: Space,
+    path: &str,
+    output: &mut Tap<O>,
+    errors: &mut E,
+) -> (Status, Option<TextFile>)
+    ensures { TracesFile (place O.contents output.old) (place O.contents output.new) (config, space) path.now result.0 result.1 }
+{
+    match read_file(rt, path, errors) {
+        Ok(file) => {
+            let status = trace(rt.alloc(), config, space, file.text(), output, errors);
+            (status, Some(file))
+        }
+        Err(status) => (status, None),
+    }
+}
+
+/// `trace` of the node file and the scenario at these paths.
+pub(crate) fn trace_at<R: Files + AllocGlobal, O: Write, E: Write>(
+    rt: &R,
+    nodes: &str,
+    scenario: &str,
+    output: &mut Tap<O>,
+    errors: &mut E,
+) -> Ended
+    ensures { TracesFiles (place O.contents output.old) (place O.contents output.new) nodes.now scenario.now
+        result.status result.file result.scenario }
+{
+    let file = match read_file(rt, nodes, errors) {
+        Ok(file) => file,
+        Err(status) => return Ended::by(status),
+    };
+    match nodes_in(rt.alloc(), file.text(), errors) {
+        Ok((config, space)) => {
+            let (status, told) = trace_with(rt, config, space, scenario, output, errors);
+            Ended {
+                status,
+                file: Some(file),
+                scenario: told,
+            }
+        }
+        Err(status) => Ended::with_nodes(status, file),
+    }
+}

@@ -1,0 +1,2 @@
+pub mod TraceText
+pub mod Tracing

@@ -1,0 +1,45 @@
+-- Events, and what is to be done, as lines.
+use Rattle.std.specs.Prelude.{ℕ, List, [], ◌∷◌, ◌++◌, codes}
+use Rattle.std.specs.Fmt.{decimal, signed_decimal}
+use Rattle.std.specs.List.{flat_map}
+use Rattle.hex.specs.Hex.{encode_lower}
+use Rattle.ua_connections.specs.declared.out.Out.{Out}
+use Rattle.ua_connections.specs.declared.out.Out.TheVariants.{Send, Close}
+use Rattle.ua_core.specs.declared.event.Event.{Event}
+use Rattle.ua_core.specs.declared.event.Event.TheVariants.{Opened, Bytes, Gone, Tick}
+use Rattle.ua_core.specs.declared.out.Step.{Step}
+
+-- a word, a number, and what ends a line
+abbrev pub numbered : List ℕ → ℕ → List ℕ → List ℕ
+numbered word conn rest = word ++ decimal conn ++ rest
+
+abbrev pub newline : List ℕ
+newline = 10 ∷ []
+
+-- bytes as hex digits behind a space
+abbrev pub in_hex : List ℕ → List ℕ
+in_hex bytes = codes " " ++ encode_lower bytes ++ newline
+
+unfoldable pub event_line : Event → List ℕ
+event_line (Opened conn key) = numbered (codes "open ") conn (in_hex key)
+event_line (Bytes conn bytes) = numbered (codes "bytes ") conn (in_hex bytes)
+event_line (Gone conn) = numbered (codes "gone ") conn newline
+event_line (Tick now) = codes "tick " ++ signed_decimal now.0 ++ newline
+
+unfoldable pub out_line : Out → List ℕ
+out_line (Send conn bytes) = numbered (codes "send ") conn (in_hex bytes)
+out_line (Close conn) = numbered (codes "close ") conn newline
+
+-- ---- one line after the other
+
+abbrev pub events_lines : List Event → List ℕ
+events_lines events = flat_map event_line events
+
+abbrev pub outs_lines : List Out → List ℕ
+outs_lines outs = flat_map out_line outs
+
+abbrev pub step_lines : Step → List ℕ
+step_lines step = outs_lines step.outs
+
+abbrev pub steps_lines : List Step → List ℕ
+steps_lines steps = flat_map step_lines steps

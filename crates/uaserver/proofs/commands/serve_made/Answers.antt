@@ -1,7 +1,0 @@
-use Rattle.std.proofs.Common.{subst}
-use Rattle.uaserver.specs.Commands.{MadeBy}
-use Rattle.uaserver.proofs.ServeLemmas.{unmade}
-use Rattle.uaserver.proofs.commands.serve_made.Goals as goal
-
-pub returns-in-Err : goal.returns-in-Err
-returns-in-Err g c = λ said by. unmade c.args.turns said c.in-Err.status (subst (λ r. MadeBy r said) c.in-Err.is by)
