@@ -25,6 +25,3 @@ mod value;
 
 pub use fault::{Cause, LoadFault};
 pub use file::{Loaded, load};
-
-#[cfg(test)]
-mod tests;

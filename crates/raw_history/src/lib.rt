@@ -23,6 +23,3 @@ pub use history::History;
 pub use intervals::Interval;
 pub use pages::{Cut, Kept};
 pub use reading::{Page, RawRange, read_raw, release};
-
-#[cfg(test)]
-mod tests;

@@ -26,6 +26,3 @@ pub use attributes::AttributeId;
 pub use reading::{read, read_body, refusal, sample};
 pub use timestamps::Timestamps;
 pub use writing::{Change, Written, write};
-
-#[cfg(test)]
-mod tests;

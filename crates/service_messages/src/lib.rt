@@ -33,6 +33,3 @@ pub use sessions::{
     SignedSoftwareCertificate,
 };
 pub use writing::{WriteRequest, WriteResponse, WriteValue};
-
-#[cfg(test)]
-mod tests;

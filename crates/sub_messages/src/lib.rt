@@ -38,6 +38,3 @@ pub use subscriptions::{
     SetPublishingModeRequest, SetPublishingModeResponse,
 };
 pub use triggering::{SetTriggeringRequest, SetTriggeringResponse};
-
-#[cfg(test)]
-mod tests;

@@ -31,6 +31,3 @@ pub use row::{Next, Row, RowId, Scope, next_of};
 pub use state::State;
 pub use table::TABLE;
 pub use vars::Vars;
-
-#[cfg(test)]
-mod tests;

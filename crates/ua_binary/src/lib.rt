@@ -44,6 +44,3 @@ pub use enumerations::Enumeration;
 pub use fault::TakeFault;
 pub use wire::Wire;
 pub use written::Written;
-
-#[cfg(test)]
-mod tests;

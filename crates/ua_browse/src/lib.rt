@@ -19,6 +19,3 @@ mod pages;
 mod wanted;
 
 pub use browsing::{Page, browse, browse_next, page_size, release};
-
-#[cfg(test)]
-mod tests;

@@ -31,6 +31,3 @@ pub use headers::{ChunkHeader, OpeningHeader};
 pub use openings::SECURITY_POLICY_NONE;
 pub use send_fault::SendFault;
 pub use taken::Taken;
-
-#[cfg(test)]
-mod tests;

@@ -46,6 +46,3 @@ pub use secure_channels::{
 };
 pub use service_faults::{ServiceFault, fault};
 pub use structures::{StructureFault, extension_object, object_of_bytes, structure};
-
-#[cfg(test)]
-mod tests;

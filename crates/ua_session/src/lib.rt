@@ -23,10 +23,9 @@ mod session;
 mod session_points;
 mod session_table;
 mod sessions;
-#[cfg(test)]
-mod tests;
 mod tokens;
 
+pub use nonces::nonce;
 pub use points::{BrowsePoint, HistoryPoint, Point, Points, point_bytes, point_serial};
 pub use session::Session;
 pub use sessions::{Created, Sessions};

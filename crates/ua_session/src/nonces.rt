@@ -8,7 +8,7 @@ use sha2::{Digest, Sha256};
 /// The nonce with this serial, for who came by a connection with this key: SHA-256 of the key and of the
 /// serial's 8 bytes, the lowest first.
 #[tactic(auto, unfolding(crate::specs::Nonces::nonce_of))]
-pub(crate) fn nonce(key: &[u8; 32], serial: u64) -> [u8; 32]
+pub fn nonce(key: &[u8; 32], serial: u64) -> [u8; 32]
     ensures { result ≡ nonce_of key.now serial }
 {
     let mut hasher = Sha256::new();

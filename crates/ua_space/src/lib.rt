@@ -32,6 +32,3 @@ pub use references::{Direction, Reference, References};
 pub use space::Space;
 pub use subtype_set::Subtypes;
 pub use triple::{Part, Triple};
-
-#[cfg(test)]
-mod tests;

@@ -29,6 +29,3 @@ pub use handshake::{Agreed, ack, err, hello};
 pub use hello_message::Hello;
 pub use limits::Limits;
 pub use tap::{Tap, put_bytes};
-
-#[cfg(test)]
-mod tests;

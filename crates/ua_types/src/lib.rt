@@ -53,6 +53,3 @@ pub use refusal::Refusal;
 pub use status::Status;
 pub use std::alloc::AllocError as Memory;
 pub use text::Text;
-
-#[cfg(test)]
-mod tests;

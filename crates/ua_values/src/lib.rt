@@ -24,6 +24,3 @@ pub use float::{Double, Float};
 pub use matrix::{Matrix, has_shape};
 pub use shape::Shape;
 pub use variant::Variant;
-
-#[cfg(test)]
-mod tests;
