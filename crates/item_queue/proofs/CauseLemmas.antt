@@ -1,7 +1,7 @@
 -- A deed gives a value no fate but its own.
 use Rattle.std.proofs.Common.{◌≡◌, ℕ, ◌-◌, Bool, true, false, cond, List, [], ◌∷◌, ◌++◌, length, suc, zero, refl, ap, ◌∙◌}
-use Rattle.std.specs.Prelude.{⊤, nat_lt, nat_le, fold}
-use Rattle.item_queue.specs.Causes.{may_give, GetsOnly}
+use Rattle.std.specs.Prelude.{⊤, not, nat_lt, nat_le, fold}
+use Rattle.item_queue.specs.Causes.{gives, may_give, GetsOnly}
 use Rattle.item_queue.specs.ItemQueue.{Deed}
 use Rattle.item_queue.specs.ItemQueue.Act.{Queued, FrontDropped, NewestReplaced, OnlyReplaced, FrontCleared, BackCleared}
 use Rattle.item_queue.specs.ItemQueue.Deed.{Sample, Send, Clear, Resize}
@@ -80,36 +80,38 @@ module _ {V : Type 0} (may : Fate → Bool) where
   first_settled : (f : Fate) → may f ≡ true → (n : ℕ) (ts : List (Told V)) → GetsOnly may ts (settled (first_get f n ts))
   first_settled f ok n ts = gets_then ts (first_get f n ts) (settled (first_get f n ts)) (gets_first f ok n ts) (settled_goes (first_get f n ts)) (gets_settled (first_get f n ts))
 
-  sample_gets : may WasLost ≡ true → (size : ℕ) (oldest : Bool) (v : V) (ts : List (Told V)) → GetsOnly may ts (account_after ts (Sample size oldest v))
-  sample_gets lost size oldest v ts = by (nat_lt (length (waiting ts)) size) (nat_lt 1 size) oldest
+  sample_gets : (size : ℕ) (oldest : Bool) (v : V) (ts : List (Told V)) → (nat_lt (length (waiting ts)) size ≡ false → may WasLost ≡ true) → GetsOnly may ts (account_after ts (Sample size oldest v))
+  sample_gets size oldest v ts lost = by (nat_lt (length (waiting ts)) size) (nat_lt 1 size) oldest refl
     where
       queued : GetsOnly may ts (accounted ts (Queued v))
       queued = gets_more ts ts v false (gets_none ts)
 
-      by : (a b c : Bool) → GetsOnly may ts (fold accounted ts (cond a (Queued v ∷ []) (cond b (cond c (Queued v ∷ FrontDropped ∷ []) (NewestReplaced v ∷ [])) (OnlyReplaced v ∷ []))))
-      by true b c = queued
-      by false true true =
-          gets_then ts (accounted ts (Queued v)) (accounted (accounted ts (Queued v)) FrontDropped) queued (act_goes (accounted ts (Queued v)) FrontDropped) (front_gets lost (accounted ts (Queued v)))
-      by false true false = gets_more ts (others_get WasLost (length (waiting ts) - 1) ts) v true (gets_others WasLost lost (length (waiting ts) - 1) ts)
-      by false false c = gets_more ts (settled (others_get WasLost 0 ts)) v false (others_settled WasLost lost 0 ts)
+      by : (a b c : Bool) → nat_lt (length (waiting ts)) size ≡ a →
+          GetsOnly may ts (fold accounted ts (cond a (Queued v ∷ []) (cond b (cond c (Queued v ∷ FrontDropped ∷ []) (NewestReplaced v ∷ [])) (OnlyReplaced v ∷ []))))
+      by true b c e = queued
+      by false true true e =
+          gets_then ts (accounted ts (Queued v)) (accounted (accounted ts (Queued v)) FrontDropped) queued (act_goes (accounted ts (Queued v)) FrontDropped) (front_gets (lost e) (accounted ts (Queued v)))
+      by false true false e = gets_more ts (others_get WasLost (length (waiting ts) - 1) ts) v true (gets_others WasLost (lost e) (length (waiting ts) - 1) ts)
+      by false false c e = gets_more ts (settled (others_get WasLost 0 ts)) v false (others_settled WasLost (lost e) 0 ts)
 
-  resize_gets : may WasCleared ≡ true → (size : ℕ) (oldest : Bool) (ts : List (Told V)) → GetsOnly may ts (account_after ts (Resize size oldest))
-  resize_gets cleared size oldest ts = by (nat_le (length (waiting ts)) size) oldest
+  resize_gets : (size : ℕ) (oldest : Bool) (ts : List (Told V)) → (nat_le (length (waiting ts)) size ≡ false → may WasCleared ≡ true) → GetsOnly may ts (account_after ts (Resize size oldest))
+  resize_gets size oldest ts cleared = by (nat_le (length (waiting ts)) size) oldest refl
     where
-      by : (a b : Bool) → GetsOnly may ts (fold accounted ts (cond a [] (cond b (FrontCleared (length (waiting ts) - size) ∷ []) (BackCleared size ∷ []))))
-      by true b = gets_none ts
-      by false true = first_settled WasCleared cleared (length (waiting ts) - size) ts
-      by false false = others_settled WasCleared cleared size ts
+      by : (a b : Bool) → nat_le (length (waiting ts)) size ≡ a →
+          GetsOnly may ts (fold accounted ts (cond a [] (cond b (FrontCleared (length (waiting ts) - size) ∷ []) (BackCleared size ∷ []))))
+      by true b e = gets_none ts
+      by false true e = first_settled WasCleared (cleared e) (length (waiting ts) - size) ts
+      by false false e = others_settled WasCleared (cleared e) size ts
 
-  -- each fate that a deed may give is such a one
+  -- each fate that a deed gives is such a one
   abbrev pub IsWithin : Deed V → Type 0
-  IsWithin d = (f : Fate) → may_give d f ≡ true → may f ≡ true
+  IsWithin d = (f : Fate) → gives d f ≡ true → may f ≡ true
 
   deed_gets : (d : Deed V) (ts : List (Told V)) → IsWithin d → GetsOnly may ts (account_after ts d)
-  deed_gets (Sample size oldest v) ts ok = sample_gets (ok WasLost refl) size oldest v ts
+  deed_gets (Sample size oldest v) ts ok = sample_gets size oldest v ts (λ e. ok WasLost refl)
   deed_gets (Send n) ts ok = gets_first WasSent (ok WasSent refl) n ts
   deed_gets Clear ts ok = others_settled WasCleared (ok WasCleared refl) 0 ts
-  deed_gets (Resize size oldest) ts ok = resize_gets (ok WasCleared refl) size oldest ts
+  deed_gets (Resize size oldest) ts ok = resize_gets size oldest ts (λ e. ok WasCleared refl)
 
   abbrev pub AreWithin : List (Deed V) → Type 0
   AreWithin [] = ⊤
@@ -120,5 +122,8 @@ module _ {V : Type 0} (may : Fate → Bool) where
   deeds_get (d ∷ ds) ts ok =
       gets_then ts (account_after ts d) (fold account_after (account_after ts d) ds) (deed_gets d ts ok.0) (deeds_go ds (account_after ts d)) (deeds_get ds (account_after ts d) ok.1)
 
-pub own_fates : {V : Type 0} → (d : Deed V) (ts : List (Told V)) → GetsOnly (may_give d) ts (account_after ts d)
-own_fates d ts = deed_gets (may_give d) d ts (λ f e. e)
+pub own_fates : {V : Type 0} → (d : Deed V) (ts : List (Told V)) → GetsOnly (may_give ts d) ts (account_after ts d)
+own_fates (Sample size oldest v) ts = sample_gets (may_give ts (Sample size oldest v)) size oldest v ts (λ e. ap not e)
+own_fates (Send n) ts = gets_first (may_give ts (Send n)) WasSent refl n ts
+own_fates Clear ts = others_settled (may_give ts Clear) WasCleared refl 0 ts
+own_fates (Resize size oldest) ts = resize_gets (may_give ts (Resize size oldest)) size oldest ts (λ e. ap not e)

@@ -56,9 +56,10 @@ pub fn sends_from_the_front<T>()
     ensures { (deeds : List (Deed T)) → sent_of (account deeds) ≡ given_by [] deeds }
 {}
 
-/// A deed gives a value no fate but its own: a value is lost only where another is queued, sent only by a
-/// sending, and cleared only with the whole queue or where that is made smaller.
+/// A deed gives a value no fate but its own: a value is lost only where another is queued while as many wait
+/// as the queue's size says, sent only by a sending, and cleared only with the whole queue or where more
+/// wait than its new size says.
 #[tactic(auto, using(crate::proofs::CauseLemmas::own_fates))]
 pub fn each_fate_has_its_cause<T>()
-    ensures { (deeds : List (Deed T)) (deed : Deed T) → GetsOnly (may_give deed) (account deeds) (account_after (account deeds) deed) }
+    ensures { (deeds : List (Deed T)) (deed : Deed T) → GetsOnly (may_give (account deeds) deed) (account deeds) (account_after (account deeds) deed) }
 {}

@@ -1,4 +1,4 @@
--- A call of one subscription changes no item of another.
+-- A call of one subscription changes no item of another, and makes none.
 use Rattle.std.proofs.Common.{◌≡◌, ◌≢◌, ℕ, ◌+◌, ◌<◌, arith, Bool, true, false, cond, List, [], ◌∷◌, ◌++◌, Option, Some, None, Result, Ok, Err, refl, sym, ap, subst, ◌∙◌}
 use Rattle.std.proofs.lemmas.Bool.{false≢true, eqb-true, eq-eqb}
 use Rattle.std.proofs.lemmas.List.Sums.{fold-append}
@@ -7,6 +7,7 @@ use Rattle.std.specs.Prelude.{⊤, ◌==◌, fold, not}
 use Rattle.std.specs.BTreeMap.{insert_entry, is_at}
 use Rattle.std.specs.Map.{set_value, remove_entry}
 use Rattle.std.specs.Ordering.{nat_cmp}
+use Rattle.ua_types.proofs.NumberMaps.{same_number}
 use Rattle.ua_types.specs.declared.moment.Moment.{Moment}
 use Rattle.ua_types.specs.declared.status.Status.{Status}
 use Rattle.ua_space.specs.Nodes.{Nodes}
@@ -14,60 +15,104 @@ use Rattle.read_write.specs.declared.timestamps.Timestamps.{Timestamps}
 use Rattle.sub_messages.specs.declared.monitored_items.MonitoredItemCreateRequest.{MonitoredItemCreateRequest}
 use Rattle.sub_messages.specs.declared.monitored_items.MonitoredItemModifyRequest.{MonitoredItemModifyRequest}
 use Rattle.monitored_items.specs.Kinds.{trigger_of}
-use Rattle.monitored_items.specs.Item.{modified, moded, gave, waiting_in}
+use Rattle.monitored_items.specs.Item.{is_enabled, queued, reading, with_mode, disabled, modified, moded, gave, waiting_in}
 use Rattle.monitored_items.specs.ItemTables.{Numbered, item_at, numbers_of, is_of, with_found, with_item, AreWithin, AreAbove, AreRising}
 use Rattle.monitored_items.specs.Items.{ItemsState, One, Served, with_one, nothing_served, create_one, create_judged, created_by, new_item, begun, own_if, modify_one, modified_by, mode_one, moded_by, delete_one, deleted_by, without_all, no_items, Taking, nat_least, taken_from, with_taken, nothing_taken}
-use Rattle.monitored_items.specs.Moves.{Move, Moved, moved, moved_on, run, OthersStay, IsOfSubscription, SubscriptionsStayApart}
+use Rattle.monitored_items.specs.Moves.{Move, Moved, moved, moved_on, run, OthersAreIn, OthersStay, IsOfSubscription, SubscriptionsStayApart}
 use Rattle.monitored_items.specs.Moves.Move.{Create, Modify, SetMode, Delete, End, Show, TakeNotes}
 use Rattle.monitored_items.specs.declared.item.Item.{Item}
 use Rattle.monitored_items.specs.declared.kinds.Kind.{Kind}
 use Rattle.monitored_items.specs.declared.kinds.Mode.{Mode}
 use Rattle.monitored_items.specs.declared.kinds.Trigger.{Trigger}
-use Rattle.monitored_items.proofs.Following.{set_here, set_other, put_other, none_yet, gone_other}
+use Rattle.monitored_items.proofs.Following.{set_here, set_other, put_here, put_other, none_yet, gone_here, gone_other}
 use Rattle.monitored_items.proofs.Runs.{IsSound, created_served, modified_served, moded_served, deleted_served, run_step}
-use Rattle.monitored_items.proofs.Tables.{greater, at_itself}
+use Rattle.monitored_items.proofs.Tables.{greater, at_itself, above_found, IsThere, same_of, there_modified, there_gave}
 
--- the item of another subscription is another item
-other_item : (subscription : ℕ) (items : Numbered) (k n : ℕ) (own item : Item) → own_if subscription (item_at k items) ≡ Some own → item_at n items ≡ Some item → is_of subscription item ≡ false → n ≢ k
-other_item subscription items k n own item is found not_own same = by (item_at k items) is (sym (ap (λ (m : ℕ). item_at m items) same) ∙ found)
+-- ---- items that change at one number
+
+-- an item of this subscription, if any
+abbrev IsItsOwn : ℕ → Option Item → Type 0
+IsItsOwn subscription found = (item : Item) → found ≡ Some item → is_of subscription item ≡ true
+
+are_in : (subscription k : ℕ) (items there : Numbered) → ((n : ℕ) → n ≢ k → item_at n there ≡ item_at n items) → IsItsOwn subscription (item_at k items) → OthersAreIn subscription items there
+are_in subscription k items there elsewhere own n item found not_own = by (n == k) refl
   where
-    by : (o : Option Item) → own_if subscription o ≡ Some own → o ≡ Some item → ⊥
-    by None e f = absurd cc
-    by (Some other) e f =
-        let there : other ≡ item = cc in
-        let apart : is_of subscription other ≡ false = ap (is_of subscription) there ∙ not_own in
-        split (is_of subscription other) apart e
+    by : (b : Bool) → (n == k) ≡ b → item_at n there ≡ Some item
+    by true e = absurd (false≢true (sym not_own ∙ own item (ap (λ (m : ℕ). item_at m items) (sym (eqb-true n k e)) ∙ found)))
+    by false e = elsewhere n (λ same. false≢true (sym e ∙ eq-eqb n k same)) ∙ found
+
+-- only what stands under one number changes, and it is the subscription's own before and after
+stays_but : (subscription k : ℕ) (before after : Numbered) → ((n : ℕ) → n ≢ k → item_at n after ≡ item_at n before) → IsItsOwn subscription (item_at k before) → IsItsOwn subscription (item_at k after) →
+    OthersStay subscription before after
+stays_but subscription k before after elsewhere own own_after =
+    (are_in subscription k before after elsewhere own, are_in subscription k after before (λ n other. sym (elsewhere n other)) own_after)
+
+pub stays_none : (subscription : ℕ) (items : Numbered) → OthersStay subscription items items
+stays_none subscription items = (λ n item found not_own. found, λ n item found not_own. found)
+
+in_then : (subscription : ℕ) (a b c : Numbered) → OthersAreIn subscription a b → OthersAreIn subscription b c → OthersAreIn subscription a c
+in_then subscription a b c f g n item found not_own = g n item (f n item found not_own) not_own
+
+pub stays_then : (subscription : ℕ) (a b c : Numbered) → OthersStay subscription a b → OthersStay subscription b c → OthersStay subscription a c
+stays_then subscription a b c f g = (in_then subscription a b c f.0 g.0, in_then subscription c b a g.1 f.1)
+
+-- an item that is the subscription's is so where it is found
+own_found : (subscription : ℕ) (found : Option Item) (own : Item) → own_if subscription found ≡ Some own → IsItsOwn subscription found
+own_found subscription None own is item e = absurd cc
+own_found subscription (Some other) own is item e = let it : item ≡ other = cc in ap (is_of subscription) it ∙ by (is_of subscription other) refl is
+  where
+    by : (b : Bool) → is_of subscription other ≡ b → cond b (Some other) None ≡ Some own → is_of subscription other ≡ true
+    by true its is = its
+    by false its is = absurd cc
+
+changed_own : (subscription : ℕ) (items : Numbered) (k : ℕ) (change : Item → Item) → ((v : Item) → IsThere v (change v)) → IsItsOwn subscription (item_at k items) → IsItsOwn subscription (item_at k (with_item k change items))
+changed_own subscription items k change there own item = by (item_at k items) refl own
+  where
+    by : (found : Option Item) → item_at k items ≡ found → IsItsOwn subscription found → item_at k (with_found k change items found) ≡ Some item → is_of subscription item ≡ true
+    by None e its after = let clash : None ≡ Some item = sym e ∙ after in absurd cc
+    by (Some v) e its after =
+        let is : Some (change v) ≡ Some item = sym (set_here k v (change v) items e) ∙ after in
+        let it : item ≡ change v = cc in
+        ap (is_of subscription) it ∙ same_of v (change v) (there v) subscription ∙ its v refl
+
+stays_changed : (subscription : ℕ) (items : Numbered) (k : ℕ) (change : Item → Item) (own : Item) → ((v : Item) → IsThere v (change v)) → own_if subscription (item_at k items) ≡ Some own →
+    OthersStay subscription items (with_item k change items)
+stays_changed subscription items k change own there is =
+    let its = own_found subscription (item_at k items) own is in
+    stays_but subscription k items (with_item k change items) elsewhere its (changed_own subscription items k change there its)
+  where
+    elsewhere : (n : ℕ) → n ≢ k → item_at n (with_item k change items) ≡ item_at n items
+    elsewhere n other = by (item_at k items)
       where
-        split : (b : Bool) → b ≡ false → cond b (Some other) None ≡ Some own → ⊥
-        split true h e = false≢true (sym h)
-        split false h e = absurd cc
+        by : (found : Option Item) → item_at n (with_found k change items found) ≡ item_at n items
+        by None = refl
+        by (Some v) = set_other k n (change v) other items
 
--- items that are not of a subscription stay as they are
-stays_none : (subscription : ℕ) (items : Numbered) → OthersStay subscription items items
-stays_none subscription items n item found not_own = found
-
-stays_then : (subscription : ℕ) (a b c : Numbered) → OthersStay subscription a b → OthersStay subscription b c → OthersStay subscription a c
-stays_then subscription a b c f g n item found not_own = g n item (f n item found not_own) not_own
-
-stays_changed : (subscription : ℕ) (items : Numbered) (k : ℕ) (change : Item → Item) (own : Item) → own_if subscription (item_at k items) ≡ Some own → OthersStay subscription items (with_item k change items)
-stays_changed subscription items k change own is n item found not_own = by (item_at k items)
+stays_new : (subscription made : ℕ) (items : Numbered) (new : Item) → is_of subscription new ≡ true → AreWithin made items → OthersStay subscription items (insert_entry nat_cmp items (made + 1) new)
+stays_new subscription made items new its within =
+    stays_but subscription (made + 1) items (insert_entry nat_cmp items (made + 1) new) (λ n other. put_other made (made + 1) n new (omega arith) other items within) before after
   where
-    by : (o : Option Item) → item_at n (with_found k change items o) ≡ Some item
-    by None = found
-    by (Some v) = set_other k n (change v) (other_item subscription items k n own item is found not_own) items ∙ found
+    before : IsItsOwn subscription (item_at (made + 1) items)
+    before item found = let clash : None ≡ Some item = sym (none_yet made (made + 1) (omega arith) items within) ∙ found in absurd cc
 
-stays_new : (subscription made : ℕ) (items : Numbered) (new : Item) → AreWithin made items → OthersStay subscription items (insert_entry nat_cmp items (made + 1) new)
-stays_new subscription made items new within n item found not_own = put_other made (made + 1) n new (omega arith) other items within ∙ found
+    after : IsItsOwn subscription (item_at (made + 1) (insert_entry nat_cmp items (made + 1) new))
+    after item found =
+        let is : Some new ≡ Some item = sym (put_here made (made + 1) new (omega arith) items within) ∙ found in
+        let it : item ≡ new = cc in
+        ap (is_of subscription) it ∙ its
+
+stays_removed : (subscription : ℕ) (items : Numbered) (k : ℕ) (own : Item) → own_if subscription (item_at k items) ≡ Some own → AreRising items → OthersStay subscription items (remove_entry (is_at (nat_cmp k)) items)
+stays_removed subscription items k own is rising =
+    stays_but subscription k items (remove_entry (is_at (nat_cmp k)) items) (λ n other. gone_other k n other items) (own_found subscription (item_at k items) own is) after
   where
-    other : n ≢ made + 1
-    other same = absurd (let none : item_at n items ≡ None = ap (λ (m : ℕ). item_at m items) same ∙ none_yet made (made + 1) (omega arith) items within in let clash : Some item ≡ None = sym found ∙ none in cc)
+    after : IsItsOwn subscription (item_at k (remove_entry (is_at (nat_cmp k)) items))
+    after item found = let clash : None ≡ Some item = sym (gone_here k items rising) ∙ found in absurd cc
 
-stays_removed : (subscription : ℕ) (items : Numbered) (k : ℕ) (own : Item) → own_if subscription (item_at k items) ≡ Some own → OthersStay subscription items (remove_entry (is_at (nat_cmp k)) items)
-stays_removed subscription items k own is n item found not_own = gone_other k n (other_item subscription items k n own item is found not_own) items ∙ found
+-- ---- the end of a subscription
 
-stays_ended : (subscription : ℕ) (items : Numbered) → OthersStay subscription items (without_all subscription items)
-stays_ended subscription [] n item found not_own = found
-stays_ended subscription (e ∷ es) n item found not_own = by (is_at (nat_cmp n) e.0) refl (is_of subscription e.1) refl found (λ f. stays_ended subscription es n item f not_own)
+left_in : (subscription : ℕ) (items : Numbered) → OthersAreIn subscription items (without_all subscription items)
+left_in subscription [] n item found not_own = found
+left_in subscription (e ∷ es) n item found not_own = by (is_at (nat_cmp n) e.0) refl (is_of subscription e.1) refl found (λ f. left_in subscription es n item f not_own)
   where
     by : (b : Bool) → is_at (nat_cmp n) e.0 ≡ b → (c : Bool) → is_of subscription e.1 ≡ c → cond b (Some e.1) (item_at n es) ≡ Some item → (item_at n es ≡ Some item → item_at n (without_all subscription es) ≡ Some item)
         → item_at n (cond (not c) (e ∷ without_all subscription es) (without_all subscription es)) ≡ Some item
@@ -77,6 +122,47 @@ stays_ended subscription (e ∷ es) n item found not_own = by (is_at (nat_cmp n)
     by true is false own here rest = rw is here
     by false is true own here rest = rest here
     by false is false own here rest = rw is (rest here)
+
+were_in : (subscription : ℕ) (items : Numbered) → AreRising items → OthersAreIn subscription (without_all subscription items) items
+were_in subscription [] rising n item found not_own = found
+were_in subscription (e ∷ es) rising n item found not_own = by (is_at (nat_cmp n) e.0) refl (is_of subscription e.1) found (λ f. were_in subscription es rising.1 n item f not_own)
+  where
+    first : (b : Bool) → is_at (nat_cmp n) e.0 ≡ b → item_at n (e ∷ without_all subscription es) ≡ Some item → cond b (Some e.1) (item_at n (without_all subscription es)) ≡ Some item
+    first b is here = sym (ap (λ (c : Bool). cond c (Some e.1) (item_at n (without_all subscription es))) is) ∙ here
+
+    by : (b : Bool) → is_at (nat_cmp n) e.0 ≡ b → (c : Bool) → item_at n (cond (not c) (e ∷ without_all subscription es) (without_all subscription es)) ≡ Some item
+        → (item_at n (without_all subscription es) ≡ Some item → item_at n es ≡ Some item) → cond b (Some e.1) (item_at n es) ≡ Some item
+    by true is true here rest =
+        let above : e.0 < n = above_found e.0 n item es rising.0 (rest here) in
+        let same : n ≡ e.0 = same_number n e.0 is in
+        absurd (omega (arith, above, same))
+    by false is true here rest = rest here
+    by true is false here rest = first true is here
+    by false is false here rest = rest (first false is here)
+
+stays_ended : (subscription : ℕ) (items : Numbered) → AreRising items → OthersStay subscription items (without_all subscription items)
+stays_ended subscription items rising = (left_in subscription items, were_in subscription items rising)
+
+-- ---- what is done with an item leaves it its subscription's
+
+there_made : (nodes : Nodes) (clock : Moment) (s : ItemsState) (subscription : ℕ) (timestamps : Timestamps) (request : MonitoredItemCreateRequest) (kind : Kind) →
+    is_of subscription (begun nodes clock (new_item s subscription timestamps request kind)) ≡ true
+there_made nodes clock s subscription timestamps request kind = by (is_enabled kind.mode)
+  where
+    item : Item
+    item = new_item s subscription timestamps request kind
+
+    by : (b : Bool) → is_of subscription (cond b (queued (reading nodes clock item) item) item) ≡ true
+    by true = eq-eqb subscription subscription refl
+    by false = eq-eqb subscription subscription refl
+
+there_switched : (nodes : Nodes) (clock : Moment) (mode : Mode) (item : Item) → IsThere item (moded nodes clock mode item)
+there_switched nodes clock mode item = by (is_enabled mode) (is_enabled item.mode)
+  where
+    by : (b c : Bool) → IsThere item (cond b (with_mode mode (cond c item (queued (reading nodes clock item) item))) (disabled item))
+    by true true = record { subscription = refl; node = refl; attribute = refl }
+    by true false = record { subscription = refl; node = refl; attribute = refl }
+    by false c = record { subscription = refl; node = refl; attribute = refl }
 
 -- ---- the entries of a request
 
@@ -90,7 +176,7 @@ created_stays nodes clock subscription timestamps s request h = by (create_judge
   where
     by : (verdict : Result Kind Status) → Stays subscription s (created_by nodes clock subscription timestamps s request verdict)
     by (Err code) = stays_none subscription s.items
-    by (Ok kind) = stays_new subscription s.made s.items (begun nodes clock (new_item s subscription timestamps request kind)) h.within
+    by (Ok kind) = stays_new subscription s.made s.items (begun nodes clock (new_item s subscription timestamps request kind)) (there_made nodes clock s subscription timestamps request kind) h.within
 
 modified_stays : (subscription : ℕ) (timestamps : Timestamps) (s : ItemsState) (request : MonitoredItemModifyRequest) → Stays subscription s (modify_one subscription timestamps s request)
 unfolding modify_one
@@ -102,7 +188,8 @@ modified_stays subscription timestamps s request = by (own_if subscription (item
     by : (own : Option Item) → own_if subscription (item_at number s.items) ≡ own → (trigger : Option Trigger) → Stays subscription s (modified_by timestamps s request own trigger)
     by None e trigger = stays_none subscription s.items
     by (Some item) e None = stays_none subscription s.items
-    by (Some item) e (Some trigger) = stays_changed subscription s.items number (modified s.longest timestamps trigger request.requested_parameters) item e
+    by (Some item) e (Some trigger) = stays_changed subscription s.items number (modified s.longest timestamps trigger request.requested_parameters) item
+        (there_modified s.longest timestamps trigger request.requested_parameters) e
 
 moded_stays : (nodes : Nodes) (clock : Moment) (subscription : ℕ) (mode : Mode) (s : ItemsState) (number : ℕ) → Stays subscription s (mode_one nodes clock subscription mode s number)
 unfolding mode_one
@@ -110,15 +197,15 @@ moded_stays nodes clock subscription mode s number = by (own_if subscription (it
   where
     by : (own : Option Item) → own_if subscription (item_at number s.items) ≡ own → Stays subscription s (moded_by nodes clock mode s number own)
     by None e = stays_none subscription s.items
-    by (Some item) e = stays_changed subscription s.items number (moded nodes clock mode) item e
+    by (Some item) e = stays_changed subscription s.items number (moded nodes clock mode) item (there_switched nodes clock mode) e
 
-deleted_stays : (subscription : ℕ) (s : ItemsState) (number : ℕ) → Stays subscription s (delete_one subscription s number)
+deleted_stays : (subscription : ℕ) (s : ItemsState) (number : ℕ) → IsSound s.made s.items → Stays subscription s (delete_one subscription s number)
 unfolding delete_one
-deleted_stays subscription s number = by (own_if subscription (item_at number s.items)) refl
+deleted_stays subscription s number h = by (own_if subscription (item_at number s.items)) refl
   where
     by : (own : Option Item) → own_if subscription (item_at number s.items) ≡ own → Stays subscription s (deleted_by s number own)
     by None e = stays_none subscription s.items
-    by (Some item) e = stays_removed subscription s.items number item e
+    by (Some item) e = stays_removed subscription s.items number item e h.rising
 
 module _ {A R : Type 0} (subscription : ℕ) (serve : ItemsState → A → One R) (sound : (s : ItemsState) (x : A) → IsSound s.made s.items → IsSound (serve s x).state.made (serve s x).state.items)
     (each : (s : ItemsState) (x : A) → IsSound s.made s.items → Stays subscription s (serve s x)) where
@@ -194,7 +281,7 @@ takes_stay subscription t (k ∷ ks) own = by (item_at k t.items) refl (λ u. ta
         let its : is_of subscription item ≡ true = own.0 item e in
         let is : own_if subscription (item_at k t.items) ≡ Some item = ap (own_if subscription) e ∙ (rw its refl) in
         stays_then subscription t.items (taken_from t k (Some item)).items (fold with_taken (taken_from t k (Some item)) ks).items
-        (stays_changed subscription t.items k (gave n) item is)
+        (stays_changed subscription t.items k (gave n) item (there_gave n) is)
         (rest (taken_from t k (Some item)) (own_kept subscription k n t.items item e ks own.1 its))
 
 -- ---- any call
@@ -211,8 +298,8 @@ move_stays s (SetMode nodes clock own mode numbers) subscription h is =
     (all_stay own (mode_one nodes clock own mode) (λ t x g. (moded_served nodes clock own mode t x g).sound) (λ t x g. moded_stays nodes clock own mode t x) (nothing_served s) numbers h)
 move_stays s (Delete own numbers) subscription h is =
     subst (λ (k : ℕ). OthersStay k s.items (moved s (Delete own numbers)).state.items) is
-    (all_stay own (delete_one own) (λ t x g. (deleted_served own t x g).sound) (λ t x g. deleted_stays own t x) (nothing_served s) numbers h)
-move_stays s (End own) subscription h is = subst (λ (k : ℕ). OthersStay k s.items (moved s (End own)).state.items) is (stays_ended own s.items)
+    (all_stay own (delete_one own) (λ t x g. (deleted_served own t x g).sound) (λ t x g. deleted_stays own t x g) (nothing_served s) numbers h)
+move_stays s (End own) subscription h is = subst (λ (k : ℕ). OthersStay k s.items (moved s (End own)).state.items) is (stays_ended own s.items h.rising)
 move_stays s (Show changed) subscription h is = absurd is
 move_stays s (TakeNotes own n) subscription h is =
     subst (λ (k : ℕ). OthersStay k s.items (moved s (TakeNotes own n)).state.items) is (takes_stay own (nothing_taken s.items n) (numbers_of own s.items) (all_own own s.items h.rising))

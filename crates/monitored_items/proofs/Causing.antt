@@ -30,14 +30,6 @@ use Rattle.monitored_items.proofs.Following.{deeds_join, deeds_at}
 abbrev Deeds : Type 0
 Deeds = List (Deed DataValue)
 
-or_left : (a b : Bool) → a ≡ true → (a || b) ≡ true
-or_left true b h = refl
-or_left false b h = absurd (cc)
-
-or_right : (a b : Bool) → b ≡ true → (a || b) ≡ true
-or_right true b h = refl
-or_right false b h = h
-
 -- ---- deeds that give no fate but such
 
 module _ (may : Fate → Bool) where
@@ -115,20 +107,24 @@ module _ (may : Fate → Bool) where
     ends_within [] = λ n. tt
     ends_within (k ∷ ks) = within_then (deeds_on k (Clear ∷ [])) (flat_map (λ number. deeds_on number (Clear ∷ [])) ks) (within_on k (Clear ∷ []) (cleared, tt)) (ends_within ks)
 
-  -- where both may be
-  module _ (lost : (f : Fate) → is_lost f ≡ true → may f ≡ true) (cleared : (f : Fate) → is_cleared f ≡ true → may f ≡ true) where
-    mode_within : (b c : Bool) (v : DataValue) (item : Item) → AreWithin may (cond b (cond c [] (sample_deed v item)) (Clear ∷ []))
-    mode_within true true v item = tt
-    mode_within true false v item = (lost, tt)
-    mode_within false c v item = (cleared, tt)
+  -- where values may be lost, or cleared, as the mode says
+  module _ (enabled : Bool) (lost : enabled ≡ true → (f : Fate) → is_lost f ≡ true → may f ≡ true) (cleared : enabled ≡ false → (f : Fate) → is_cleared f ≡ true → may f ≡ true) where
+    mode_within : (c : Bool) (v : DataValue) (item : Item) → AreWithin may (cond enabled (cond c [] (sample_deed v item)) (Clear ∷ []))
+    mode_within c v item = by enabled c refl
+      where
+        by : (b c : Bool) → enabled ≡ b → AreWithin may (cond b (cond c [] (sample_deed v item)) (Clear ∷ []))
+        by true true e = tt
+        by true false e = (lost e, tt)
+        by false c e = (cleared e, tt)
 
-    moded_within : (nodes : Nodes) (clock : Moment) (subscription : ℕ) (mode : Mode) (s : ItemsState) (number : ℕ) → AllWithin (mode_one nodes clock subscription mode s number).deeds
+  module _ (mode : Mode) (lost : is_enabled mode ≡ true → (f : Fate) → is_lost f ≡ true → may f ≡ true) (cleared : is_enabled mode ≡ false → (f : Fate) → is_cleared f ≡ true → may f ≡ true) where
+    moded_within : (nodes : Nodes) (clock : Moment) (subscription : ℕ) (s : ItemsState) (number : ℕ) → AllWithin (mode_one nodes clock subscription mode s number).deeds
     unfolding mode_one
-    moded_within nodes clock subscription mode s number = by (own_if subscription (item_at number s.items))
+    moded_within nodes clock subscription s number = by (own_if subscription (item_at number s.items))
       where
         by : (own : Option Item) → AllWithin (moded_by nodes clock mode s number own).deeds
         by None = λ n. tt
-        by (Some item) = within_on number (mode_deeds nodes clock mode item) (mode_within (is_enabled mode) (is_enabled item.mode) (reading nodes clock item) item)
+        by (Some item) = within_on number (mode_deeds nodes clock mode item) (mode_within (is_enabled mode) lost cleared (is_enabled item.mode) (reading nodes clock item) item)
 
   -- where values may be sent
   module _ (sent : (f : Fate) → is_sent f ≡ true → may f ≡ true) where
@@ -152,7 +148,7 @@ move_within s (Modify subscription timestamps requests) =
 move_within s (SetMode nodes clock subscription mode numbers) =
     let may = call_may_give (SetMode nodes clock subscription mode numbers) in
     served_within may (mode_one nodes clock subscription mode)
-    (moded_within may (λ f e. or_left (is_lost f) (is_cleared f) e) (λ f e. or_right (is_lost f) (is_cleared f) e) nodes clock subscription mode) s numbers
+    (moded_within may mode (λ e f h. ap (λ b. cond b (is_lost f) (is_cleared f)) e ∙ h) (λ e f h. ap (λ b. cond b (is_lost f) (is_cleared f)) e ∙ h) nodes clock subscription) s numbers
 move_within s (Delete subscription numbers) =
     let may = call_may_give (Delete subscription numbers) in
     served_within may (delete_one subscription) (deleted_within may (λ f e. e) subscription) s numbers

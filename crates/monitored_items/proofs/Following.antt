@@ -97,7 +97,7 @@ set_other k n w other (e ∷ es) = by (is_at (nat_cmp k) e.0) refl (set_other k 
         rw not_it refl
     by false is rest = ap (λ (o : Option Item). cond (is_at (nat_cmp n) e.0) (Some e.1) o) rest
 
-put_here : (made k : ℕ) (v : Item) → made < k → (es : Numbered) → AreWithin made es → item_at k (insert_entry nat_cmp es k v) ≡ Some v
+pub put_here : (made k : ℕ) (v : Item) → made < k → (es : Numbered) → AreWithin made es → item_at k (insert_entry nat_cmp es k v) ≡ Some v
 put_here made k v above [] within = rw (at_itself k) refl
 put_here made k v above (e ∷ es) within =
     let behind : nat_cmp k e.0 ≡ Greater = greater k e.0 (omega (arith, above, within.0)) in
@@ -124,7 +124,7 @@ above_none k es above = by (item_at k es) refl
     by None e = refl
     by (Some item) e = absurd (omega (arith, above_found k k item es above e))
 
-gone_here : (k : ℕ) (es : Numbered) → AreRising es → item_at k (remove_entry (is_at (nat_cmp k)) es) ≡ None
+pub gone_here : (k : ℕ) (es : Numbered) → AreRising es → item_at k (remove_entry (is_at (nat_cmp k)) es) ≡ None
 gone_here k [] rising = refl
 gone_here k (e ∷ es) rising = by (is_at (nat_cmp k) e.0) refl (gone_here k es rising.1)
   where

@@ -230,7 +230,7 @@ pub record IsThere (item new : Item) : Type 0 where
   pub node : new.node_id ≡ item.node_id
   pub attribute : new.attribute_id ≡ item.attribute_id
 
-same_of : (item new : Item) → IsThere item new → (q : ℕ) → is_of q new ≡ is_of q item
+pub same_of : (item new : Item) → IsThere item new → (q : ℕ) → is_of q new ≡ is_of q item
 same_of item new h q = ap (λ (s : ℕ). s == q) h.subscription
 
 same_on : (item new : Item) → IsThere item new → (id : NodeId) → is_on id new ≡ is_on id item

@@ -117,9 +117,13 @@ AccountsTellLosses = (config : Configuration) (moves : List Move) (number : ℕ)
 abbrev pub FatesAreFinal : Type 0
 FatesAreFinal = (config : Configuration) (moves more : List Move) (number : ℕ) → GoesOn (account_of config moves number) (account_of config (moves ++ more) number)
 
--- an item that is not of this subscription is after what it was
+-- the items of one table that are not of this subscription are in another, under the same numbers
+abbrev pub OthersAreIn : ℕ → Numbered → Numbered → Type 0
+OthersAreIn subscription items there = (number : ℕ) (item : Item) → item_at number items ≡ Some item → is_of subscription item ≡ false → item_at number there ≡ Some item
+
+-- the items that are not of this subscription are after what they were: each stays, and none appears
 abbrev pub OthersStay : ℕ → Numbered → Numbered → Type 0
-OthersStay subscription before after = (number : ℕ) (item : Item) → item_at number before ≡ Some item → is_of subscription item ≡ false → item_at number after ≡ Some item
+OthersStay subscription before after = OthersAreIn subscription before after × OthersAreIn subscription after before
 
 -- a call of one subscription
 abbrev pub IsOfSubscription : ℕ → Move → Type 0
@@ -131,7 +135,7 @@ IsOfSubscription subscription (End own) = own ≡ subscription
 IsOfSubscription subscription (Show changed) = ⊥
 IsOfSubscription subscription (TakeNotes own n) = own ≡ subscription
 
--- a call of one subscription leaves each item of another as it is
+-- a call of one subscription leaves each item of another as it is, and makes none
 abbrev pub SubscriptionsStayApart : Type 0
 SubscriptionsStayApart = (config : Configuration) (moves : List Move) (move : Move) (subscription : ℕ) → IsOfSubscription subscription move →
     OthersStay subscription (run config moves).state.items (run config (moves ++ move ∷ [])).state.items

@@ -41,8 +41,8 @@ pub fn tells_losses()
     ensures { AccountsTellLosses }
 {}
 
-/// A call of one subscription leaves each item of another as it is, with its queue.
-#[tactic(auto, using(crate::proofs::Apart::subscriptions_stay_apart))]
+/// A call of one subscription leaves each item of another as it is, with its queue, and none appears under
+/// another subscription.
 pub fn subscriptions_stay_apart()
     ensures { SubscriptionsStayApart }
 {}
@@ -63,8 +63,9 @@ pub fn messages_take_what_is_sent()
 {}
 
 /// A call gives a value no fate but its own. A value is sent only by a message that takes it; it is lost only
-/// where its item takes another one, the first or one that was written; and it is cleared only where the
-/// item gets a smaller queue, is disabled or deleted, or its subscription ends.
+/// where its item takes another one, when it is made or enabled, or one that was written; and it is cleared
+/// only where the item gets a smaller queue, is disabled or deleted, or its subscription ends. That its queue
+/// is full then, or too long for its new size, `item_queue::laws::each_fate_has_its_cause` says of each deed.
 #[tactic(auto, using(crate::proofs::Causing::fates_have_their_causes))]
 pub fn fates_have_their_causes()
     ensures { FatesHaveTheirCauses }

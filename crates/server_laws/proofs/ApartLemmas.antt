@@ -47,12 +47,10 @@ use Rattle.sub_messages.specs.declared.subscriptions.ModifySubscriptionRequest.{
 use Rattle.sub_messages.specs.declared.subscriptions.SetPublishingModeRequest.{SetPublishingModeRequest}
 use Rattle.sub_table.specs.declared.vars.Vars.{Vars}
 use Rattle.read_write.specs.Timestamps.{timestamps_of}
-use Rattle.read_write.specs.Writing.{write_of}
+use Rattle.read_write.specs.declared.writing.Change.{Change}
 use Rattle.read_write.specs.declared.timestamps.Timestamps.{Timestamps}
 use Rattle.raw_history.specs.declared.reading.RawRange.{RawRange}
-use Rattle.monitored_items.specs.Items.{ItemsState, all_visits}
-use Rattle.monitored_items.specs.ItemTables.{item_at}
-use Rattle.monitored_items.specs.declared.item.Item.{Item}
+use Rattle.monitored_items.specs.Items.{ItemsState}
 use Rattle.subscription.specs.Ending.{session_ended}
 use Rattle.subscription.specs.Making.{modified, republished}
 use Rattle.subscription.specs.Named.{is_own, named_all, deleted}
@@ -60,13 +58,13 @@ use Rattle.subscription.specs.Publishing.{published}
 use Rattle.subscription.specs.Subs.{SubsState, Said, said, told, created}
 use Rattle.subscription_laws.specs.Apartness.{IsRequestOf, OthersStay}
 use Rattle.subscription_laws.specs.Runs.{Move, Ran, ran_by, moved, start}
-use Rattle.subscription_laws.proofs.Others.{requests_stay_apart}
+use Rattle.subscription_laws.proofs.Others.{none_changes, requests_stay_apart}
 use Rattle.subscription.specs.Tables.{World, vars_found}
 use Rattle.subscription.specs.declared.call.Call.TheVariants as sub_call
 use Rattle.ua_browse.specs.Browsing.{page_size, browse_of}
 use Rattle.ua_session.specs.Sessions.{SessionsState, Named, named, points_of, with_points, create_of, activate_of, find_of, close_of, ticked, ended_by}
 use Rattle.ua_services.specs.ActivateSession.{is_anonymous, activate_session_body, activate_session_meaning}
-use Rattle.server_laws.specs.Apart.{NamesOnly, IsSampled, is_write_id, is_write, KeepsApart}
+use Rattle.server_laws.specs.Apart.{NamesOnly, accepted_listed, accepted_found, accepted_by, accepted, is_write_id, is_write, KeepsApart}
 use Rattle.ua_services.specs.Browse.{browse_listed, browse_meaning}
 use Rattle.ua_services.specs.BrowseNext.{go_on_of, browse_next_listed, browse_next_meaning}
 use Rattle.ua_services.specs.BrowseResults.{browse_told}
@@ -96,10 +94,9 @@ use Rattle.ua_services.specs.SetMonitoringMode.{items_moded, set_monitoring_mode
 use Rattle.ua_services.specs.SetPublishingMode.{set_publishing_listed, set_publishing_mode_meaning}
 use Rattle.ua_services.specs.StatusResults.{statuses_body}
 use Rattle.ua_services.specs.SubServing.{world_at, called, no_reply, told_alone, nothing_done, session_over, timed_out}
-use Rattle.ua_services.specs.Write.{write_listed, write_meaning}
+use Rattle.ua_services.specs.Write.{sampled, write_listed, write_meaning}
 use Rattle.ua_services.specs.declared.call.Call.{Call}
 use Rattle.ua_services.specs.declared.history_read.Wanted.{Wanted}
-use Rattle.server_laws.proofs.ItemSampling.{none_seen, all_sampled, none_made}
 use Rattle.server_laws.proofs.MovingLemmas.{Asks, created_asks, modified_asks, moded_asks, deleted_asks, items_left}
 use Rattle.server_laws.proofs.OtherSessions.{IsFresh, Keeps, unchanged, sessions_stay, named_given, fresh_after, ticked_fresh, activate_header, close_header, find_leaves, activate_leaves, close_leaves, create_stays, points_stay, stay_behind}
 
@@ -110,15 +107,17 @@ record KeepsRest (session : ℕ) (before after : Services) : Type 0 where
   sessions : Keeps session before.sessions after.sessions
   rest : OthersStay session before.subs.table before.items after.subs.table after.items
 
--- by a Write
-record KeepsSampled (session : ℕ) (before after : Services) : Type 0 where
+-- by a Write, whose accepted values are these
+record KeepsShown (session : ℕ) (changed : List Change) (before after : Services) : Type 0 where
   sessions : Keeps session before.sessions after.sessions
   subs : after.subs ≡ before.subs
-  items : (number : ℕ) (item : Item) → item_at number before.items.items ≡ Some item → (later : Item) × (item_at number after.items.items ≡ Some later) × IsSampled item later
-  none : (number : ℕ) → item_at number before.items.items ≡ None → item_at number after.items.items ≡ None
+  items : after.items ≡ sampled before.items changed
 
-not_sampled : (session : ℕ) (state : Services) → KeepsSampled session state state
-not_sampled session state = record { sessions = unchanged session state.sessions; subs = refl; items = λ number item found. (item, found, none_seen item); none = λ number none. none }
+none_shown : (session : ℕ) (state : Services) (sessions : SessionsState) → Keeps session state.sessions sessions → KeepsShown session [] state (with_sessions state sessions)
+none_shown session state sessions p = record { sessions = p; subs = refl; items = refl }
+
+not_shown : (session : ℕ) (state : Services) → KeepsShown session [] state state
+not_shown session state = none_shown session state state.sessions (unchanged session state.sessions)
 
 -- ---- one call of a session
 
@@ -131,7 +130,7 @@ pub record CameBy (subs : SubsState) (items : ItemsState) : Type 0 where
 nothing_stays : (session : ℕ) (state : Services) (sessions : SessionsState) → Keeps session state.sessions sessions → KeepsRest session state (with_sessions state sessions)
 nothing_stays session state sessions p = record {
   sessions = p;
-  rest = record { parts = λ other apart. refl; subscriptions = λ number s found other. found; items_stay = λ number item found foreign. found };
+  rest = none_changes session state.subs.table state.items;
 }
 
 none_stays : (session : ℕ) (state : Services) → KeepsRest session state state
@@ -397,33 +396,15 @@ module _ (session : ℕ) (setting : Setting) (call : Call) (token : NodeId) (bod
 
 -- ---- Write
 
--- what is sampled by a Write
-write_stays : (session : ℕ) (setting : Setting) (call : Call) (state : Services) (request : WriteRequest) (sessions : SessionsState) → Keeps session state.sessions sessions →
-    KeepsSampled session state (write_meaning setting call session request (with_sessions state sessions)).state
-write_stays session setting call state request sessions p = by (operations_of setting.config request.nodes_to_write)
-  where
-    by : (r : Result (List WriteValue) Status) → KeepsSampled session state (write_listed setting call (with_sessions state sessions) r).state
-    by (Ok values) = record {
-      sessions = p;
-      subs = refl;
-      items = λ number item found. all_sampled (all_visits state.items.items (write_of setting.clock state.space.nodes values).changed) state.items.items number item found;
-      none = λ number none. none_made (all_visits state.items.items (write_of setting.clock state.space.nodes values).changed) state.items.items number none;
-    }
-    by (Err code) = record { sessions = p; subs = refl; items = λ number item found. (item, found, none_seen item); none = λ number none. none }
+write_shown : (session : ℕ) (setting : Setting) (call : Call) (state : Services) (sessions : SessionsState) → Keeps session state.sessions sessions → (r : Result (List WriteValue) Status) →
+    KeepsShown session (accepted_listed setting state r) state (write_listed setting call (with_sessions state sessions) r).state
+write_shown session setting call state sessions p (Ok values) = record { sessions = p; subs = refl; items = refl }
+write_shown session setting call state sessions p (Err code) = none_shown session state sessions p
 
-write_found : (session : ℕ) (setting : Setting) (call : Call) (state : Services) (request : WriteRequest) (answer : Result ℕ Status) (sessions : SessionsState) → Keeps session state.sessions sessions →
-    IfOk answer (λ number. number ≡ session) → KeepsSampled session state (if_found (λ number. write_meaning setting call number request) setting call state answer sessions).state
-write_found session setting call state request (Ok number) sessions p is =
-    subst (λ (n : ℕ). KeepsSampled session state (write_meaning setting call n request (with_sessions state sessions)).state) (sym is) (write_stays session setting call state request sessions p)
-write_found session setting call state request (Err code) sessions p is = record { sessions = p; subs = refl; items = λ number item found. (item, found, none_seen item); none = λ number none. none }
-
-write_served : (session : ℕ) (setting : Setting) (call : Call) (token : NodeId) (state : Services) → NamesIn session state token → (r : Result WriteRequest TakeFault) →
-    KeepsSampled session state (served_in_session write_meaning setting call token state r).state
-write_served session setting call token state only (Ok request) =
-    let s = find_of state.sessions token call.conn in
-    let h = find_leaves session state.sessions token call.conn only in
-    write_found session setting call state request s.answer s.state h.stay h.answer
-write_served session setting call token state only (Err fault) = not_sampled session state
+write_found : (session : ℕ) (setting : Setting) (call : Call) (state : Services) (write : WriteRequest) (answer : Result ℕ Status) (sessions : SessionsState) → Keeps session state.sessions sessions →
+    KeepsShown session (accepted_found setting state write answer) state (if_found (λ number. write_meaning setting call number write) setting call state answer sessions).state
+write_found session setting call state write (Ok number) sessions p = write_shown session setting call state sessions p (operations_of setting.config write.nodes_to_write)
+write_found session setting call state write (Err code) sessions p = none_shown session state sessions p
 
 -- ---- all services
 
@@ -440,32 +421,44 @@ module _ (setting : Setting) (request : Request) (state : Services) (from : Came
   others_by session (Ok id) (Err fault) e only other = none_stays session state
   others_by session (Err fault) header e only other = none_stays session state
 
-  picked_written : (session : ℕ) (call : Call) (token : NodeId) → NamesIn session state token → (id : ℕ) → id ≡ WRITE_REQUEST → KeepsSampled session state (picked setting call token request.body state id).state
-  picked_written session call token only id is =
-      subst (λ (n : ℕ). KeepsSampled session state (picked setting call token request.body state n).state) (sym is)
-      (write_served session setting call token state only (message_of write_request_reading request.body))
+  write_served : (session : ℕ) (header : RequestHeader) → NamesIn session state header.authentication_token → (r : Result WriteRequest TakeFault) →
+      KeepsShown session (accepted_by setting request state (Ok header) r) state
+      (served_in_session write_meaning setting (call_of request header.request_handle) header.authentication_token state r).state
+  write_served session header only (Ok write) =
+      let s = find_of state.sessions header.authentication_token request.conn in
+      write_found session setting (call_of request header.request_handle) state write s.answer s.state (find_leaves session state.sessions header.authentication_token request.conn only).stay
+  write_served session header only (Err fault) = not_shown session state
 
-  sampled_by : (session : ℕ) (id : Result ℕ TakeFault) (header : Result RequestHeader TakeFault) → Only session header → is_write_id id ≡ true → KeepsSampled session state (serving_by setting request state id header).state
-  sampled_by session (Ok id) (Ok header) only is = picked_written session (call_of request header.request_handle) header.authentication_token only id (eqb-true id WRITE_REQUEST is)
-  sampled_by session (Ok id) (Err fault) only is = not_sampled session state
-  sampled_by session (Err fault) header only is = absurd (false≢true is)
+  picked_written : (session : ℕ) (header : RequestHeader) → NamesIn session state header.authentication_token → (id : ℕ) → id ≡ WRITE_REQUEST →
+      KeepsShown session (accepted_by setting request state (Ok header) (message_of write_request_reading request.body)) state
+      (picked setting (call_of request header.request_handle) header.authentication_token request.body state id).state
+  picked_written session header only id is =
+      let write = message_of write_request_reading request.body in
+      subst (λ (n : ℕ). KeepsShown session (accepted_by setting request state (Ok header) write) state (picked setting (call_of request header.request_handle) header.authentication_token request.body state n).state) (sym is)
+      (write_served session header only write)
+
+  written_by : (session : ℕ) (id : Result ℕ TakeFault) (header : Result RequestHeader TakeFault) → Only session header → is_write_id id ≡ true →
+      KeepsShown session (accepted_by setting request state header (message_of write_request_reading request.body)) state (serving_by setting request state id header).state
+  written_by session (Ok id) (Ok header) only is = picked_written session header only id (eqb-true id WRITE_REQUEST is)
+  written_by session (Ok id) (Err fault) only is = not_shown session state
+  written_by session (Err fault) header only is = absurd (false≢true is)
 
   others : (session : ℕ) → NamesOnly session state request → is_write request ≡ false → KeepsRest session state (serving_of setting request state).state
   unfolding serving_of
   others session only other = others_by session (message_id_of request.body) (message_of request_header_reading request.body) refl only other
 
-  written : (session : ℕ) → NamesOnly session state request → is_write request ≡ true → KeepsSampled session state (serving_of setting request state).state
+  written : (session : ℕ) → NamesOnly session state request → is_write request ≡ true → KeepsShown session (accepted setting request state) state (serving_of setting request state).state
   unfolding serving_of
-  written session only is = sampled_by session (message_id_of request.body) (message_of request_header_reading request.body) only is
+  written session only is = written_by session (message_id_of request.body) (message_of request_header_reading request.body) only is
 
   pub keeps_apart : IsFresh state.sessions → KeepsApart setting request state
   keeps_apart fresh = record {
     others = λ session only other.
         let k = others session only other in
         record { sessions = sessions_stay session state.sessions (serving_of setting request state).state.sessions fresh k.sessions; rest = k.rest };
-    sampled = λ session only is.
+    written = λ session only is.
         let k = written session only is in
-        record { sessions = sessions_stay session state.sessions (serving_of setting request state).state.sessions fresh k.sessions; subs = k.subs; items = k.items; none = k.none };
+        record { sessions = sessions_stay session state.sessions (serving_of setting request state).state.sessions fresh k.sessions; subs = k.subs; items = k.items };
   }
 
   -- numbers of sessions are given one after the other

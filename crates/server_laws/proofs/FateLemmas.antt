@@ -15,10 +15,10 @@ use Rattle.server_laws.specs.Moving.{ran_at, Went}
 use Rattle.ua_services.specs.declared.services.Services.{Services}
 use Rattle.ua_core.specs.Coherent.{IfRuns}
 use Rattle.ua_core.specs.Effects.{fired_of}
-use Rattle.server_laws.specs.Fates.{reached_at, first_calls, LeadTo, CallsOf, account_after, HoldsWhatWaits}
+use Rattle.server_laws.specs.Fates.{reached_at, first_calls, CallsOf, account_of_first, HoldsWhatWaits}
 use Rattle.ua_core.specs.Running.{Running, running, joined_effects, then_run, run_of}
 use Rattle.ua_core.specs.Stepping.{Served, step_of}
-use Rattle.server_laws.specs.Tables.{rows_of_run}
+use Rattle.server_laws.specs.Tables.{rows_of_run, LeadTo}
 use Rattle.ua_core.specs.World.{opening}
 use Rattle.ua_core.specs.declared.world.World.{World}
 use Rattle.ua_core.specs.declared.event.Event.{Event}
@@ -119,7 +119,7 @@ holds_by config moves number rows None h = tt
 holds_by config moves number rows (Some world) h = those_wait config moves number ∙ ap (λ (s : ItemsState). queue_at number s.items) h.items
 
 pub holds_what_waits : (config : Configuration) (space : SpaceState) (events : List Event) (c : CallsOf config space events) (n number : ℕ) →
-    IfRuns (HoldsWhatWaits (account_after config c.calls n number) number) (reached_at config space events n).server
+    IfRuns (HoldsWhatWaits (account_of_first config c.calls n number) number) (reached_at config space events n).server
 holds_what_waits config space events c n number =
     let r = reached_at config space events n in
     holds_by config (first_calls n c.calls) number (rows_of_run r) r.server (c.lead n)
@@ -136,9 +136,9 @@ more_calls (suc n) k (moves ∷ calls) = of_rest (more_calls n k calls)
     of_rest : (more : List Move) × (first_calls (n + k) calls ≡ first_calls n calls ++ more) → (more : List Move) × (first_calls (suc n + k) (moves ∷ calls) ≡ first_calls (suc n) (moves ∷ calls) ++ more)
     of_rest (more, is) = (more, ap (λ (i : ℕ). first_calls i (moves ∷ calls)) (one_more n k) ∙ ap (λ (rest : List Move). moves ++ rest) is ∙ sym (append_assoc moves (first_calls n calls) more))
 
-pub fates_stay : (config : Configuration) (calls : List (List Move)) (n k number : ℕ) → GoesOn (account_after config calls n number) (account_after config calls (n + k) number)
+pub fates_stay : (config : Configuration) (calls : List (List Move)) (n k number : ℕ) → GoesOn (account_of_first config calls n number) (account_of_first config calls (n + k) number)
 fates_stay config calls n k number = by (more_calls n k calls)
   where
-    by : (more : List Move) × (first_calls (n + k) calls ≡ first_calls n calls ++ more) → GoesOn (account_after config calls n number) (account_after config calls (n + k) number)
+    by : (more : List Move) × (first_calls (n + k) calls ≡ first_calls n calls ++ more) → GoesOn (account_of_first config calls n number) (account_of_first config calls (n + k) number)
     by (more, is) =
-        subst (λ (moves : List Move). GoesOn (account_after config calls n number) (account_at config moves number)) (sym is) (they_stay config (first_calls n calls) number more)
+        subst (λ (moves : List Move). GoesOn (account_of_first config calls n number) (account_at config moves number)) (sym is) (they_stay config (first_calls n calls) number more)

@@ -1,7 +1,7 @@
 pub mod MovingLemmas
 pub mod OtherSessions
-pub mod ItemSampling
 pub mod ApartLemmas
 pub mod TableLemmas
 pub mod MessageLemmas
 pub mod FateLemmas
+pub mod ReplyLemmas

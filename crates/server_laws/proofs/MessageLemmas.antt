@@ -6,19 +6,20 @@ use Rattle.std.specs.List.{AllByRecursion}
 use Rattle.std.specs.Option.{is_some}
 use Rattle.std.specs.Prelude.{find}
 use Rattle.ua_types.specs.Configuration.{Configuration}
+use Rattle.ua_types.specs.declared.moment.Moment.{Moment}
 use Rattle.ua_requests.specs.declared.fired.Fired.{Fired}
 use Rattle.ua_requests.specs.declared.reply.Reply.{Reply}
 use Rattle.ua_space.specs.Nodes.{SpaceState}
 use Rattle.subscription.specs.declared.messages.KeptMessage.{KeptMessage}
 use Rattle.subscription.specs.declared.subscription.Subscription.{Subscription}
 use Rattle.subscription.specs.Answers.{number_of}
-use Rattle.subscription.specs.Making.{bytes_of, kept_by as bytes_kept_by, kept_at}
+use Rattle.subscription.specs.Making.{bytes_of, kept_by as bytes_kept_by, kept_at, republished}
 use Rattle.subscription.specs.Messages.{has_number}
-use Rattle.subscription.specs.Subs.{SubsState}
+use Rattle.subscription.specs.Subs.{SubsState, world_of}
 use Rattle.subscription.specs.Tables.{kept_by, subscription_at}
 use Rattle.subscription_laws.specs.Messaging.{Made, moved_made, run_made, messages_for, IsAmong}
 use Rattle.subscription_laws.specs.Runs.{Move, Ran, moved, start}
-use Rattle.subscription_laws.proofs.RunMessages.{messages_numbered, messages_live, messages_kept, messages_noted}
+use Rattle.subscription_laws.proofs.RunMessages.{messages_numbered, messages_live, messages_kept, messages_given_again, messages_noted}
 use Rattle.server_laws.specs.Moving.{ran_at}
 use Rattle.ua_core.specs.Coherent.{reached, IfRuns}
 use Rattle.ua_core.specs.Effects.{fired_of}
@@ -31,7 +32,7 @@ use Rattle.ua_core.specs.declared.world.World.{World}
 use Rattle.ua_core.specs.declared.event.Event.{Event}
 use Rattle.ua_core.specs.declared.out.StepFault.{StepFault}
 use Rattle.ua_core.proofs.EffectLemmas.{fired_of-append}
-use Rattle.server_laws.proofs.TableLemmas.{StepGoes, step_goes}
+use Rattle.server_laws.proofs.TableLemmas.{StepGoes, step_goes, leads}
 
 -- ---- the calls of events
 
@@ -164,12 +165,14 @@ module _ (config : Configuration) (space : SpaceState) where
       let rows = rows_of_run (reached config space events) in
       let l = calls_lead events (opening config space) [] [] in
       subst (λ (server : Option World). IfRuns (MadeThese config (made events) rows) server) (sym l.there) (record {
-        came = record { moves = calls events; replied = l.replied; left = l.left };
+        came = record { moves = calls events; lead = leads config (calls events) l.after rows l.replied l.left };
         by_calls = refl;
         numbered = messages_numbered config (calls events);
         lasts = subst (λ (ran : Ran). LastsAreTheirs (made events) ran.subs.table) l.left (λ number s found. (messages_live config (calls events) number s found).last);
         notes = subst (λ (ran : Ran). NotesComeNext (made events) ran.subs.table) l.left (messages_noted config (calls events));
         kept = subst (λ (ran : Ran). (number wanted : ℕ) (bytes : List ℕ) → kept_at number wanted ran.subs.table ≡ Some bytes → IsAmong (record { number = wanted; bytes = bytes }) (messages_for number (made events))) l.left (messages_kept config (calls events));
+        republished = subst (λ (ran : Ran). (clock : Moment) (session number wanted : ℕ) (bytes : List ℕ) → (republished session number wanted (world_of ran.subs ran.items clock)).answer ≡ Ok bytes →
+            IsAmong (record { number = wanted; bytes = bytes }) (messages_for number (made events))) l.left (messages_given_again config (calls events));
         shown = shows_kept l.after;
       })
 

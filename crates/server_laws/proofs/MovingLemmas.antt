@@ -1,5 +1,5 @@
 -- The services go on by calls of the subscriptions and their items.
-use Rattle.std.proofs.Common.{◌≡◌, ℕ, Bool, true, false, not, cond, List, [], ◌∷◌, ◌++◌, length, fold, Option, Some, None, Result, Ok, Err, refl, sym, ap, subst, ◌∙◌, append-nil, append_assoc}
+use Rattle.std.proofs.Common.{◌≡◌, ◌⊎◌, inl, inr, ℕ, Bool, true, false, not, cond, List, [], ◌∷◌, ◌++◌, length, fold, Option, Some, None, Result, Ok, Err, refl, sym, ap, subst, ◌∙◌, append-nil, append_assoc}
 use Rattle.std.proofs.lemmas.List.Sums.{fold-append}
 use Rattle.std.specs.Prelude.{nat_lt}
 use Rattle.ua_types.specs.declared.moment.Moment.{Moment}
@@ -85,7 +85,7 @@ use Rattle.ua_services.specs.InSession.{if_found, served_in_session}
 use Rattle.ua_services.specs.ItemServing.{with_items, Itemed, own_vars, items_called_by}
 use Rattle.ua_services.specs.ModifyMonitoredItems.{modify_listed, modify_timed, items_modified, modify_monitored_items_meaning}
 use Rattle.ua_services.specs.ModifySubscription.{settings_wanted, modify_subscription_body, modify_subscription_meaning}
-use Rattle.server_laws.specs.Moving.{ran_at, GoesOn, GoesOnBy}
+use Rattle.server_laws.specs.Moving.{ran_at, StandIn, ComesOn, ComesOnWith, ComesOnBy}
 use Rattle.ua_services.specs.Operations.{operations_of}
 use Rattle.ua_services.specs.Paging.{AllDone, all_done, paged}
 use Rattle.ua_services.specs.Publish.{acknowledged_in, publish_call, publish_meaning}
@@ -107,7 +107,7 @@ use Rattle.ua_services.proofs.SubLemmas.{rows_joined, no_rows, rows_of_turn}
 -- ---- no call, one call, and calls behind others
 
 -- no call
-pub none : (state : Services) → GoesOn state state []
+pub none : (state : Services) → ComesOn state state []
 none state so_far replies = record {
   moves = [];
   replied = replies;
@@ -115,7 +115,7 @@ none state so_far replies = record {
 }
 
 -- calls behind others
-pub and_on : (before mid after : Services) (xs ys : List Fired) → GoesOn before mid xs → GoesOn mid after ys → GoesOn before after (xs ++ ys)
+pub and_on : (before mid after : Services) (xs ys : List Fired) → ComesOn before mid xs → ComesOn mid after ys → ComesOn before after (xs ++ ys)
 and_on before mid after xs ys p q so_far replies =
     let first = p so_far replies in
     let second = q (so_far ++ xs) first.replied in
@@ -128,6 +128,55 @@ and_on before mid after xs ys p q so_far replies =
           ∙ ap (λ (rows : List Fired). ran_at after rows second.replied) (append_assoc so_far xs ys);
     }
 
+-- ---- the same, with what is answered
+
+stand_joined : (xs gs ys hs : List Reply) → StandIn xs gs → StandIn ys hs → StandIn (xs ++ ys) (gs ++ hs)
+stand_joined [] [] ys hs p q = q
+stand_joined [] (g ∷ gs) [] hs p q = tt
+stand_joined [] (g ∷ gs) (y ∷ ys) hs p q = inr (stand_joined [] gs (y ∷ ys) hs tt q)
+stand_joined (x ∷ xs) [] ys hs p q = absurd p
+stand_joined (x ∷ xs) (g ∷ gs) ys hs p q = by p (λ rest. stand_joined xs gs ys hs rest q) (λ rest. stand_joined (x ∷ xs) gs ys hs rest q)
+  where
+    by : ((x ≡ g) × StandIn xs gs) ⊎ StandIn (x ∷ xs) gs → (StandIn xs gs → StandIn (xs ++ ys) (gs ++ hs)) → (StandIn (x ∷ xs) gs → StandIn (x ∷ xs ++ ys) (gs ++ hs)) →
+        ((x ≡ g) × StandIn (xs ++ ys) (gs ++ hs)) ⊎ StandIn (x ∷ xs ++ ys) (gs ++ hs)
+    by (inl (same, rest)) f g = inl (same, f rest)
+    by (inr rest) f g = inr (g rest)
+
+all_stand : (xs : List Reply) → StandIn xs xs
+all_stand [] = tt
+all_stand (x ∷ xs) = inl (refl, all_stand xs)
+
+-- answers behind other replies
+stand_behind : (front xs : List Reply) → StandIn xs (front ++ xs)
+stand_behind front xs = stand_joined [] front xs xs tt (all_stand xs)
+
+still : (state : Services) {given : List Reply} → ComesOnWith state state [] given
+still state so_far replies = record {
+  moves = [];
+  answers = [];
+  left = ap (λ (rows : List Fired). ran_at state rows replies) (sym (append-nil so_far)) ∙ ap (ran_at state (so_far ++ [])) (sym (append-nil replies));
+  among = tt;
+}
+
+then_with : (before mid after : Services) (xs ys : List Fired) (given more : List Reply) → ComesOnWith before mid xs given → ComesOnWith mid after ys more → ComesOnWith before after (xs ++ ys) (given ++ more)
+then_with before mid after xs ys given more p q so_far replies =
+    let first = p so_far replies in
+    let second = q (so_far ++ xs) (replies ++ first.answers) in
+    record {
+      moves = first.moves ++ second.moves;
+      answers = first.answers ++ second.answers;
+      left = fold-append moved (ran_at before so_far replies) first.moves second.moves
+          ∙ ap (λ (r : Ran). fold moved r second.moves) first.left
+          ∙ second.left
+          ∙ ap (λ (rows : List Fired). ran_at after rows ((replies ++ first.answers) ++ second.answers)) (append_assoc so_far xs ys)
+          ∙ ap (ran_at after (so_far ++ (xs ++ ys))) (append_assoc replies first.answers second.answers);
+      among = stand_joined first.answers given second.answers more first.among second.among;
+    }
+
+-- and without it
+pub goes_on : (before after : Services) (rows : List Fired) (given : List Reply) → ComesOnWith before after rows given → ComesOn before after rows
+goes_on before after rows given p so_far replies = let w = p so_far replies in record { moves = w.moves; replied = replies ++ w.answers; left = w.left }
+
 said_at : {A : Type 0} (state : Services) (own : A → List Reply) (s : Said A) (so_far : List Fired) (replies : List Reply) →
     ran_by (ran_at state so_far replies) s ≡ ran_at (called state own s).state (so_far ++ rows_of (called state own s).acts) (replies ++ s.outcome.world.turn.replies)
 said_at state own s so_far replies =
@@ -136,205 +185,207 @@ said_at state own s so_far replies =
 
 -- one call of the subscriptions
 one_call : {A : Type 0} (state : Services) (own : A → List Reply) (s : Said A) (move : Move) →
-    ((so_far : List Fired) (replies : List Reply) → moved (ran_at state so_far replies) move ≡ ran_by (ran_at state so_far replies) s) → GoesOnBy state (called state own s)
+    ((so_far : List Fired) (replies : List Reply) → moved (ran_at state so_far replies) move ≡ ran_by (ran_at state so_far replies) s) → ComesOnBy state (called state own s)
 one_call state own s move f so_far replies = record {
   moves = move ∷ [];
-  replied = replies ++ s.outcome.world.turn.replies;
+  answers = s.outcome.world.turn.replies;
   left = f so_far replies ∙ said_at state own s so_far replies;
+  among = stand_behind (own s.outcome.answer) s.outcome.world.turn.replies;
 }
 
 told_call : (state : Services) (w : World) (move : Move) →
-    ((so_far : List Fired) (replies : List Reply) → moved (ran_at state so_far replies) move ≡ ran_by (ran_at state so_far replies) (told state.subs w)) → GoesOnBy state (told_alone state w)
+    ((so_far : List Fired) (replies : List Reply) → moved (ran_at state so_far replies) move ≡ ran_by (ran_at state so_far replies) (told state.subs w)) → ComesOnBy state (told_alone state w)
 unfolding told_alone
 told_call state w move f = one_call state no_reply (told state.subs w) move f
 
-then_on : (state : Services) (s : Serving) (more : Services → Serving) → GoesOnBy state s → ((mid : Services) → GoesOnBy mid (more mid)) → GoesOnBy state (and_then s more)
+then_on : (state : Services) (s : Serving) (more : Services → Serving) → ComesOnBy state s → ((mid : Services) → ComesOnBy mid (more mid)) → ComesOnBy state (and_then s more)
 then_on state s more p f =
     let t = more s.state in
-    subst (λ (rows : List Fired). GoesOn state t.state rows) (sym (rows_joined s.acts t.acts))
-    (and_on state s.state t.state (rows_of s.acts) (rows_of t.acts) p (f s.state))
+    subst (λ (rows : List Fired). ComesOnWith state t.state rows (s.replies ++ t.replies)) (sym (rows_joined s.acts t.acts))
+    (then_with state s.state t.state (rows_of s.acts) (rows_of t.acts) s.replies t.replies p (f s.state))
 
 -- the same, where the serving is seen to be one of two
 record IsOn (state : Services) (s : Serving) : Type 0 where
-  goes : GoesOnBy state s
+  goes : ComesOnBy state s
 
 either : (state : Services) (b : Bool) (x y : Serving) → IsOn state x → IsOn state y → IsOn state (cond b x y)
 either state true x y p q = p
 either state false x y p q = q
 
 by_fields : {A : Type 0} (meaning : Setting → Call → A → Services → Serving) (setting : Setting) (call : Call) (state : Services) →
-    ((request : A) → GoesOnBy state (meaning setting call request state)) → (r : Result A TakeFault) → IsOn state (served_by meaning setting call state r)
+    ((request : A) → ComesOnBy state (meaning setting call request state)) → (r : Result A TakeFault) → IsOn state (served_by meaning setting call state r)
 by_fields meaning setting call state f (Ok request) = record { goes = f request }
-by_fields meaning setting call state f (Err fault) = record { goes = none state }
+by_fields meaning setting call state f (Err fault) = record { goes = still state }
 
 -- ---- sessions
 
 taken_on : {A : Type 0} (call : Call) (state : Services) (clock : Moment) (acts : List Act) (body : A → List ℕ) → rows_of acts ≡ [] → (answer : Result A Status) (sessions : SessionsState) →
-    GoesOnBy state (taken state call clock acts body answer sessions)
-taken_on call state clock acts body e (Ok x) sessions = subst (λ (rows : List Fired). GoesOn state (with_sessions state sessions) rows) (sym e) (none state)
-taken_on call state clock acts body e (Err code) sessions = none state
+    ComesOnBy state (taken state call clock acts body answer sessions)
+taken_on call state clock acts body e (Ok x) sessions = subst (λ (rows : List Fired). ComesOnWith state (with_sessions state sessions) rows (reply_of call (body x) ∷ [])) (sym e) (still state)
+taken_on call state clock acts body e (Err code) sessions = still state
 
 no_rows_spent : (sessions : SessionsState) → rows_of (spent_by sessions) ≡ []
 no_rows_spent sessions = no_rows (is_spent sessions)
 
-create_session_on : (setting : Setting) (call : Call) (state : Services) (request : CreateSessionRequest) → GoesOnBy state (create_session_meaning setting call request state)
+create_session_on : (setting : Setting) (call : Call) (state : Services) (request : CreateSessionRequest) → ComesOnBy state (create_session_meaning setting call request state)
 create_session_on setting call state request =
     let s = create_of state.sessions call.conn call.key in
     taken_on call state setting.clock (spent_by state.sessions) (create_session_body setting call) (no_rows_spent state.sessions) s.answer s.state
 
-activate_session_on : (setting : Setting) (call : Call) (state : Services) (request : ActivateSessionRequest) → GoesOnBy state (activate_session_meaning setting call request state)
+activate_session_on : (setting : Setting) (call : Call) (state : Services) (request : ActivateSessionRequest) → ComesOnBy state (activate_session_meaning setting call request state)
 activate_session_on setting call state request =
     let s = activate_of state.sessions request.request_header.authentication_token call.conn call.key (is_anonymous request.user_identity_token) in
     taken_on call state setting.clock (spent_by state.sessions) (activate_session_body setting call) (no_rows_spent state.sessions) s.answer s.state
 
-over_on : (setting : Setting) (deleting : Bool) (number : ℕ) (state : Services) → GoesOnBy state (session_over setting deleting number state)
+over_on : (setting : Setting) (deleting : Bool) (number : ℕ) (state : Services) → ComesOnBy state (session_over setting deleting number state)
 over_on setting deleting number state =
     told_call state (session_ended number deleting (world_at setting state)) (Move.EndSession setting.clock number deleting) (λ so_far replies. refl)
 
-all_timed_out_on : (setting : Setting) (state : Services) (numbers : List ℕ) (s : Serving) → GoesOnBy state s → GoesOnBy state (fold (timed_out setting) s numbers)
+all_timed_out_on : (setting : Setting) (state : Services) (numbers : List ℕ) (s : Serving) → ComesOnBy state s → ComesOnBy state (fold (timed_out setting) s numbers)
 unfolding timed_out
 all_timed_out_on setting state [] s p = p
 all_timed_out_on setting state (number ∷ numbers) s p =
     all_timed_out_on setting state numbers (timed_out setting s number) (then_on state s (session_over setting false number) p (over_on setting false number))
 
-closed_on : (setting : Setting) (call : Call) (deleting : Bool) (state : Services) (answer : Result ℕ Status) (sessions : SessionsState) → GoesOnBy state (closed_by setting call deleting state answer sessions)
+closed_on : (setting : Setting) (call : Call) (deleting : Bool) (state : Services) (answer : Result ℕ Status) (sessions : SessionsState) → ComesOnBy state (closed_by setting call deleting state answer sessions)
 closed_on setting call deleting state (Ok number) sessions =
     then_on (with_sessions state sessions) (session_over setting deleting number (with_sessions state sessions)) (λ (after : Services). answered after call (close_session_body setting call))
-    (over_on setting deleting number (with_sessions state sessions)) none
-closed_on setting call deleting state (Err code) sessions = none state
+    (over_on setting deleting number (with_sessions state sessions)) (λ (after : Services). still after)
+closed_on setting call deleting state (Err code) sessions = still state
 
-close_session_on : (setting : Setting) (call : Call) (state : Services) (request : CloseSessionRequest) → GoesOnBy state (close_session_meaning setting call request state)
+close_session_on : (setting : Setting) (call : Call) (state : Services) (request : CloseSessionRequest) → ComesOnBy state (close_session_meaning setting call request state)
 close_session_on setting call state request =
     let s = close_of state.sessions request.request_header.authentication_token call.conn in
     closed_on setting call request.delete_subscriptions state s.answer s.state
 
-if_found_on : (serve : ℕ → Services → Serving) (setting : Setting) (call : Call) (state : Services) → ((number : ℕ) (after : Services) → GoesOnBy after (serve number after)) → (answer : Result ℕ Status) (sessions : SessionsState) →
-    GoesOnBy state (if_found serve setting call state answer sessions)
+if_found_on : (serve : ℕ → Services → Serving) (setting : Setting) (call : Call) (state : Services) → ((number : ℕ) (after : Services) → ComesOnBy after (serve number after)) → (answer : Result ℕ Status) (sessions : SessionsState) →
+    ComesOnBy state (if_found serve setting call state answer sessions)
 if_found_on serve setting call state f (Ok number) sessions = f number (with_sessions state sessions)
-if_found_on serve setting call state f (Err code) sessions = none state
+if_found_on serve setting call state f (Err code) sessions = still state
 
 by_session : {A : Type 0} (meaning : Setting → Call → ℕ → A → Services → Serving) (setting : Setting) (call : Call) (token : NodeId) (state : Services) →
-    ((number : ℕ) (request : A) (after : Services) → GoesOnBy after (meaning setting call number request after)) → (r : Result A TakeFault) → IsOn state (served_in_session meaning setting call token state r)
+    ((number : ℕ) (request : A) (after : Services) → ComesOnBy after (meaning setting call number request after)) → (r : Result A TakeFault) → IsOn state (served_in_session meaning setting call token state r)
 by_session meaning setting call token state f (Ok request) =
     let s = find_of state.sessions token call.conn in
     record { goes = if_found_on (λ number. meaning setting call number request) setting call state (λ number. f number request) s.answer s.state }
-by_session meaning setting call token state f (Err fault) = record { goes = none state }
+by_session meaning setting call token state f (Err fault) = record { goes = still state }
 
 -- ---- nodes
 
-read_listed_on : (setting : Setting) (call : Call) (state : Services) (timestamps : Timestamps) (r : Result (List ReadValueId) Status) → GoesOnBy state (read_listed setting call state timestamps r)
-read_listed_on setting call state timestamps (Ok nodes) = none state
-read_listed_on setting call state timestamps (Err code) = none state
+read_listed_on : (setting : Setting) (call : Call) (state : Services) (timestamps : Timestamps) (r : Result (List ReadValueId) Status) → ComesOnBy state (read_listed setting call state timestamps r)
+read_listed_on setting call state timestamps (Ok nodes) = still state
+read_listed_on setting call state timestamps (Err code) = still state
 
-read_timed_on : (setting : Setting) (call : Call) (state : Services) (nodes : Option (List ReadValueId)) (choice : Option Timestamps) → GoesOnBy state (read_timed setting call state nodes choice)
-read_timed_on setting call state nodes None = none state
+read_timed_on : (setting : Setting) (call : Call) (state : Services) (nodes : Option (List ReadValueId)) (choice : Option Timestamps) → ComesOnBy state (read_timed setting call state nodes choice)
+read_timed_on setting call state nodes None = still state
 read_timed_on setting call state nodes (Some timestamps) = read_listed_on setting call state timestamps (operations_of setting.config nodes)
 
-read_on : (setting : Setting) (call : Call) (session : ℕ) (request : ReadRequest) (state : Services) → GoesOnBy state (read_meaning setting call session request state)
+read_on : (setting : Setting) (call : Call) (session : ℕ) (request : ReadRequest) (state : Services) → ComesOnBy state (read_meaning setting call session request state)
 read_on setting call session request state = read_timed_on setting call state request.nodes_to_read (timestamps_of request.timestamps_to_return)
 
 -- what is written is shown to the items
-shown_on : (state : Services) (writing : Writing) → GoesOn state (with_written state writing) []
+shown_on : (state : Services) (writing : Writing) {given : List Reply} → ComesOnWith state (with_written state writing) [] given
 shown_on state writing so_far replies = record {
   moves = Move.Show writing.changed ∷ [];
-  replied = replies;
-  left = ap (λ (rows : List Fired). ran_at (with_written state writing) rows replies) (sym (append-nil so_far));
+  answers = [];
+  left = ap (λ (rows : List Fired). ran_at (with_written state writing) rows replies) (sym (append-nil so_far)) ∙ ap (ran_at (with_written state writing) (so_far ++ [])) (sym (append-nil replies));
+  among = tt;
 }
 
-write_listed_on : (setting : Setting) (call : Call) (state : Services) (r : Result (List WriteValue) Status) → GoesOnBy state (write_listed setting call state r)
+write_listed_on : (setting : Setting) (call : Call) (state : Services) (r : Result (List WriteValue) Status) → ComesOnBy state (write_listed setting call state r)
 write_listed_on setting call state (Ok values) = shown_on state (write_of setting.clock state.space.nodes values)
-write_listed_on setting call state (Err code) = none state
+write_listed_on setting call state (Err code) = still state
 
-write_on : (setting : Setting) (call : Call) (session : ℕ) (request : WriteRequest) (state : Services) → GoesOnBy state (write_meaning setting call session request state)
+write_on : (setting : Setting) (call : Call) (session : ℕ) (request : WriteRequest) (state : Services) → ComesOnBy state (write_meaning setting call session request state)
 write_on setting call session request state = write_listed_on setting call state (operations_of setting.config request.nodes_to_write)
 
 -- a page is no call
-paged_on : {R : Type 0} (encoding : R → List ℕ) (setting : Setting) (call : Call) (session type_id : ℕ) (state : Services) (all : AllDone R) → GoesOnBy state (paged encoding setting call session type_id state all)
+paged_on : {R : Type 0} (encoding : R → List ℕ) (setting : Setting) (call : Call) (session type_id : ℕ) (state : Services) (all : AllDone R) → ComesOnBy state (paged encoding setting call session type_id state all)
 paged_on encoding setting call session type_id state all =
-    subst (λ (rows : List Fired). GoesOn state (with_sessions state (with_points state.sessions session all.points)) rows) (sym (no_rows (is_overspent all.points))) (none state)
+    subst (λ (rows : List Fired). ComesOnWith state (with_sessions state (with_points state.sessions session all.points)) rows (paged encoding setting call session type_id state all).replies) (sym (no_rows (is_overspent all.points))) (still state)
 
-browse_listed_on : (setting : Setting) (call : Call) (session requested : ℕ) (state : Services) (r : Result (List BrowseDescription) Status) → GoesOnBy state (browse_listed setting call session requested state r)
+browse_listed_on : (setting : Setting) (call : Call) (session requested : ℕ) (state : Services) (r : Result (List BrowseDescription) Status) → ComesOnBy state (browse_listed setting call session requested state r)
 browse_listed_on setting call session requested state (Ok descriptions) =
     paged_on browse_result_encoding setting call session BROWSE_RESPONSE state
     (all_done (λ points d. browse_told (browse_of state.space points (page_size setting.config.references requested) d)) (points_of state.sessions session) descriptions)
-browse_listed_on setting call session requested state (Err code) = none state
+browse_listed_on setting call session requested state (Err code) = still state
 
-browse_on : (setting : Setting) (call : Call) (session : ℕ) (request : BrowseRequest) (state : Services) → GoesOnBy state (browse_meaning setting call session request state)
+browse_on : (setting : Setting) (call : Call) (session : ℕ) (request : BrowseRequest) (state : Services) → ComesOnBy state (browse_meaning setting call session request state)
 browse_on setting call session request state =
     let listed : IsOn state (browse_listed setting call session request.requested_max_references_per_node state (operations_of setting.config request.nodes_to_browse)) =
     record { goes = browse_listed_on setting call session request.requested_max_references_per_node state (operations_of setting.config request.nodes_to_browse) } in
-    let one : IsOn state (browse_meaning setting call session request state) = either state (not (is_null_id request.view_id)) _ _ (record { goes = none state }) listed in
+    let one : IsOn state (browse_meaning setting call session request state) = either state (not (is_null_id request.view_id)) _ _ (record { goes = still state }) listed in
     one.goes
 
-browse_next_listed_on : (setting : Setting) (call : Call) (session : ℕ) (is_release : Bool) (state : Services) (r : Result (List (Option (List ℕ))) Status) → GoesOnBy state (browse_next_listed setting call session is_release state r)
+browse_next_listed_on : (setting : Setting) (call : Call) (session : ℕ) (is_release : Bool) (state : Services) (r : Result (List (Option (List ℕ))) Status) → ComesOnBy state (browse_next_listed setting call session is_release state r)
 browse_next_listed_on setting call session is_release state (Ok named) =
     paged_on browse_result_encoding setting call session BROWSE_NEXT_RESPONSE state
     (all_done (λ points bytes. browse_told (go_on_of state.space is_release points bytes)) (points_of state.sessions session) named)
-browse_next_listed_on setting call session is_release state (Err code) = none state
+browse_next_listed_on setting call session is_release state (Err code) = still state
 
-browse_next_on : (setting : Setting) (call : Call) (session : ℕ) (request : BrowseNextRequest) (state : Services) → GoesOnBy state (browse_next_meaning setting call session request state)
+browse_next_on : (setting : Setting) (call : Call) (session : ℕ) (request : BrowseNextRequest) (state : Services) → ComesOnBy state (browse_next_meaning setting call session request state)
 browse_next_on setting call session request state =
     browse_next_listed_on setting call session request.release_continuation_points state (operations_of setting.config request.continuation_points)
 
 history_ranged_on : (setting : Setting) (call : Call) (session : ℕ) (request : HistoryReadRequest) (state : Services) (times : Timestamps) (nodes : List HistoryReadValueId) (r : Result RawRange Status) →
-    GoesOnBy state (history_ranged setting call session request state times nodes r)
+    ComesOnBy state (history_ranged setting call session request state times nodes r)
 history_ranged_on setting call session request state times nodes (Ok range) =
     let wanted : Wanted = record { timestamps = times; is_release = request.release_continuation_points; range = range } in
     paged_on history_read_result_encoding setting call session HISTORY_READ_RESPONSE state
     (all_done (λ points asked. node_read state.history state.space.nodes wanted points asked) (points_of state.sessions session) nodes)
-history_ranged_on setting call session request state times nodes (Err code) = none state
+history_ranged_on setting call session request state times nodes (Err code) = still state
 
 history_listed_on : (setting : Setting) (call : Call) (session : ℕ) (request : HistoryReadRequest) (state : Services) (times : Timestamps) (r : Result (List HistoryReadValueId) Status) →
-    GoesOnBy state (history_listed setting call session request state times r)
+    ComesOnBy state (history_listed setting call session request state times r)
 history_listed_on setting call session request state times (Ok nodes) = history_ranged_on setting call session request state times nodes (details_judged setting.config request.history_read_details)
-history_listed_on setting call session request state times (Err code) = none state
+history_listed_on setting call session request state times (Err code) = still state
 
-history_timed_on : (setting : Setting) (call : Call) (session : ℕ) (request : HistoryReadRequest) (state : Services) (choice : Option Timestamps) → GoesOnBy state (history_timed setting call session request state choice)
-history_timed_on setting call session request state None = none state
+history_timed_on : (setting : Setting) (call : Call) (session : ℕ) (request : HistoryReadRequest) (state : Services) (choice : Option Timestamps) → ComesOnBy state (history_timed setting call session request state choice)
+history_timed_on setting call session request state None = still state
 history_timed_on setting call session request state (Some times) = history_listed_on setting call session request state times (operations_of setting.config request.nodes_to_read)
 
-history_read_on : (setting : Setting) (call : Call) (session : ℕ) (request : HistoryReadRequest) (state : Services) → GoesOnBy state (history_read_meaning setting call session request state)
+history_read_on : (setting : Setting) (call : Call) (session : ℕ) (request : HistoryReadRequest) (state : Services) → ComesOnBy state (history_read_meaning setting call session request state)
 history_read_on setting call session request state = history_timed_on setting call session request state (some_times (timestamps_of request.timestamps_to_return))
 
 -- ---- subscriptions
 
-create_subscription_on : (setting : Setting) (call : Call) (session : ℕ) (request : CreateSubscriptionRequest) (state : Services) → GoesOnBy state (create_subscription_meaning setting call session request state)
+create_subscription_on : (setting : Setting) (call : Call) (session : ℕ) (request : CreateSubscriptionRequest) (state : Services) → ComesOnBy state (create_subscription_meaning setting call session request state)
 create_subscription_on setting call session request state =
     one_call state (λ answer. reply_of call (create_subscription_body setting call answer) ∷ []) (created session (settings_asked request) request.publishing_enabled state.subs state.items setting.clock)
     (Move.Create setting.clock session (settings_asked request) request.publishing_enabled) (λ so_far replies. refl)
 
-modify_subscription_on : (setting : Setting) (call : Call) (session : ℕ) (request : ModifySubscriptionRequest) (state : Services) → GoesOnBy state (modify_subscription_meaning setting call session request state)
+modify_subscription_on : (setting : Setting) (call : Call) (session : ℕ) (request : ModifySubscriptionRequest) (state : Services) → ComesOnBy state (modify_subscription_meaning setting call session request state)
 modify_subscription_on setting call session request state =
     one_call state (λ answer. reply_of call (modify_subscription_body setting call answer) ∷ []) (said state.subs (modified session request.subscription_id (settings_wanted request) (world_at setting state)))
     (Move.Modify setting.clock session request.subscription_id (settings_wanted request)) (λ so_far replies. refl)
 
-publishing_listed_on : (setting : Setting) (call : Call) (session : ℕ) (enabled : Bool) (state : Services) (r : Result (List ℕ) Status) → GoesOnBy state (set_publishing_listed setting call session enabled state r)
+publishing_listed_on : (setting : Setting) (call : Call) (session : ℕ) (enabled : Bool) (state : Services) (r : Result (List ℕ) Status) → ComesOnBy state (set_publishing_listed setting call session enabled state r)
 publishing_listed_on setting call session enabled state (Ok numbers) =
     one_call state (λ statuses. reply_of call (statuses_body SET_PUBLISHING_MODE_RESPONSE setting call statuses) ∷ []) (said state.subs (named_all session (sub_call.SetMode enabled) (world_at setting state) numbers))
     (Move.SetMode setting.clock session numbers enabled) (λ so_far replies. refl)
-publishing_listed_on setting call session enabled state (Err code) = none state
+publishing_listed_on setting call session enabled state (Err code) = still state
 
-set_publishing_mode_on : (setting : Setting) (call : Call) (session : ℕ) (request : SetPublishingModeRequest) (state : Services) → GoesOnBy state (set_publishing_mode_meaning setting call session request state)
+set_publishing_mode_on : (setting : Setting) (call : Call) (session : ℕ) (request : SetPublishingModeRequest) (state : Services) → ComesOnBy state (set_publishing_mode_meaning setting call session request state)
 set_publishing_mode_on setting call session request state = publishing_listed_on setting call session request.publishing_enabled state (operations_of setting.config request.subscription_ids)
 
-subscriptions_deleted_on : (setting : Setting) (call : Call) (session : ℕ) (state : Services) (r : Result (List ℕ) Status) → GoesOnBy state (delete_subscriptions_listed setting call session state r)
+subscriptions_deleted_on : (setting : Setting) (call : Call) (session : ℕ) (state : Services) (r : Result (List ℕ) Status) → ComesOnBy state (delete_subscriptions_listed setting call session state r)
 subscriptions_deleted_on setting call session state (Ok numbers) =
     one_call state (λ statuses. reply_of call (statuses_body DELETE_SUBSCRIPTIONS_RESPONSE setting call statuses) ∷ []) (said state.subs (deleted session (world_at setting state) numbers))
     (Move.Delete setting.clock session numbers) (λ so_far replies. refl)
-subscriptions_deleted_on setting call session state (Err code) = none state
+subscriptions_deleted_on setting call session state (Err code) = still state
 
-delete_subscriptions_on : (setting : Setting) (call : Call) (session : ℕ) (request : DeleteSubscriptionsRequest) (state : Services) → GoesOnBy state (delete_subscriptions_meaning setting call session request state)
+delete_subscriptions_on : (setting : Setting) (call : Call) (session : ℕ) (request : DeleteSubscriptionsRequest) (state : Services) → ComesOnBy state (delete_subscriptions_meaning setting call session request state)
 delete_subscriptions_on setting call session request state = subscriptions_deleted_on setting call session state (operations_of setting.config request.subscription_ids)
 
-publish_on : (setting : Setting) (call : Call) (session : ℕ) (request : PublishRequest) (state : Services) → GoesOnBy state (publish_meaning setting call session request state)
+publish_on : (setting : Setting) (call : Call) (session : ℕ) (request : PublishRequest) (state : Services) → ComesOnBy state (publish_meaning setting call session request state)
 publish_on setting call session request state =
     let acks = acknowledged_in request.subscription_acknowledgements in
     let told_so : IsOn state (told_alone state (published session (publish_call call) acks (world_at setting state))) =
     record { goes = told_call state (published session (publish_call call) acks (world_at setting state)) (Move.Publish setting.clock session (publish_call call) acks) (λ so_far replies. refl) } in
-    let one : IsOn state (publish_meaning setting call session request state) = either state (nat_lt setting.config.operations (length acks)) _ _ (record { goes = none state }) told_so in
+    let one : IsOn state (publish_meaning setting call session request state) = either state (nat_lt setting.config.operations (length acks)) _ _ (record { goes = still state }) told_so in
     one.goes
 
-republish_on : (setting : Setting) (call : Call) (session : ℕ) (request : RepublishRequest) (state : Services) → GoesOnBy state (republish_meaning setting call session request state)
+republish_on : (setting : Setting) (call : Call) (session : ℕ) (request : RepublishRequest) (state : Services) → ComesOnBy state (republish_meaning setting call session request state)
 republish_on setting call session request state =
     one_call state (λ answer. reply_of call (republish_answer setting call answer) ∷ []) (said state.subs (republished session request.subscription_id request.retransmit_sequence_number (world_at setting state)))
     (Move.Republish setting.clock session request.subscription_id request.retransmit_sequence_number) (λ so_far replies. refl)
@@ -410,26 +461,27 @@ module _ (setting : Setting) (call : Call) (number : ℕ) (state : Services) (do
       ∙ ap (λ (items : ItemsState). ran_by from (fires items before)) asks.same
       ∙ said_at (with_items state done.items) (λ (x : Unit {0}). reply_of call done.body ∷ []) (fires done.items before) so_far replies
 
-  found_on : (found : Option Vars) → vars_found number state.items state.subs.table ≡ found → GoesOnBy state (items_called_by setting call number state done found)
-  found_on None e so_far replies = none state so_far replies
+  found_on : (found : Option Vars) → vars_found number state.items state.subs.table ≡ found → ComesOnBy state (items_called_by setting call number state done found)
+  found_on None e so_far replies = still state so_far replies
   found_on (Some before) e so_far replies = record {
     moves = Move.Items setting.clock number asks.asked ∷ [];
-    replied = replies ++ (fires done.items before).outcome.world.turn.replies;
+    answers = (fires done.items before).outcome.world.turn.replies;
     left = items_left before e so_far replies;
+    among = stand_behind (reply_of call done.body ∷ []) (fires done.items before).outcome.world.turn.replies;
   }
 
-  own_on : (own : Bool) → GoesOnBy state (items_called_by setting call number state done (cond own (vars_found number state.items state.subs.table) None))
+  own_on : (own : Bool) → ComesOnBy state (items_called_by setting call number state done (cond own (vars_found number state.items state.subs.table) None))
   own_on true = found_on (vars_found number state.items state.subs.table) refl
-  own_on false = none state
+  own_on false = still state
 
-  items_on : (session : ℕ) → GoesOnBy state (items_called_by setting call number state done (own_vars session number state))
+  items_on : (session : ℕ) → ComesOnBy state (items_called_by setting call number state done (own_vars session number state))
   items_on session = own_on (is_own state.subs.table session number)
 
 -- ---- all services
 
 of_subscriptions_on : (setting : Setting) (call : Call) (token : NodeId) (body : List ℕ) (state : Services) (id : ℕ) → IsOn state (picked_of_subscriptions setting call token body state id)
 of_subscriptions_on setting call token body state id =
-    let last : IsOn state (faulted state call status.BAD_SERVICE_UNSUPPORTED setting.clock) = record { goes = none state } in
+    let last : IsOn state (faulted state call status.BAD_SERVICE_UNSUPPORTED setting.clock) = record { goes = still state } in
     either state _ _ _ (by_session create_subscription_meaning setting call token state (create_subscription_on setting call) (message_of create_subscription_request_reading body))
     (either state _ _ _ (by_session modify_subscription_meaning setting call token state (modify_subscription_on setting call) (message_of modify_subscription_request_reading body))
     (either state _ _ _ (by_session set_publishing_mode_meaning setting call token state (set_publishing_mode_on setting call) (message_of set_publishing_mode_request_reading body))
@@ -448,7 +500,7 @@ of_items_on setting call token body state id =
 
 picked_on : (setting : Setting) (call : Call) (token : NodeId) (body : List ℕ) (state : Services) (id : ℕ) → IsOn state (picked setting call token body state id)
 picked_on setting call token body state id =
-    either state _ _ _ (by_fields get_endpoints_meaning setting call state (λ request. none state) (message_of get_endpoints_request_reading body))
+    either state _ _ _ (by_fields get_endpoints_meaning setting call state (λ request. still state) (message_of get_endpoints_request_reading body))
     (either state _ _ _ (by_fields create_session_meaning setting call state (create_session_on setting call state) (message_of create_session_request_reading body))
     (either state _ _ _ (by_fields activate_session_meaning setting call state (activate_session_on setting call state) (message_of activate_session_request_reading body))
     (either state _ _ _ (by_fields close_session_meaning setting call state (close_session_on setting call state) (message_of close_session_request_reading body))
@@ -459,26 +511,26 @@ picked_on setting call token body state id =
     (either state _ _ _ (by_session history_read_meaning setting call token state (history_read_on setting call) (message_of history_read_request_reading body))
     (of_items_on setting call token body state id)))))))))
 
-by_header : (setting : Setting) (request : Request) (state : Services) (id : Result ℕ TakeFault) (header : Result RequestHeader TakeFault) → GoesOnBy state (serving_by setting request state id header)
+by_header : (setting : Setting) (request : Request) (state : Services) (id : Result ℕ TakeFault) (header : Result RequestHeader TakeFault) → ComesOnBy state (serving_by setting request state id header)
 by_header setting request state (Ok id) (Ok header) = (picked_on setting (call_of request header.request_handle) header.authentication_token request.body state id).goes
-by_header setting request state (Ok id) (Err fault) = none state
-by_header setting request state (Err fault) header = none state
+by_header setting request state (Ok id) (Err fault) = still state
+by_header setting request state (Err fault) header = still state
 
-pub serving_on : (setting : Setting) (request : Request) (state : Services) → GoesOnBy state (serving_of setting request state)
+pub serving_on : (setting : Setting) (request : Request) (state : Services) → ComesOnBy state (serving_of setting request state)
 unfolding serving_of
 serving_on setting request state = by_header setting request state (message_id_of request.body) (message_of request_header_reading request.body)
 
-timers_on : (setting : Setting) (state : Services) → GoesOnBy state (timers_met setting state)
+timers_on : (setting : Setting) (state : Services) → ComesOnBy state (timers_met setting state)
 timers_on setting state = told_call state (timed (world_at setting state)) (Move.Timers setting.clock) (λ so_far replies. refl)
 
-pub ticking_on : (setting : Setting) (state : Services) → GoesOnBy state (ticking_of setting state)
+pub ticking_on : (setting : Setting) (state : Services) → ComesOnBy state (ticking_of setting state)
 ticking_on setting state =
     let after = with_sessions state (ticked state.sessions setting.clock) in
     let ended = ended_by state.sessions setting.clock in
-    then_on after (all_timed_out setting after ended) (timers_met setting) (all_timed_out_on setting after ended (nothing_done after) (none after)) (timers_on setting)
+    then_on after (all_timed_out setting after ended) (timers_met setting) (all_timed_out_on setting after ended (nothing_done after) (still after)) (timers_on setting)
 
 -- a connection that is forgotten is one call
-pub forgotten_on : (state : Services) (conn : ℕ) → GoesOn state (forgotten state conn) []
+pub forgotten_on : (state : Services) (conn : ℕ) → ComesOn state (forgotten state conn) []
 forgotten_on state conn so_far replies = record {
   moves = Move.Gone conn ∷ [];
   replied = replies;

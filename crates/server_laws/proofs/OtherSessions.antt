@@ -184,7 +184,12 @@ pub sessions_stay : (session : ℕ) (before after : SessionsState) → IsFresh b
 sessions_stay session before after fresh p = record {
   sessions = λ other v apart there. p.sessions other apart (inl (there_given before fresh other v there)) ∙ there;
   points = λ other v apart there. p.points other apart (there_given before fresh other v there);
+  none_comes = λ other v apart there. by other v apart there (nat_le other before.made) refl;
 }
+  where
+    by : (other : ℕ) (v : Session) → other ≢ session → get after.sessions other ≡ Some v → (b : Bool) → nat_le other before.made ≡ b → (get before.sessions other ≡ Some v) ⊎ (before.made < other)
+    by other v apart there true e = inl (sym (p.sessions other apart (inl (leb-true other before.made e))) ∙ there)
+    by other v apart there false e = inr (leb-false other before.made e)
 
 -- the session that a token names is there
 secret_there : (s : SessionsState) (secret : List ℕ) (number : ℕ) (o : Option Session) (n : Named) → get s.sessions number ≡ o → if_secret secret number o ≡ Some n → get s.sessions n.number ≡ Some n.session

@@ -13,6 +13,7 @@ use Rattle.ua_tcp.specs.Pieces.{Done, and_then, all_handled, at_end}
 use Rattle.ua_tcp.specs.declared.frame.Frame.{Frame}
 use Rattle.ua_tcp.specs.declared.frame.FrameFault.{FrameFault}
 use Rattle.ua_requests.specs.declared.fired.Fired.{Fired}
+use Rattle.ua_requests.specs.declared.reply.Reply.{Reply}
 use Rattle.ua_requests.specs.declared.request.Request.{Request}
 use Rattle.ua_requests.specs.declared.setting.Setting.{Setting}
 use Rattle.ua_space.specs.Nodes.{SpaceState}
@@ -24,16 +25,16 @@ use Rattle.ua_connections.specs.declared.connections.Connections.{Connections}
 use Rattle.ua_connections.specs.declared.out.Out.{Out}
 use Rattle.subscription_laws.specs.Calm.{AreSteady}
 use Rattle.subscription_laws.specs.Histories.{AreLawful}
-use Rattle.subscription_laws.specs.Runs.{Ran, moved, start}
+use Rattle.subscription_laws.specs.Runs.{Move, Ran, moved, start}
 use Rattle.subscription.specs.Tables.{TableState}
 use Rattle.subscription_laws.proofs.Reached.{rows_are_lawful, all_steady, none_beside, lives_count, none_skipped}
-use Rattle.server_laws.specs.Moving.{Went, GoesOn}
+use Rattle.server_laws.specs.Moving.{Went, ComesOn, ran_at}
 use Rattle.ua_services.specs.Serving.{Serving, rows_of}
 use Rattle.ua_services.specs.Services.{serving_of, ticking_of, forgotten}
 use Rattle.ua_services.specs.declared.services.Services.{Services}
 use Rattle.server_laws.proofs.ApartLemmas.{CameBy, keeps_apart, stays_fresh, tick_fresh}
 use Rattle.server_laws.proofs.OtherSessions.{IsFresh}
-use Rattle.server_laws.proofs.MovingLemmas.{none, and_on, serving_on, ticking_on, forgotten_on}
+use Rattle.server_laws.proofs.MovingLemmas.{goes_on, none, and_on, serving_on, ticking_on, forgotten_on}
 use Rattle.ua_core.specs.Coherent.{reached, IfRuns}
 use Rattle.ua_core.specs.Effects.{Effect, doing, effects_of, fired_of}
 use Rattle.ua_core.specs.Handling.{answered, asked_for, handled, broken, ticked_core}
@@ -41,7 +42,7 @@ use Rattle.ua_core.specs.Running.{Running, joined_effects, then_run, run_of}
 use Rattle.server_laws.specs.SessionsApart.{KeepsSessionsApart, ServesByFrames}
 use Rattle.ua_core.specs.Stepping as stepping
 use Rattle.ua_core.specs.Stepping.{Served, served, fed_to, fed, step_of}
-use Rattle.server_laws.specs.Tables.{rows_of_run, IfShown, ComesByCalls, StaysSteady, NoneWaitsBesideARequest, LivesCountTimers, NoKeepAliveIsSkipped}
+use Rattle.server_laws.specs.Tables.{rows_of_run, IfShown, LeadTo, ComesByCalls, StaysSteady, NoneWaitsBesideARequest, LivesCountTimers, NoKeepAliveIsSkipped}
 use Rattle.ua_core.specs.World.{opening}
 use Rattle.ua_core.specs.declared.world.World.{World}
 use Rattle.ua_core.specs.declared.parts.Core.{Core}
@@ -55,10 +56,10 @@ use Rattle.ua_core.proofs.EffectLemmas.{fired_of-append, fired_of_doing, fired_o
 
 -- services come from others by calls that fire these rows; and where no session had a number that wasn't given, none has
 pub record Goes (before after : Services) (rows : List Fired) : Type 0 where
-  pub goes : GoesOn before after rows
+  pub goes : ComesOn before after rows
   pub fresh : CameBy before.subs before.items → IsFresh before.sessions → IsFresh after.sessions
 
-came_on : (before after : Services) (rows : List Fired) → GoesOn before after rows → CameBy before.subs before.items → CameBy after.subs after.items
+came_on : (before after : Services) (rows : List Fired) → ComesOn before after rows → CameBy before.subs before.items → CameBy after.subs after.items
 came_on before after rows p from =
     let next = p from.rows from.came.replied in
     record {
@@ -81,10 +82,10 @@ and_then_goes before mid after xs ys p q = record {
 }
 
 serving_goes : (setting : Setting) (request : Request) (services : Services) → (let s = serving_of setting request services in Goes services s.state (rows_of s.acts))
-serving_goes setting request services = record { goes = serving_on setting request services; fresh = λ from fresh. stays_fresh setting request services from fresh }
+serving_goes setting request services = let s = serving_of setting request services in record { goes = goes_on services s.state (rows_of s.acts) s.replies (serving_on setting request services); fresh = λ from fresh. stays_fresh setting request services from fresh }
 
 ticking_goes : (setting : Setting) (services : Services) → (let s = ticking_of setting services in Goes services s.state (rows_of s.acts))
-ticking_goes setting services = record { goes = ticking_on setting services; fresh = λ from fresh. tick_fresh setting services fresh }
+ticking_goes setting services = let s = ticking_of setting services in record { goes = goes_on services s.state (rows_of s.acts) s.replies (ticking_on setting services); fresh = λ from fresh. tick_fresh setting services fresh }
 
 forgetting : (services : Services) (conn : ℕ) → Goes services (forgotten services conn) []
 forgetting services conn = record { goes = forgotten_on services conn; fresh = λ from fresh. fresh }
@@ -215,6 +216,10 @@ run_goes (event ∷ events) world = run_goes_by world (step_of world event) (λ 
 
 -- ---- what holds of the subscriptions after any calls, holds of a server's
 
+-- calls that leave this lead there
+pub leads : (config : Configuration) (moves : List Move) (world : World) (rows : List Fired) (replies : List Reply) → fold moved (start config) moves ≡ ran_at world.core.services rows replies → LeadTo config moves rows world
+leads config moves world rows replies left = record { subs = ap (λ (r : Ran). r.subs) left; items = ap (λ (r : Ran). r.items) left; fired = ap (λ (r : Ran). r.rows) left }
+
 module _ (config : Configuration) (space : SpaceState) (events : List Event) where
   abbrev r : Running
   r = reached config space events
@@ -232,7 +237,7 @@ module _ (config : Configuration) (space : SpaceState) (events : List Event) whe
   shown P p = subst (λ (server : Option World). IfShown P server) (sym gone.there) p
 
   pub comes_by_calls : IfRuns (ComesByCalls config (rows_of_run r)) r.server
-  comes_by_calls = seen (ComesByCalls config (rows_of_run r)) went
+  comes_by_calls = seen (ComesByCalls config (rows_of_run r)) (record { moves = went.moves; lead = leads config went.moves gone.world (rows_of_run r) went.replied went.left })
 
   pub stays_steady : IfRuns (StaysSteady (rows_of_run r)) r.server
   stays_steady = seen (StaysSteady (rows_of_run r)) (subst (λ (ran : Ran). AreSteady ran.subs.table ran.items ran.rows) went.left (all_steady config went.moves))

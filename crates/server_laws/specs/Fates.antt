@@ -1,7 +1,6 @@
 -- What becomes of the values that items queue, whatever happens to a server.
 use Rattle.std.specs.Prelude.{◌≡◌, ℕ, List, [], ◌∷◌, ◌++◌, take}
 use Rattle.ua_types.specs.Configuration.{Configuration}
-use Rattle.ua_requests.specs.declared.fired.Fired.{Fired}
 use Rattle.ua_space.specs.Nodes.{SpaceState}
 use Rattle.ua_values.specs.declared.data_value.DataValue.{DataValue}
 use Rattle.item_queue.specs.Fates.{Told, waiting}
@@ -10,11 +9,11 @@ use Rattle.monitored_items.specs.Moves as item_moves
 use Rattle.monitored_items.specs.Moves.{queue_at}
 use Rattle.subscription_laws.specs.Fates.{deeds_at, account_at}
 use Rattle.subscription_laws.specs.ItemCalls.{item_calls}
-use Rattle.subscription_laws.specs.Runs.{Move, run}
+use Rattle.subscription_laws.specs.Runs.{Move}
 use Rattle.ua_services.specs.declared.services.Services.{Services}
 use Rattle.ua_core.specs.Coherent.{reached, IfRuns}
 use Rattle.ua_core.specs.Running.{Running}
-use Rattle.server_laws.specs.Tables.{rows_of_run}
+use Rattle.server_laws.specs.Tables.{rows_of_run, LeadTo}
 use Rattle.ua_core.specs.declared.world.World.{World}
 use Rattle.ua_core.specs.declared.event.Event.{Event}
 
@@ -30,12 +29,6 @@ all_of (moves ∷ rest) = moves ++ all_of rest
 abbrev pub first_calls : ℕ → List (List Move) → List Move
 first_calls n calls = all_of (take n calls)
 
--- calls that lead to the subscriptions and items of a server, and fire these rows
-pub record LeadTo (config : Configuration) (moves : List Move) (rows : List Fired) (world : World) : Type 0 where
-  pub subs : let services : Services = world.core.services in (run config moves).subs ≡ services.subs
-  pub items : let services : Services = world.core.services in (run config moves).items ≡ services.items
-  pub fired : (run config moves).rows ≡ rows
-
 -- the calls that each event comes to: those of the first n events lead to the server after them, for every n
 pub record CallsOf (config : Configuration) (space : SpaceState) (events : List Event) : Type 0 where
   pub calls : List (List Move)
@@ -50,8 +43,8 @@ first_item_calls config n calls = item_calls config (first_calls n calls)
 abbrev pub deeds_after : Configuration → List (List Move) → ℕ → ℕ → List (Deed DataValue)
 deeds_after config calls n number = deeds_at config (first_calls n calls) number
 
-abbrev pub account_after : Configuration → List (List Move) → ℕ → ℕ → List (Told DataValue)
-account_after config calls n number = account_at config (first_calls n calls) number
+abbrev pub account_of_first : Configuration → List (List Move) → ℕ → ℕ → List (Told DataValue)
+account_of_first config calls n number = account_at config (first_calls n calls) number
 
 -- the values of an account that wait are what the queue of the server's item of a number holds
 abbrev pub HoldsWhatWaits : List (Told DataValue) → ℕ → World → Type 0

@@ -4,3 +4,4 @@ pub mod Tables
 pub mod Messages
 pub mod SessionsApart
 pub mod Fates
+pub mod Replying

@@ -1,15 +1,18 @@
 -- The messages with notifications that a server makes (IEC 62541-4, 5.13: SequenceNumber, and the retransmission queue).
-use Rattle.std.specs.Prelude.{◌≡◌, ℕ, true, List, ◌++◌, Some, is_some}
+use Rattle.std.specs.Prelude.{◌≡◌, ℕ, true, List, ◌++◌, Some, is_some, Ok}
 use Rattle.std.specs.List.{AllByRecursion}
 use Rattle.ua_types.specs.Configuration.{Configuration}
+use Rattle.ua_types.specs.declared.moment.Moment.{Moment}
 use Rattle.ua_requests.specs.declared.fired.Fired.{Fired}
 use Rattle.ua_space.specs.Nodes.{SpaceState}
-use Rattle.subscription.specs.Subs.{SubsState}
+use Rattle.subscription.specs.Making.{republished}
+use Rattle.subscription.specs.Subs.{SubsState, world_of}
 use Rattle.subscription.specs.Tables.{TableState, part_at, subscription_at}
 use Rattle.subscription.specs.declared.subscription.Subscription.{Subscription}
 use Rattle.subscription_laws.specs.Messaging.{Made, run_made, messages_for, IsAmong, AreNotes}
 use Rattle.subscription_laws.specs.Numbering.{AreNumbered, last_number}
 use Rattle.subscription_laws.specs.Runs.{start}
+use Rattle.ua_services.specs.declared.services.Services.{Services}
 use Rattle.ua_core.specs.Coherent.{reached, IfRuns}
 use Rattle.ua_core.specs.Subscriptions.{kept_numbers_on, kept_on}
 use Rattle.server_laws.specs.Tables.{rows_of_run, ComesByCalls}
@@ -33,6 +36,12 @@ abbrev pub KeepsWhatWasMade : List Made → World → Type 0
 KeepsWhatWasMade made world = (number wanted : ℕ) (bytes : List ℕ) → kept_on (Some world) number wanted ≡ Some bytes →
     IsAmong (record { number = wanted; bytes = bytes }) (messages_for number made)
 
+-- and what Republish gives, whenever and to whichever session, is so, too
+abbrev pub GivesAgainWhatWasMade : List Made → World → Type 0
+GivesAgainWhatWasMade made world = (clock : Moment) (session number wanted : ℕ) (bytes : List ℕ) → let services : Services = world.core.services in
+    (republished session number wanted (world_of services.subs services.items clock)).answer ≡ Ok bytes →
+    IsAmong (record { number = wanted; bytes = bytes }) (messages_for number made)
+
 -- under each number that it shows it keeps a message
 abbrev pub KeepsWhatItShows : World → Type 0
 KeepsWhatItShows world = (number : ℕ) → AllByRecursion (λ wanted. is_some (kept_on (Some world) number wanted) ≡ true) (kept_numbers_on (Some world) number)
@@ -45,6 +54,7 @@ pub record MadeThese (config : Configuration) (made : List Made) (rows : List Fi
   pub lasts : let subs : SubsState = world.core.services.subs in LastsAreTheirs made subs.table
   pub notes : let subs : SubsState = world.core.services.subs in NotesComeNext made subs.table
   pub kept : KeepsWhatWasMade made world
+  pub republished : GivesAgainWhatWasMade made world
   pub shown : KeepsWhatItShows world
 
 -- what a server makes, whatever happens: after each list of events these messages were made, and more events only add some

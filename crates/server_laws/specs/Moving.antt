@@ -1,5 +1,5 @@
 -- What the services do, told as calls of the subscriptions and their items.
-use Rattle.std.specs.Prelude.{◌≡◌, List, ◌++◌, fold}
+use Rattle.std.specs.Prelude.{◌≡◌, ⊤, ◌⊎◌, List, [], ◌∷◌, ◌++◌, fold}
 use Rattle.ua_requests.specs.declared.fired.Fired.{Fired}
 use Rattle.ua_requests.specs.declared.reply.Reply.{Reply}
 use Rattle.monitored_items.specs.Items.{ItemsState}
@@ -19,9 +19,26 @@ pub record Went (from : Ran) (subs : SubsState) (items : ItemsState) (rows : Lis
   pub left : fold moved from moves ≡ record { subs = subs; items = items; rows = rows; replies = replied }
 
 -- services come from others by calls, which fire these rows behind all that fired before
-abbrev pub GoesOn : Services → Services → List Fired → Type 0
-GoesOn before after rows = (so_far : List Fired) (replies : List Reply) → Went (ran_at before so_far replies) after.subs after.items (so_far ++ rows)
+abbrev pub ComesOn : Services → Services → List Fired → Type 0
+ComesOn before after rows = (so_far : List Fired) (replies : List Reply) → Went (ran_at before so_far replies) after.subs after.items (so_far ++ rows)
 
--- a serving goes on by calls
-abbrev pub GoesOnBy : Services → Serving → Type 0
-GoesOnBy state s = GoesOn state s.state (rows_of s.acts)
+-- these replies stand among those, in order
+abbrev pub StandIn : List Reply → List Reply → Type 0
+StandIn [] given = ⊤
+StandIn (x ∷ xs) [] = ⊥
+StandIn (x ∷ xs) (y ∷ ys) = ((x ≡ y) × StandIn xs ys) ⊎ StandIn (x ∷ xs) ys
+
+-- calls that lead on to these subscriptions and items, and fire these rows; their answers to Publish requests stand among these replies
+pub record WentOn (from : Ran) (subs : SubsState) (items : ItemsState) (rows : List Fired) (given : List Reply) : Type 0 where
+  pub moves : List Move
+  pub answers : List Reply
+  pub left : fold moved from moves ≡ record { subs = subs; items = items; rows = from.rows ++ rows; replies = from.replies ++ answers }
+  pub among : StandIn answers given
+
+-- services come from others by calls, which fire these rows and answer among these replies
+abbrev pub ComesOnWith : Services → Services → List Fired → List Reply → Type 0
+ComesOnWith before after rows given = (so_far : List Fired) (replies : List Reply) → WentOn (ran_at before so_far replies) after.subs after.items rows given
+
+-- and so they come from a serving, with its rows and replies
+abbrev pub ComesOnBy : Services → Serving → Type 0
+ComesOnBy state s = ComesOnWith state s.state (rows_of s.acts) s.replies

@@ -5,11 +5,10 @@ use Rattle.ua_requests.specs.declared.fired.Fired.{Fired}
 use Rattle.subscription_laws.specs.Calm.{AreSteady}
 use Rattle.subscription_laws.specs.Histories.{counts_at, life_at}
 use Rattle.subscription.specs.Ranks.{is_waiting}
-use Rattle.subscription_laws.specs.Runs.{start}
+use Rattle.subscription_laws.specs.Runs.{Move, run}
 use Rattle.subscription.specs.Subs.{SubsState}
 use Rattle.subscription.specs.Tables.{TableState, part_at, subscription_at}
 use Rattle.subscription.specs.declared.subscription.Subscription.{Subscription}
-use Rattle.server_laws.specs.Moving.{Went}
 use Rattle.ua_services.specs.declared.services.Services.{Services}
 use Rattle.ua_core.specs.Coherent.{IfRuns}
 use Rattle.ua_core.specs.Effects.{fired_of}
@@ -24,9 +23,16 @@ rows_of_run r = fired_of (joined_effects r.steps)
 abbrev pub IfShown : (TableState → Type 0) → Option World → Type 0
 IfShown P server = IfRuns (λ (world : World). let subs : SubsState = world.core.services.subs in P subs.table) server
 
--- calls lead from no subscriptions to those of a server, and these are the rows that they fire
-abbrev pub ComesByCalls : Configuration → List Fired → World → Type 0
-ComesByCalls config rows world = let services : Services = world.core.services in Went (start config) services.subs services.items rows
+-- calls that lead from none to the subscriptions and items of a server, and fire these rows
+pub record LeadTo (config : Configuration) (moves : List Move) (rows : List Fired) (world : World) : Type 0 where
+  pub subs : let services : Services = world.core.services in (run config moves).subs ≡ services.subs
+  pub items : let services : Services = world.core.services in (run config moves).items ≡ services.items
+  pub fired : (run config moves).rows ≡ rows
+
+-- some calls lead there
+pub record ComesByCalls (config : Configuration) (rows : List Fired) (world : World) : Type 0 where
+  pub moves : List Move
+  pub lead : LeadTo config moves rows world
 
 -- each live subscription is steady, with the counts that the rows tell
 abbrev pub StaysSteady : List Fired → World → Type 0

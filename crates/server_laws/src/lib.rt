@@ -1,30 +1,46 @@
 //! Laws of the server: what holds of its sessions and subscriptions after every list of events.
 //!
 //! The laws have no code: their contracts state them, over the definitions of the crate [`ua_core`] and those below it.
-//! `Moving` says that each service comes by calls of subscriptions and items, and `Apart` what a request leaves of other
-//! sessions; `Tables`, `Messages`, `Fates` and `SessionsApart` have what is said of the runs of a server. What follows of calls alone,
-//! the crate `subscription_laws` says.
+//! By `Moving` each service comes by calls of subscriptions and items ([`services_go_on_by_calls`]), and `Apart` says what a
+//! request leaves of other sessions; `Tables`, `Messages`, `Replying`, `Fates` and `SessionsApart` have what is said of the runs
+//! of a server. What follows of calls alone, the crate `subscription_laws` says.
 //!
 //! Read docs/SUBSCRIPTIONS.md first, then [`subscriptions_come_by_calls`].
 #![tactic(auto)]
 
-ghost use Rattle.std.specs.Prelude.{◌≡◌, ◌+◌, ℕ, List};
+ghost use Rattle.std.specs.Prelude.{◌≡◌, ◌+◌, ℕ, List, []};
 ghost use Rattle.ua_types.specs.Configuration.{Configuration};
+ghost use Rattle.ua_requests.specs.declared.request.Request.{Request};
+ghost use Rattle.ua_requests.specs.declared.setting.Setting.{Setting};
 ghost use Rattle.ua_space.specs.Nodes.{SpaceState};
 ghost use Rattle.item_queue.specs.Fates.{GoesOn, IsInOrder, TellsLosses};
 ghost use Rattle.item_queue.specs.Sendings.{values_of, sampled_by, sent_of};
-ghost use Rattle.subscription_laws.specs.Fates.{AreCaused, TellsEachLoss};
+ghost use Rattle.subscription_laws.specs.Answering.{AreBrought};
+ghost use Rattle.subscription_laws.specs.Fates.{AreCaused, HaveTheirCauses, TellsEachLoss};
 ghost use Rattle.subscription_laws.specs.Histories.{AreLawful};
 ghost use Rattle.subscription_laws.specs.Messaging.{run_made};
-ghost use Rattle.subscription_laws.specs.Runs.{start};
+ghost use Rattle.subscription_laws.specs.Runs.{start, run};
 ghost use Rattle.subscription_laws.specs.Tellings.{all_taken, AreTold, entries_told};
+ghost use Rattle.ua_services.specs.Services.{serving_of, ticking_of, forgotten};
+ghost use Rattle.ua_services.specs.declared.services.Services.{Services};
 ghost use Rattle.ua_core.specs.Coherent.{reached, IfRuns};
 ghost use Rattle.ua_core.specs.declared.event.Event.{Event};
 ghost use Rattle.server_laws.specs.Messages.{MakesMessages};
+ghost use Rattle.server_laws.specs.Moving.{ComesOn, ComesOnBy};
+ghost use Rattle.server_laws.specs.Replying.{BringsMessages, SendsReplies};
 ghost use Rattle.server_laws.specs.SessionsApart.{KeepsSessionsApart, ServesByFrames};
-ghost use Rattle.server_laws.specs.Fates.{CallsOf, reached_at, first_calls, first_item_calls, deeds_after, account_after, HoldsWhatWaits};
+ghost use Rattle.server_laws.specs.Fates.{CallsOf, reached_at, first_calls, first_item_calls, deeds_after, account_of_first, HoldsWhatWaits};
 ghost use Rattle.server_laws.specs.Tables.{rows_of_run, IfShown, ComesByCalls, StaysSteady, NoneWaitsBesideARequest, LivesCountTimers, NoKeepAliveIsSkipped};
 ghost use Rattle.ua_core.specs.declared.parts.Core.{Core};
+
+/// Each request, served or refused, each tick, and each connection that is gone comes to some calls of the
+/// subscriptions and their items: they lead from those before to those after, fire its rows behind all that
+/// fired, and answer Publish requests among its replies.
+pub fn services_go_on_by_calls()
+    ensures serves { (setting : Setting) (request : Request) (state : Services) → ComesOnBy state (serving_of setting request state) }
+    ensures ticks { (setting : Setting) (state : Services) → ComesOnBy state (ticking_of setting state) }
+    ensures forgets { (state : Services) (conn : ℕ) → ComesOn state (forgotten state conn) [] }
+{}
 
 /// Whatever happens, the subscriptions and items of a server are where calls of them lead from none on, and
 /// the rows of all events are those that these calls fire. So what `subscription_laws` says of any calls
@@ -78,7 +94,7 @@ pub fn no_keep_alive_is_skipped()
 ///   also once it is no more. A live one has the number of its last message.
 /// - What [`Server::kept`](ua_core::Server::kept) gives is, byte for byte, a message that was made under that
 ///   number, and under each number that [`Server::kept_numbers`](ua_core::Server::kept_numbers) shows there is
-///   one.
+///   one. So is what Republish gives.
 /// - The note of a time-out has the number that its subscription's next message would have had.
 pub fn all_messages_are_numbered()
     ensures { (config : Configuration) (space : SpaceState) → MakesMessages config space }
@@ -87,10 +103,11 @@ pub fn all_messages_are_numbered()
 /// Whatever happened, the next request, served or refused, leaves what is of other sessions than the one
 /// that its header names: those sessions with their continuation points, their queued Publish requests and
 /// notes of time-outs, the subscriptions that aren't its own, with all variables, counters, kept messages
-/// and numbers, and the items of those. So where a header names no session, nothing of any is changed.
+/// and numbers, and the items of those; and none appears under another session, nor a session but with a
+/// number that wasn't given yet. So where a header names no session, nothing of any is changed.
 ///
-/// A Write changes nothing of any subscription, and of items, its own and others, only what waits in their
-/// queues and the value that was queued last, since they see the values that were written.
+/// A Write changes nothing of any subscription, and of items, its own and others, only that they see the
+/// values that it accepts, one after the other; a refused one changes none.
 ///
 /// A request is what a frame completes. Of several in one piece of a stream, each is the next one once the
 /// piece is cut before it (`any_cut`).
@@ -113,18 +130,21 @@ pub fn events_come_to_calls()
 /// before an older one that waits; once a value doesn't wait, its fate and its mark are final, whatever
 /// events come; and each call of the items gives a value no fate but its own: a row's message sends values,
 /// only another value of the item drives one out, and only a smaller queue, a disabled or deleted item, or
-/// the end of the subscription clears any.
+/// the end of the subscription clears any. Nothing is driven out while the queue has room, and nothing is
+/// cleared that a smaller queue holds.
 pub fn values_have_one_fate()
     ensures all { (config : Configuration) (space : SpaceState) (events : List Event) (c : CallsOf config space events) (n number : ℕ) →
-        values_of (account_after config c.calls n number) ≡ sampled_by (deeds_after config c.calls n number) }
+        values_of (account_of_first config c.calls n number) ≡ sampled_by (deeds_after config c.calls n number) }
     ensures waiting { (config : Configuration) (space : SpaceState) (events : List Event) (c : CallsOf config space events) (n number : ℕ) →
-        IfRuns (HoldsWhatWaits (account_after config c.calls n number) number) (reached_at config space events n).server }
+        IfRuns (HoldsWhatWaits (account_of_first config c.calls n number) number) (reached_at config space events n).server }
     ensures ordered { (config : Configuration) (space : SpaceState) (events : List Event) (c : CallsOf config space events) (n number : ℕ) →
-        IsInOrder (account_after config c.calls n number) }
+        IsInOrder (account_of_first config c.calls n number) }
     ensures for_good { (config : Configuration) (space : SpaceState) (events : List Event) (c : CallsOf config space events) (n more number : ℕ) →
-        GoesOn (account_after config c.calls n number) (account_after config c.calls (n + more) number) }
+        GoesOn (account_of_first config c.calls n number) (account_of_first config c.calls (n + more) number) }
     ensures caused { (config : Configuration) (space : SpaceState) (events : List Event) (c : CallsOf config space events) (n number : ℕ) →
         AreCaused config (first_item_calls config n c.calls) number }
+    ensures within { (config : Configuration) (space : SpaceState) (events : List Event) (c : CallsOf config space events) (n number : ℕ) →
+        HaveTheirCauses (deeds_after config c.calls n number) }
 {}
 
 /// Whatever happens, no value of an item is lost in silence. Where the queue holds more than one value, each
@@ -134,7 +154,7 @@ pub fn values_have_one_fate()
 /// only.
 pub fn no_value_is_lost_in_silence()
     ensures told { (config : Configuration) (space : SpaceState) (events : List Event) (c : CallsOf config space events) (n number : ℕ) →
-        TellsLosses (account_after config c.calls n number) }
+        TellsLosses (account_of_first config c.calls n number) }
     ensures at_once { (config : Configuration) (space : SpaceState) (events : List Event) (c : CallsOf config space events) (n number : ℕ) →
         TellsEachLoss (deeds_after config c.calls n number) }
 {}
@@ -147,5 +167,20 @@ pub fn sent_values_stand_in_messages()
     ensures told { (config : Configuration) (space : SpaceState) (events : List Event) (c : CallsOf config space events) (n : ℕ) →
         AreTold (run_made (start config) (first_calls n c.calls)) (all_taken config (first_calls n c.calls)) }
     ensures sent { (config : Configuration) (space : SpaceState) (events : List Event) (c : CallsOf config space events) (n number : ℕ) →
-        entries_told number (all_taken config (first_calls n c.calls)) ≡ sent_of (account_after config c.calls n number) }
+        entries_told number (all_taken config (first_calls n c.calls)) ≡ sent_of (account_of_first config c.calls n number) }
+{}
+
+/// Whatever happens, each message that a row makes answers a Publish request, one message a request, in the
+/// order in which they are made, and the answer brings it byte for byte, under its subscription's number.
+///
+/// It goes out when it is made: the next request, served or refused, and the next tick come to calls whose
+/// answers are among the replies, and each message that these calls make is in one of its own. What is
+/// replied is what is sent, each reply on the connection that its request came by, which has a channel
+/// ([`loses_no_reply`](ua_core::laws::loses_no_reply)); a reply that is too large for its client is a fault there.
+pub fn messages_are_answers()
+    ensures answers { (config : Configuration) (space : SpaceState) (events : List Event) (c : CallsOf config space events) (n : ℕ) →
+        AreBrought (run config (first_calls n c.calls)).replies (run_made (start config) (first_calls n c.calls)) }
+    ensures replies { (config : Configuration) (space : SpaceState) (events : List Event) (c : CallsOf config space events) (n : ℕ) →
+        IfRuns (BringsMessages (run config (first_calls n c.calls))) (reached_at config space events n).server }
+    ensures sent { (core : Core) → SendsReplies core }
 {}

@@ -19,7 +19,7 @@ use ua_requests::Halt;
 use ua_types::{Moment, Status};
 
 /// The sequence number of the message after the one with this number: after the last of 32 bits comes 1
-/// (IEC 62541-4, 7.7 Counter).
+/// (IEC 62541-4, "Counter").
 pub fn number_after(number: u32) -> u32
     ensures { result ≡ number_after_lem number }
 {

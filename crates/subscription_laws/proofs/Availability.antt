@@ -114,7 +114,7 @@ pub stays_available : (other subscription : ℕ) (before after : ItemsState) →
     is_available before subscription ≡ true → is_available after subscription ≡ true
 stays_available other subscription before after apart rising stay h =
     let w = waiting before subscription rising h in
-    is_there after subscription (record { number = w.number; item = w.item; found = stay w.number w.item w.found (not_own subscription other w.item apart w.own); own = w.own; waits = w.waits })
+    is_there after subscription (record { number = w.number; item = w.item; found = stay.0 w.number w.item w.found (not_own subscription other w.item apart w.own); own = w.own; waits = w.waits })
 
 -- ---- items that were reached
 

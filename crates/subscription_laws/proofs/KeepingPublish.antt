@@ -223,21 +223,21 @@ unfolding fired
 fired_queues c q = record { calm = q.calm; any = q.any }
 
 -- the session is asked, and none of its subscriptions waits
-record IsAsking (session made : ℕ) (past : List Fired) (w : World) : Type 0 where
-  kept : IsKept None made past w
-  none : NoneWaits w.table (Some session)
-  asked : (is_some w.turn.asked || is_any (part_at session w.table.sessions).requests) ≡ true
+pub record IsAsking (session made : ℕ) (past : List Fired) (w : World) : Type 0 where
+  pub kept : IsKept None made past w
+  pub none : NoneWaits w.table (Some session)
+  pub asked : (is_some w.turn.asked || is_any (part_at session w.table.sessions).requests) ≡ true
 
-abbrev AreOf : ℕ → List ℕ → World → Type 0
+abbrev pub AreOf : ℕ → List ℕ → World → Type 0
 AreOf session ns w = (m : ℕ) (s : Subscription) → is_listed m ns ≡ true → subscription_at m w.table.subscriptions ≡ Some s → s.session ≡ Some session
 
 either : (a b : Bool) → b ≡ true → (a || b) ≡ true
 either true b h = refl
 either false b h = h
 
-record Asked (session made : ℕ) (past : List Fired) (ns : List ℕ) (v : World) : Type 0 where
-  asking : IsAsking session made past v
-  of : AreOf session ns v
+pub record Asked (session made : ℕ) (past : List Fired) (ns : List ℕ) (v : World) : Type 0 where
+  pub asking : IsAsking session made past v
+  pub of : AreOf session ns v
 
 module _ (session made : ℕ) (past : List Fired) (w : World) (n : ℕ) (ns : List ℕ) (h : IsAsking session made past w) (of : AreOf session (n ∷ ns) w) where
   is_asked : (s : Subscription) → s.session ≡ Some session → IsAsked (scene_at w n Publish s)
@@ -280,7 +280,7 @@ module _ (session made : ℕ) (past : List Fired) (w : World) (n : ℕ) (ns : Li
       of_after s own m u listed (inl b) = ap (λ (x : Subscription). x.session) b.is ∙ own
       of_after s own m u listed (inr (other, before)) = of m u (later (is_at (nat_cmp m) n) (is_listed m ns) listed) before
 
-  met_asked : Asked session made past ns (met w n Publish)
+  pub met_asked : Asked session made past ns (met w n Publish)
   unfolding met
   met_asked = by (subscription_at n w.table.subscriptions) refl
     where
@@ -304,25 +304,32 @@ all_asked session made past (n ∷ ns) w h of =
 
 -- ---- the whole
 
-best_kept : (session made : ℕ) (past : List Fired) (w : World) (n : ℕ) (ns : List ℕ) (call : PublishCall) → (part_at session w.table.sessions).numbers ≡ n ∷ ns → IsKept None made past w →
-    (o : Option Rank) → first_of (waiting_of w.table.subscriptions (n ∷ ns)) ≡ o → IsKept None made past (met_by_best o (n ∷ ns) (asked_by w call))
-best_kept session made past w n ns call are k (Some rank) is =
-    met_waiting made past (asked_by w call) rank.number (best_waits w.table.subscriptions (n ∷ ns) rank is) (record { calm = k.calm; own = k.own; within = k.within })
-best_kept session made past w n ns call are k None is =
-    all_asked session made past (n ∷ ns) (asked_by w call)
-    (record {
-      kept = record { calm = k.calm; own = k.own; within = k.within };
-      none = λ m s found own.
-          none_wait w.table.subscriptions (n ∷ ns) [] is m s (ap (is_listed m) (sym are) ∙ k.calm.listed.listed m s session found own) found;
-      asked = refl;
-    })
-    (λ m s listed found. its_own m s found (k.own session (λ e. absurd (cc)) m (ap (is_listed m) are ∙ listed)))
+-- where none waits, all are asked
+pub none_asked : (session made : ℕ) (past : List Fired) (w : World) (ns : List ℕ) (call : PublishCall) → (part_at session w.table.sessions).numbers ≡ ns → IsKept None made past w →
+    first_of (waiting_of w.table.subscriptions ns) ≡ None → Asked session made past ns (asked_by w call)
+none_asked session made past w ns call are k is = record {
+  asking = record {
+    kept = record { calm = k.calm; own = k.own; within = k.within };
+    none = λ m s found own.
+        none_wait w.table.subscriptions ns [] is m s (ap (is_listed m) (sym are) ∙ k.calm.listed.listed m s session found own) found;
+    asked = refl;
+  };
+  of = λ m s listed found. its_own m s found (k.own session (λ e. absurd (cc)) m (ap (is_listed m) are ∙ listed));
+}
   where
     same_some : (a b : Subscription) → Some a ≡ Some b → b ≡ a
     same_some a b e = cc
 
     its_own : (m : ℕ) (s : Subscription) → subscription_at m w.table.subscriptions ≡ Some s → (u : Subscription) × (subscription_at m w.table.subscriptions ≡ Some u) × (u.session ≡ Some session) → s.session ≡ Some session
     its_own m s found (u, there, own) = ap (λ (x : Subscription). x.session) (same_some u s (sym there ∙ found)) ∙ own
+
+best_kept : (session made : ℕ) (past : List Fired) (w : World) (n : ℕ) (ns : List ℕ) (call : PublishCall) → (part_at session w.table.sessions).numbers ≡ n ∷ ns → IsKept None made past w →
+    (o : Option Rank) → first_of (waiting_of w.table.subscriptions (n ∷ ns)) ≡ o → IsKept None made past (met_by_best o (n ∷ ns) (asked_by w call))
+best_kept session made past w n ns call are k (Some rank) is =
+    met_waiting made past (asked_by w call) rank.number (best_waits w.table.subscriptions (n ∷ ns) rank is) (record { calm = k.calm; own = k.own; within = k.within })
+best_kept session made past w n ns call are k None is =
+    let a = none_asked session made past w (n ∷ ns) call are k is in
+    all_asked session made past (n ∷ ns) (asked_by w call) a.asking a.of
 
 answered_to_kept : (session made : ℕ) (past : List Fired) (w : World) (call : PublishCall) (ns : List ℕ) → (part_at session w.table.sessions).numbers ≡ ns → IsKept None made past w → IsKept None made past (answered_to ns call w)
 unfolding answered_to
@@ -333,12 +340,20 @@ answered_kept : (session made : ℕ) (past : List Fired) (w : World) (call : Pub
 answered_kept session made past w call (Some note) k = record { calm = k.calm; own = k.own; within = k.within }
 answered_kept session made past w call None k = answered_to_kept session made past w call (part_at session w.table.sessions).numbers refl k
 
+-- once the acknowledgements were applied, and the oldest note was taken
+abbrev pub ready : ℕ → List SubscriptionAcknowledgement → World → World
+ready session acks w =
+    let all = acknowledged_all session w.table.subscriptions acks in
+    record { turn = w.turn; table = record { subscriptions = all.subscriptions; sessions = without_note session w.table.sessions }; items = w.items }
+
+pub ready_kept : (session made : ℕ) (past : List Fired) (acks : List SubscriptionAcknowledgement) (w : World) → IsKept None made past w → IsKept None made past (ready session acks w)
+ready_kept session made past acks w k =
+    let all = acknowledged_all session w.table.subscriptions acks in
+    note_kept made past (with_subscriptions w all.subscriptions) session
+    (acknowledged_kept made past w session acks (record { results = []; subscriptions = w.table.subscriptions }) (record { calm = k.calm; own = k.own; within = k.within }))
+
 pub published_kept : (session made : ℕ) (past : List Fired) (call : PublishCall) (acks : List SubscriptionAcknowledgement) (w : World) → IsKept None made past w → IsKept None made past (published session call acks w)
 unfolding published
 published_kept session made past call acks w k =
     let all = acknowledged_all session w.table.subscriptions acks in
-    answered_kept session made past
-    (record { turn = w.turn; table = record { subscriptions = all.subscriptions; sessions = without_note session w.table.sessions }; items = w.items })
-    (with_results call all.results) (note_of session w.table.sessions)
-    (note_kept made past (with_subscriptions w all.subscriptions) session
-    (acknowledged_kept made past w session acks (record { results = []; subscriptions = w.table.subscriptions }) (record { calm = k.calm; own = k.own; within = k.within })))
+    answered_kept session made past (ready session acks w) (with_results call all.results) (note_of session w.table.sessions) (ready_kept session made past acks w k)

@@ -3,6 +3,8 @@ pub mod RowLinks
 pub mod RowFairness
 pub mod RowSteady
 pub mod MadeMessages
+pub mod KeepAlives
+pub mod BroughtMessages
 pub mod Entries
 pub mod Availability
 pub mod Remains
@@ -18,6 +20,8 @@ pub mod KeepingMade
 pub mod KeepingItems
 pub mod RunsKept
 pub mod Reached
+pub mod BroughtByCalls
+pub mod RequestCounts
 pub mod MessageLists
 pub mod MessagesKept
 pub mod MessageNotes

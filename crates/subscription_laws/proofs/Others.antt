@@ -2,7 +2,7 @@
 use Rattle.std.proofs.Common.{◌≡◌, ◌≢◌, ◌⊎◌, inl, inr, ℕ, ◌+◌, ◌≤◌, arith, Bool, true, false, ◌||◌, cond, List, [], ◌∷◌, fold, Option, Some, None, Result, Ok, Err, unwrap_or, refl, sym, ap, ◌∙◌, subst}
 use Rattle.std.proofs.lemmas.Bool.{false≢true, eqb-true, eq-eqb}
 use Rattle.std.specs.Prelude.{◌==◌}
-use Rattle.std.specs.BTreeMap.{is_at}
+use Rattle.std.specs.BTreeMap.{insert_entry, is_at}
 use Rattle.std.specs.BTreeSet.{insert_key}
 use Rattle.std.specs.Map.{set_value, remove_entry}
 use Rattle.std.specs.Option.{is_some, ok_or}
@@ -41,7 +41,7 @@ use Rattle.subscription_laws.specs.Runs.{ItemsCall, on_items, Move, Ran, ran_by,
 use Rattle.subscription.specs.Subs.{world_of, Said, is_full, refused, created_one, created}
 use Rattle.subscription.specs.Subscriptions.{no_part, is_of as is_of_session}
 use Rattle.subscription.specs.Tables.{TableState, World, with_call, without_closed, met_found, met, all_met, part_at, set_part, subscription_at, vars_found}
-use Rattle.subscription_laws.proofs.Entries.{same_or_not, at_itself, set_here, set_other, put_other, gone_other, rising_set}
+use Rattle.subscription_laws.proofs.Entries.{same_or_not, at_itself, set_here, set_other, put_here, put_other, gone_other, rising_set}
 use Rattle.subscription_laws.proofs.Firings.{fired_items, fired_session}
 use Rattle.subscription_laws.proofs.Keeping.{scene_at}
 use Rattle.subscription_laws.proofs.KeepingItems.{served_apart}
@@ -109,8 +109,11 @@ module _ (session : ℕ) (t : TableState) (items : ItemsState) (w : World) (n : 
       parts = λ k other. parts k other (h.sessions n s its found) ∙ h.others.parts k other;
       subscriptions = λ m u before other.
           back_other n m (fired (scene_at w n asked s)).subscription w.table.subscriptions (differs session t m n (not_own session t m u before other) its) ∙ h.others.subscriptions m u before other;
+      none_comes = λ m u after other. come m u other after (same_or_not m n);
       items_stay = λ m item before foreign.
-          (fired_items (scene_at w n asked s)).stay h.reached m item (h.others.items_stay m item before foreign) (not_its n item (differs session t item.subscription n foreign its));
+          ((fired_items (scene_at w n asked s)).stay h.reached).0 m item (h.others.items_stay m item before foreign) (not_its n item (differs session t item.subscription n foreign its));
+      no_item_comes = λ m item after foreign.
+          h.others.no_item_comes m item (((fired_items (scene_at w n asked s)).stay h.reached).1 m item after (not_its n item (differs session t item.subscription n foreign its))) foreign;
     };
     own = λ m u after mine. own m u after mine (same_or_not m n);
     sessions = λ m u mine after. after_session m u mine (back_is n s (fired (scene_at w n asked s)).subscription w.table.subscriptions h.rising found m u after);
@@ -139,6 +142,17 @@ module _ (session : ℕ) (t : TableState) (items : ItemsState) (w : World) (n : 
       after_session m u mine (inl b) =
           subst (λ (x : Subscription). (x.session ≡ Some session) ⊎ (x.session ≡ None)) (sym b.is) (row_session (fired_session (scene_at w n asked s)) (h.sessions n s its found))
       after_session m u mine (inr (other, before)) = h.sessions m u mine before
+
+      left : (u : Subscription) → u.session ≢ Some session → (u.session ≡ Some session) ⊎ (u.session ≡ None) → u.session ≡ None
+      left u other (inl mine) = absurd (other mine)
+      left u other (inr e) = e
+
+      come : (m : ℕ) (u : Subscription) → u.session ≢ Some session → subscription_at m (put_back n (fired (scene_at w n asked s)).subscription w.table.subscriptions) ≡ Some u → (m ≡ n) ⊎ (m ≢ n) →
+          (subscription_at m t.subscriptions ≡ Some u) ⊎ ((is_own t session m ≡ true) × (u.session ≡ None))
+      come m u other after (inl same) =
+          let mine : is_own t session m ≡ true = ap (λ (i : ℕ). is_own t session i) same ∙ its in
+          inr (mine, left u other (after_session m u mine (back_is n s (fired (scene_at w n asked s)).subscription w.table.subscriptions h.rising found m u after)))
+      come m u other after (inr apart) = h.others.none_comes m u (sym (back_other n m (fired (scene_at w n asked s)).subscription w.table.subscriptions apart) ∙ after) other
 
   met_apart : Apart session t items (met w n asked)
   unfolding met
@@ -213,7 +227,9 @@ part_apart session t items items2 v part h = record {
   others = record {
     parts = λ k other. ap (λ (o : Option SessionPart). unwrap_or o no_part) (set_other session k part other v.sessions) ∙ h.others.parts k other;
     subscriptions = h.others.subscriptions;
+    none_comes = h.others.none_comes;
     items_stay = h.others.items_stay;
+    no_item_comes = h.others.no_item_comes;
   };
   own = h.own;
   sessions = h.sessions;
@@ -246,7 +262,9 @@ ended_apart session t items deleting w its h =
       parts = λ j other.
           ap (λ (o : Option SessionPart). unwrap_or o no_part) (gone_other session j other (all_refused session status.BAD_SESSION_CLOSED v).table.sessions) ∙ k.others.parts j other;
       subscriptions = k.others.subscriptions;
+      none_comes = k.others.none_comes;
       items_stay = k.others.items_stay;
+      no_item_comes = k.others.no_item_comes;
     }
 
 -- ---- Publish
@@ -262,7 +280,9 @@ module _ (session : ℕ) (t : TableState) (items items2 : ItemsState) (sessions 
       parts = h.others.parts;
       subscriptions = λ m u before other.
           set_other n m (without_kept number s) (differs session t m n (not_own session t m u before other) (h.own n s found mine)) subscriptions ∙ h.others.subscriptions m u before other;
+      none_comes = λ m u after other. come m u other (was m u after (same_or_not m n));
       items_stay = h.others.items_stay;
+      no_item_comes = h.others.no_item_comes;
     };
     own = λ m u after its. own m u its (was m u after (same_or_not m n));
     sessions = λ m u its after. kept_session m u its (was m u after (same_or_not m n));
@@ -290,6 +310,11 @@ module _ (session : ℕ) (t : TableState) (items items2 : ItemsState) (sessions 
       kept_session : (m : ℕ) (u : Subscription) → is_own t session m ≡ true → ((m ≡ n) × (u.session ≡ s.session)) ⊎ (subscription_at m subscriptions ≡ Some u) → (u.session ≡ Some session) ⊎ (u.session ≡ None)
       kept_session m u its (inl (same, e)) = inl (e ∙ mine)
       kept_session m u its (inr before) = h.sessions m u its before
+
+      come : (m : ℕ) (u : Subscription) → u.session ≢ Some session → ((m ≡ n) × (u.session ≡ s.session)) ⊎ (subscription_at m subscriptions ≡ Some u) →
+          (subscription_at m t.subscriptions ≡ Some u) ⊎ ((is_own t session m ≡ true) × (u.session ≡ None))
+      come m u other (inl (same, e)) = absurd (other (e ∙ mine))
+      come m u other (inr before) = h.others.none_comes m u before other
 
   acknowledged_apart : (subscriptions : List (ℕ × Subscription)) (a : SubscriptionAcknowledgement) → ApartWith subscriptions → ApartWith (acknowledged session subscriptions a).subscriptions
   unfolding acknowledged
@@ -387,18 +412,31 @@ added_others session made asked enabled w given =
           ap (λ (o : Option SessionPart). unwrap_or o no_part)
           (put_other session k (with_number (made + 1) (fired c).part) other (remove_entry (is_at (nat_cmp session)) w.table.sessions) ∙ gone_other session k other w.table.sessions);
       subscriptions = λ m s found other. put_other (made + 1) m (fired c).subscription (fresh m s found) w.table.subscriptions ∙ found;
+      none_comes = λ m u found other. come (fired c).subscription m u (begun_rest c refl).0 other found (same_or_not m (made + 1));
       items_stay = λ m item found foreign. ap (λ (i : ItemsState). item_at m i.items) (begun_rest c refl).2 ∙ found;
+      no_item_comes = λ m item found foreign. ap (λ (i : ItemsState). item_at m i.items) (sym (begun_rest c refl).2) ∙ found;
     }
   where
     fresh : (m : ℕ) (s : Subscription) → subscription_at m w.table.subscriptions ≡ Some s → m ≢ made + 1
     fresh m s found same = let most : m ≤ made = given m s found in absurd (omega (arith, most, same))
+
+    -- the one that was made is the session's own
+    come : (new : Subscription) (m : ℕ) (u : Subscription) → new.session ≡ Some session → u.session ≢ Some session → subscription_at m (insert_entry nat_cmp w.table.subscriptions (made + 1) new) ≡ Some u → (m ≡ made + 1) ⊎ (m ≢ made + 1) →
+        (subscription_at m w.table.subscriptions ≡ Some u) ⊎ ((is_own w.table session m ≡ true) × (u.session ≡ None))
+    come new m u mine other found (inl same) =
+        let is : Some new ≡ Some u = sym (put_here (made + 1) new w.table.subscriptions) ∙ ap (λ (i : ℕ). subscription_at i (insert_entry nat_cmp w.table.subscriptions (made + 1) new)) (sym same) ∙ found in
+        let it : u ≡ new = cc in
+        absurd (other (ap (λ (x : Subscription). x.session) it ∙ mine))
+    come new m u mine other found (inr apart) = inl (sym (put_other (made + 1) m new apart w.table.subscriptions) ∙ found)
 
 refused_others : (session : ℕ) (asked : Settings) (enabled : Bool) (w : World) → OthersStay session w.table w.items (refused_one session asked enabled w).table (refused_one session asked enabled w).items
 unfolding refused_one
 refused_others session asked enabled w = record {
   parts = λ k other. refl;
   subscriptions = λ m s found other. found;
+  none_comes = λ m s found other. inl found;
   items_stay = λ m item found foreign. ap (λ (i : ItemsState). item_at m i.items) (refused_items session asked enabled w) ∙ found;
+  no_item_comes = λ m item found foreign. ap (λ (i : ItemsState). item_at m i.items) (sym (refused_items session asked enabled w)) ∙ found;
 }
 
 -- ---- any request
@@ -427,9 +465,18 @@ created_stays r clock session settings enabled given =
     either_stays (is_full r.subs session) session r (refused session settings enabled r.subs w) (created_one session settings enabled r.subs w) (refused_stays r session settings enabled clock)
     (added_stays r session settings enabled clock given)
 
+pub none_changes : (session : ℕ) (t : TableState) (items : ItemsState) → OthersStay session t items t items
+none_changes session t items = record {
+  parts = λ j other. refl;
+  subscriptions = λ m s found other. found;
+  none_comes = λ m s found other. inl found;
+  items_stay = λ m item found foreign. found;
+  no_item_comes = λ m item found foreign. found;
+}
+
 begins_apart : (r : Ran) (clock : Moment) (session : ℕ) → IsRunKept r → Apart session r.subs.table r.items (world_of r.subs r.items clock)
 begins_apart r clock session k = record {
-  others = record { parts = λ j other. refl; subscriptions = λ m s found other. found; items_stay = λ m item found foreign. found };
+  others = none_changes session r.subs.table r.items;
   own = λ n s found mine. own_found session (subscription_at n r.subs.table.subscriptions) s found mine;
   sessions = λ n s its found. inl (found_own session (subscription_at n r.subs.table.subscriptions) s found its);
   rising = k.calm.listed.subscriptions;
@@ -444,7 +491,7 @@ lists_its r session k m listed = by (k.own session m listed)
 
 -- its items are served, and then the row fires
 served_stays : (r : Ran) (clock : Moment) (session number : ℕ) (asked : ItemsCall) → IsRunKept r → is_own r.subs.table session number ≡ true → (o : Option Vars) → Stays session r (items_ran clock number asked r o)
-served_stays r clock session number asked k its None = record { parts = λ j other. refl; subscriptions = λ m s found other. found; items_stay = λ m item found foreign. found }
+served_stays r clock session number asked k its None = none_changes session r.subs.table r.items
 served_stays r clock session number asked k its (Some vars) =
     (met_apart session r.subs.table r.items (world_of r.subs (item_moves.moved r.items (on_items number asked)).state clock) number (call.Items vars) its begun).others
   where
@@ -453,7 +500,9 @@ served_stays r clock session number asked k its (Some vars) =
       others = record {
         parts = λ j other. refl;
         subscriptions = λ m s found other. found;
-        items_stay = λ m item found foreign. (served_apart number asked r.items).stay k.calm.reached m item found (not_its number item (differs session r.subs.table item.subscription number foreign its));
+        none_comes = λ m s found other. inl found;
+        items_stay = λ m item found foreign. ((served_apart number asked r.items).stay k.calm.reached).0 m item found (not_its number item (differs session r.subs.table item.subscription number foreign its));
+        no_item_comes = λ m item found foreign. ((served_apart number asked r.items).stay k.calm.reached).1 m item found (not_its number item (differs session r.subs.table item.subscription number foreign its));
       };
       own = λ n s found mine. own_found session (subscription_at n r.subs.table.subscriptions) s found mine;
       sessions = λ n s own found. inl (found_own session (subscription_at n r.subs.table.subscriptions) s found own);

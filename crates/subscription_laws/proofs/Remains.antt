@@ -9,6 +9,7 @@ use Rattle.sub_table.specs.declared.action.Action.TheVariants.{Enqueue, Dequeue,
 use Rattle.sub_table.specs.declared.row.RowId.{RowId}
 use Rattle.monitored_items.specs.Items.{ItemsState, ended}
 use Rattle.monitored_items.specs.Moves.{OthersStay}
+use Rattle.monitored_items.proofs.Apart.{stays_none, stays_then}
 use Rattle.monitored_items.specs.Moves.Move.{End, TakeNotes}
 use Rattle.subscription.specs.declared.publish_call.PublishCall.{PublishCall}
 use Rattle.subscription.specs.declared.session_part.SessionPart.{SessionPart}
@@ -111,12 +112,12 @@ pub record AreApart (own : ℕ) (before after : ItemsState) : Type 0 where
   pub stay : AreReached before → OthersStay own before.items after.items
 
 apart_none : (own : ℕ) (items : ItemsState) → AreApart own items items
-apart_none own items = record { reached = λ r. r; stay = λ r number item found other. found }
+apart_none own items = record { reached = λ r. r; stay = λ r. stays_none own items.items }
 
 pub apart_then : (own : ℕ) (a b c : ItemsState) → AreApart own a b → AreApart own b c → AreApart own a c
 apart_then own a b c f g = record {
   reached = λ r. g.reached (f.reached r);
-  stay = λ r number item found other. g.stay (f.reached r) number item (f.stay r number item found other) other;
+  stay = λ r. stays_then own a.items b.items c.items (f.stay r) (g.stay (f.reached r));
 }
 
 note_apart : (n : Noting) → AreApart n.turn.own n.items (note_sent n).items

@@ -462,3 +462,20 @@ messages_kept config moves number wanted bytes given = by (subscription_at numbe
     by : (o : Option Subscription) → subscription_at number (run config moves).subs.table.subscriptions ≡ o → kept_by wanted o ≡ Some bytes → IsAmong (record { number = wanted; bytes = bytes }) (messages_for number (run_made (start config) moves))
     by None found e = absurd (cc)
     by (Some s) found e = bytes_among wanted s.kept (messages_for number (run_made (start config) moves)) bytes e (messages_live config moves number s found).kept
+
+-- Republish gives what is kept
+given_again : (session number wanted : ℕ) (bytes : List ℕ) (w : World) → (republished session number wanted w).answer ≡ Ok bytes → kept_at number wanted w.table ≡ Some bytes
+unfolding republished
+given_again session number wanted bytes w given = by (is_own w.table session number) (kept_at number wanted w.table) given
+  where
+    by : (b : Bool) (o : Option (List ℕ)) →
+        (cond b (outcome (ok_or o status.BAD_MESSAGE_NOT_AVAILABLE) (met w number (call.Republish (is_some o)))) (outcome (Err status.BAD_SUBSCRIPTION_ID_INVALID) w)).answer ≡ Ok bytes → o ≡ Some bytes
+    by true None e = absurd (cc)
+    by true (Some x) e = cc
+    by false o e = absurd (cc)
+
+pub messages_given_again : (config : Configuration) (moves : List Move) (clock : Moment) (session number wanted : ℕ) (bytes : List ℕ) → let r = run config moves in
+    (republished session number wanted (world_of r.subs r.items clock)).answer ≡ Ok bytes → IsAmong (record { number = wanted; bytes = bytes }) (messages_for number (run_made (start config) moves))
+messages_given_again config moves clock session number wanted bytes given =
+    let r = run config moves in
+    messages_kept config moves number wanted bytes (given_again session number wanted bytes (world_of r.subs r.items clock) given)

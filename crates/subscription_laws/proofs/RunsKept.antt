@@ -36,7 +36,7 @@ pub record IsRunKept (r : Ran) : Type 0 where
 
 -- ---- one call
 
-enter : (r : Ran) (clock : Moment) → IsRunKept r → IsKept None r.subs.made r.rows (world_of r.subs r.items clock)
+pub enter : (r : Ran) (clock : Moment) → IsRunKept r → IsKept None r.subs.made r.rows (world_of r.subs r.items clock)
 enter r clock k = record {
   calm = subst (λ (rows : List Fired). IsCalm rows r.subs.table r.items) (sym (append-nil r.rows)) k.calm;
   own = λ j other. k.own j;
@@ -124,7 +124,7 @@ one_run r (Move.Show changed) k = record { calm = shown_calm r.rows r.subs.table
 
 -- ---- all calls
 
-started_run : (config : Configuration) → IsRunKept (start config)
+pub started_run : (config : Configuration) → IsRunKept (start config)
 started_run config = record {
   calm = record {
     listed = record { subscriptions = tt; sessions = tt; listed = λ n s k found own. absurd (cc) };

@@ -7,6 +7,8 @@ use Rattle.item_queue.specs.Fates.{Told, account, account_after, waiting, GoesOn
 use Rattle.item_queue.specs.ItemQueue.{Deed}
 use Rattle.item_queue.specs.ItemQueue.Deed.{Sample}
 use Rattle.item_queue.specs.Sendings.{values_of, sampled_by}
+use Rattle.item_queue.specs.Causes.{may_give, GetsOnly}
+use Rattle.item_queue.proofs.CauseLemmas.{own_fates}
 use Rattle.item_queue.proofs.KeptLemmas.{deeds_go}
 use Rattle.item_queue.proofs.MarkLemmas.{marks_losses}
 use Rattle.item_queue.proofs.ValueLemmas.{values_are_told}
@@ -15,7 +17,7 @@ use Rattle.monitored_items.specs.Moves as item_moves
 use Rattle.monitored_items.specs.Moves.{queue_at}
 use Rattle.monitored_items.proofs.Causing.{fates_have_their_causes}
 use Rattle.monitored_items.proofs.Runs.{queues_are_what_waits, fates_are_final, accounts_are_in_order, accounts_tell_losses}
-use Rattle.subscription_laws.specs.Fates.{deeds_at, account_at, AreCaused, TellsEachLoss}
+use Rattle.subscription_laws.specs.Fates.{deeds_at, account_at, AreCaused, HaveTheirCauses, TellsEachLoss}
 use Rattle.subscription_laws.specs.ItemCalls.{calls_from, item_calls}
 use Rattle.subscription_laws.specs.Runs.{Move, run}
 use Rattle.subscription_laws.proofs.ItemsCalled.{items_come_by_their_calls, calls_go_on}
@@ -40,6 +42,10 @@ module _ (config : Configuration) (moves : List Move) (number : ℕ) where
 
 pub are_caused : (config : Configuration) (calls : List item_moves.Move) (number : ℕ) → AreCaused config calls number
 are_caused config calls number before after call is = fates_have_their_causes config before call number
+
+pub have_their_causes : (deeds : List (Deed DataValue)) → HaveTheirCauses deeds
+have_their_causes deeds before after deed is =
+    subst (λ (ts : List (Told DataValue)). GetsOnly (may_give (account before) deed) (account before) ts) (sym (fold-append account_after [] before (deed ∷ []))) (own_fates deed (account before))
 
 -- what stands in the account stays, whatever else is done
 stays : (before : List (Deed DataValue)) (deed : Deed DataValue) (after : List (Deed DataValue)) → GoesOn (account (before ++ deed ∷ [])) (account (before ++ deed ∷ after))

@@ -2,7 +2,7 @@
 use Rattle.std.specs.Prelude.{◌≡◌, ◌<◌, ℕ, Bool, List, [], ◌∷◌, ◌++◌}
 use Rattle.ua_types.specs.Configuration.{Configuration}
 use Rattle.ua_values.specs.declared.data_value.DataValue.{DataValue}
-use Rattle.item_queue.specs.Causes.{GetsOnly}
+use Rattle.item_queue.specs.Causes.{may_give, GetsOnly}
 use Rattle.item_queue.specs.Fates.{Told, account, GoesOn, MarksLosses}
 use Rattle.item_queue.specs.ItemQueue.{Deed}
 use Rattle.item_queue.specs.ItemQueue.Deed.{Sample}
@@ -23,6 +23,12 @@ account_at config moves number = account (deeds_at config moves number)
 abbrev pub AreCaused : Configuration → List item_moves.Move → ℕ → Type 0
 AreCaused config calls number = (before after : List item_moves.Move) (call : item_moves.Move) → calls ≡ before ++ call ∷ after →
     GetsOnly (call_may_give call) (item_moves.account_of config before number) (item_moves.account_of config (before ++ call ∷ []) number)
+
+-- and each thing that is done with a queue gives a value no fate but its own, and drives one out only where it must: a value is
+-- lost only where as many wait as the size says, and cleared by a new size only where more do
+abbrev pub HaveTheirCauses : List (Deed DataValue) → Type 0
+HaveTheirCauses deeds = (before after : List (Deed DataValue)) (deed : Deed DataValue) → deeds ≡ before ++ deed ∷ after →
+    GetsOnly (may_give (account before) deed) (account before) (account (before ++ deed ∷ []))
 
 -- a value that is queued, between what was done before and after: behind each value that is lost then, a marked one waits at
 -- once; and what stands in the account stays in its place, the mark too

@@ -4,6 +4,8 @@ pub mod Histories
 pub mod Calm
 pub mod Runs
 pub mod Messaging
+pub mod Answering
+pub mod Requests
 pub mod Apartness
 pub mod ItemCalls
 pub mod Fates

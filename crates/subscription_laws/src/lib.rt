@@ -2,13 +2,14 @@
 //!
 //! The laws have no code: their contracts state them, over the definitions of the crate [`subscription`]. `Runs` has the list
 //! of calls and what it comes to, from no subscription on; `Standings` how a subscription stands, and `Histories` what the
-//! rows that fired count; `Numbering` and `Messaging` the messages that were made, `Calm` what always holds, and `Apartness`
-//! what is of other sessions.
+//! rows that fired count; `Numbering` and `Messaging` the messages that were made, `Answering` the answers that bring them,
+//! `Requests` the requests that are answered, `Calm` what always holds, and `Apartness` what is of other sessions; `ItemCalls`
+//! the calls of items that come of any calls, `Fates` and `Tellings` what becomes of values and which messages tell them.
 //!
 //! Read docs/SUBSCRIPTIONS.md first, then `specs/Runs`.
 #![tactic(auto)]
 
-ghost use Rattle.std.specs.Prelude.{◌≡◌, ◌<◌, ◌+◌, ℕ, true, false, List, [], ◌∷◌, ◌++◌, Some};
+ghost use Rattle.std.specs.Prelude.{◌≡◌, ◌<◌, ◌≤◌, ◌+◌, ℕ, Bool, true, false, List, [], ◌∷◌, ◌++◌, map, is_some, Some, Ok};
 ghost use Rattle.item_queue.specs.Fates.{waiting, GoesOn, IsInOrder, TellsLosses};
 ghost use Rattle.item_queue.specs.Sendings.{values_of, sampled_by, sent_of};
 ghost use Rattle.monitored_items.specs.Moves.{queue_at};
@@ -17,24 +18,32 @@ ghost use Rattle.sub_table.specs.Events.{fits, is_closed};
 ghost use Rattle.sub_table.specs.StateTable.{fires};
 ghost use Rattle.sub_table.specs.Steady.{IsSteady};
 ghost use Rattle.sub_table.specs.declared.row.RowId.{RowId};
+ghost use Rattle.subscription_laws.specs.Answering.{sends, sends_keep_alive, answering, AreBrought};
 ghost use Rattle.subscription_laws.specs.Apartness.{IsRequestOf, OthersStay};
+ghost use Rattle.subscription.specs.Answers.{number_of, published_of};
 ghost use Rattle.subscription.specs.Calls.{event_of};
 ghost use Rattle.subscription_laws.specs.Calm.{IsListed, ListsItsOwn, AreLists, AreSteady};
 ghost use Rattle.subscription.specs.Firing.{fired, before_of, vars_in, row_of};
-ghost use Rattle.subscription_laws.specs.Fates.{deeds_at, account_at, AreCaused, TellsEachLoss};
+ghost use Rattle.subscription_laws.specs.Fates.{deeds_at, account_at, AreCaused, HaveTheirCauses, TellsEachLoss};
 ghost use Rattle.subscription_laws.specs.Histories.{counts_at, life_at, AreLawful};
 ghost use Rattle.subscription_laws.specs.ItemCalls.{ItemsComeByTheirCalls, item_calls};
-ghost use Rattle.subscription.specs.Making.{kept_at};
+ghost use Rattle.subscription.specs.Making.{kept_at, republished};
+ghost use Rattle.subscription.specs.Messages.{number_after, keep_alive_message};
 ghost use Rattle.subscription_laws.specs.Messaging.{messages_for, run_made, IsAmong, AreNotes, AreItsMessages};
 ghost use Rattle.subscription_laws.specs.Numbering.{AreNumbered, IsMade, messages_of, begins_or_ends};
 ghost use Rattle.subscription.specs.Ranks.{is_waiting};
+ghost use Rattle.subscription_laws.specs.Requests.{Name, such_answers, such_waiting, such_came};
 ghost use Rattle.subscription_laws.specs.Runs.{Move, run, moved, start};
 ghost use Rattle.subscription.specs.Scenes.{Scene, row_done};
+ghost use Rattle.subscription.specs.Subs.{world_of};
 ghost use Rattle.subscription_laws.specs.Standings.{Counts, standing_in, row_counts, IsAsked};
 ghost use Rattle.subscription.specs.Tables.{part_at, subscription_at};
 ghost use Rattle.subscription_laws.specs.Tellings.{all_taken, AreTold, entries_told};
+ghost use Rattle.subscription.specs.declared.call.Call.TheVariants.{Publish};
+ghost use Rattle.subscription.specs.declared.publish_call.PublishCall.{PublishCall};
 ghost use Rattle.subscription.specs.declared.subscription.Subscription.{Subscription};
 ghost use Rattle.ua_types.specs.Configuration.{Configuration};
+ghost use Rattle.ua_types.specs.declared.moment.Moment.{Moment};
 
 /// Exactly one row fires of what comes to a steady subscription, the one that is chosen.
 pub fn one_row_fires()
@@ -57,6 +66,23 @@ pub fn rows_keep_subscriptions_steady()
 pub fn rows_number_messages()
     ensures { (r : RowId) (c : Scene) → begins_or_ends r ≡ false →
         IsMade c.turn.bounds.kept c.subscription (row_done r c).subscription (messages_of r c) }
+{}
+
+/// A row that sends, be it notifications or a keep-alive, has a request to answer: at a timer the oldest that is queued, and
+/// at a Publish request the one that came, as long as it is there.
+pub fn rows_that_send_have_a_request()
+    ensures { (c : Scene) → (c.turn.call ≡ Publish → is_some c.turn.asked ≡ true) → sends (row_of c) ≡ true →
+        is_some (answering (row_of c) c) ≡ true }
+{}
+
+/// A keep-alive answers one request: the oldest that is queued where the row takes that, or else the one that came. It has
+/// the number that the subscription's next message with notifications will have, and doesn't use it up.
+pub fn keep_alives_have_the_next_number()
+    ensures answers { (r : RowId) (c : Scene) → sends_keep_alive r ≡ true → (call : PublishCall) → answering r c ≡ Some call →
+        (row_done r c).turn.replies ≡ c.turn.replies ++ published_of c.turn.clock call c.turn.own (map number_of c.subscription.kept) false
+        (keep_alive_message (number_after c.subscription.number) c.turn.clock) ∷ [] }
+    ensures unused { (r : RowId) (c : Scene) → sends_keep_alive r ≡ true →
+        (row_done r c).subscription.number ≡ c.subscription.number }
 {}
 
 /// Whatever is called, each row that fires is the only one that the table allows at its variables, which are sound.
@@ -115,12 +141,31 @@ pub fn all_messages_are_numbered()
     ensures kept { (config : Configuration) (moves : List Move) (number wanted : ℕ) (bytes : List ℕ) →
         kept_at number wanted (run config moves).subs.table ≡ Some bytes →
         IsAmong (record { number = wanted; bytes = bytes }) (messages_for number (run_made (start config) moves)) }
+    ensures republished { (config : Configuration) (moves : List Move) (clock : Moment) (session number wanted : ℕ) (bytes : List ℕ) → let r = run config moves in
+        (republished session number wanted (world_of r.subs r.items clock)).answer ≡ Ok bytes →
+        IsAmong (record { number = wanted; bytes = bytes }) (messages_for number (run_made (start config) moves)) }
     ensures notes { (config : Configuration) (moves : List Move) (session : ℕ) →
         AreNotes (run_made (start config) moves) (part_at session (run config moves).subs.table.sessions).notes }
 {}
 
+/// Whatever is called, each message that a row makes goes out: it answers a Publish request, one message a request, in the
+/// order in which they are made, and the answer brings it byte for byte, under its subscription's number.
+pub fn messages_are_answers()
+    ensures { (config : Configuration) (moves : List Move) → AreBrought (run config moves).replies (run_made (start config) moves) }
+{}
+
+/// Whatever is called, no Publish request is answered that didn't come, none twice, and none that waits was answered: of
+/// requests of any kind, told by their connections, their numbers there and their handles, the answers and those that wait
+/// are together no more than those that came.
+pub fn requests_are_answered_once()
+    ensures { (config : Configuration) (moves : List Move) (such : Name → Bool) → let r = run config moves in
+        such_answers such r.replies + such_waiting such r.subs.table.sessions ≤ such_came such moves }
+{}
+
 /// Whatever was called, a request of a session leaves what is of other sessions, or of none, as it was: their queued
-/// requests and notes, their subscriptions with all counters, messages and numbers, and the items of those.
+/// requests and notes, their subscriptions with all counters, messages and numbers, and the items of those. And none
+/// appears under another session: a subscription that isn't the session's was there before, or was its own and is now of
+/// none, and an item of a subscription that the session didn't have was there before.
 pub fn sessions_stay_apart()
     ensures { (config : Configuration) (moves : List Move) (move : Move) (session : ℕ) → let r = run config moves in
         IsRequestOf session r.subs.table move →
@@ -139,7 +184,8 @@ pub fn items_come_by_their_calls()
 /// or was cleared. The item's account has each of them once, in the order of sampling; those that wait are what its queue holds;
 /// none is sent before an older one that waits; once a value doesn't wait, its fate and its mark are final; and each call of the
 /// items gives a value no fate but its own: a row's message sends values, only another value of the item drives one out, and only
-/// a smaller queue, a disabled or deleted item, or the end of the subscription clears any.
+/// a smaller queue, a disabled or deleted item, or the end of the subscription clears any. Nothing is driven out while the queue
+/// has room, and nothing is cleared that a smaller queue holds.
 pub fn values_have_one_fate()
     ensures all { (config : Configuration) (moves : List Move) (number : ℕ) →
         values_of (account_at config moves number) ≡ sampled_by (deeds_at config moves number) }
@@ -149,6 +195,7 @@ pub fn values_have_one_fate()
     ensures for_good { (config : Configuration) (moves more : List Move) (number : ℕ) →
         GoesOn (account_at config moves number) (account_at config (moves ++ more) number) }
     ensures caused { (config : Configuration) (moves : List Move) (number : ℕ) → AreCaused config (item_calls config moves) number }
+    ensures within { (config : Configuration) (moves : List Move) (number : ℕ) → HaveTheirCauses (deeds_at config moves number) }
 {}
 
 /// Whatever is called, no value of an item is lost in silence. Where the queue holds more than one value, each loss is told of

@@ -1,5 +1,8 @@
 //! What holds of every server. The laws have no code: their contracts state them. That a configuration
 //! `IsConfigured` is the invariant of every [`ua_types::Config`].
+//!
+//! A run ends at the first event that is refused. Such an event changes nothing, so a server that goes on
+//! after it is as one that never met it.
 
 ghost use Rattle.std.specs.Prelude.{◌≡◌, ◌++◌, ℕ, List, [], Option, true};
 ghost use Rattle.std.specs.List.{AllByRecursion};

@@ -6,14 +6,14 @@ use Rattle.std.specs.Prelude.{◌&&◌, not}
 use Rattle.std.proofs.lemmas.Bool.{false≢true}
 use Rattle.ua_types.specs.declared.status.Status.{Status}
 use Rattle.monitored_items.specs.Items.{ItemsState, One, Served as ItemsServed, nothing_served, with_one, all_served}
-use Rattle.subscription.specs.Named.{Outcome, outcome, own_met, named_one, named_all, deleted}
+use Rattle.subscription.specs.Named.{Outcome, outcome, own_met, named_one, named_all, deleted, is_none}
 use Rattle.subscription.specs.Subs as subs
 use Rattle.subscription.specs.Subs.{SubsState, Said, told, Halts}
 use Rattle.subscription.specs.Ranks.{due_numbers, is_any_due}
 use Rattle.subscription.specs.Tables.{World, all_met}
 use Rattle.subscription.proofs.Dues.{none_due}
 use Rattle.ua_session.specs.Sessions.{ticked, ended_by}
-use Rattle.ua_services.specs.Services.{is_none, is_idle, ticking_of}
+use Rattle.ua_services.specs.Services.{is_idle, ticking_of}
 use Rattle.ua_services.specs.SessionServing.{with_sessions}
 use Rattle.subscription.specs.declared.answered.Answered.{Answered}
 use Rattle.subscription.specs.declared.call.Call.{Call as SubCall}

@@ -1,5 +1,5 @@
 -- All services.
-use Rattle.std.specs.Prelude.{ℕ, ◌==◌, ◌&&◌, Bool, true, false, not, List, [], ◌∷◌, Result, Ok, if◌then◌else◌}
+use Rattle.std.specs.Prelude.{ℕ, ◌==◌, ◌&&◌, Bool, not, List, Result, Ok, if◌then◌else◌}
 use Rattle.std.specs.Option.{is_some}
 use Rattle.ua_types.specs.declared.node_id.NodeId.{NodeId}
 use Rattle.ua_types.specs.declared.status.TheConstants.Status as status
@@ -20,6 +20,7 @@ use Rattle.sub_messages.specs.MonitoredItems.{create_monitored_items_request_rea
 use Rattle.sub_messages.specs.Publishing.{publish_request_reading, republish_request_reading}
 use Rattle.sub_messages.specs.Subscriptions.{create_subscription_request_reading, modify_subscription_request_reading, set_publishing_mode_request_reading, delete_subscriptions_request_reading}
 use Rattle.subscription.specs.Ending.{without_conn}
+use Rattle.subscription.specs.Named.{is_none}
 use Rattle.subscription.specs.Ranks.{is_any_due}
 use Rattle.subscription.specs.Subs.{SubsState}
 use Rattle.ua_session.specs.Sessions.{ticked, ended_by}
@@ -99,10 +100,6 @@ serving_of setting request state =
 abbrev pub ticking_of : Setting → Services → Serving
 ticking_of setting state =
     and_then (all_timed_out setting (with_sessions state (ticked state.sessions setting.clock)) (ended_by state.sessions setting.clock)) (timers_met setting)
-
-abbrev pub is_none : List ℕ → Bool
-is_none [] = true
-is_none (number ∷ numbers) = false
 
 -- whether nothing is due at a tick, and the subscriptions go on
 abbrev pub is_idle : Setting → Services → Bool

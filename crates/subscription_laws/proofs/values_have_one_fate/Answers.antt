@@ -1,5 +1,6 @@
+use Rattle.subscription_laws.specs.Fates.{deeds_at}
 use Rattle.subscription_laws.specs.ItemCalls.{item_calls}
-use Rattle.subscription_laws.proofs.ValueFates.{all_are_told, those_wait, sent_in_order, they_stay, are_caused}
+use Rattle.subscription_laws.proofs.ValueFates.{all_are_told, those_wait, sent_in_order, they_stay, are_caused, have_their_causes}
 use Rattle.subscription_laws.proofs.values_have_one_fate.Goals as goal
 
 pub returns : goal.returns
@@ -9,4 +10,5 @@ returns c = record {
   ordered = sent_in_order;
   for_good = λ config moves more number. they_stay config moves number more;
   caused = λ config moves number. are_caused config (item_calls config moves) number;
+  within = λ config moves number. have_their_causes (deeds_at config moves number);
 }

@@ -1,0 +1,93 @@
+-- Each message that is made at an event is in a reply that is given then.
+use Rattle.std.proofs.Common.{◌≡◌, ◌⊎◌, inl, inr, ℕ, List, [], ◌∷◌, ◌++◌, Option, Some, None, refl, sym, ap, ◌∙◌, subst}
+use Rattle.ua_types.specs.Configuration.{Configuration}
+use Rattle.ua_requests.specs.declared.fired.Fired.{Fired}
+use Rattle.ua_requests.specs.declared.reply.Reply.{Reply}
+use Rattle.ua_space.specs.Nodes.{SpaceState}
+use Rattle.ua_connections.specs.Connecting.{taking_of}
+use Rattle.ua_connections.specs.declared.asked.Asked.{Asked}
+use Rattle.monitored_items.specs.Items.{ItemsState}
+use Rattle.subscription.specs.Subs.{SubsState}
+use Rattle.subscription_laws.specs.Answering.{Brings, AreBrought}
+use Rattle.subscription_laws.specs.Messaging.{Made, run_made}
+use Rattle.subscription_laws.specs.Runs.{Move, Ran, run}
+use Rattle.subscription_laws.proofs.BroughtByCalls.{all_answers}
+use Rattle.subscription_laws.proofs.RunsKept.{IsRunKept, run_kept}
+use Rattle.server_laws.specs.Fates.{reached_at, first_calls, CallsOf}
+use Rattle.server_laws.specs.Moving.{ran_at, StandIn, ComesOnBy}
+use Rattle.server_laws.specs.Replying.{BringsItsMessages, BringsMessages, SendsReplies}
+use Rattle.server_laws.specs.Tables.{rows_of_run, LeadTo}
+use Rattle.ua_services.specs.Serving.{Serving}
+use Rattle.ua_services.specs.Services.{serving_of, ticking_of}
+use Rattle.ua_services.specs.declared.services.Services.{Services}
+use Rattle.ua_core.specs.Coherent.{IfRuns}
+use Rattle.ua_core.specs.Handling.{asked_for, setting_at, handled}
+use Rattle.ua_core.specs.declared.world.World.{World}
+use Rattle.ua_core.specs.declared.parts.Core.{Core}
+use Rattle.ua_core.specs.declared.event.Event.{Event}
+use Rattle.server_laws.proofs.MovingLemmas.{serving_on, ticking_on}
+
+-- ---- among more replies
+
+brought_among : (xs ys : List Reply) (ms : List Made) → StandIn xs ys → AreBrought xs ms → AreBrought ys ms
+brought_among xs ys [] p h = tt
+brought_among [] ys (m ∷ ms) p h = absurd h
+brought_among (x ∷ xs) [] (m ∷ ms) p h = absurd p
+brought_among (x ∷ xs) (y ∷ ys) (m ∷ ms) p h = by p h (λ rest told. brought_among xs ys ms rest told) (λ rest told. brought_among xs ys (m ∷ ms) rest told) (λ rest. brought_among (x ∷ xs) ys (m ∷ ms) rest h)
+  where
+    by : ((x ≡ y) × StandIn xs ys) ⊎ StandIn (x ∷ xs) ys → (Brings x m × AreBrought xs ms) ⊎ AreBrought xs (m ∷ ms) → (StandIn xs ys → AreBrought xs ms → AreBrought ys ms) →
+        (StandIn xs ys → AreBrought xs (m ∷ ms) → AreBrought ys (m ∷ ms)) → (StandIn (x ∷ xs) ys → AreBrought ys (m ∷ ms)) → (Brings y m × AreBrought ys ms) ⊎ AreBrought ys (m ∷ ms)
+    by (inl (same, rest)) (inl (b, told)) f g k = inl (subst (λ (reply : Reply). Brings reply m) same b, f rest told)
+    by (inl (same, rest)) (inr told) f g k = inr (g rest told)
+    by (inr rest) h f g k = inr (k rest)
+
+same_behind : (front xs ys : List Reply) → front ++ xs ≡ front ++ ys → xs ≡ ys
+same_behind [] xs ys e = e
+same_behind (f ∷ front) xs ys e = same_behind front xs ys (tail e)
+  where
+    tail : f ∷ front ++ xs ≡ f ∷ front ++ ys → front ++ xs ≡ front ++ ys
+    tail e = cc
+
+-- ---- a serving
+
+brings : (state : Services) (s : Serving) (rows : List Fired) (replies : List Reply) → IsRunKept (ran_at state rows replies) → ComesOnBy state s → BringsItsMessages (ran_at state rows replies) s
+brings state s rows replies kept goes =
+    let from = ran_at state rows replies in
+    let went = goes rows replies in
+    let told = all_answers went.moves from kept in
+    let same : told.more ≡ went.answers = same_behind replies told.more went.answers (sym told.so ∙ ap (λ (r : Ran). r.replies) went.left) in
+    record {
+      went = went;
+      brought = brought_among went.answers s.replies (run_made from went.moves) went.among (subst (λ (rs : List Reply). AreBrought rs (run_made from went.moves)) same told.brought);
+    }
+
+-- from where some calls led
+brings_from : (config : Configuration) (moves : List Move) (state : Services) (s : Serving) → (run config moves).subs ≡ state.subs → (run config moves).items ≡ state.items → ComesOnBy state s → BringsItsMessages (run config moves) s
+brings_from config moves state s subs items goes =
+    let r = run config moves in
+    let same : ran_at state r.rows r.replies ≡ r =
+    ap (λ (x : SubsState). record { subs = x; items = state.items; rows = r.rows; replies = r.replies }) (sym subs)
+    ∙ ap (λ (x : ItemsState). record { subs = r.subs; items = x; rows = r.rows; replies = r.replies }) (sym items) in
+    subst (λ (from : Ran). BringsItsMessages from s) same (brings state s r.rows r.replies (subst IsRunKept (sym same) (run_kept config moves)) goes)
+
+-- ---- a server
+
+brings_by : (config : Configuration) (moves : List Move) (rows : List Fired) (server : Option World) → IfRuns (LeadTo config moves rows) server → IfRuns (BringsMessages (run config moves)) server
+brings_by config moves rows None h = tt
+brings_by config moves rows (Some world) h = record {
+  requests = λ request. brings_from config moves world.core.services (serving_of world.core.setting request world.core.services) h.subs h.items (serving_on world.core.setting request world.core.services);
+  ticks = λ clock. brings_from config moves world.core.services (ticking_of (setting_at world.core clock) world.core.services) h.subs h.items (ticking_on (setting_at world.core clock) world.core.services);
+}
+
+pub brings_messages : (config : Configuration) (space : SpaceState) (events : List Event) (c : CallsOf config space events) (n : ℕ) →
+    IfRuns (BringsMessages (run config (first_calls n c.calls))) (reached_at config space events n).server
+brings_messages config space events c n =
+    let r = reached_at config space events n in
+    brings_by config (first_calls n c.calls) (rows_of_run r) r.server (c.lead n)
+
+pub sends_replies : (core : Core) → SendsReplies core
+unfolding handled
+sends_replies core = record {
+  frames = λ conn frame request e. let t = taking_of core.setting conn core.connections frame in ap (λ (a : Asked). (asked_for conn (record core { connections = t.connections }) t.outs a).outs) e;
+  ticks = λ clock. refl;
+}

@@ -1,0 +1,49 @@
+-- A keep-alive answers one request, with the number that comes next.
+use Rattle.std.proofs.Common.{◌≡◌, true, false, [], ◌∷◌, ◌++◌, map, Option, Some, refl, ap}
+use Rattle.sub_table.specs.declared.row.RowId.{RowId}
+use Rattle.sub_table.specs.declared.row.RowId.TheVariants.{N4, L2, K3}
+use Rattle.subscription.specs.declared.publish_call.PublishCall.{PublishCall}
+use Rattle.subscription.specs.declared.subscription.Subscription.{Subscription}
+use Rattle.subscription.specs.declared.turn.Turn.{Turn}
+use Rattle.subscription.specs.Answers.{number_of, published_of}
+use Rattle.subscription.specs.Messages.{number_after, keep_alive_message}
+use Rattle.subscription.specs.Queues.{first_of}
+use Rattle.subscription.specs.Scenes.{Scene, answered_by, counted, placed, dequeued, started, life_reset, row_done}
+use Rattle.subscription_laws.specs.Answering.{sends_keep_alive, answering}
+
+-- the one answer more
+abbrev Tells : RowId → Scene → PublishCall → Type 0
+Tells r c call =
+    (row_done r c).turn.replies ≡ c.turn.replies ++ published_of c.turn.clock call c.turn.own (map number_of c.subscription.kept) false (keep_alive_message (number_after c.subscription.number) c.turn.clock) ∷ []
+
+-- of a turn with such a request to answer
+told_by : (turn : Turn) (s : Subscription) (call : PublishCall) (asked : Option PublishCall) → asked ≡ Some call →
+    (answered_by asked turn s false (keep_alive_message (number_after s.number) turn.clock)).replies
+    ≡ turn.replies ++ published_of turn.clock call turn.own (map number_of s.kept) false (keep_alive_message (number_after s.number) turn.clock) ∷ []
+told_by turn s call asked is = ap (λ (o : Option PublishCall). (answered_by o turn s false (keep_alive_message (number_after s.number) turn.clock)).replies) is
+
+tells_N4 : (c : Scene) (call : PublishCall) → first_of c.part.requests ≡ Some call → Tells N4 c call
+unfolding row_done
+tells_N4 c call is = told_by (counted (dequeued c.turn c.part).turn) (placed (counted c.turn) (started c.turn (life_reset c.subscription))) call (first_of c.part.requests) is
+
+tells_K3 : (c : Scene) (call : PublishCall) → first_of c.part.requests ≡ Some call → Tells K3 c call
+unfolding row_done
+tells_K3 c call is = told_by (counted (dequeued c.turn c.part).turn) (placed (counted c.turn) (started c.turn (life_reset c.subscription))) call (first_of c.part.requests) is
+
+tells_L2 : (c : Scene) (call : PublishCall) → c.turn.asked ≡ Some call → Tells L2 c call
+unfolding row_done
+tells_L2 c call is = told_by (counted c.turn) (placed (counted c.turn) (life_reset c.subscription)) call c.turn.asked is
+
+pub keep_alive_told : (r : RowId) (c : Scene) → sends_keep_alive r ≡ true → (call : PublishCall) → answering r c ≡ Some call → Tells r c call
+keep_alive_told N4 c sends call is = tells_N4 c call is
+keep_alive_told K3 c sends call is = tells_K3 c call is
+keep_alive_told L2 c sends call is = tells_L2 c call is
+keep_alive_told r c sends call is = absurd (cc)
+
+-- which isn't used up
+pub keep_alive_unused : (r : RowId) (c : Scene) → sends_keep_alive r ≡ true → (row_done r c).subscription.number ≡ c.subscription.number
+unfolding row_done
+keep_alive_unused N4 c sends = refl
+keep_alive_unused K3 c sends = refl
+keep_alive_unused L2 c sends = refl
+keep_alive_unused r c sends = absurd (cc)

@@ -1,0 +1,5 @@
+use Rattle.subscription_laws.proofs.BroughtByCalls.{messages_brought}
+use Rattle.subscription_laws.proofs.messages_are_answers.Goals as goal
+
+pub returns : goal.returns
+returns c = messages_brought

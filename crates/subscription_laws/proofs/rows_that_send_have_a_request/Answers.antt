@@ -1,0 +1,5 @@
+use Rattle.subscription_laws.proofs.BroughtMessages.{row_given}
+use Rattle.subscription_laws.proofs.rows_that_send_have_a_request.Goals as goal
+
+pub returns : goal.returns
+returns c = row_given
