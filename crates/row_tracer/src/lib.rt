@@ -8,8 +8,8 @@
 //! ```
 //!
 //! That is: at the 10th event row N4 fired for subscription 1 and left it Normal, its keep-alive counter
-//! at 2 and its lifetime counter at 5. Four other rows of the state and the event could have fired, and
-//! each had a condition that didn't hold, the first of which is named (docs/SUBSCRIPTIONS.md).
+//! at 2 and its lifetime counter at 5. Four other rows stand for that state and event, and each has a
+//! condition that didn't hold, the first of which is named (docs/SUBSCRIPTIONS.md).
 //!
 //! The tracer chooses nothing: which rows fired is what the server's [`Step`](ua_core::Step) says, and
 //! why others didn't is what `sub_table` says of the variables before the row (beside a row that fires, each

@@ -31,7 +31,7 @@ pub enum Discard {
     Newest,
 }
 
-/// Whether a subscription publishes.
+/// Whether a subscription publishes (IEC 62541-4, section 5, SetPublishingMode).
 #[derive(Clone, Copy, Debug, PartialEq, Eq)]
 pub enum Publishing {
     On,

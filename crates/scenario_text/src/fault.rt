@@ -13,7 +13,8 @@ pub enum Cause {
     /// wrong: a text isn't closed, or isn't quoted where it must be, or something is glued to a quote.
     #[error("Word")]
     Word,
-    /// A word isn't a decimal number that fits, or `open` names a connection that isn't above all before.
+    /// A word isn't a decimal number that fits, or isn't two such numbers round a colon where those are due, or `open` names a
+    /// connection that isn't above all before.
     #[error("Number")]
     Number,
     /// A word isn't the text of a node id.

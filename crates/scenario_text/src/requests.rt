@@ -153,10 +153,13 @@ impl Phrase for RawValues {
 /// What is asked of a subscription (CreateSubscription, IEC 62541-4, section 5).
 #[derive(Clone, Copy, Debug)]
 pub struct Counts {
+    /// The lifetime count, in publishing intervals. The server revises it.
     pub lifetime: u32,
+    /// The keep-alive count, in publishing intervals. The server revises it.
     pub max_keep_alive: u32,
     /// The most notifications of a message; 0 is no limit.
     pub max_notifications: u32,
+    /// The higher comes first.
     pub priority: u8,
 }
 
@@ -177,7 +180,9 @@ impl Phrase for Counts {
 /// How an item is monitored (MonitoringParameters, IEC 62541-4, section 7).
 #[derive(Clone, Copy, Debug)]
 pub struct Monitoring {
+    /// The client's own number of the item.
     pub client_handle: u32,
+    /// How many values may wait; 0 is 1.
     pub queue_size: u32,
     pub discard: Discard,
     /// Which change is told: 0 the status, 1 also the value, 2 also the source's time.
