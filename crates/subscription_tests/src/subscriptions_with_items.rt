@@ -10,7 +10,7 @@ use std::process::Abort;
 use std::test::*;
 use sub_messages::{
     DataChangeNotification, MonitoredItemCreateRequest, MonitoringMode, MonitoringParameters,
-    NotificationMessage, PublishResponse, SubscriptionAcknowledgement,
+    NotificationMessage, PublishResponse, StatusChangeNotification, SubscriptionAcknowledgement,
 };
 use subscription::*;
 use ua_messages::{ReadValueId, message, structure, type_ids};
@@ -466,6 +466,69 @@ fn session_ends(rt: HostRuntime) -> Result<(), Fail> {
         let due = tick(alloc, &mut plant, 10_000_000)?;
         assert_eq!(rt; told(alloc, &due.rows)?.as_str(), later);
     }
+    Ok(())
+}
+
+// A tick fires these rows, and brings these messages.
+fn is_tick(
+    rt: &impl Abort,
+    alloc: Global,
+    plant: &mut Plant,
+    clock: i64,
+    rows: &str,
+    messages: &str,
+) -> Result<(), Fail> {
+    let due = tick(alloc, plant, clock)?;
+    assert_eq!(rt; told(alloc, &due.rows)?.as_str(), rows);
+    assert_eq!(rt; brought(alloc, &due.replies)?.as_str(), messages);
+    Ok(())
+}
+
+// A keep-alive has the number that the first message with values will have, each time.
+#[test]
+fn keep_alives_have_the_next_number(rt: HostRuntime) -> Result<(), Fail> {
+    let alloc = rt.alloc();
+    let mut plant = new_plant(alloc, &Config::standard(alloc)?);
+    make(alloc, &mut plant, 0, 0, 0)?;
+    for id in 1..4 {
+        publish(alloc, &mut plant, id)?;
+    }
+    is_tick(&rt, alloc, &mut plant, 10_000_000, "1:N4 ", "1.1; ")?;
+    is_tick(&rt, alloc, &mut plant, 20_000_000, "1:N6 ", "")?;
+    is_tick(&rt, alloc, &mut plant, 30_000_000, "1:K3 ", "1.1; ")?;
+    is_tick(&rt, alloc, &mut plant, 40_000_000, "1:K4 ", "")?;
+    is_tick(&rt, alloc, &mut plant, 50_000_000, "1:K3 ", "1.1; ")?;
+    assert!(rt; plant.subs.kept_numbers(alloc, 1)?.as_slice().is_empty());
+    Ok(())
+}
+
+// What a note of a time-out says: the subscription, the message's number, and the status that it changed to.
+fn note_of(alloc: Global, reply: &Reply) -> Result<(u32, u32, Status), Fail> {
+    let response: PublishResponse = message(alloc, reply.body.as_slice())?;
+    let note = &response.notification_message;
+    let parts = note.notification_data.as_slice().ok_or("null")?;
+    let object = parts.first().ok_or("nothing")?;
+    let id = type_ids::STATUS_CHANGE_NOTIFICATION;
+    let change: StatusChangeNotification = structure(alloc, id, object)?;
+    Ok((
+        response.subscription_id,
+        note.sequence_number,
+        change.status,
+    ))
+}
+
+// A subscription that never sent a message ends with a note of the number 1.
+#[test]
+fn a_note_has_the_next_number(rt: HostRuntime) -> Result<(), Fail> {
+    let alloc = rt.alloc();
+    let mut plant = new_plant(alloc, &Config::standard(alloc)?);
+    make(alloc, &mut plant, 0, 0, 0)?;
+    for clock in [10_000_000, 20_000_000, 30_000_000, 40_000_000, 50_000_000] {
+        tick(alloc, &mut plant, clock)?;
+    }
+    let noted = publish(alloc, &mut plant, 1)?;
+    let reply = noted.replies.as_slice().first().ok_or("an answer")?;
+    assert_eq!(rt; note_of(alloc, reply)?, (1, 1, Status(0x800a_0000)));
     Ok(())
 }
 
