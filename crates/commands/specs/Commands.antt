@@ -1,6 +1,8 @@
 -- What the commands come to.
-use Rattle.std.specs.Prelude.{◌≡◌, ◌⊎◌, ⊤, ℕ, List, [], ◌∷◌, Option, Some, None, option_map, IsSome, replicate, Result, Ok, Err}
+use Rattle.std.specs.Prelude.{◌≡◌, ◌⊎◌, ⊤, ℕ, List, [], ◌∷◌, ◌++◌, length, codes, string_bytes, Option, Some, None, option_map, replicate, Result, Ok, Err}
+use Rattle.std.specs.Fmt.{decimal}
 use Rattle.ua_tcp.specs.Tapped.{Tapped}
+use Rattle.ua_space.specs.Nodes.{SpaceState}
 use Rattle.ua_core.specs.World.{opening}
 use Rattle.ua_core.specs.Running.{run_of}
 use Rattle.ua_core.specs.declared.event.Event.TheVariants.{Opened}
@@ -9,7 +11,7 @@ use Rattle.pump.specs.Pumped as pump
 use Rattle.pump.specs.Pumped.{State, scene}
 use Rattle.pump.specs.declared.PumpFault.{PumpFault}
 use Rattle.pump.specs.declared.PumpFault.TheVariants as fault
-use Rattle.socket_server.specs.Serving.{IsServed, IsStopped}
+use Rattle.socket_server.specs.Serving.{IsServed, IsStopped, IsOutside}
 use Rattle.socket_server.specs.declared.serve_fault.ServeFault.{ServeFault}
 use Rattle.socket_server.specs.declared.serve_fault.ServeFault.TheVariants as serve_fault
 use Rattle.command_line.specs.Words.{AsksFor, StopsBy}
@@ -18,26 +20,13 @@ use Rattle.command_line.specs.declared.command.Command.TheVariants.{Pipe, Check,
 use Rattle.command_line.specs.declared.stop.Stop.{Stop}
 use Rattle.command_line.specs.declared.stop.Stop.TheVariants.{Help, Usage as UsageStop, Memory}
 use Rattle.commands.specs.NodeFiles.{ReadFile, ReadsNone, Made, made_in, made_of_none}
-use Rattle.scenario_lines.specs.Held.{place}
+use Rattle.scenario_lines.specs.Held.{Place, Printed, CutShort, place}
 use Rattle.commands.specs.Scenarios.{AssemblesFile, TellsFiles, TracesFiles}
 use Rattle.commands.specs.declared.status.Status.{Status}
 use Rattle.commands.specs.declared.status.Status.TheVariants.{Done, Usage, Nodes, Halted, Network, Stream}
 use Rattle.commands.specs.declared.program.Ended.{Ended}
 
--- ---- check
-
--- `check` of a text: it is done, or fails to say so, only where the text means an address space, and blames the nodes only
--- where it means none
-abbrev pub Checks : List ℕ → Status → Type 0
-Checks text Done = IsSome (made_in text)
-Checks text Stream = IsSome (made_in text)
-Checks text Nodes = made_in text ≡ None
-Checks text Halted = ⊤
-Checks text status = ⊥
-
-abbrev pub ChecksFile : List ℕ → Status → Option ReadFile → Type 0
-ChecksFile path status None = ReadsNone status
-ChecksFile path status (Some file) = (file.path ≡ path) × Checks file.text status
+-- ---- what was read, made and said
 
 -- what was made is what is said, or there was no memory; the nodes are blamed only where nothing can be made
 abbrev pub MadeBy : Result Made Status → Option Made → Type 0
@@ -45,6 +34,39 @@ MadeBy (Ok made) said = said ≡ Some made
 MadeBy (Err Nodes) said = said ≡ None
 MadeBy (Err Halted) said = ⊤
 MadeBy (Err status) said = ⊥
+
+-- What was made comes to this. Where nothing can be made, all stays, and the nodes are blamed, or there was no memory
+abbrev pub OfNodes : (Made → Status → Type 0) → Type 0 → Option Made → Status → Type 0
+OfNodes Comes Stays (Some made) status = Comes made status
+OfNodes Comes Stays None Nodes = Stays
+OfNodes Comes Stays None Halted = Stays
+OfNodes Comes Stays None status = ⊥
+
+-- a node file that was read comes to this, and where none was read all stays
+abbrev pub OfFile : (Made → Status → Type 0) → Type 0 → List ℕ → Status → Option ReadFile → Type 0
+OfFile Comes Stays path status None = ReadsNone status × Stays
+OfFile Comes Stays path status (Some file) = (file.path ≡ path) × OfNodes Comes Stays (made_in file.text) status
+
+-- this text is out; or a part of it, from its beginning on, and a call of the writer failed
+abbrev pub Says : List ℕ → Place → Place → Status → Type 0
+Says text old new Done = Printed old new text []
+Says text old new Stream = CutShort old new text
+Says text old new status = ⊥
+
+-- ---- check
+
+unfoldable pub counts_line : SpaceState → List ℕ
+counts_line space = decimal (length space.nodes) ++ codes " nodes, " ++ decimal (length space.triples) ++ codes " references\n"
+
+-- it is said how many nodes and references were made; or nothing is said, for want of memory
+abbrev pub Counts : Place → Place → Made → Status → Type 0
+Counts old new made status = Says (counts_line made.1) old new status ⊎ ((status ≡ Halted) × (new ≡ old))
+
+abbrev pub Checks : Place → Place → List ℕ → Status → Type 0
+Checks old new text status = OfNodes (Counts old new) (new ≡ old) (made_in text) status
+
+abbrev pub ChecksFile : Place → Place → List ℕ → Status → Option ReadFile → Type 0
+ChecksFile old new path status file = OfFile (Counts old new) (new ≡ old) path status file
 
 -- ---- pipe
 
@@ -72,22 +94,23 @@ status_served (Err (serve_fault.Step f)) = Halted
 status_served (Err serve_fault.Memory) = Halted
 status_served (Err serve_fault.Network) = Network
 
--- The server of what was made serves so many turns, from no connection on. Or it stops before, for the fault that the status tells;
--- or the program couldn't say that it listens, and served nobody
-abbrev pub ServesBy : Made → ℕ → Status → Type 0
-ServesBy made turns Done = IsServed (Some (opening made.0 made.1)) turns
-ServesBy made turns Stream = ⊤
-ServesBy made turns status = (f : ServeFault) × (status ≡ status_served (Err f)) × IsStopped (Some (opening made.0 made.1)) f
+unfoldable pub listening_line : ℕ → List ℕ
+listening_line port = codes "listening " ++ decimal port ++ codes "\n"
 
-abbrev pub ServesMade : Option Made → ℕ → Status → Type 0
-ServesMade (Some made) turns status = ServesBy made turns status
-ServesMade None turns Nodes = ⊤
-ServesMade None turns Halted = ⊤
-ServesMade None turns status = ⊥
+-- It is said that the server of what was made listens, and it serves so many turns, from no connection on, or stops before, for the
+-- fault that the status tells. Or nothing is said, for such a fault of the program's own; or saying it failed, and nobody is served
+abbrev pub ServesBy : Place → Place → ℕ → ℕ → Made → Status → Type 0
+ServesBy old new port turns made Done = Says (listening_line port) old new Done × IsServed (Some (opening made.0 made.1)) turns
+ServesBy old new port turns made Stream = Says (listening_line port) old new Stream
+ServesBy old new port turns made status =
+    (f : ServeFault) × (status ≡ status_served (Err f))
+    × ((Says (listening_line port) old new Done × IsStopped (Some (opening made.0 made.1)) f) ⊎ (IsOutside f × (new ≡ old)))
 
-abbrev pub ServesFile : List ℕ → ℕ → Status → Option ReadFile → Type 0
-ServesFile path turns status None = ReadsNone status
-ServesFile path turns status (Some file) = (file.path ≡ path) × ServesMade (made_in file.text) turns status
+abbrev pub ServesMade : Place → Place → ℕ → ℕ → Option Made → Status → Type 0
+ServesMade old new port turns made status = OfNodes (ServesBy old new port turns) (new ≡ old) made status
+
+abbrev pub ServesFile : Place → Place → ℕ → ℕ → List ℕ → Status → Option ReadFile → Type 0
+ServesFile old new port turns path status file = OfFile (ServesBy old new port turns) (new ≡ old) path status file
 
 module _ {R W : Type 0} (remaining : R → Option (List ℕ)) (contents : W → Option (List ℕ)) (input input' : Tapped R) (output output' : Tapped W) where
   -- nothing was read and nothing was written
@@ -104,36 +127,30 @@ module _ {R W : Type 0} (remaining : R → Option (List ℕ)) (contents : W → 
   Pipes made Halted = ((f : StepFault) × Pumps made (λ old new. pump.Stopped 1 old new (fault.Step f))) ⊎ Untouched
   Pipes made status = ⊥
 
-  -- what comes of a server that was made
   abbrev pub PipesMade : Option Made → Status → Type 0
-  PipesMade None Nodes = Untouched
-  PipesMade (Some made) Nodes = ⊥
-  PipesMade None Halted = Untouched
-  PipesMade (Some made) Halted = Pipes made Halted
-  PipesMade None status = ⊥
-  PipesMade (Some made) status = Pipes made status
+  PipesMade made status = OfNodes Pipes Untouched made status
 
   abbrev pub PipesFile : Option (List ℕ) → Status → Option ReadFile → Type 0
   PipesFile None status None = PipesMade made_of_none status
   PipesFile None status (Some file) = ⊥
-  PipesFile (Some path) status None = ReadsNone status × Untouched
-  PipesFile (Some path) status (Some file) = (file.path ≡ path) × PipesMade (made_in file.text) status
+  PipesFile (Some path) status file = OfFile Pipes Untouched path status file
 
   -- ---- all words
 
   abbrev pub Commanded : Command → Ended → Type 0
   Commanded (Pipe nodes) e = PipesFile (option_map (λ n. n.now) nodes) e.status e.file
-  Commanded (Check nodes) e = ChecksFile nodes.now e.status e.file × (input' ≡ input)
+  Commanded (Check nodes) e = ChecksFile (place contents output) (place contents output') nodes.now e.status e.file × (input' ≡ input)
   Commanded (Asm scenario) e =
       AssemblesFile (place contents output) (place contents output') scenario.now e.status e.scenario × (input' ≡ input)
   Commanded (Run nodes scenario) e =
       TellsFiles (place contents output) (place contents output') nodes.now scenario.now e.status e.file e.scenario × (input' ≡ input)
   Commanded (Trace nodes scenario) e =
       TracesFiles (place contents output) (place contents output') nodes.now scenario.now e.status e.file e.scenario × (input' ≡ input)
-  Commanded (Serve nodes port turns) e = ServesFile nodes.now turns e.status e.file × (input' ≡ input)
+  Commanded (Serve nodes port turns) e =
+      ServesFile (place contents output) (place contents output') port turns nodes.now e.status e.file × (input' ≡ input)
 
   abbrev pub StopsWith : Stop → Ended → Type 0
-  StopsWith (Help text) e = ((e.status ≡ Done) ⊎ (e.status ≡ Stream)) × (e.file ≡ None) × (input' ≡ input)
+  StopsWith (Help text) e = Says (string_bytes text) (place contents output) (place contents output') e.status × (e.file ≡ None) × (input' ≡ input)
   StopsWith (UsageStop text) e = (e.status ≡ Usage) × (e.file ≡ None) × Untouched
   StopsWith Memory e = (e.status ≡ Halted) × (e.file ≡ None) × Untouched
 

@@ -48,7 +48,7 @@ OfMade Comes Stays None path Nodes None = Stays
 OfMade Comes Stays None path Halted None = Stays
 OfMade Comes Stays None path status scenario = ⊥
 
--- the same of a node file that was read, and where none was read no scenario was
+-- a node file that was read comes to this, and where none was read no scenario was
 abbrev pub OfFiles : (Made → Assembled → Status → Type 0) → Type 0 → List ℕ → List ℕ → Status → Option ReadFile → Option ReadFile → Type 0
 OfFiles Comes Stays nodes path status None scenario = ReadsNone status × (scenario ≡ None) × Stays
 OfFiles Comes Stays nodes path status (Some file) scenario = (file.path ≡ nodes) × OfMade Comes Stays (made_in file.text) path status scenario

@@ -1,10 +1,12 @@
 //! What the commands do, over words, texts and streams. Those that take a scenario stand in `scenarios`.
 
-ghost use Rattle.std.specs.Prelude.{◌≡◌, ◌⊎◌, Option, Some, None, IfOk, IfErr, map, option_map};
+ghost use Rattle.std.specs.Prelude.{◌≡◌, Option, Some, None, IfOk, IfErr, map, option_map, string_bytes};
 ghost use Rattle.ua_core.specs.World.{world_of};
 ghost use Rattle.ua_space.specs.Build.{space_of};
+ghost use Rattle.scenario_lines.specs.Held.{place};
 ghost use Rattle.commands.specs.NodeFiles.{Made, ReadsNone, built, made_in, made_of_none};
-ghost use Rattle.commands.specs.Commands.{MadeBy, Checks, ChecksFile, opened, status_of, status_served, Pipes, PipesMade, PipesFile, ServesBy, ServesMade, ServesFile, Runs};
+ghost use Rattle.commands.specs.Commands.{MadeBy, Says, Checks, ChecksFile, opened, status_of, status_served, Pipes, PipesMade, PipesFile, ServesBy, ServesMade, ServesFile, Runs};
+ghost use Rattle.commands.specs.Commands.{counts_line as counts_line_lem, listening_line as listening_line_lem};
 
 use crate::scenarios::{asm_at, run_at, trace_at};
 use crate::status::Status;
@@ -13,7 +15,7 @@ use command_line::{Command, Stop, parse};
 use node_loader::{Cause, Loaded, load};
 use pump::{Pump, PumpFault};
 use socket_server::{Serve, ServeFault};
-use std::alloc::Global;
+use std::alloc::{AllocError, Global};
 use std::io::{Read, Write};
 use std::net::Net;
 use std::random::RandomSource;
@@ -22,7 +24,7 @@ use std::sync::Wait;
 use std::time::Clock;
 use ua_core::{Event, Server, StepFault};
 use ua_space::{Node, Space, SpaceFault, Triple};
-use ua_tcp::Tap;
+use ua_tcp::{Tap, put_bytes};
 use ua_types::Config;
 
 /// The one connection of `pipe`.
@@ -85,6 +87,21 @@ pub(crate) fn stream<E: Write>(errors: &mut E) -> Status
 {
     let _ = writeln!(errors, "stream");
     Status::Stream
+}
+
+// Writes a text whole, or says that the stream failed.
+fn say<O: Write, E: Write>(text: &str, output: &mut Tap<O>, errors: &mut E) -> Status
+    ensures { Says text.now (place O.contents output.old) (place O.contents output.new) result }
+{
+    let bytes = text.as_bytes();
+    let count = put_bytes(output, bytes);
+    if count < bytes.len() {
+        return stream(errors);
+    }
+    if output.flush().is_err() {
+        return stream(errors);
+    }
+    Status::Done
 }
 
 // Reads the file at this path, or says why there is none.
@@ -159,38 +176,45 @@ fn no_nodes<E: Write>(alloc: Global, errors: &mut E) -> Result<(Config, Space), 
     }
 }
 
-/// Counts the nodes and the references that the text of a node file means, those that every server has
+// The line of `check`.
+fn counts_line(alloc: Global, space: &Space) -> Result<String, AllocError>
+    ensures { IfOk result (λ line. string_bytes line ≡ counts_line_lem space.now) }
+{
+    let nodes = space.node_count();
+    let references = space.triple_count();
+    format!(in alloc; "{nodes} nodes, {references} references\n")
+}
+
+/// Prints how many nodes and references the text of a node file means, those that every server has
 /// included.
+///
+/// `Nodes` comes where something is wrong with the text, and `Halted` where memory ran out: nothing is
+/// printed then. `Stream` comes where a call of the output failed, and a part of the line may be out.
 pub fn check<O: Write, E: Write>(
     alloc: Global,
     text: &str,
-    output: &mut O,
+    output: &mut Tap<O>,
     errors: &mut E,
 ) -> Status
-    ensures { Checks text.now result }
+    ensures { Checks (place O.contents output.old) (place O.contents output.new) text.now result }
 {
-    let (_config, space) = match nodes_in(alloc, text, errors) {
-        Ok(found) => found,
-        Err(status) => return status,
-    };
-    let nodes = space.node_count();
-    let references = space.triple_count();
-    if writeln!(output, "{nodes} nodes, {references} references").is_err()
-        || output.flush().is_err()
-    {
-        return stream(errors);
+    match nodes_in(alloc, text, errors) {
+        Ok((_config, space)) => match counts_line(alloc, &space) {
+            Ok(line) => say(line.as_str(), output, errors),
+            Err(_) => no_memory(errors),
+        },
+        Err(status) => status,
     }
-    Status::Done
 }
 
 // `check` of the node file at this path.
 fn check_at<R: Files + AllocGlobal, O: Write, E: Write>(
     rt: &R,
     path: &str,
-    output: &mut O,
+    output: &mut Tap<O>,
     errors: &mut E,
 ) -> Ended
-    ensures { ChecksFile path.now result.status result.file }
+    ensures { ChecksFile (place O.contents output.old) (place O.contents output.new) path.now result.status result.file }
 {
     match read_file(rt, path, errors) {
         Ok(file) => {
@@ -229,6 +253,10 @@ fn pumped<E: Write>(ran: Result<(), PumpFault>, errors: &mut E) -> Status
 
 /// Hands the input to a server of this configuration and address space, as its only connection, and
 /// writes the server's answers.
+///
+/// `Done` comes at the end of the input, or once the server has closed the connection: all answers are out
+/// then. `Stream` comes where a call of the input or the output failed, or where the input had no end, and
+/// `Halted` where memory ran out or the server halted.
 pub fn pipe<I: Read, O: Write, E: Write>(
     alloc: Global,
     config: Config,
@@ -307,8 +335,20 @@ fn served<E: Write>(ran: Result<(), ServeFault>, errors: &mut E) -> Status
     }
 }
 
+// The line of `serve`.
+#[tactic(auto, unfolding(crate::specs::Commands::listening_line))]
+fn listening_line(alloc: Global, port: u16) -> Result<String, AllocError>
+    ensures { IfOk result (λ line. string_bytes line ≡ listening_line_lem port) }
+{
+    format!(in alloc; "listening {port}\n")
+}
+
 /// Serves connections to a port of 127.0.0.1 by a server of this configuration and address space, for so
 /// many turns, or without end for 0. Says `listening` and the port once clients can connect.
+///
+/// `Done` comes after the turns, `Network` where the port can't be had, or where the system refuses the
+/// wait, the clock or random bytes, and `Halted` where memory ran out or the server halted. `Stream` comes
+/// where a call of the output failed, so that it isn't known that the program listens: nobody is served.
 pub fn serve<R: Net + RandomSource + Clock + Wait, O: Write, E: Write>(
     rt: &R,
     alloc: Global,
@@ -316,21 +356,26 @@ pub fn serve<R: Net + RandomSource + Clock + Wait, O: Write, E: Write>(
     space: Space,
     port: u16,
     turns: u64,
-    output: &mut O,
+    output: &mut Tap<O>,
     errors: &mut E,
 ) -> Status
-    ensures { ServesBy (config, space) turns result }
+    ensures { ServesBy (place O.contents output.old) (place O.contents output.new) port turns (config, space) result }
 {
+    let Ok(line) = listening_line(alloc, port) else {
+        return no_memory(errors);
+    };
     let mut server = Server::new(alloc, config, space);
     let mut serve = match Serve::bind(rt, alloc, port) {
         Ok(serve) => serve,
         Err(fault) => return served(Err(fault), errors),
     };
-    if writeln!(output, "listening {port}").is_err() || output.flush().is_err() {
-        return stream(errors);
+    match say(line.as_str(), output, errors) {
+        Status::Done => {
+            let ran = serve.run(rt, alloc, &mut server, turns);
+            served(ran, errors)
+        }
+        status => status,
     }
-    let ran = serve.run(rt, alloc, &mut server, turns);
-    served(ran, errors)
 }
 
 // `serve` of what was made.
@@ -340,10 +385,11 @@ fn serve_made<R: Net + RandomSource + Clock + Wait, O: Write, E: Write>(
     made: Result<(Config, Space), Status>,
     port: u16,
     turns: u64,
-    output: &mut O,
+    output: &mut Tap<O>,
     errors: &mut E,
 ) -> Status
-    ensures { (said : Option Made) → MadeBy made said → ServesMade said turns result }
+    ensures { (said : Option Made) → MadeBy made said →
+        ServesMade (place O.contents output.old) (place O.contents output.new) port turns said result }
 {
     match made {
         Ok((config, space)) => serve(rt, alloc, config, space, port, turns, output, errors),
@@ -357,10 +403,11 @@ fn serve_at<R: Files + AllocGlobal + Net + RandomSource + Clock + Wait, O: Write
     path: &str,
     port: u16,
     turns: u64,
-    output: &mut O,
+    output: &mut Tap<O>,
     errors: &mut E,
 ) -> Ended
-    ensures { ServesFile path.now turns result.status result.file }
+    ensures { ServesFile (place O.contents output.old) (place O.contents output.new) port turns path.now
+        result.status result.file }
 {
     let alloc = rt.alloc();
     match read_file(rt, path, errors) {
@@ -371,16 +418,6 @@ fn serve_at<R: Files + AllocGlobal + Net + RandomSource + Clock + Wait, O: Write
         }
         Err(status) => Ended::by(status),
     }
-}
-
-// Writes the text of a request for help.
-fn help<O: Write, E: Write>(text: &str, output: &mut O, errors: &mut E) -> Status
-    ensures { (result ≡ Status.Done) ⊎ (result ≡ Status.Stream) }
-{
-    if write!(output, "{text}").is_err() || output.flush().is_err() {
-        return stream(errors);
-    }
-    Status::Done
 }
 
 /// Does what these words ask for: the words after the program's name. What is asked for goes to
@@ -403,7 +440,7 @@ pub fn run<R: Files + AllocGlobal + Net + RandomSource + Clock + Wait, I: Read, 
         Ok(Command::Serve { nodes, port, turns }) => {
             serve_at(rt, nodes, port, turns, output, errors)
         }
-        Err(Stop::Help(text)) => Ended::by(help(text.as_str(), output, errors)),
+        Err(Stop::Help(text)) => Ended::by(say(text.as_str(), output, errors)),
         Err(Stop::Usage(text)) => {
             let _ = write!(errors, "{text}");
             Ended::by(Status::Usage)

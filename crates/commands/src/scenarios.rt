@@ -46,6 +46,11 @@ fn printed<E: Write>(done: Result<(), PrintFault>, errors: &mut E) -> Status
 }
 
 /// Prints the events that a scenario comes to, a line for each.
+///
+/// `Scenario` comes where the scenario has a bad line, and nothing is printed then. `Halted` comes where
+/// memory ran out, and the lines of the events before that for which there was no room are out, or none.
+/// `Stream` comes where a call of the output failed, and a part of the lines may be out, from their
+/// beginning on.
 pub fn asm<O: Write, E: Write>(
     alloc: Global,
     text: &str,

@@ -1,7 +1,7 @@
 //! What `check` and `pipe` make of node files, and of one that isn't there.
 
 use commands::Status;
-use known_messages::{HELLO, PLANT};
+use known_messages::{HELLO, PLANT, SAMPLE};
 use std::alloc::Global;
 use std::fs;
 use std::process::Abort;
@@ -10,10 +10,11 @@ use ua_tcp::Tap;
 
 /// Checks the text of a node file: its status, and the line that it writes to the output or the errors.
 fn says(rt: &impl Abort, alloc: Global, text: &str, status: Status, line: &str) {
-    let mut output = Vec::new(alloc);
+    let mut output = Tap::new(Vec::new(alloc));
     let mut errors = Vec::new(alloc);
     let found = commands::check(alloc, text, &mut output, &mut errors);
     assert_eq!(rt; found, status, "{text}");
+    let output = output.into_inner();
     let (said, other) = if status == Status::Done {
         (output, errors)
     } else {
@@ -29,6 +30,7 @@ fn checking_node_files(rt: HostRuntime) -> Result<(), Fail> {
     let good = [
         ("version = 1", "22 nodes, 29 references\n"),
         (PLANT, "24 nodes, 33 references\n"),
+        (SAMPLE, "29 nodes, 43 references\n"),
     ];
     for (text, line) in good {
         says(&rt, alloc, text, Status::Done, line);
@@ -52,11 +54,11 @@ fn checking_node_files(rt: HostRuntime) -> Result<(), Fail> {
     for (text, line) in faults {
         says(&rt, alloc, text, Status::Nodes, line);
     }
-    let twice = PLANT.replace(alloc, "ns=1;i=2", "ns=1;i=1")?;
+    let twice = SAMPLE.replace(alloc, "ns=1;i=2\"", "ns=1;i=1\"")?;
     let line = "nodes: Duplicate node 2\n";
     says(&rt, alloc, twice.as_str(), Status::Nodes, line);
-    let colour = PLANT.replace(alloc, "value = 0", "value = 0\ncolour = 1")?;
-    let line = "nodes: UnknownKey node 2\n";
+    let colour = SAMPLE.replace(alloc, "historizing", "colour = 1\nhistorizing")?;
+    let line = "nodes: UnknownKey node 3\n";
     says(&rt, alloc, colour.as_str(), Status::Nodes, line);
     Ok(())
 }

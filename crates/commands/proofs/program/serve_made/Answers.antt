@@ -1,7 +1,13 @@
-use Rattle.std.proofs.Common.{subst}
-use Rattle.commands.specs.Commands.{MadeBy}
-use Rattle.commands.proofs.ServeLemmas.{unmade}
+use Rattle.std.proofs.Common.{◌≡◌, refl, subst}
+use Rattle.socket_server.specs.declared.serve_fault.ServeFault.TheVariants as serve_fault
+use Rattle.scenario_lines.specs.Held.{place}
+use Rattle.commands.specs.Commands.{MadeBy, ServesBy}
+use Rattle.commands.proofs.MadeLemmas.{unmade}
+use Rattle.commands.proofs.ServeLemmas.{refused}
 use Rattle.commands.proofs.program.serve_made.Goals as goal
 
 pub returns-in-Err : goal.returns-in-Err
-returns-in-Err g c = λ said by. unmade c.args.turns said c.in-Err.status (subst (λ r. MadeBy r said) c.in-Err.is by)
+returns-in-Err g c =
+    let at = place g.O.Write.contents c.args.output.now in
+    λ said by. unmade (ServesBy at at c.args.port c.args.turns) (at ≡ at) said c.in-Err.status (subst (λ r. MadeBy r said) c.in-Err.is by) refl
+    (λ made. refused at at c.args.port c.args.turns made serve_fault.Memory tt refl)
