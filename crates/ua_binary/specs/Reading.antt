@@ -35,6 +35,11 @@ abbrev pub ReadsAs : {A B : Type 0} → (A → B) → Result A TakeFault → Lis
 ReadsAs view (Ok v) rest reading = reading ≡ Ok (view v, rest)
 ReadsAs view (Err e) rest reading = e ≢ Memory → reading ≡ Err e
 
+-- What a function put into a place, and the bytes left after it, are what reading gives, unless memory ran out.
+abbrev pub ReadsInto : {A B : Type 0} → Result B TakeFault → A → List ℕ → Result (A × List ℕ) TakeFault → Type 0
+ReadsInto (Ok _) place rest reading = reading ≡ Ok (place, rest)
+ReadsInto (Err e) place rest reading = e ≢ Memory → reading ≡ Err e
+
 -- the new list begins with the old one
 abbrev pub Extends : List ℕ → List ℕ → Type 0
 Extends old new = take (length old) new ≡ old

@@ -2,13 +2,15 @@
 
 ghost use Rattle.std.specs.Prelude.{◌≡◌, ◌<◌, ◌++◌, is_some, ℕ, List, Ok, Err, OnOk, OnErr, option_map};
 ghost use Rattle.ua_binary.specs.declared.fault.TakeFault.TheVariants.{Memory};
-ghost use Rattle.ua_binary.specs.Reading.{Reads, Extends};
+ghost use Rattle.ua_binary.specs.Reading.{Reads, ReadsInto, Extends};
 ghost use Rattle.ua_binary.specs.Texts.{IsBacked};
 ghost use Rattle.ua_binary.specs.Parts.{flag};
+ghost use Rattle.ua_binary.specs.Variants.{variant_reading};
 ghost use Rattle.ua_binary.specs.DataValues.{optional_reading, optional_encoding, data_value_reading, data_value_encoding};
 
 use crate::cursor::Cursor;
 use crate::fault::TakeFault;
+use crate::variants::decode_variant;
 use crate::wire::Wire;
 use crate::written::Written;
 use std::alloc::{AllocError, Global};
@@ -70,6 +72,24 @@ fn decode_where_set<T: Wire>(
     Ok(Some(T::decode(alloc, cursor)?))
 }
 
+// Reads the value where its bit is set. No value is in the place where it isn't.
+#[tactic(auto, unfolding(crate::specs::DataValues::optional_reading))]
+fn decode_value_where_set(
+    alloc: Global,
+    bit: u8,
+    cursor: &mut Cursor<'_>,
+    place: &mut Option<Variant>,
+) -> Result<(), TakeFault>
+    ensures reads { ReadsInto result place.new cursor.new (optional_reading bit variant_reading cursor.old) }
+    ensures backed { result ≡ Err Memory → IsBacked cursor.new }
+{
+    if bit == 0 {
+        *place = None;
+        return Ok(());
+    }
+    decode_variant(alloc, cursor, place.insert(Variant::Null))
+}
+
 // 1 for a part that is there.
 fn bit<T>(part: Option<&T>) -> u8
     ensures bit { result ≡ flag (is_some part.entry) }
@@ -129,7 +149,8 @@ impl Wire for DataValue {
 
     fn decode(alloc: Global, cursor: &mut Cursor<'_>) -> Result<DataValue, TakeFault> {
         let mask = u8::decode(alloc, cursor)?;
-        let value = decode_where_set::<Variant>(alloc, mask % 2, cursor)?;
+        let mut value = None;
+        decode_value_where_set(alloc, mask % 2, cursor, &mut value)?;
         let status = decode_where_set::<Status>(alloc, mask / 2 % 2, cursor)?;
         let source_time = decode_where_set::<Moment>(alloc, mask / 4 % 2, cursor)?;
         let _picoseconds = decode_where_set::<u16>(alloc, mask / 16 % 2, cursor)?;

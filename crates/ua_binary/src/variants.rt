@@ -2,7 +2,7 @@
 
 ghost use Rattle.std.specs.Prelude.{◌≡◌, ◌≢◌, ◌<◌, ◌≤◌, ◌++◌, ℕ, List, Ok, Err, OnOk, OnErr};
 ghost use Rattle.ua_binary.specs.declared.fault.TakeFault.TheVariants.{Memory};
-ghost use Rattle.ua_binary.specs.Reading.{Reads, Extends};
+ghost use Rattle.ua_binary.specs.Reading.{Reads, ReadsInto, Extends};
 ghost use Rattle.ua_binary.specs.Texts.{ClaimsTooMany, IsBacked};
 ghost use Rattle.ua_binary.specs.Variants.{in_dimensions, or_empty, content_reading, typed_reading, variant_reading, ClaimsTooManyElements, flags_of, content_encoding, typed_encoding, variant_encoding};
 
@@ -65,7 +65,9 @@ fn decode_content<T: Wire>(
     }
 }
 
-// The types stand in four functions, since each takes room for the contents of all its types at once.
+// What follows reads into a place, since a value that is returned is copied once for each function that it
+// passes through. The types stand in four functions, since each takes room for the contents of all its types
+// at once.
 
 // Reads what follows a first byte with the number of a Boolean or an integer of up to 32 bits.
 #[tactic(auto, unfolding(crate::specs::Variants::typed_reading))]
@@ -74,23 +76,25 @@ fn decode_integer(
     number: u8,
     flags: u8,
     cursor: &mut Cursor<'_>,
-) -> Result<Variant, TakeFault>
+    place: &mut Variant,
+) -> Result<(), TakeFault>
     requires least { 1 ≤ number }
     requires most { number ≤ 7 }
-    ensures reads { Reads result cursor.new (typed_reading number flags cursor.old) }
+    ensures reads { ReadsInto result place.new cursor.new (typed_reading number flags cursor.old) }
     ensures claim { 2 ≤ flags → ClaimsTooMany cursor.old → result ≢ Err Memory }
     ensures backed { result ≡ Err Memory → IsBacked cursor.new }
 {
-    match number {
-        1 => Ok(Variant::Boolean(decode_content(alloc, flags, cursor)?)),
-        2 => Ok(Variant::SByte(decode_content(alloc, flags, cursor)?)),
-        3 => Ok(Variant::Byte(decode_content(alloc, flags, cursor)?)),
-        4 => Ok(Variant::Int16(decode_content(alloc, flags, cursor)?)),
-        5 => Ok(Variant::UInt16(decode_content(alloc, flags, cursor)?)),
-        6 => Ok(Variant::Int32(decode_content(alloc, flags, cursor)?)),
-        7 => Ok(Variant::UInt32(decode_content(alloc, flags, cursor)?)),
+    *place = match number {
+        1 => Variant::Boolean(decode_content(alloc, flags, cursor)?),
+        2 => Variant::SByte(decode_content(alloc, flags, cursor)?),
+        3 => Variant::Byte(decode_content(alloc, flags, cursor)?),
+        4 => Variant::Int16(decode_content(alloc, flags, cursor)?),
+        5 => Variant::UInt16(decode_content(alloc, flags, cursor)?),
+        6 => Variant::Int32(decode_content(alloc, flags, cursor)?),
+        7 => Variant::UInt32(decode_content(alloc, flags, cursor)?),
         _ => unreachable!(),
-    }
+    };
+    Ok(())
 }
 
 // Reads what follows a first byte with the number of a longer number.
@@ -100,20 +104,22 @@ fn decode_number(
     number: u8,
     flags: u8,
     cursor: &mut Cursor<'_>,
-) -> Result<Variant, TakeFault>
+    place: &mut Variant,
+) -> Result<(), TakeFault>
     requires least { 8 ≤ number }
     requires most { number ≤ 11 }
-    ensures reads { Reads result cursor.new (typed_reading number flags cursor.old) }
+    ensures reads { ReadsInto result place.new cursor.new (typed_reading number flags cursor.old) }
     ensures claim { 2 ≤ flags → ClaimsTooMany cursor.old → result ≢ Err Memory }
     ensures backed { result ≡ Err Memory → IsBacked cursor.new }
 {
-    match number {
-        8 => Ok(Variant::Int64(decode_content(alloc, flags, cursor)?)),
-        9 => Ok(Variant::UInt64(decode_content(alloc, flags, cursor)?)),
-        10 => Ok(Variant::Float(decode_content(alloc, flags, cursor)?)),
-        11 => Ok(Variant::Double(decode_content(alloc, flags, cursor)?)),
+    *place = match number {
+        8 => Variant::Int64(decode_content(alloc, flags, cursor)?),
+        9 => Variant::UInt64(decode_content(alloc, flags, cursor)?),
+        10 => Variant::Float(decode_content(alloc, flags, cursor)?),
+        11 => Variant::Double(decode_content(alloc, flags, cursor)?),
         _ => unreachable!(),
-    }
+    };
+    Ok(())
 }
 
 // Reads what follows a first byte with the number of a text, a moment, a Guid or bytes.
@@ -123,21 +129,23 @@ fn decode_sized(
     number: u8,
     flags: u8,
     cursor: &mut Cursor<'_>,
-) -> Result<Variant, TakeFault>
+    place: &mut Variant,
+) -> Result<(), TakeFault>
     requires least { 12 ≤ number }
     requires most { number ≤ 16 }
-    ensures reads { Reads result cursor.new (typed_reading number flags cursor.old) }
+    ensures reads { ReadsInto result place.new cursor.new (typed_reading number flags cursor.old) }
     ensures claim { 2 ≤ flags → ClaimsTooMany cursor.old → result ≢ Err Memory }
     ensures backed { result ≡ Err Memory → IsBacked cursor.new }
 {
-    match number {
-        12 => Ok(Variant::String(decode_content(alloc, flags, cursor)?)),
-        13 => Ok(Variant::DateTime(decode_content(alloc, flags, cursor)?)),
-        14 => Ok(Variant::Guid(decode_content(alloc, flags, cursor)?)),
-        15 => Ok(Variant::ByteString(decode_content(alloc, flags, cursor)?)),
-        16 => Ok(Variant::XmlElement(decode_content(alloc, flags, cursor)?)),
+    *place = match number {
+        12 => Variant::String(decode_content(alloc, flags, cursor)?),
+        13 => Variant::DateTime(decode_content(alloc, flags, cursor)?),
+        14 => Variant::Guid(decode_content(alloc, flags, cursor)?),
+        15 => Variant::ByteString(decode_content(alloc, flags, cursor)?),
+        16 => Variant::XmlElement(decode_content(alloc, flags, cursor)?),
         _ => unreachable!(),
-    }
+    };
+    Ok(())
 }
 
 // Reads what follows a first byte with the number of an id, a status, a name or a structure.
@@ -147,22 +155,24 @@ fn decode_composed(
     number: u8,
     flags: u8,
     cursor: &mut Cursor<'_>,
-) -> Result<Variant, TakeFault>
+    place: &mut Variant,
+) -> Result<(), TakeFault>
     requires least { 17 ≤ number }
     requires most { number ≤ 22 }
-    ensures reads { Reads result cursor.new (typed_reading number flags cursor.old) }
+    ensures reads { ReadsInto result place.new cursor.new (typed_reading number flags cursor.old) }
     ensures claim { 2 ≤ flags → ClaimsTooMany cursor.old → result ≢ Err Memory }
     ensures backed { result ≡ Err Memory → IsBacked cursor.new }
 {
-    match number {
-        17 => Ok(Variant::NodeId(decode_content(alloc, flags, cursor)?)),
-        18 => Ok(Variant::ExpandedNodeId(decode_content(alloc, flags, cursor)?)),
-        19 => Ok(Variant::StatusCode(decode_content(alloc, flags, cursor)?)),
-        20 => Ok(Variant::QualifiedName(decode_content(alloc, flags, cursor)?)),
-        21 => Ok(Variant::LocalizedText(decode_content(alloc, flags, cursor)?)),
-        22 => Ok(Variant::ExtensionObject(decode_content(alloc, flags, cursor)?)),
+    *place = match number {
+        17 => Variant::NodeId(decode_content(alloc, flags, cursor)?),
+        18 => Variant::ExpandedNodeId(decode_content(alloc, flags, cursor)?),
+        19 => Variant::StatusCode(decode_content(alloc, flags, cursor)?),
+        20 => Variant::QualifiedName(decode_content(alloc, flags, cursor)?),
+        21 => Variant::LocalizedText(decode_content(alloc, flags, cursor)?),
+        22 => Variant::ExtensionObject(decode_content(alloc, flags, cursor)?),
         _ => unreachable!(),
-    }
+    };
+    Ok(())
 }
 
 // Reads what follows a first byte with this number and these flags.
@@ -172,25 +182,43 @@ fn decode_typed(
     number: u8,
     flags: u8,
     cursor: &mut Cursor<'_>,
-) -> Result<Variant, TakeFault>
-    ensures reads { Reads result cursor.new (typed_reading number flags cursor.old) }
+    place: &mut Variant,
+) -> Result<(), TakeFault>
+    ensures reads { ReadsInto result place.new cursor.new (typed_reading number flags cursor.old) }
     ensures claim { 2 ≤ flags → ClaimsTooMany cursor.old → result ≢ Err Memory }
     ensures backed { result ≡ Err Memory → IsBacked cursor.new }
 {
     match number {
         0 => {
             if flags == 0 {
-                Ok(Variant::Null)
+                *place = Variant::Null;
+                Ok(())
             } else {
                 Err(TakeFault::Form)
             }
         }
-        1..=7 => decode_integer(alloc, number, flags, cursor),
-        8..=11 => decode_number(alloc, number, flags, cursor),
-        12..=16 => decode_sized(alloc, number, flags, cursor),
-        17..=22 => decode_composed(alloc, number, flags, cursor),
+        1..=7 => decode_integer(alloc, number, flags, cursor, place),
+        8..=11 => decode_number(alloc, number, flags, cursor, place),
+        12..=16 => decode_sized(alloc, number, flags, cursor, place),
+        17..=22 => decode_composed(alloc, number, flags, cursor, place),
         _ => Err(TakeFault::Kind),
     }
+}
+
+/// Reads a value into a place. At an `Err` the cursor stands as after [`Wire::decode`], and any value may be
+/// in the place.
+#[tactic(auto, using(crate::proofs::TypeBytes::announced_claim), unfolding(crate::specs::Variants::variant_reading))]
+pub(crate) fn decode_variant(
+    alloc: Global,
+    cursor: &mut Cursor<'_>,
+    place: &mut Variant,
+) -> Result<(), TakeFault>
+    ensures reads { ReadsInto result place.new cursor.new (variant_reading cursor.old) }
+    ensures claim { ClaimsTooManyElements cursor.old → result ≢ Err Memory }
+    ensures backed { result ≡ Err Memory → IsBacked cursor.new }
+{
+    let first = cursor.byte()?;
+    decode_typed(alloc, first % 64, first / 64, cursor, place)
 }
 
 // Writes the first byte and what it announces.
@@ -225,7 +253,7 @@ fn encode_typed<T: Wire>(
     }
 }
 
-#[tactic(auto, using(crate::proofs::Extending::extends_more, crate::proofs::TypeBytes::announced_claim, crate::proofs::TypeBytes::number_is, crate::proofs::TypeBytes::flags_are), unfolding(crate::specs::Variants::typed_reading, crate::specs::Variants::variant_reading, crate::specs::Variants::variant_encoding))]
+#[tactic(auto, using(crate::proofs::Extending::extends_more, crate::proofs::TypeBytes::number_is, crate::proofs::TypeBytes::flags_are), unfolding(crate::specs::Variants::typed_reading, crate::specs::Variants::variant_reading, crate::specs::Variants::variant_encoding))]
 impl Wire for Variant {
     ghost reading = { variant_reading };
 
@@ -234,8 +262,9 @@ impl Wire for Variant {
     ghost spares_memory = { ClaimsTooManyElements };
 
     fn decode(alloc: Global, cursor: &mut Cursor<'_>) -> Result<Variant, TakeFault> {
-        let first = cursor.byte()?;
-        decode_typed(alloc, first % 64, first / 64, cursor)
+        let mut value = Variant::Null;
+        decode_variant(alloc, cursor, &mut value)?;
+        Ok(value)
     }
 
     fn encode(&self, out: &mut Vec<u8>) -> Result<(), AllocError> {
