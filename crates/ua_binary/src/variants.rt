@@ -205,8 +205,8 @@ fn decode_typed(
     }
 }
 
-/// Reads a value into a place. At an `Err` the cursor stands as after [`Wire::decode`], and any value may be
-/// in the place.
+// Reads a value into a place. At an `Err` the cursor stands as after `Wire::decode`, and any value may be in
+// the place.
 #[tactic(auto, using(crate::proofs::TypeBytes::announced_claim), unfolding(crate::specs::Variants::variant_reading))]
 pub(crate) fn decode_variant(
     alloc: Global,
