@@ -3,7 +3,9 @@
 
 Twice a second it looks which checks are running, and how much processor time each has taken. When no gate is
 running any more, or at an interrupt, it prints a row for each crate of crates.txt, as in docs/MEASURED.md: the
-seconds of its proofs, of its tests, and of its wrong bodies with the proof that goes before them.
+seconds of its proofs, of its tests, and of its wrong bodies with the proof that goes before them, and how many these
+are. A place is empty where a check still ran at the end, or where fewer checks were seen than there are wrong bodies:
+start it right after the gate. A check that somebody ends by hand is not told from one that ended by itself.
 """
 import os
 import re
@@ -53,12 +55,19 @@ def main():
             time.sleep(0.5)
     except KeyboardInterrupt:
         pass
+    unfinished = {(crate, kind) for _, (crate, kind, _) in checks()}
     times = {}
     for crate, kind, seconds in seen.values():
-        times[crate, kind] = times.get((crate, kind), 0) + seconds
+        times.setdefault((crate, kind), []).append(seconds)
     for crate in crates:
-        row = [f"{times[crate, it]:,.0f}" if (crate, it) in times else "" for it in ("proofs", "tests", "edits")]
-        print(f"| `{crate}` | {' | '.join(row)} |")
+        folder = f"crates/{crate}/must-fail"
+        edits = sum(it.endswith(".edit") for it in os.listdir(folder)) if os.path.isdir(folder) else 0
+        row = []
+        for kind in ("proofs", "tests", "edits"):
+            each = times.get((crate, kind), [])
+            is_whole = each and (crate, kind) not in unfinished and (kind != "edits" or len(each) > edits)
+            row.append(f"{sum(each):,.0f}" if is_whole else "")
+        print(f"| `{crate}` | {' | '.join(row)} | {edits or ''} |")
     return 0
 
 

@@ -65,9 +65,9 @@ fn decode_content<T: Wire>(
     }
 }
 
-// What follows reads into a place, since a value that is returned is copied once for each function that it
-// passes through. The types stand in four functions, since each takes room for the contents of all its types
-// at once.
+// What follows reads into a place: so data values are read in four fifths of the time that it took to return
+// them (docs/MEASURED.md). The types stand in four functions, since each takes room for the contents of all its
+// types at once.
 
 // Reads what follows a first byte with the number of a Boolean or an integer of up to 32 bits.
 #[tactic(auto, unfolding(crate::specs::Variants::typed_reading))]
