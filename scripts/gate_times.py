@@ -9,6 +9,7 @@ start it right after the gate. A check that somebody ends by hand is not told fr
 """
 import os
 import re
+import signal
 import sys
 import time
 
@@ -49,6 +50,8 @@ def main():
     with open("crates.txt") as file:
         crates = re.findall(r"^(\w+):", file.read(), re.M)
     seen = {}
+    # A shell that starts this behind an `&` may have it ignore interrupts.
+    signal.signal(signal.SIGINT, signal.default_int_handler)
     try:
         while is_gate_running():
             seen.update(checks())

@@ -1,3 +1,4 @@
+use std::cmp::Ordering;
 use std::test::*;
 use ua_types::*;
 
@@ -107,6 +108,22 @@ fn copies_are_equal(rt: HostRuntime) -> Result<(), Fail> {
     assert!(rt; !copy.is_null());
     assert_eq!(rt; copy.as_slice().map(|texts| texts.len()), Some(2));
     assert!(rt; copy.into_vec() == list.into_vec());
+    Ok(())
+}
+
+#[test]
+fn a_boxed_value_is_compared_and_copied_as_the_value(rt: HostRuntime) -> Result<(), Fail> {
+    let alloc = rt.alloc();
+    let name = |text: &str| -> Result<Boxed<Text>, Fail> {
+        Ok(Boxed::new(alloc, Text::from_str(alloc, text)?)?)
+    };
+    let boxed = name("pump")?;
+    assert_eq!(rt; boxed.as_str(), Some("pump"));
+    assert!(rt; boxed == name("pump")? && boxed != name("line")?);
+    assert!(rt; name("line")? < boxed && boxed.cmp(&name("line")?) == Ordering::Greater);
+    let copy = boxed.copy(alloc)?;
+    drop(boxed);
+    assert!(rt; copy.into_inner() == Text::from_str(alloc, "pump")?);
     Ok(())
 }
 

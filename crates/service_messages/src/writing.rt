@@ -1,5 +1,6 @@
 //! The service Write.
 
+ghost use Rattle.ua_binary.specs.Backing.{IsBackedOrBoxed};
 ghost use Rattle.service_messages.specs.Writing.{write_value_reading, write_value_encoding, write_request_reading, write_request_encoding};
 
 use std::alloc::{AllocError, Global};
@@ -19,11 +20,13 @@ pub struct WriteValue {
     pub value: DataValue,
 }
 
-#[tactic(auto, using(ua_binary::proofs::Fields::fields4), unfolding(crate::specs::Writing::write_value_reading, crate::specs::Writing::write_value_encoding))]
+#[tactic(auto, using(ua_binary::proofs::Fields::fields4, ua_binary::proofs::Backing::length_is_backed), unfolding(crate::specs::Writing::write_value_reading, crate::specs::Writing::write_value_encoding))]
 impl Wire for WriteValue {
     ghost reading = { write_value_reading };
 
     ghost encoding = { write_value_encoding };
+
+    ghost wants_memory = { IsBackedOrBoxed };
 
     fn decode(alloc: Global, cursor: &mut Cursor<'_>) -> Result<WriteValue, TakeFault> {
         Ok(WriteValue {

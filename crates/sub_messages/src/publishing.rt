@@ -1,6 +1,7 @@
 //! The services Publish and Republish, and the messages that they bring.
 
 ghost use Rattle.std.specs.Prelude.{⊤};
+ghost use Rattle.ua_binary.specs.Backing.{IsBackedOrBoxed};
 ghost use Rattle.sub_messages.specs.Publishing.{subscription_acknowledgement_reading, subscription_acknowledgement_encoding, publish_request_reading, publish_request_encoding, notification_message_reading, notification_message_encoding, publish_response_reading, publish_response_encoding, monitored_item_notification_reading, monitored_item_notification_encoding, data_change_notification_reading, data_change_notification_encoding, status_change_notification_reading, status_change_notification_encoding, republish_request_reading, republish_request_encoding, republish_response_reading, republish_response_encoding};
 
 use std::alloc::{AllocError, Global};
@@ -165,11 +166,13 @@ pub struct MonitoredItemNotification {
     pub value: DataValue,
 }
 
-#[tactic(auto, using(ua_binary::proofs::Fields::fields2), unfolding(crate::specs::Publishing::monitored_item_notification_reading, crate::specs::Publishing::monitored_item_notification_encoding))]
+#[tactic(auto, using(ua_binary::proofs::Fields::fields2, ua_binary::proofs::Backing::length_is_backed), unfolding(crate::specs::Publishing::monitored_item_notification_reading, crate::specs::Publishing::monitored_item_notification_encoding))]
 impl Wire for MonitoredItemNotification {
     ghost reading = { monitored_item_notification_reading };
 
     ghost encoding = { monitored_item_notification_encoding };
+
+    ghost wants_memory = { IsBackedOrBoxed };
 
     fn decode(
         alloc: Global,

@@ -7,3 +7,4 @@ pub mod Fields
 pub mod TypeBytes
 pub mod Masks
 pub mod Counts
+pub mod Backing

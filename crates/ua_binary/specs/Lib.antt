@@ -13,4 +13,5 @@ pub mod LocalizedTexts
 pub mod ExtensionObjects
 pub mod Floats
 pub mod Variants
+pub mod Backing
 pub mod DataValues

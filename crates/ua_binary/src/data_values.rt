@@ -3,7 +3,7 @@
 ghost use Rattle.std.specs.Prelude.{◌≡◌, ◌<◌, ◌++◌, is_some, ℕ, List, Ok, Err, OnOk, OnErr, option_map};
 ghost use Rattle.ua_binary.specs.declared.fault.TakeFault.TheVariants.{Memory};
 ghost use Rattle.ua_binary.specs.Reading.{Reads, ReadsInto, Extends};
-ghost use Rattle.ua_binary.specs.Texts.{IsBacked};
+ghost use Rattle.ua_binary.specs.Backing.{IsBackedOrBoxed};
 ghost use Rattle.ua_binary.specs.Parts.{flag};
 ghost use Rattle.ua_binary.specs.Variants.{variant_reading};
 ghost use Rattle.ua_binary.specs.DataValues.{optional_reading, optional_encoding, data_value_reading, data_value_encoding};
@@ -64,7 +64,7 @@ fn decode_where_set<T: Wire>(
     cursor: &mut Cursor<'_>,
 ) -> Result<Option<T>, TakeFault>
     ensures reads { Reads result cursor.new (optional_reading bit T.reading cursor.old) }
-    ensures backed { result ≡ Err Memory → IsBacked cursor.new }
+    ensures backed { result ≡ Err Memory → T.wants_memory cursor.new }
 {
     if bit == 0 {
         return Ok(None);
@@ -81,7 +81,7 @@ fn decode_value_where_set(
     place: &mut Option<Variant>,
 ) -> Result<(), TakeFault>
     ensures reads { ReadsInto result place.new cursor.new (optional_reading bit variant_reading cursor.old) }
-    ensures backed { result ≡ Err Memory → IsBacked cursor.new }
+    ensures backed { result ≡ Err Memory → IsBackedOrBoxed cursor.new }
 {
     if bit == 0 {
         *place = None;
@@ -141,11 +141,13 @@ impl Written for BorrowedDataValue<'_> {
     }
 }
 
-#[tactic(auto, unfolding(crate::specs::DataValues::data_value_reading))]
+#[tactic(auto, using(crate::proofs::Backing::length_is_backed), unfolding(crate::specs::DataValues::data_value_reading))]
 impl Wire for DataValue {
     ghost reading = { data_value_reading };
 
     ghost encoding = { data_value_encoding };
+
+    ghost wants_memory = { IsBackedOrBoxed };
 
     fn decode(alloc: Global, cursor: &mut Cursor<'_>) -> Result<DataValue, TakeFault> {
         let mask = u8::decode(alloc, cursor)?;

@@ -1,9 +1,10 @@
 //! Values of any type.
 
-ghost use Rattle.std.specs.Prelude.{◌≡◌, ◌≢◌, ◌<◌, ◌≤◌, ◌++◌, ℕ, List, Ok, Err, OnOk, OnErr};
+ghost use Rattle.std.specs.Prelude.{◌≡◌, ◌≢◌, ◌<◌, ◌≤◌, ◌⊎◌, ◌++◌, ℕ, List, Ok, Err, OnOk, OnErr};
 ghost use Rattle.ua_binary.specs.declared.fault.TakeFault.TheVariants.{Memory};
 ghost use Rattle.ua_binary.specs.Reading.{Reads, ReadsInto, Extends};
 ghost use Rattle.ua_binary.specs.Texts.{ClaimsTooMany, IsBacked};
+ghost use Rattle.ua_binary.specs.Backing.{IsBackedOrBoxed, IsContent, IsBoxedContent, FoundNoRoom};
 ghost use Rattle.ua_binary.specs.Variants.{in_dimensions, or_empty, content_reading, typed_reading, variant_reading, ClaimsTooManyElements, flags_of, content_encoding, typed_encoding, variant_encoding};
 
 use crate::arrays::write_list;
@@ -11,7 +12,7 @@ use crate::cursor::Cursor;
 use crate::fault::TakeFault;
 use crate::wire::Wire;
 use std::alloc::{AllocError, Global};
-use ua_types::Array;
+use ua_types::{Array, Boxed};
 use ua_values::{Content, Matrix, Variant, has_shape};
 
 // A list in dimensions that were read after it.
@@ -43,6 +44,7 @@ fn decode_content<T: Wire>(
     flags: u8,
     cursor: &mut Cursor<'_>,
 ) -> Result<Content<T>, TakeFault>
+    requires backed { (bytes : List ℕ) → T.wants_memory bytes → IsBacked bytes }
     ensures reads { Reads result cursor.new (content_reading T.reading flags cursor.old) }
     ensures claim { 2 ≤ flags → ClaimsTooMany cursor.old → result ≢ Err Memory }
     ensures backed { result ≡ Err Memory → IsBacked cursor.new }
@@ -65,8 +67,31 @@ fn decode_content<T: Wire>(
     }
 }
 
+// Reads what follows these flags into a block of its own. Where that finds no room, the cursor is put at the start.
+#[tactic(auto, using(crate::proofs::Elements::overclaim_is_length, crate::proofs::Backing::length_found_no_room, crate::proofs::Backing::content_found_no_room), unfolding(crate::specs::Variants::content_reading))]
+fn decode_boxed<'a, T: Wire>(
+    alloc: Global,
+    flags: u8,
+    start: &'a [u8],
+    cursor: &mut Cursor<'a>,
+) -> Result<Boxed<Content<T>>, TakeFault>
+    requires backed { (bytes : List ℕ) → T.wants_memory bytes → IsBacked bytes }
+    ensures reads { Reads result cursor.new (content_reading T.reading flags cursor.old) }
+    ensures claim { 2 ≤ flags → ClaimsTooMany cursor.old → result ≢ Err Memory }
+    ensures backed { result ≡ Err Memory → FoundNoRoom start.now (IsContent T.reading flags cursor.old) cursor.new }
+{
+    let content = decode_content(alloc, flags, cursor)?;
+    match Boxed::new(alloc, content) {
+        Ok(content) => Ok(content),
+        Err(_) => {
+            *cursor = Cursor::new(start);
+            Err(TakeFault::Memory)
+        }
+    }
+}
+
 // What follows reads into a place: so data values are read in four fifths of the time that it took to return
-// them (docs/MEASURED.md). The types stand in four functions, since each takes room for the contents of all its
+// them (docs/MEASURED.md). The types stand in five functions, since each takes room for the contents of all its
 // types at once.
 
 // Reads what follows a first byte with the number of a Boolean or an integer of up to 32 bits.
@@ -148,45 +173,67 @@ fn decode_sized(
     Ok(())
 }
 
-// Reads what follows a first byte with the number of an id, a status, a name or a structure.
+// Reads what follows a first byte with the number of an id, a status or a name.
 #[tactic(auto, unfolding(crate::specs::Variants::typed_reading))]
-fn decode_composed(
+fn decode_named(
     alloc: Global,
     number: u8,
     flags: u8,
     cursor: &mut Cursor<'_>,
     place: &mut Variant,
 ) -> Result<(), TakeFault>
-    requires least { 17 ≤ number }
-    requires most { number ≤ 22 }
+    requires { number ≡ 17 ⊎ number ≡ 19 ⊎ number ≡ 20 }
     ensures reads { ReadsInto result place.new cursor.new (typed_reading number flags cursor.old) }
     ensures claim { 2 ≤ flags → ClaimsTooMany cursor.old → result ≢ Err Memory }
     ensures backed { result ≡ Err Memory → IsBacked cursor.new }
 {
     *place = match number {
         17 => Variant::NodeId(decode_content(alloc, flags, cursor)?),
-        18 => Variant::ExpandedNodeId(decode_content(alloc, flags, cursor)?),
         19 => Variant::StatusCode(decode_content(alloc, flags, cursor)?),
         20 => Variant::QualifiedName(decode_content(alloc, flags, cursor)?),
-        21 => Variant::LocalizedText(decode_content(alloc, flags, cursor)?),
-        22 => Variant::ExtensionObject(decode_content(alloc, flags, cursor)?),
         _ => unreachable!(),
     };
     Ok(())
 }
 
-// Reads what follows a first byte with this number and these flags.
-#[tactic(auto, unfolding(crate::specs::Variants::typed_reading))]
-fn decode_typed(
+// Reads what follows a first byte with the number of a type whose contents have blocks of their own. The Variant
+// begins at the start.
+#[tactic(auto, using(crate::proofs::Backing::expanded_node_id_is_boxed, crate::proofs::Backing::localized_text_is_boxed, crate::proofs::Backing::extension_object_is_boxed), unfolding(crate::specs::Variants::typed_reading))]
+fn decode_large<'a>(
     alloc: Global,
     number: u8,
     flags: u8,
-    cursor: &mut Cursor<'_>,
+    start: &'a [u8],
+    cursor: &mut Cursor<'a>,
+    place: &mut Variant,
+) -> Result<(), TakeFault>
+    requires { number ≡ 18 ⊎ number ≡ 21 ⊎ number ≡ 22 }
+    ensures reads { ReadsInto result place.new cursor.new (typed_reading number flags cursor.old) }
+    ensures claim { 2 ≤ flags → ClaimsTooMany cursor.old → result ≢ Err Memory }
+    ensures backed { result ≡ Err Memory → FoundNoRoom start.now (IsBoxedContent number flags cursor.old) cursor.new }
+{
+    *place = match number {
+        18 => Variant::ExpandedNodeId(decode_boxed(alloc, flags, start, cursor)?),
+        21 => Variant::LocalizedText(decode_boxed(alloc, flags, start, cursor)?),
+        22 => Variant::ExtensionObject(decode_boxed(alloc, flags, start, cursor)?),
+        _ => unreachable!(),
+    };
+    Ok(())
+}
+
+// Reads what follows a first byte with this number and these flags. The Variant begins at the start.
+#[tactic(auto, using(crate::proofs::Backing::length_found_no_room), unfolding(crate::specs::Variants::typed_reading))]
+fn decode_typed<'a>(
+    alloc: Global,
+    number: u8,
+    flags: u8,
+    start: &'a [u8],
+    cursor: &mut Cursor<'a>,
     place: &mut Variant,
 ) -> Result<(), TakeFault>
     ensures reads { ReadsInto result place.new cursor.new (typed_reading number flags cursor.old) }
     ensures claim { 2 ≤ flags → ClaimsTooMany cursor.old → result ≢ Err Memory }
-    ensures backed { result ≡ Err Memory → IsBacked cursor.new }
+    ensures backed { result ≡ Err Memory → FoundNoRoom start.now (IsBoxedContent number flags cursor.old) cursor.new }
 {
     match number {
         0 => {
@@ -200,14 +247,15 @@ fn decode_typed(
         1..=7 => decode_integer(alloc, number, flags, cursor, place),
         8..=11 => decode_number(alloc, number, flags, cursor, place),
         12..=16 => decode_sized(alloc, number, flags, cursor, place),
-        17..=22 => decode_composed(alloc, number, flags, cursor, place),
+        17 | 19 | 20 => decode_named(alloc, number, flags, cursor, place),
+        18 | 21 | 22 => decode_large(alloc, number, flags, start, cursor, place),
         _ => Err(TakeFault::Kind),
     }
 }
 
 // Reads a value into a place. At an `Err` the cursor stands as after `Wire::decode`, and any value may be in
 // the place.
-#[tactic(auto, using(crate::proofs::TypeBytes::announced_claim), unfolding(crate::specs::Variants::variant_reading))]
+#[tactic(auto, using(crate::proofs::TypeBytes::announced_claim, crate::proofs::Backing::variant_found_no_room), unfolding(crate::specs::Variants::variant_reading))]
 pub(crate) fn decode_variant(
     alloc: Global,
     cursor: &mut Cursor<'_>,
@@ -215,10 +263,11 @@ pub(crate) fn decode_variant(
 ) -> Result<(), TakeFault>
     ensures reads { ReadsInto result place.new cursor.new (variant_reading cursor.old) }
     ensures claim { ClaimsTooManyElements cursor.old → result ≢ Err Memory }
-    ensures backed { result ≡ Err Memory → IsBacked cursor.new }
+    ensures backed { result ≡ Err Memory → IsBackedOrBoxed cursor.new }
 {
+    let start = cursor.rest();
     let first = cursor.byte()?;
-    decode_typed(alloc, first % 64, first / 64, cursor, place)
+    decode_typed(alloc, first % 64, first / 64, start, cursor, place)
 }
 
 // Writes the first byte and what it announces.
@@ -260,6 +309,8 @@ impl Wire for Variant {
     ghost encoding = { variant_encoding };
 
     ghost spares_memory = { ClaimsTooManyElements };
+
+    ghost wants_memory = { IsBackedOrBoxed };
 
     fn decode(alloc: Global, cursor: &mut Cursor<'_>) -> Result<Variant, TakeFault> {
         let mut value = Variant::Null;

@@ -24,12 +24,16 @@ pub trait Wire: Drop {
     /// text, a byte string, a list and a Variant those that claim more than is left, and else none.
     ghost spares_memory: { List ℕ → Type 0 } = { λ _. ⊥ };
 
-    /// Reads the fields in order. At an `Err` the cursor stands where the fault is; at `Memory` it stands
-    /// before the length of the value that found no room, and so many bytes do follow that length.
+    /// Bytes before which an allocation may fail: a length and at least so many bytes after it. For a Variant, and
+    /// for what holds one outside of a list, also a whole Variant whose content has a block of its own.
+    ghost wants_memory: { List ℕ → Type 0 } = { IsBacked };
+
+    /// Reads the fields in order. At an `Err` the cursor stands where the fault is, and at `Memory` before what
+    /// found no room, which is there: no length that claims more than is left costs memory.
     fn decode(alloc: Global, cursor: &mut Cursor<'_>) -> Result<Self, TakeFault>
         ensures reads { Reads result cursor.new (reading cursor.old) }
         ensures claim { spares_memory cursor.old → result ≢ Err Memory }
-        ensures backed { result ≡ Err Memory → IsBacked cursor.new };
+        ensures backed { result ≡ Err Memory → wants_memory cursor.new };
 
     /// Writes the fields in order. The error is want of memory, and some of them are then written.
     fn encode(&self, out: &mut Vec<u8>) -> Result<(), AllocError>

@@ -11,7 +11,7 @@ use Rattle.std.specs.Map.{lookup, keys_of}
 use Rattle.std.specs.BTreeMap.{is_at}
 use Rattle.std.specs.Cmp.{nat_cmp_total, eq_by_cmp_equiv}
 use Rattle.std.specs.FinMap.Entries.{below_all}
-use Rattle.std.specs.FinMap.{FinMap, get, insert, remove, len, find, entries, from_entries, from_sorted, is_sorted, entries-from_sorted, len-entries, get-from_entries, get-from_sorted, get-insert, get-remove, same_map, nat_cmp-IsAntisymmetric}
+use Rattle.std.specs.FinMap.{FinMap, get, insert, remove, len, find, entries, from_entries, is_sorted, entries-from_sorted, len-entries, get-from_entries, get-from_sorted, get-insert, get-remove, same_map, nat_cmp-IsAntisymmetric}
 
 itself : (k : ℕ) → eq_by_cmp nat_cmp k k ≡ true
 itself k = (eq_by_cmp_equiv nat_cmp_total).refl k

@@ -8,7 +8,7 @@
 //! - `Text`, `ByteString` and `Array` are optional lists, where null is `None` and differs from empty;
 //! - `NodeId`, `ExtensionObject` and the other structures are the records of their fields;
 //! - the text of a node id is read by a grammar and written in one way ([`NodeId::parse`], [`write_id`]);
-//! - `Listed` is a list, whatever room it has;
+//! - `Listed` is a list, whatever room it has, and `Boxed` the value in its block;
 //! - `Config` is a record whose numbers always lie in their ranges (`IsConfigured`).
 //!
 //! Memory is always taken from an allocator that is passed in, and a refusal is answered as
@@ -18,6 +18,7 @@
 #![tactic(auto)]
 
 mod array;
+mod boxed;
 mod byte_string;
 mod config;
 mod copyable;
@@ -36,6 +37,7 @@ mod status;
 mod text;
 
 pub use array::Array;
+pub use boxed::Boxed;
 pub use byte_string::ByteString;
 pub use config::Config;
 pub use copyable::{Copyable, copy_all};

@@ -56,8 +56,10 @@ impl<T> Content<T> {
     }
 }
 
-// Written out, so that a proof sees a drop as one call and not as its cases.
+// Written out, so that a proof sees a drop as one call and not as its cases. Inlined, since the drop of a Variant
+// would else clear room for a content at every call.
 impl<T: Drop> Drop for Content<T> {
+    #[inline(always)]
     fn drop(self) {
         match self {
             Content::Scalar(_) => {}

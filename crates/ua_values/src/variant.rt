@@ -9,14 +9,15 @@ use crate::float::{Double, Float};
 use crate::shape::Shape;
 use std::alloc::{AllocError, Global};
 use ua_types::{
-    ByteString, Copyable, ExpandedNodeId, ExtensionObject, Guid, LocalizedText, Moment, NodeId,
-    QualifiedName, Status, Text,
+    Boxed, ByteString, Copyable, ExpandedNodeId, ExtensionObject, Guid, LocalizedText, Moment,
+    NodeId, QualifiedName, Status, Text,
 };
 
 /// A value of any built-in type (Variant, IEC 62541-6, 5.2.2.16), but for `DataValue`, `Variant` and
 /// `DiagnosticInfo`, which the server doesn't carry in one.
 ///
-/// Variants go by the number of their type, and then by their content.
+/// Variants go by the number of their type, and then by their content. The contents of the three largest types stand in
+/// blocks of their own, so that every Variant is small.
 #[derive(Debug, PartialEq, Eq, PartialOrd, Ord)]
 pub enum Variant {
     /// No value.
@@ -39,11 +40,11 @@ pub enum Variant {
     /// An XML element, whose bytes nobody checks.
     XmlElement(Content<ByteString>),
     NodeId(Content<NodeId>),
-    ExpandedNodeId(Content<ExpandedNodeId>),
+    ExpandedNodeId(Boxed<Content<ExpandedNodeId>>),
     StatusCode(Content<Status>),
     QualifiedName(Content<QualifiedName>),
-    LocalizedText(Content<LocalizedText>),
-    ExtensionObject(Content<ExtensionObject>),
+    LocalizedText(Boxed<Content<LocalizedText>>),
+    ExtensionObject(Boxed<Content<ExtensionObject>>),
 }
 
 impl Variant {
