@@ -1,9 +1,7 @@
-//! Tests of a whole server by the events that it is handed: of its connections, of streams that it is pumped, and of
-//! scenarios, with the rows that fire and what is answered.
+//! Tests of the server by its events: connections that come and go, streams that fail, and what it tells of its
+//! subscriptions. What is due is spelled by hand.
 #![tactic(auto)]
 
-#[cfg(test)]
-mod cuts;
 #[cfg(test)]
 mod events;
 #[cfg(test)]

@@ -1,4 +1,5 @@
-//! Tests of subscriptions: the state table, item queues, monitored items, and what is published, through public items alone.
+//! Tests of subscriptions by their parts, through public items alone: the state table, item queues, monitored items. What a
+//! whole server publishes stands in the crate `worked_examples`.
 #![tactic(auto)]
 
 #[cfg(test)]
@@ -9,5 +10,3 @@ mod queues;
 mod state_table;
 #[cfg(test)]
 mod subscriptions;
-#[cfg(test)]
-mod subscriptions_with_items;

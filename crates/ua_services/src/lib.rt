@@ -8,7 +8,7 @@
 //! file of its own, and its meaning is a file of `specs/` with the same name. `specs/Serving` has what
 //! all of them share, `InSession` what those of a session begin with, `Services` the order in which a
 //! request is judged, and `Owing` to whom replies go. What the services leave of other sessions, and that each
-//! comes by calls of subscriptions and items, the crate `server_laws` says; `service_tests` drives them.
+//! comes by calls of subscriptions and items, the crate `server_laws` says; `worked_examples` drives them.
 //!
 //! Read [`Services`] first, and `session_service.rt`, then `browse.rt` for a whole service.
 #![tactic(auto)]
