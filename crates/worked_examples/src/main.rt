@@ -8,7 +8,10 @@
 //!   keep-alive and lifetime counters after it, and then `message TYPE RESULT`, a line for each message that was sent: the
 //!   bytes of its type id and of its service result;
 //! - `answers NODES SCENARIO`: `answer CONNECTION BODY`, a line for each message, with the bytes of its body;
-//! - `last NODES SCENARIO`: the last of these lines.
+//! - `last NODES SCENARIO`: the last of these lines, where the last that was sent is a message.
+//!
+//! A message is one of a single chunk. What else a server sends or does, as the answers to a Hello and to an opening, a
+//! chunk of a longer answer, or a close, has no line in these three: `run` shows it.
 //!
 //! What is to be printed stands in `stdout`: written by hand from the standard's layouts and the state table, and never
 //! from what was printed.
