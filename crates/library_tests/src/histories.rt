@@ -1,0 +1,74 @@
+//! Histories, where no Write and no HistoryRead of a client leads: a value without a time of the source, and all times.
+
+use crate::holding::holds;
+use raw_history::{History, Interval, Kept};
+use std::alloc::{AllocError, Global};
+use std::test::*;
+use ua_types::{Config, Moment, NodeId, Status};
+use ua_values::{Content, DataValue, Variant};
+
+fn counted(number: u16, source_time: Option<Moment>) -> DataValue {
+    DataValue {
+        value: Some(Variant::UInt16(Content::Scalar(number))),
+        status: Status::GOOD,
+        source_time,
+        server_time: Some(Moment(0)),
+    }
+}
+
+// The values 2, 3 and 4 at 200 to 400; then one at a time before those, one in place of 3, and one without a time.
+fn filled(alloc: Global, node: &NodeId) -> Result<History, AllocError> {
+    let mut config = Config::standard(alloc)?;
+    config.history = 3;
+    let mut history = History::new(alloc, &config);
+    for (number, time) in [(1, 100), (2, 200), (3, 300), (4, 400), (9, 50), (8, 300)] {
+        history.keep(alloc, node, counted(number, Some(Moment(time))))?;
+    }
+    history.keep(alloc, node, counted(7, None))?;
+    Ok(history)
+}
+
+// The number of a value, and 0 of none.
+fn number_of(value: Option<&DataValue>) -> u64 {
+    match value {
+        Some(
+            DataValue {
+                value: Some(Variant::UInt16(Content::Scalar(number))),
+                ..
+            },
+        ) => u64::from(*number),
+        _ => 0,
+    }
+}
+
+// The numbers of these values, a digit for each.
+fn digits(values: &[Kept<'_>]) -> u64 {
+    let mut digits = 0u64;
+    for kept in values {
+        digits = digits
+            .wrapping_mul(10)
+            .wrapping_add(number_of(Some(kept.value)));
+    }
+    digits
+}
+
+#[test]
+fn three_values_are_kept(rt: HostRuntime) -> Result<(), Fail> {
+    let alloc = rt.alloc();
+    let node = NodeId::numeric(1, 11);
+    let history = filled(alloc, &node)?;
+    holds(&rt, "three", history.len(&node) == 3);
+    holds(
+        &rt,
+        "of no other",
+        history.len(&NodeId::numeric(1, 12)) == 0,
+    );
+    for (time, number) in [(50, 0), (100, 0), (200, 2), (300, 8), (400, 4)] {
+        let found = history.value_at(&node, Moment(time));
+        holds(&rt, "kept", number_of(found) == number);
+    }
+    let all = Interval::new(Moment(0), Moment(0));
+    let cut = history.read(alloc, &node, all, 9)?;
+    holds(&rt, "all times", digits(cut.values.as_slice()) == 284);
+    Ok(())
+}

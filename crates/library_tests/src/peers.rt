@@ -1,0 +1,103 @@
+//! What sockets get and give, over streams whose bytes are known.
+
+use crate::holding::holds;
+use bytes::Bytes;
+use socket_peers::{Heard, Peer, Peers, Socket};
+use std::alloc::Global;
+use std::io;
+use std::io::ErrorKind;
+use std::test::*;
+use ua_connections::Out;
+
+// A stream that takes at most seven bytes in a write, so often, and gives no byte.
+#[derive(Drop)]
+struct Slow {
+    taken: Vec<u8>,
+    writes: usize,
+}
+
+impl Socket for Slow {
+    fn receive(&mut self, _piece: &mut [u8]) -> io::Result<usize> {
+        Err(io::Error::from(ErrorKind::WouldBlock))
+    }
+
+    fn send(&mut self, bytes: &[u8]) -> io::Result<usize> {
+        if self.writes == 0 {
+            return Err(io::Error::from(ErrorKind::WouldBlock));
+        }
+        let count = bytes.len().min(7);
+        self.writes -= 1;
+        self.taken.extend_from_slice(&bytes[..count])?;
+        Ok(count)
+    }
+}
+
+fn slow_stream(alloc: Global, writes: usize) -> Slow {
+    Slow {
+        taken: Vec::new(alloc),
+        writes,
+    }
+}
+
+// A peer that takes two writes, and is owed three frames, of four, four and six bytes.
+fn owed_three(alloc: Global) -> Result<Peer<Slow>, Fail> {
+    let mut peer = Peer::new(alloc, slow_stream(alloc, 2));
+    for text in [b"one ".as_slice(), b"two ".as_slice(), b"three!".as_slice()] {
+        let bytes = Bytes::copy_from_slice(alloc, text)?;
+        peer.owe(bytes)?;
+    }
+    Ok(peer)
+}
+
+#[test]
+fn several_frames_in_one_write(rt: HostRuntime) -> Result<(), Fail> {
+    let mut peer = owed_three(rt.alloc())?;
+    peer.flush(&mut Vec::new(rt.alloc()));
+    let mut piece = vec![in rt.alloc(); 0u8; 16]?;
+    let heard = peer.read(&mut piece);
+    holds(
+        &rt,
+        "nothing heard",
+        matches!(heard, Heard::Nothing) && piece.is_empty(),
+    );
+    peer.close();
+    holds(&rt, "over", peer.is_over());
+    let Slow { taken, writes: _ } = peer.into_stream();
+    holds(
+        &rt,
+        "two writes of seven",
+        taken.as_slice() == b"one two three!".as_slice(),
+    );
+    Ok(())
+}
+
+// Two sockets, the first of which is owed a byte and then the end.
+fn two_peers(alloc: Global) -> Result<Peers<Slow>, Fail> {
+    let mut peers = Peers::new(alloc);
+    peers.admit(alloc, 1, slow_stream(alloc, 9))?;
+    peers.admit(alloc, 2, slow_stream(alloc, 9))?;
+    let mut outs = Vec::new(alloc);
+    let bytes = Bytes::copy_from_slice(alloc, b"A")?;
+    outs.push(Out::Send { conn: 1, bytes })?;
+    outs.push(Out::Close { conn: 1 })?;
+    peers.owe_all(outs)?;
+    Ok(peers)
+}
+
+#[test]
+fn each_on_its_own_connection(rt: HostRuntime) -> Result<(), Fail> {
+    let mut peers = two_peers(rt.alloc())?;
+    holds(&rt, "not before its byte is out", !peers.let_go(1)?);
+    peers.flush_touched()?;
+    holds(&rt, "awake", peers.is_any_awake());
+    holds(&rt, "the first goes", peers.let_go(1)?);
+    holds(
+        &rt,
+        "the second stays",
+        !peers.let_go(2)? && peers.len() == 1,
+    );
+    let mut piece = vec![in rt.alloc(); 0u8; 16]?;
+    let heard = peers.read(2, &mut piece)?;
+    holds(&rt, "nothing heard", matches!(heard, Heard::Nothing));
+    Ok(())
+}

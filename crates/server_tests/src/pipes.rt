@@ -1,0 +1,63 @@
+//! A connection over a pipe. Its answers to whole conversations are those of `run`, in `worked_examples`.
+
+use crate::bytes_due::{ACKNOWLEDGE, HELLO};
+use crate::holding::holds;
+use commands::Status;
+use std::fs;
+use std::net::Net;
+use std::random::RandomSource;
+use std::rt::Files;
+use std::sync::Wait;
+use std::test::*;
+use std::time::Clock;
+use ua_tcp::Tap;
+
+// Whether these words are done, and answer this input so.
+fn answers<R: Files + AllocGlobal + Net + RandomSource + Clock + Wait>(
+    rt: &R,
+    words: &[&str],
+    input: &[u8],
+    due: &[u8],
+) -> bool {
+    let mut input = Tap::new(input);
+    let mut output = Tap::new(Vec::new(rt.alloc()));
+    let mut errors = Vec::new(rt.alloc());
+    let ended = commands::run(rt, words, &mut input, &mut output, &mut errors);
+    matches!(ended.status, Status::Done)
+        && errors.is_empty()
+        && output.into_inner().as_slice() == due
+}
+
+const LIMITS: &str = "version = 1
+[server]
+max_message = 2048
+max_chunks = 7
+";
+
+#[test]
+fn hello_over_a_pipe(rt: HostRuntime) -> Result<(), Fail> {
+    holds(&rt, "standard", answers(&rt, &["pipe"], HELLO, ACKNOWLEDGE));
+    let refused = b"ERRF\x10\0\0\0\0\0\x7e\x80\xff\xff\xff\xff";
+    holds(
+        &rt,
+        "refused",
+        answers(&rt, &["pipe"], b"MSGF\x08\0\0\0HELF", refused),
+    );
+    fs::write(&rt, "limits.toml", LIMITS)?;
+    // Messages of 2048 bytes, in 7 chunks.
+    let due = b"ACKF\x1c\0\0\0\0\0\0\0\0\0\x01\0\0\0\x01\0\0\x08\0\0\x07\0\0\0";
+    holds(
+        &rt,
+        "limits",
+        answers(&rt, &["pipe", "limits.toml"], HELLO, due),
+    );
+    Ok(())
+}
+
+#[test]
+fn exit_statuses(rt: HostRuntime) {
+    // Those that no example shows.
+    holds(&rt, "halted", Status::Halted.code() == 5);
+    holds(&rt, "network", Status::Network.code() == 6);
+    holds(&rt, "stream", Status::Stream.code() == 7);
+}

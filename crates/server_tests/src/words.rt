@@ -1,0 +1,54 @@
+//! Words of a command line that no line of `worked_examples` can say or show.
+
+use crate::holding::holds;
+use command_line::{Command, Stop, parse};
+use std::alloc::Global;
+use std::test::*;
+
+// Whether these words serve `line.toml` at this port, for so many turns.
+fn serves(alloc: Global, words: &[&str], port: u16, turns: u64) -> bool {
+    match parse(alloc, words) {
+        Ok(
+            Command::Serve {
+                nodes,
+                port: found,
+                turns: counted,
+            },
+        ) => nodes == "line.toml" && found == port && counted == turns,
+        _ => false,
+    }
+}
+
+#[test]
+fn serve(rt: HostRuntime) {
+    let alloc = rt.alloc();
+    let plain = ["serve", "line.toml", "--port", "4840"];
+    holds(&rt, "plain", serves(alloc, &plain, 4840, 0));
+    let first = ["serve", "--port=04840", "line.toml", "--turns", "0"];
+    holds(&rt, "port first", serves(alloc, &first, 4840, 0));
+    let most = "18446744073709551615";
+    let last = ["serve", "line.toml", "--port", "65535", "--turns", most];
+    holds(&rt, "most", serves(alloc, &last, 65_535, u64::MAX));
+}
+
+// Whether the words are refused by a text that ends in one newline.
+fn is_misuse(alloc: Global, words: &[&str]) -> bool {
+    match parse(alloc, words) {
+        Err(Stop::Usage(text)) => {
+            text.as_str().ends_with('\n') && !text.as_str().ends_with("\n\n")
+        }
+        _ => false,
+    }
+}
+
+#[test]
+fn misuse(rt: HostRuntime) {
+    let alloc = rt.alloc();
+    holds(&rt, "no word", is_misuse(alloc, &[""]));
+    holds(&rt, "a newline", is_misuse(alloc, &["é\n"]));
+    holds(
+        &rt,
+        "a space",
+        is_misuse(alloc, &["serve", "x", "--port", " 1"]),
+    );
+}

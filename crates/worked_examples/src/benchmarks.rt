@@ -1,0 +1,58 @@
+//! How long parts of the server take. The counts go to standard output, and are the same each time; the times go to standard
+//! error.
+
+mod browse;
+mod encoding;
+mod history;
+mod requests;
+mod space;
+
+use std::io::{self, ErrorKind, Write};
+use std::process::ExitCode;
+use std::time::Instant;
+
+// The nanoseconds since a moment, and the greatest number where there is no clock.
+fn elapsed(rt: &HostRuntime, start: io::Result<Instant>) -> u128 {
+    match start {
+        Ok(start) => start.elapsed(rt).map_or(u128::MAX, |time| time.as_nanos()),
+        Err(_) => u128::MAX,
+    }
+}
+
+// The benchmark of a line `NAME ROUNDS`, each of its requests so many times:
+//
+// - `encoding`: lists of 1,000 elements are written and read; the time of an element in the fastest round;
+// - `requests`: requests are handed to a whole server; how many are answered in a second;
+// - `browse`: Browse of a node of 3 references, and, once, of one of 99,000 by pages of 1,000;
+// - `history`: a variable is written 100,000 times, whose history is kept, and the history is read by pages of 1,000, once;
+// - `space`: the largest address space is built and asked, once.
+pub(crate) fn run(rt: &HostRuntime, line: &str) -> io::Result<()> {
+    let (name, rounds) = line.split_once(' ').unwrap_or((line, "1"));
+    let rounds = rounds.parse::<u32>().unwrap_or(1);
+    match name {
+        "encoding" => encoding::run(rt, rounds),
+        "requests" => requests::run(rt, rounds),
+        "browse" => browse::run(rt, rounds),
+        "history" => history::run(rt),
+        "space" => space::run(rt),
+        _ => Err(io::Error::from(ErrorKind::InvalidInput)),
+    }
+}
+
+// The benchmarks of the file, each behind a `$`.
+pub(crate) fn run_all(rt: &HostRuntime) -> io::Result<()> {
+    let lines = std::fs::read_to_string(rt, "benchmarks")?;
+    for line in lines.lines() {
+        writeln!(rt.stdout(), "$ benchmark {line}")?;
+        run(rt, line)?;
+    }
+    Ok(())
+}
+
+// How the program ends.
+pub(crate) fn ended(outcome: io::Result<()>) -> ExitCode {
+    match outcome {
+        Ok(()) => ExitCode::SUCCESS,
+        Err(_) => ExitCode::FAILURE,
+    }
+}

@@ -1,0 +1,111 @@
+//! Lists of 1,000 elements, written and read.
+
+use super::elapsed;
+use std::alloc::{AllocError, Global};
+use std::io::{self, Write};
+use std::time::Instant;
+use ua_binary::{Cursor, Wire};
+use ua_messages::ReadValueId;
+use ua_types::{Array, Moment, NodeId, QualifiedName, Status, Text};
+use ua_values::{Content, DataValue, Double, Variant};
+
+/// How many elements each list has.
+const ELEMENTS: u32 = 1000;
+
+// A double with both times, as a server answers.
+fn data_value(number: u32) -> DataValue {
+    DataValue {
+        value: Some(Variant::Double(Content::Scalar(Double((number as u64).to_le_bytes())))),
+        status: Status::GOOD,
+        source_time: Some(Moment(number as i64)),
+        server_time: Some(Moment(7)),
+    }
+}
+
+// The value of a node with a number in a namespace of its own, all of it.
+fn read_value_id(number: u32) -> ReadValueId {
+    ReadValueId {
+        node_id: NodeId::numeric(2, number),
+        attribute_id: 13,
+        index_range: Text::null(),
+        data_encoding: QualifiedName {
+            namespace: 0,
+            name: Text::null(),
+        },
+    }
+}
+
+fn data_values(alloc: Global) -> Result<Vec<DataValue>, AllocError> {
+    let mut list = Vec::new(alloc);
+    for number in 0..ELEMENTS {
+        list.push(data_value(number))?;
+    }
+    Ok(list)
+}
+
+fn read_value_ids(alloc: Global) -> Result<Vec<ReadValueId>, AllocError> {
+    let mut list = Vec::new(alloc);
+    for number in 0..ELEMENTS {
+        list.push(read_value_id(number))?;
+    }
+    Ok(list)
+}
+
+fn texts(alloc: Global) -> Result<Vec<Text>, AllocError> {
+    let mut list = Vec::new(alloc);
+    for _ in 0..ELEMENTS {
+        list.push(Text::from_str(alloc, "Line 4, pump 12")?)?;
+    }
+    Ok(list)
+}
+
+// The time of an element in the fastest round, in tenths of a nanosecond.
+fn report(rt: &HostRuntime, name: &str, way: &str, fastest: u128) {
+    let each = fastest / (ELEMENTS as u128 / 10);
+    let mut errors = rt.stderr();
+    let _ = writeln!(errors, "{name} {way}: {}.{} ns", each / 10, each % 10);
+}
+
+// Writes and reads a list so many times, and tells how many bytes and elements it has.
+fn time_both_ways<T: Wire>(
+    rt: &HostRuntime,
+    name: &str,
+    elements: Vec<T>,
+    rounds: u32,
+) -> io::Result<()> {
+    let alloc = rt.alloc();
+    if elements.len() > ELEMENTS as usize {
+        return Ok(());
+    }
+    let list = Array::new(elements);
+    let mut bytes = Vec::new(alloc);
+    let mut fastest = u128::MAX;
+    for _ in 0..rounds {
+        let start = Instant::now(rt);
+        bytes.clear();
+        list.put(&mut bytes)?;
+        fastest = fastest.min(elapsed(rt, start));
+    }
+    report(rt, name, "written", fastest);
+    let mut fastest = u128::MAX;
+    let mut count = 0;
+    for _ in 0..rounds {
+        let start = Instant::now(rt);
+        let mut cursor = Cursor::new(bytes.as_slice());
+        if let Ok(list) = Array::<T>::take(alloc, &mut cursor) {
+            count = list.as_slice().map_or(0, |elements| elements.len());
+        }
+        fastest = fastest.min(elapsed(rt, start));
+    }
+    report(rt, name, "read", fastest);
+    let mut out = rt.stdout();
+    writeln!(out, "{name}: {count} in {} bytes", bytes.len())
+}
+
+/// Writes and reads data values, read value ids and texts.
+pub(crate) fn run(rt: &HostRuntime, rounds: u32) -> io::Result<()> {
+    let alloc = rt.alloc();
+    time_both_ways(rt, "data values", data_values(alloc)?, rounds)?;
+    time_both_ways(rt, "read value ids", read_value_ids(alloc)?, rounds)?;
+    time_both_ways(rt, "texts", texts(alloc)?, rounds)
+}

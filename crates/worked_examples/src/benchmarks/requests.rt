@@ -1,0 +1,208 @@
+//! Requests to a whole server, handed in as the bytes of one connection.
+
+use super::elapsed;
+use bytes::Bytes;
+use node_loader::load;
+use std::alloc::{AllocError, Global};
+use std::io::{self, ErrorKind, Write};
+use std::time::Instant;
+use ua_core::{Event, Out, Server};
+use ua_space::Space;
+use ua_types::Config;
+
+// A variable that is read and written.
+const NODES: &str = "version = 1
+
+[[node]]
+id = \"ns=1;i=1\"
+class = \"Variable\"
+name = \"Count\"
+parent = \"i=85\"
+type = \"UInt16\"
+value = 0
+access = 3
+";
+
+// Hello of protocol version 0, with buffers of 65536 bytes and no limits; OpenSecureChannel of the mode
+// None for an hour, as the request 1.
+const HELLO: &[u8] =
+    b"HELF\x38\0\0\0\0\0\0\0\0\0\x01\0\0\0\x01\0\0\0\0\0\0\0\0\0\x18\0\0\0opc.tcp://localhost:4840";
+
+const OPEN: &[u8] =
+    b"OPNF\x84\0\0\0\0\0\0\0\x2f\0\0\0http://opcfoundation.org/UA/SecurityPolicy#None\xff\xff\xff\xff\xff\xff\xff\xff\x01\0\0\0\x01\0\0\0\x01\0\xbe\x01\0\0\0\0\0\0\0\0\0\0\x01\0\0\0\0\0\0\0\xff\xff\xff\xff\0\0\0\0\0\0\0\0\0\0\0\0\0\0\0\x01\0\0\0\xff\xff\xff\xff\x80\xee\x36\0";
+
+// The type ids of CreateSession, ActivateSession, Read and Write.
+const CREATE: [u8; 4] = [0x01, 0x00, 0xcd, 0x01];
+
+const ACTIVATE: [u8; 4] = [0x01, 0x00, 0xd3, 0x01];
+
+const READ: [u8; 4] = [0x01, 0x00, 0x77, 0x02];
+
+const WRITE: [u8; 4] = [0x01, 0x00, 0xa1, 0x02];
+
+// No token, and that of the first session on a connection with a key of zeros.
+const NO_TOKEN: &[u8] = b"\0\0";
+
+pub(crate) const TOKEN: &[u8] = b"\x05\0\0\x14\0\0\0\0\0\0\0\0\0\0\0\0\0\0\0\0\0\0\0\x01\0\0\0";
+
+// What a request's header has behind the token.
+const HEADER: &[u8] = b"\0\0\0\0\0\0\0\0\x07\0\0\0\0\0\0\0\xff\xff\xff\xff\0\0\0\0\0\0\0";
+
+// The fields of CreateSession and ActivateSession, with nothing said.
+const NO_CLIENT: &[u8] =
+    b"\xff\xff\xff\xff\xff\xff\xff\xff\0\x01\0\0\0\xff\xff\xff\xff\xff\xff\xff\xff\xff\xff\xff\xff\xff\xff\xff\xff\xff\xff\xff\xff\xff\xff\xff\xff\xff\xff\xff\xff\xff\xff\xff\xff\0\0\0\0\0\0\0\0\0\0\0\0";
+
+const NO_USER: &[u8] =
+    b"\xff\xff\xff\xff\xff\xff\xff\xff\xff\xff\xff\xff\xff\xff\xff\xff\0\0\0\xff\xff\xff\xff\xff\xff\xff\xff";
+
+// A Read without times, up to its list; the variable's value, to be read; and a list of one, in which it
+// is written with the number 258.
+const NO_TIMES: &[u8] = b"\0\0\0\0\0\0\0\0\x03\0\0\0";
+
+const VALUE: &[u8] = b"\x01\x01\x01\0\x0d\0\0\0\xff\xff\xff\xff\0\0\xff\xff\xff\xff";
+
+const WRITTEN: &[u8] = b"\x01\0\0\0\x01\x01\x01\0\x0d\0\0\0\xff\xff\xff\xff\x01\x05\x02\x01";
+
+pub(crate) fn failed() -> io::Error {
+    io::Error::from(ErrorKind::Other)
+}
+
+pub(crate) fn joined(alloc: Global, parts: &[&[u8]]) -> Result<Vec<u8>, AllocError> {
+    let mut out = Vec::new(alloc);
+    for part in parts {
+        out.extend_from_slice(part)?;
+    }
+    Ok(out)
+}
+
+// Hands bytes to the server, and says how many it sends.
+pub(crate) fn hand_in(alloc: Global, server: &mut Server, bytes: Vec<u8>) -> io::Result<usize> {
+    let bytes = Bytes::from_vec(bytes)?;
+    let Ok(step) = server.step(alloc, &Event::Bytes { conn: 1, bytes }) else {
+        return Err(failed());
+    };
+    let mut sent = 0usize;
+    for out in step.outs.as_slice() {
+        match out {
+            Out::Send { conn: _, bytes } => sent = sent.saturating_add(bytes.len()),
+            Out::Close { conn: _ } => return Err(failed()),
+        }
+    }
+    Ok(sent)
+}
+
+// A request in one chunk of the first channel.
+pub(crate) fn request(
+    alloc: Global,
+    number: u32,
+    type_id: &[u8; 4],
+    token: &[u8],
+    fields: &[u8],
+) -> Result<Vec<u8>, AllocError> {
+    let rest = token.len().saturating_add(fields.len());
+    let size = u32::try_from(rest).unwrap_or(0).saturating_add(55);
+    let mut out = Vec::new(alloc);
+    out.extend_from_slice(b"MSGF".as_slice())?;
+    out.extend_from_slice(size.to_le_bytes().as_slice())?;
+    out.extend_from_slice(b"\x01\0\0\0\x01\0\0\0".as_slice())?;
+    out.extend_from_slice(number.to_le_bytes().as_slice())?;
+    out.extend_from_slice(number.to_le_bytes().as_slice())?;
+    out.extend_from_slice(type_id.as_slice())?;
+    out.extend_from_slice(token)?;
+    out.extend_from_slice(HEADER)?;
+    out.extend_from_slice(fields)?;
+    Ok(out)
+}
+
+/// The configuration and the address space of a node file's text.
+pub(crate) fn plant(alloc: Global, text: &str) -> io::Result<(Config, Space)> {
+    let Ok(loaded) = load(alloc, text) else {
+        return Err(failed());
+    };
+    let nodes = loaded.nodes.into_vec();
+    let triples = loaded.triples.into_vec();
+    let config = loaded.config;
+    match Space::build(alloc, &config, nodes, triples) {
+        Ok(space) => Ok((config, space)),
+        Err(_) => Err(failed()),
+    }
+}
+
+// Opens the connection with its channel, and a session on it, by two requests.
+pub(crate) fn greet(alloc: Global, server: &mut Server) -> io::Result<()> {
+    let opened = Event::Opened {
+        conn: 1,
+        key: [0; 32],
+    };
+    if server.step(alloc, &opened).is_err() {
+        return Err(failed());
+    }
+    hand_in(alloc, server, joined(alloc, &[HELLO, OPEN])?)?;
+    let create = request(alloc, 2, &CREATE, NO_TOKEN, NO_CLIENT)?;
+    hand_in(alloc, server, create)?;
+    let activate = request(alloc, 3, &ACTIVATE, TOKEN, NO_USER)?;
+    hand_in(alloc, server, activate)?;
+    Ok(())
+}
+
+// Hands in a request so many times, and tells how many are answered in a second, and how long an answer is.
+fn time_requests(
+    rt: &HostRuntime,
+    server: &mut Server,
+    name: &str,
+    type_id: &[u8; 4],
+    fields: &[u8],
+    first: u32,
+    rounds: u32,
+) -> io::Result<()> {
+    let alloc = rt.alloc();
+    let start = Instant::now(rt);
+    let mut sent = 0;
+    for round in 0..rounds {
+        let number = first.saturating_add(round);
+        sent = hand_in(
+            alloc,
+            server,
+            request(alloc, number, type_id, TOKEN, fields)?,
+        )?;
+    }
+    let each_second = u128::from(rounds) * 1_000_000_000 / elapsed(rt, start).max(1);
+    let mut errors = rt.stderr();
+    let _ = writeln!(errors, "{name}: {each_second} a second");
+    let mut out = rt.stdout();
+    writeln!(out, "{name}: {rounds}, each answered in {sent} bytes")
+}
+
+// The fields of a Read of the variable's value so many times.
+fn reads(alloc: Global, many: u32) -> Result<Vec<u8>, AllocError> {
+    let mut fields = Vec::new(alloc);
+    fields.extend_from_slice(NO_TIMES)?;
+    fields.extend_from_slice(many.to_le_bytes().as_slice())?;
+    for _ in 0..many {
+        fields.extend_from_slice(VALUE)?;
+    }
+    Ok(fields)
+}
+
+fn time_all(rt: &HostRuntime, server: &mut Server, rounds: u32) -> io::Result<()> {
+    let alloc = rt.alloc();
+    greet(alloc, server)?;
+    let one = reads(alloc, 1)?;
+    let name = "reads of one value";
+    time_requests(rt, server, name, &READ, one.as_slice(), 4, rounds)?;
+    let many = reads(alloc, 1000)?;
+    let next = rounds.saturating_add(4);
+    let name = "reads of 1000 values";
+    time_requests(rt, server, name, &READ, many.as_slice(), next, rounds)?;
+    let next = next.saturating_add(rounds);
+    let name = "writes of one value";
+    time_requests(rt, server, name, &WRITE, WRITTEN, next, rounds)
+}
+
+/// Reads one value and 1,000 values, and writes one, each so many times.
+pub(crate) fn run(rt: &HostRuntime, rounds: u32) -> io::Result<()> {
+    let alloc = rt.alloc();
+    let (config, space) = plant(alloc, NODES)?;
+    let mut server = Server::new(alloc, config, space);
+    time_all(rt, &mut server, rounds.min(1_000_000_000))
+}

@@ -1,0 +1,497 @@
+//! Lines that tell the encoding of OPC UA: what bytes mean, how it is written again, how values are ordered, and what a
+//! text says of a node id.
+
+use service_messages::*;
+use std::alloc::Global;
+use std::fmt::Debug;
+use std::io;
+use std::io::Write;
+use sub_messages::*;
+use ua_binary::{Cursor, Wire};
+use ua_messages::type_ids::*;
+use ua_messages::*;
+use ua_types::{
+    Array, ByteString, Copyable, Duration, ExpandedNodeId, ExtensionObject, Guid, LocalizedText,
+    Moment, NodeId, QualifiedName, Status, Text, write_id,
+};
+use ua_values::{DataValue, Double, Float, Variant};
+
+// A value that bytes begin with, how it is written again, and how many bytes are left.
+fn write_value<T: Wire + Debug>(
+    alloc: Global,
+    bytes: &[u8],
+    output: &mut Vec<u8>,
+) -> io::Result<()> {
+    let mut cursor = Cursor::new(bytes);
+    let taken = T::take(alloc, &mut cursor);
+    let left = cursor.rest().len();
+    match taken {
+        Ok(value) => {
+            let mut again = Vec::new(alloc);
+            value.put(&mut again)?;
+            let digits = hex::encode(alloc, again.as_slice())?;
+            write!(output, "{value:?}\n{digits}, {left} left\n")
+        }
+        Err(fault) => write!(output, "{fault:?}, {left} left\n"),
+    }
+}
+
+// The number of the id that a body begins with, its message, and how it is written behind the id of its type.
+fn write_message<T: Wire + Debug>(
+    alloc: Global,
+    type_id: u32,
+    bytes: &[u8],
+    output: &mut Vec<u8>,
+) -> io::Result<()> {
+    match message::<T>(alloc, bytes) {
+        Ok(value) => {
+            let number = message_id(bytes).unwrap_or(0);
+            let again = body(alloc, type_id, &value)?;
+            let digits = hex::encode(alloc, again.as_slice())?;
+            write!(output, "{number} {value:?}\n{digits}\n")
+        }
+        Err(fault) => write!(output, "{fault:?}\n"),
+    }
+}
+
+// The structure of the type with this id in an object, and the object around it.
+fn write_held<T: Wire + Debug>(
+    alloc: Global,
+    type_id: u32,
+    object: &ExtensionObject,
+    output: &mut Vec<u8>,
+) -> io::Result<()> {
+    match structure::<T>(alloc, type_id, object) {
+        Ok(value) => {
+            let around = extension_object(alloc, type_id, &value)?;
+            let mut again = Vec::new(alloc);
+            around.put(&mut again)?;
+            let digits = hex::encode(alloc, again.as_slice())?;
+            write!(output, "{value:?}\n{digits}\n")
+        }
+        Err(fault) => write!(output, "{fault:?}\n"),
+    }
+}
+
+fn write_structure<T: Wire + Debug>(
+    alloc: Global,
+    type_id: u32,
+    bytes: &[u8],
+    output: &mut Vec<u8>,
+) -> io::Result<()> {
+    match ExtensionObject::take(alloc, &mut Cursor::new(bytes)) {
+        Ok(object) => write_held::<T>(alloc, type_id, &object, output),
+        Err(fault) => write!(output, "{fault:?}\n"),
+    }
+}
+
+fn write_of_subscriptions(
+    alloc: Global,
+    name: &str,
+    bytes: &[u8],
+    output: &mut Vec<u8>,
+) -> io::Result<()> {
+    match name {
+        "CreateMonitoredItemsRequest" => write_message::<CreateMonitoredItemsRequest>(
+            alloc,
+            CREATE_MONITORED_ITEMS_REQUEST,
+            bytes,
+            output,
+        ),
+        "CreateMonitoredItemsResponse" => write_message::<CreateMonitoredItemsResponse>(
+            alloc,
+            CREATE_MONITORED_ITEMS_RESPONSE,
+            bytes,
+            output,
+        ),
+        "ModifyMonitoredItemsRequest" => write_message::<ModifyMonitoredItemsRequest>(
+            alloc,
+            MODIFY_MONITORED_ITEMS_REQUEST,
+            bytes,
+            output,
+        ),
+        "ModifyMonitoredItemsResponse" => write_message::<ModifyMonitoredItemsResponse>(
+            alloc,
+            MODIFY_MONITORED_ITEMS_RESPONSE,
+            bytes,
+            output,
+        ),
+        "SetMonitoringModeRequest" => write_message::<SetMonitoringModeRequest>(
+            alloc,
+            SET_MONITORING_MODE_REQUEST,
+            bytes,
+            output,
+        ),
+        "SetMonitoringModeResponse" => write_message::<SetMonitoringModeResponse>(
+            alloc,
+            SET_MONITORING_MODE_RESPONSE,
+            bytes,
+            output,
+        ),
+        "DeleteMonitoredItemsRequest" => write_message::<DeleteMonitoredItemsRequest>(
+            alloc,
+            DELETE_MONITORED_ITEMS_REQUEST,
+            bytes,
+            output,
+        ),
+        "DeleteMonitoredItemsResponse" => write_message::<DeleteMonitoredItemsResponse>(
+            alloc,
+            DELETE_MONITORED_ITEMS_RESPONSE,
+            bytes,
+            output,
+        ),
+        "SetTriggeringRequest" => write_message::<SetTriggeringRequest>(
+            alloc,
+            SET_TRIGGERING_REQUEST,
+            bytes,
+            output,
+        ),
+        "SetTriggeringResponse" => write_message::<SetTriggeringResponse>(
+            alloc,
+            SET_TRIGGERING_RESPONSE,
+            bytes,
+            output,
+        ),
+        "CreateSubscriptionRequest" => write_message::<CreateSubscriptionRequest>(
+            alloc,
+            CREATE_SUBSCRIPTION_REQUEST,
+            bytes,
+            output,
+        ),
+        "CreateSubscriptionResponse" => write_message::<CreateSubscriptionResponse>(
+            alloc,
+            CREATE_SUBSCRIPTION_RESPONSE,
+            bytes,
+            output,
+        ),
+        "ModifySubscriptionRequest" => write_message::<ModifySubscriptionRequest>(
+            alloc,
+            MODIFY_SUBSCRIPTION_REQUEST,
+            bytes,
+            output,
+        ),
+        "ModifySubscriptionResponse" => write_message::<ModifySubscriptionResponse>(
+            alloc,
+            MODIFY_SUBSCRIPTION_RESPONSE,
+            bytes,
+            output,
+        ),
+        "SetPublishingModeRequest" => write_message::<SetPublishingModeRequest>(
+            alloc,
+            SET_PUBLISHING_MODE_REQUEST,
+            bytes,
+            output,
+        ),
+        "SetPublishingModeResponse" => write_message::<SetPublishingModeResponse>(
+            alloc,
+            SET_PUBLISHING_MODE_RESPONSE,
+            bytes,
+            output,
+        ),
+        "DeleteSubscriptionsRequest" => write_message::<DeleteSubscriptionsRequest>(
+            alloc,
+            DELETE_SUBSCRIPTIONS_REQUEST,
+            bytes,
+            output,
+        ),
+        "DeleteSubscriptionsResponse" => write_message::<DeleteSubscriptionsResponse>(
+            alloc,
+            DELETE_SUBSCRIPTIONS_RESPONSE,
+            bytes,
+            output,
+        ),
+        "PublishRequest" => write_message::<PublishRequest>(alloc, PUBLISH_REQUEST, bytes, output),
+        "PublishResponse" => write_message::<PublishResponse>(
+            alloc,
+            PUBLISH_RESPONSE,
+            bytes,
+            output,
+        ),
+        "RepublishRequest" => write_message::<RepublishRequest>(
+            alloc,
+            REPUBLISH_REQUEST,
+            bytes,
+            output,
+        ),
+        "RepublishResponse" => write_message::<RepublishResponse>(
+            alloc,
+            REPUBLISH_RESPONSE,
+            bytes,
+            output,
+        ),
+        "DataChangeFilter" => write_structure::<DataChangeFilter>(
+            alloc,
+            DATA_CHANGE_FILTER,
+            bytes,
+            output,
+        ),
+        "DataChangeNotification" => write_structure::<DataChangeNotification>(
+            alloc,
+            DATA_CHANGE_NOTIFICATION,
+            bytes,
+            output,
+        ),
+        "StatusChangeNotification" => write_structure::<StatusChangeNotification>(
+            alloc,
+            STATUS_CHANGE_NOTIFICATION,
+            bytes,
+            output,
+        ),
+        _ => output.write_all(b"no such type\n".as_slice()),
+    }
+}
+
+fn write_of_services(
+    alloc: Global,
+    name: &str,
+    bytes: &[u8],
+    output: &mut Vec<u8>,
+) -> io::Result<()> {
+    match name {
+        "CreateSessionRequest" => write_message::<CreateSessionRequest>(
+            alloc,
+            CREATE_SESSION_REQUEST,
+            bytes,
+            output,
+        ),
+        "CreateSessionResponse" => write_message::<CreateSessionResponse>(
+            alloc,
+            CREATE_SESSION_RESPONSE,
+            bytes,
+            output,
+        ),
+        "ActivateSessionRequest" => write_message::<ActivateSessionRequest>(
+            alloc,
+            ACTIVATE_SESSION_REQUEST,
+            bytes,
+            output,
+        ),
+        "ActivateSessionResponse" => write_message::<ActivateSessionResponse>(
+            alloc,
+            ACTIVATE_SESSION_RESPONSE,
+            bytes,
+            output,
+        ),
+        "CloseSessionRequest" => write_message::<CloseSessionRequest>(
+            alloc,
+            CLOSE_SESSION_REQUEST,
+            bytes,
+            output,
+        ),
+        "CloseSessionResponse" => write_message::<CloseSessionResponse>(
+            alloc,
+            CLOSE_SESSION_RESPONSE,
+            bytes,
+            output,
+        ),
+        "BrowseRequest" => write_message::<BrowseRequest>(alloc, BROWSE_REQUEST, bytes, output),
+        "BrowseResponse" => write_message::<BrowseResponse>(alloc, BROWSE_RESPONSE, bytes, output),
+        "BrowseNextRequest" => write_message::<BrowseNextRequest>(
+            alloc,
+            BROWSE_NEXT_REQUEST,
+            bytes,
+            output,
+        ),
+        "BrowseNextResponse" => write_message::<BrowseNextResponse>(
+            alloc,
+            BROWSE_NEXT_RESPONSE,
+            bytes,
+            output,
+        ),
+        "ReadRequest" => write_message::<ReadRequest>(alloc, READ_REQUEST, bytes, output),
+        "ReadResponse" => write_message::<ReadResponse>(alloc, READ_RESPONSE, bytes, output),
+        "WriteRequest" => write_message::<WriteRequest>(alloc, WRITE_REQUEST, bytes, output),
+        "WriteResponse" => write_message::<WriteResponse>(alloc, WRITE_RESPONSE, bytes, output),
+        "HistoryReadRequest" => write_message::<HistoryReadRequest>(
+            alloc,
+            HISTORY_READ_REQUEST,
+            bytes,
+            output,
+        ),
+        "HistoryReadResponse" => write_message::<HistoryReadResponse>(
+            alloc,
+            HISTORY_READ_RESPONSE,
+            bytes,
+            output,
+        ),
+        "AnonymousIdentityToken" => write_structure::<AnonymousIdentityToken>(
+            alloc,
+            ANONYMOUS_IDENTITY_TOKEN,
+            bytes,
+            output,
+        ),
+        "ReadRawModifiedDetails" => write_structure::<ReadRawModifiedDetails>(
+            alloc,
+            READ_RAW_MODIFIED_DETAILS,
+            bytes,
+            output,
+        ),
+        "HistoryData" => write_structure::<HistoryData>(alloc, HISTORY_DATA, bytes, output),
+        _ => write_of_subscriptions(alloc, name, bytes, output),
+    }
+}
+
+fn write_of_channels(
+    alloc: Global,
+    name: &str,
+    bytes: &[u8],
+    output: &mut Vec<u8>,
+) -> io::Result<()> {
+    match name {
+        "GetEndpointsRequest" => write_message::<GetEndpointsRequest>(
+            alloc,
+            GET_ENDPOINTS_REQUEST,
+            bytes,
+            output,
+        ),
+        "GetEndpointsResponse" => write_message::<GetEndpointsResponse>(
+            alloc,
+            GET_ENDPOINTS_RESPONSE,
+            bytes,
+            output,
+        ),
+        "OpenSecureChannelRequest" => write_message::<OpenSecureChannelRequest>(
+            alloc,
+            OPEN_SECURE_CHANNEL_REQUEST,
+            bytes,
+            output,
+        ),
+        "OpenSecureChannelResponse" => write_message::<OpenSecureChannelResponse>(
+            alloc,
+            OPEN_SECURE_CHANNEL_RESPONSE,
+            bytes,
+            output,
+        ),
+        "CloseSecureChannelRequest" => write_message::<CloseSecureChannelRequest>(
+            alloc,
+            CLOSE_SECURE_CHANNEL_REQUEST,
+            bytes,
+            output,
+        ),
+        "ServiceFault" => write_message::<ServiceFault>(alloc, SERVICE_FAULT, bytes, output),
+        "RequestHeader" => write_message::<RequestHeader>(alloc, READ_REQUEST, bytes, output),
+        "DiagnosticInfo" => write_value::<DiagnosticInfo>(alloc, bytes, output),
+        "DiagnosticInfos" => write_value::<DiagnosticInfos>(alloc, bytes, output),
+        _ => write_of_services(alloc, name, bytes, output),
+    }
+}
+
+fn write_named(alloc: Global, name: &str, bytes: &[u8], output: &mut Vec<u8>) -> io::Result<()> {
+    match name {
+        "Boolean" => write_value::<bool>(alloc, bytes, output),
+        "SByte" => write_value::<i8>(alloc, bytes, output),
+        "Byte" => write_value::<u8>(alloc, bytes, output),
+        "Int16" => write_value::<i16>(alloc, bytes, output),
+        "UInt16" => write_value::<u16>(alloc, bytes, output),
+        "Int32" => write_value::<i32>(alloc, bytes, output),
+        "UInt32" => write_value::<u32>(alloc, bytes, output),
+        "Int64" => write_value::<i64>(alloc, bytes, output),
+        "UInt64" => write_value::<u64>(alloc, bytes, output),
+        "Float" => write_value::<Float>(alloc, bytes, output),
+        "Double" => write_value::<Double>(alloc, bytes, output),
+        "DateTime" => write_value::<Moment>(alloc, bytes, output),
+        "StatusCode" => write_value::<Status>(alloc, bytes, output),
+        "Duration" => write_value::<Duration>(alloc, bytes, output),
+        "String" => write_value::<Text>(alloc, bytes, output),
+        "ByteString" => write_value::<ByteString>(alloc, bytes, output),
+        "Guid" => write_value::<Guid>(alloc, bytes, output),
+        "NodeId" => write_value::<NodeId>(alloc, bytes, output),
+        "ExpandedNodeId" => write_value::<ExpandedNodeId>(alloc, bytes, output),
+        "QualifiedName" => write_value::<QualifiedName>(alloc, bytes, output),
+        "LocalizedText" => write_value::<LocalizedText>(alloc, bytes, output),
+        "ExtensionObject" => write_value::<ExtensionObject>(alloc, bytes, output),
+        "Variant" => write_value::<Variant>(alloc, bytes, output),
+        "DataValue" => write_value::<DataValue>(alloc, bytes, output),
+        "UInt32s" => write_value::<Array<u32>>(alloc, bytes, output),
+        "Strings" => write_value::<Array<Text>>(alloc, bytes, output),
+        _ => write_of_channels(alloc, name, bytes, output),
+    }
+}
+
+// How the first of two values is ordered beside the second, whether they are equal, and a copy of the first.
+fn write_order<T: Wire + Ord + Copyable + Debug>(
+    alloc: Global,
+    first: &[u8],
+    second: &[u8],
+    output: &mut Vec<u8>,
+) -> io::Result<()> {
+    let (Ok(first), Ok(second)) = (
+        T::take(alloc, &mut Cursor::new(first)),
+        T::take(alloc, &mut Cursor::new(second)),
+    ) else {
+        return output.write_all(b"no such values\n".as_slice());
+    };
+    let order = first.cmp(&second);
+    let equal = first == second;
+    let copy = first.copy(alloc)?;
+    write!(output, "{order:?} {equal}\n{copy:?}\n")
+}
+
+fn write_order_named(
+    alloc: Global,
+    name: &str,
+    first: &[u8],
+    second: &[u8],
+    output: &mut Vec<u8>,
+) -> io::Result<()> {
+    match name {
+        "String" => write_order::<Text>(alloc, first, second, output),
+        "ByteString" => write_order::<ByteString>(alloc, first, second, output),
+        "NodeId" => write_order::<NodeId>(alloc, first, second, output),
+        "ExtensionObject" => write_order::<ExtensionObject>(alloc, first, second, output),
+        "Variant" => write_order::<Variant>(alloc, first, second, output),
+        "DataValue" => write_order::<DataValue>(alloc, first, second, output),
+        _ => output.write_all(b"no such type\n".as_slice()),
+    }
+}
+
+/// What the bytes of a type mean, and how it is written again.
+pub(crate) fn write_taken(
+    alloc: Global,
+    name: &str,
+    digits: &str,
+    output: &mut Vec<u8>,
+) -> io::Result<()> {
+    match hex::decode(alloc, digits) {
+        Ok(bytes) => write_named(alloc, name, bytes.as_slice(), output),
+        Err(_) => output.write_all(b"no hex digits\n".as_slice()),
+    }
+}
+
+/// How two values of a type are ordered, whether they are equal, and a copy of the first.
+pub(crate) fn write_compared(
+    alloc: Global,
+    name: &str,
+    first: &str,
+    second: &str,
+    output: &mut Vec<u8>,
+) -> io::Result<()> {
+    match (hex::decode(alloc, first), hex::decode(alloc, second)) {
+        (Ok(first), Ok(second)) => {
+            write_order_named(alloc, name, first.as_slice(), second.as_slice(), output)
+        }
+        _ => output.write_all(b"no hex digits\n".as_slice()),
+    }
+}
+
+/// The number of the id that a body begins with, or why it has none.
+pub(crate) fn write_number(alloc: Global, digits: &str, output: &mut Vec<u8>) -> io::Result<()> {
+    let Ok(bytes) = hex::decode(alloc, digits) else {
+        return output.write_all(b"no hex digits\n".as_slice());
+    };
+    match message_id(bytes.as_slice()) {
+        Ok(number) => write!(output, "{number}\n"),
+        Err(fault) => write!(output, "{fault:?}\n"),
+    }
+}
+
+/// The id that a text says, and its text as it is written, or why it says none.
+pub(crate) fn write_node_id(alloc: Global, text: &str, output: &mut Vec<u8>) -> io::Result<()> {
+    match NodeId::parse(alloc, text) {
+        Ok(id) => {
+            let again = write_id(alloc, &id)?;
+            write!(output, "{id:?}\n{again}\n")
+        }
+        Err(fault) => write!(output, "{fault:?}: {fault}\n"),
+    }
+}
