@@ -11,7 +11,7 @@ use Rattle.clap.specs.declared.parser.matches.ArgMatches.TheViews.{out-ArgMatche
 use Rattle.std.specs.Box.{box_value}
 use Rattle.clap.proofs.WalkLemmas.{first_value-rows}
 use Rattle.clap.proofs.OnLiterals.{clap_on_literals}
-use Rattle.command_line.specs.Words.{Answers, Asked, AsksFor, Found, HasOptions, IsAskedBy, IsNoCommand, IsPlainWord, IsStopOf, StopsBy, asked, asked_of, faults, option_of, port_of, program, turns_of, words_of}
+use Rattle.command_line.specs.Words.{Answers, Asked, AsksFor, Found, HasOptions, IsNoCommand, IsPlainWord, IsStopOf, StopsBy, asked, asked_of, faults, option_of, port_of, program, turns_of, words_of}
 use Rattle.command_line.proofs.PlainWord.{asked-check, asked-pipe_nodes, faults-check, faults-pipe_nodes}
 use Rattle.command_line.specs.declared.command.Command.{Command}
 use Rattle.command_line.specs.declared.command.Command.TheVariants.{Pipe, Check, Asm, Run, Trace, Serve}

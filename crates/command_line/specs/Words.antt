@@ -52,12 +52,15 @@ bare_program = record (new_app (codes "uaserver")) {
   };
 }
 
+-- with the commands of node files, and then with those of scenarios
+abbrev pub with_nodes : App
+with_nodes = with_subcommand (with_subcommand bare_program pipe_app.top) check_app.top
+
+abbrev pub with_scenarios : App
+with_scenarios = with_subcommand (with_subcommand (with_subcommand with_nodes asm_app.top) run_app.top) trace_app.top
+
 abbrev pub program : App
-program =
-    with_subcommand
-    (with_subcommand (with_subcommand (with_subcommand (with_subcommand (with_subcommand bare_program pipe_app.top) check_app.top) asm_app.top) run_app.top)
-    trace_app.top)
-    serve_app.top
+program = with_subcommand with_scenarios serve_app.top
 
 -- a command in words: the one that names it, and its NODES
 abbrev pub Asked : Type 0

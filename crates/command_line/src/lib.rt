@@ -4,7 +4,7 @@
 //! asked for, or a [`Stop`], which says what to print instead and why. It reads and writes nothing
 //! itself.
 //!
-//! To add a command, give [`Command`] a variant, `with_commands` in `src/program.rt` a subcommand, and
+//! To add a command, give [`Command`] a variant, the program in `src/program.rt` a subcommand, and
 //! `command_of` in `src/parsing.rt` the step from its matches to the variant. `specs/Words.antt` says
 //! the same of the words, in `program` and `words_of`.
 #![tactic(auto)]

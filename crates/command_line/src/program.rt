@@ -3,7 +3,7 @@
 ghost use Rattle.std.specs.Prelude.{◌≡◌, IfOk, false};
 ghost use Rattle.clap.specs.Words.{app_of, rule_of};
 ghost use Rattle.clap.specs.declared.builder.command.Command.TheViews.{out-Command as fields_of};
-ghost use Rattle.command_line.specs.Words.{asm_app, check_app, nodes_rule, option_rule, pipe_app, program, run_app, scenario_rule, serve_app, trace_app};
+ghost use Rattle.command_line.specs.Words.{asm_app, check_app, nodes_rule, option_rule, pipe_app, program, run_app, scenario_rule, serve_app, trace_app, with_nodes, with_scenarios};
 
 use clap::{Arg, Command};
 use std::alloc::{AllocError, Global};
@@ -12,31 +12,39 @@ use std::alloc::{AllocError, Global};
 pub(crate) fn uaserver<'a>(alloc: Global) -> Result<Command<'a>, AllocError>
     ensures { IfOk result (λ c. app_of c ≡ program) }
 {
-    let commands = with_commands(alloc)?;
+    let serve = serve(alloc)?;
     // With no word for the program's name, a command's usage would leave it out.
-    commands.bin_name("uaserver")
+    with_scenarios(alloc)?
+        .subcommand(serve)?
+        .bin_name("uaserver")
 }
 
-fn with_commands<'a>(alloc: Global) -> Result<Command<'a>, AllocError>
-    ensures { IfOk result (λ c. app_of c ≡ program) }
+// With the commands of node files and of scenarios.
+fn with_scenarios<'a>(alloc: Global) -> Result<Command<'a>, AllocError>
+    ensures { IfOk result (λ c. app_of c ≡ with_scenarios) }
 {
-    let pipe = pipe(alloc)?;
-    let check = check(alloc)?;
     let asm = asm(alloc)?;
     let run = run(alloc)?;
     let trace = trace(alloc)?;
-    let serve = serve(alloc)?;
+    with_nodes(alloc)?
+        .subcommand(asm)?
+        .subcommand(run)?
+        .subcommand(trace)
+}
+
+// With the commands that take a node file alone.
+fn with_nodes<'a>(alloc: Global) -> Result<Command<'a>, AllocError>
+    ensures { IfOk result (λ c. app_of c ≡ with_nodes) }
+{
+    let pipe = pipe(alloc)?;
+    let check = check(alloc)?;
     Command::new(alloc, "uaserver")
         .about("An OPC UA server")
         .no_binary_name(true)
         .subcommand_required(true)
         .arg_required_else_help(true)
         .subcommand(pipe)?
-        .subcommand(check)?
-        .subcommand(asm)?
-        .subcommand(run)?
-        .subcommand(trace)?
-        .subcommand(serve)
+        .subcommand(check)
 }
 
 fn pipe<'a>(alloc: Global) -> Result<Command<'a>, AllocError>

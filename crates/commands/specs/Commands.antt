@@ -97,14 +97,17 @@ status_served (Err serve_fault.Network) = Network
 unfoldable pub listening_line : ℕ → List ℕ
 listening_line port = codes "listening " ++ decimal port ++ codes "\n"
 
--- It is said that the server of what was made listens, and it serves so many turns, from no connection on, or stops before, for the
--- fault that the status tells. Or nothing is said, for such a fault of the program's own; or saying it failed, and nobody is served
+-- It is said that this server listens, and it serves so many turns, from no connection on, or stops before, for the fault that
+-- the status tells. Or nothing is said, for such a fault of the program's own; or saying it failed, and nobody is served
+abbrev pub ServesOn : Place → Place → ℕ → ℕ → State → Status → Type 0
+ServesOn old new port turns server Done = Says (listening_line port) old new Done × IsServed server turns
+ServesOn old new port turns server Stream = Says (listening_line port) old new Stream
+ServesOn old new port turns server status =
+    (f : ServeFault) × (status ≡ status_served (Err f)) × ((Says (listening_line port) old new Done × IsStopped server f) ⊎ (IsOutside f × (new ≡ old)))
+
+-- the server is the new one of what was made
 abbrev pub ServesBy : Place → Place → ℕ → ℕ → Made → Status → Type 0
-ServesBy old new port turns made Done = Says (listening_line port) old new Done × IsServed (Some (opening made.0 made.1)) turns
-ServesBy old new port turns made Stream = Says (listening_line port) old new Stream
-ServesBy old new port turns made status =
-    (f : ServeFault) × (status ≡ status_served (Err f))
-    × ((Says (listening_line port) old new Done × IsStopped (Some (opening made.0 made.1)) f) ⊎ (IsOutside f × (new ≡ old)))
+ServesBy old new port turns made = ServesOn old new port turns (Some (opening made.0 made.1))
 
 abbrev pub ServesMade : Place → Place → ℕ → ℕ → Option Made → Status → Type 0
 ServesMade old new port turns made status = OfNodes (ServesBy old new port turns) (new ≡ old) made status

@@ -5,7 +5,7 @@ ghost use Rattle.ua_core.specs.World.{world_of};
 ghost use Rattle.ua_space.specs.Build.{space_of};
 ghost use Rattle.scenario_lines.specs.Held.{place};
 ghost use Rattle.commands.specs.NodeFiles.{Made, ReadsNone, built, made_in, made_of_none};
-ghost use Rattle.commands.specs.Commands.{MadeBy, Says, Checks, ChecksFile, opened, status_of, status_served, Pipes, PipesMade, PipesFile, ServesBy, ServesMade, ServesFile, Runs};
+ghost use Rattle.commands.specs.Commands.{MadeBy, Says, Checks, ChecksFile, opened, status_of, status_served, Pipes, PipesMade, PipesFile, ServesOn, ServesBy, ServesMade, ServesFile, Runs};
 ghost use Rattle.commands.specs.Commands.{counts_line as counts_line_lem, listening_line as listening_line_lem};
 
 use crate::scenarios::{asm_at, run_at, trace_at};
@@ -343,6 +343,34 @@ fn listening_line(alloc: Global, port: u16) -> Result<String, AllocError>
     format!(in alloc; "listening {port}\n")
 }
 
+// Serves by this server, which knows no connection.
+fn serve_on<R: Net + RandomSource + Clock + Wait, O: Write, E: Write>(
+    rt: &R,
+    alloc: Global,
+    server: &mut Server,
+    port: u16,
+    turns: u64,
+    output: &mut Tap<O>,
+    errors: &mut E,
+) -> Status
+    ensures { ServesOn (place O.contents output.old) (place O.contents output.new) port turns (world_of server.old) result }
+{
+    let Ok(line) = listening_line(alloc, port) else {
+        return no_memory(errors);
+    };
+    let mut serve = match Serve::bind(rt, alloc, port) {
+        Ok(serve) => serve,
+        Err(fault) => return served(Err(fault), errors),
+    };
+    match say(line.as_str(), output, errors) {
+        Status::Done => {
+            let ran = serve.run(rt, alloc, server, turns);
+            served(ran, errors)
+        }
+        status => status,
+    }
+}
+
 /// Serves connections to a port of 127.0.0.1 by a server of this configuration and address space, for so
 /// many turns, or without end for 0. Says `listening` and the port once clients can connect.
 ///
@@ -361,21 +389,8 @@ pub fn serve<R: Net + RandomSource + Clock + Wait, O: Write, E: Write>(
 ) -> Status
     ensures { ServesBy (place O.contents output.old) (place O.contents output.new) port turns (config, space) result }
 {
-    let Ok(line) = listening_line(alloc, port) else {
-        return no_memory(errors);
-    };
     let mut server = Server::new(alloc, config, space);
-    let mut serve = match Serve::bind(rt, alloc, port) {
-        Ok(serve) => serve,
-        Err(fault) => return served(Err(fault), errors),
-    };
-    match say(line.as_str(), output, errors) {
-        Status::Done => {
-            let ran = serve.run(rt, alloc, &mut server, turns);
-            served(ran, errors)
-        }
-        status => status,
-    }
+    serve_on(rt, alloc, &mut server, port, turns, output, errors)
 }
 
 // `serve` of what was made.

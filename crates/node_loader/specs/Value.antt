@@ -18,10 +18,9 @@ use Rattle.node_loader.specs.declared.fault.Cause.TheVariants.{OutOfRange}
 use Rattle.node_loader.specs.declared.value.ValueType.{ValueType}
 use Rattle.node_loader.specs.declared.value.ValueType.TheVariants as types
 
--- the type that a word names
-unfoldable pub type_of : List ℕ → Result ValueType Cause
-type_of word =
-    if bytes_eq word (codes "Boolean") then Ok types.Boolean else
+-- the type of numbers that a word names
+unfoldable pub number_type_of : List ℕ → Result ValueType Cause
+number_type_of word =
     if bytes_eq word (codes "SByte") then Ok types.SByte else
     if bytes_eq word (codes "Byte") then Ok types.Byte else
     if bytes_eq word (codes "Int16") then Ok types.Int16 else
@@ -30,13 +29,19 @@ type_of word =
     if bytes_eq word (codes "UInt32") then Ok types.UInt32 else
     if bytes_eq word (codes "Int64") then Ok types.Int64 else
     if bytes_eq word (codes "UInt64") then Ok types.UInt64 else
+    Err OutOfRange
+
+-- the type that a word names
+unfoldable pub type_of : List ℕ → Result ValueType Cause
+type_of word =
+    if bytes_eq word (codes "Boolean") then Ok types.Boolean else
     if bytes_eq word (codes "String") then Ok types.String else
     if bytes_eq word (codes "DateTime") then Ok types.DateTime else
     if bytes_eq word (codes "Guid") then Ok types.Guid else
     if bytes_eq word (codes "ByteString") then Ok types.ByteString else
     if bytes_eq word (codes "NodeId") then Ok types.NodeId else
     if bytes_eq word (codes "StatusCode") then Ok types.StatusCode else
-    Err OutOfRange
+    number_type_of word
 
 -- the numbers of the types
 abbrev pub number_of : ValueType → ℕ

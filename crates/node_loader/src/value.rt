@@ -6,7 +6,7 @@ ghost use Rattle.toml.specs.View.{table_view};
 ghost use Rattle.ua_types.specs.IdTexts.{guid_of};
 ghost use Rattle.ua_types.specs.Answers.{Gives};
 ghost use Rattle.node_loader.specs.declared.fault.Cause.TheVariants.{Memory};
-ghost use Rattle.node_loader.specs.Value.{type_of, number_of, bytes_of, guid_at, bytes_at, text_value, value_of};
+ghost use Rattle.node_loader.specs.Value.{number_type_of, type_of, number_of, bytes_of, guid_at, bytes_at, text_value, value_of};
 
 use crate::fault::Cause;
 use crate::ids::id_at;
@@ -66,14 +66,11 @@ impl ValueType {
     }
 }
 
-/// The type that a word names.
-#[tactic(auto, unfolding(crate::specs::Value::type_of))]
-pub(crate) fn type_of(word: &str) -> Result<ValueType, Cause>
-    ensures { Gives Memory result (type_of word.now) }
+// The type of numbers that a word names.
+#[tactic(auto, unfolding(crate::specs::Value::number_type_of))]
+fn number_type_of(word: &str) -> Result<ValueType, Cause>
+    ensures { Gives Memory result (number_type_of word.now) }
 {
-    if word == "Boolean" {
-        return Ok(ValueType::Boolean);
-    }
     if word == "SByte" {
         return Ok(ValueType::SByte);
     }
@@ -98,6 +95,17 @@ pub(crate) fn type_of(word: &str) -> Result<ValueType, Cause>
     if word == "UInt64" {
         return Ok(ValueType::UInt64);
     }
+    Err(Cause::OutOfRange)
+}
+
+/// The type that a word names.
+#[tactic(auto, unfolding(crate::specs::Value::type_of))]
+pub(crate) fn type_of(word: &str) -> Result<ValueType, Cause>
+    ensures { Gives Memory result (type_of word.now) }
+{
+    if word == "Boolean" {
+        return Ok(ValueType::Boolean);
+    }
     if word == "String" {
         return Ok(ValueType::String);
     }
@@ -116,7 +124,7 @@ pub(crate) fn type_of(word: &str) -> Result<ValueType, Cause>
     if word == "StatusCode" {
         return Ok(ValueType::StatusCode);
     }
-    Err(Cause::OutOfRange)
+    number_type_of(word)
 }
 
 // The Guid whose text has these bytes.

@@ -7,6 +7,7 @@ ghost use Rattle.sub_table.specs.StateTable.{first_false};
 
 use std::alloc::AllocError;
 use std::fmt::Write;
+use sub_table::laws::table_is_as_printed;
 use sub_table::{Row, TABLE, why_not};
 use ua_core::Fired;
 
@@ -29,11 +30,11 @@ fn append_reason(out: &mut String, row: &Row, fired: &Fired) -> Result<(), Alloc
 }
 
 // Why the other rows of the table didn't fire.
-#[tactic(auto, unfolding(sub_table::specs::Rows::printed_table))]
 fn append_others(out: &mut String, fired: &Fired) -> Result<(), AllocError>
     ensures { OnOk result (string_bytes out.new ≡ string_bytes out.old ++ others_text fired.now) }
 {
     let table = TABLE;
+    table_is_as_printed();
     append_others_in(out, &table, fired)
 }
 

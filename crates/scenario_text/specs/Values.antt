@@ -17,21 +17,9 @@ use Rattle.scenario_text.specs.declared.fault.Cause.TheVariants.{Word, Value}
 use Rattle.scenario_text.specs.declared.values.ValueType.{ValueType}
 use Rattle.scenario_text.specs.declared.values.ValueType.TheVariants as types
 
--- the type that a word names, where it is no Boolean and no number
-unfoldable pub other_type_of : List ℕ → Result ValueType Cause
-other_type_of t =
-    if bytes_eq t (codes "String") then Ok types.String else
-    if bytes_eq t (codes "DateTime") then Ok types.DateTime else
-    if bytes_eq t (codes "Guid") then Ok types.Guid else
-    if bytes_eq t (codes "ByteString") then Ok types.ByteString else
-    if bytes_eq t (codes "NodeId") then Ok types.NodeId else
-    if bytes_eq t (codes "StatusCode") then Ok types.StatusCode else
-    Err Word
-
--- the type that a word names
-unfoldable pub type_of : List ℕ → Result ValueType Cause
-type_of t =
-    if bytes_eq t (codes "Boolean") then Ok types.Boolean else
+-- the type of numbers that a word names
+unfoldable pub number_type_of : List ℕ → Result ValueType Cause
+number_type_of t =
     if bytes_eq t (codes "SByte") then Ok types.SByte else
     if bytes_eq t (codes "Byte") then Ok types.Byte else
     if bytes_eq t (codes "Int16") then Ok types.Int16 else
@@ -40,7 +28,19 @@ type_of t =
     if bytes_eq t (codes "UInt32") then Ok types.UInt32 else
     if bytes_eq t (codes "Int64") then Ok types.Int64 else
     if bytes_eq t (codes "UInt64") then Ok types.UInt64 else
-    other_type_of t
+    Err Word
+
+-- the type that a word names
+unfoldable pub type_of : List ℕ → Result ValueType Cause
+type_of t =
+    if bytes_eq t (codes "Boolean") then Ok types.Boolean else
+    if bytes_eq t (codes "String") then Ok types.String else
+    if bytes_eq t (codes "DateTime") then Ok types.DateTime else
+    if bytes_eq t (codes "Guid") then Ok types.Guid else
+    if bytes_eq t (codes "ByteString") then Ok types.ByteString else
+    if bytes_eq t (codes "NodeId") then Ok types.NodeId else
+    if bytes_eq t (codes "StatusCode") then Ok types.StatusCode else
+    number_type_of t
 
 abbrev pub some_guid : Option (List ℕ) → Result Guid Cause
 some_guid None = Err Value

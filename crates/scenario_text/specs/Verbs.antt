@@ -8,20 +8,25 @@ use Rattle.scenario_text.specs.declared.verbs.RequestVerb.TheVariants as request
 use Rattle.scenario_text.specs.declared.verbs.Verb.{Verb}
 use Rattle.scenario_text.specs.declared.verbs.Verb.TheVariants as verbs
 
+-- what a session asks of monitored items
+unfoldable pub item_verb_of : List ℕ → Result RequestVerb Cause
+item_verb_of t =
+    if bytes_eq t (codes "item") then Ok requests.CreateItem else
+    if bytes_eq t (codes "moditem") then Ok requests.ModifyItem else
+    if bytes_eq t (codes "itemmode") then Ok requests.SetItemMode else
+    if bytes_eq t (codes "delitem") then Ok requests.DeleteItems else
+    Err Word
+
 -- what a session asks of subscriptions and their items
 unfoldable pub subscription_verb_of : List ℕ → Result RequestVerb Cause
 subscription_verb_of t =
     if bytes_eq t (codes "sub") then Ok requests.CreateSubscription else
     if bytes_eq t (codes "modsub") then Ok requests.ModifySubscription else
     if bytes_eq t (codes "mode") then Ok requests.SetPublishing else
-    if bytes_eq t (codes "item") then Ok requests.CreateItem else
-    if bytes_eq t (codes "moditem") then Ok requests.ModifyItem else
-    if bytes_eq t (codes "itemmode") then Ok requests.SetItemMode else
-    if bytes_eq t (codes "delitem") then Ok requests.DeleteItems else
+    if bytes_eq t (codes "delsub") then Ok requests.DeleteSubscriptions else
     if bytes_eq t (codes "publish") then Ok requests.Publish else
     if bytes_eq t (codes "republish") then Ok requests.Republish else
-    if bytes_eq t (codes "delsub") then Ok requests.DeleteSubscriptions else
-    Err Word
+    item_verb_of t
 
 -- what a session asks
 unfoldable pub request_verb_of : List ℕ → Result RequestVerb Cause
@@ -40,6 +45,17 @@ abbrev pub asking : Result RequestVerb Cause → Result Verb Cause
 asking (Ok verb) = Ok (verbs.Ask verb)
 asking (Err e) = Err e
 
+-- what a line does that tells of bytes and chunks, or asks without a session or as one
+unfoldable pub sent_verb_of : List ℕ → Result Verb Cause
+sent_verb_of t =
+    if bytes_eq t (codes "raw") then Ok verbs.Raw else
+    if bytes_eq t (codes "cut") then Ok verbs.Cut else
+    if bytes_eq t (codes "chunk") then Ok verbs.Chunk else
+    if bytes_eq t (codes "abort") then Ok verbs.Abort else
+    if bytes_eq t (codes "endpoints") then Ok verbs.GetEndpoints else
+    if bytes_eq t (codes "session") then Ok verbs.CreateSession else
+    asking (request_verb_of t)
+
 -- what a line does
 unfoldable pub verb_of : List ℕ → Result Verb Cause
 verb_of t =
@@ -49,10 +65,4 @@ verb_of t =
     if bytes_eq t (codes "clo") then Ok verbs.CloseChannel else
     if bytes_eq t (codes "gone") then Ok verbs.Gone else
     if bytes_eq t (codes "tick") then Ok verbs.Tick else
-    if bytes_eq t (codes "raw") then Ok verbs.Raw else
-    if bytes_eq t (codes "cut") then Ok verbs.Cut else
-    if bytes_eq t (codes "chunk") then Ok verbs.Chunk else
-    if bytes_eq t (codes "abort") then Ok verbs.Abort else
-    if bytes_eq t (codes "endpoints") then Ok verbs.GetEndpoints else
-    if bytes_eq t (codes "session") then Ok verbs.CreateSession else
-    asking (request_verb_of t)
+    sent_verb_of t

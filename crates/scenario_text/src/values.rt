@@ -6,7 +6,7 @@ ghost use Rattle.ua_types.specs.Answers.{Gives, GivesAs};
 ghost use Rattle.ua_types.specs.IdTexts.{guid_of};
 ghost use Rattle.scenario_text.specs.Readings.{Reads, ReadsAs, or_cause};
 ghost use Rattle.scenario_text.specs.declared.fault.Cause.TheVariants.{Memory, Value};
-ghost use Rattle.scenario_text.specs.Values.{guid_at, key_of, key_reading, octets_of, octets_reading, other_type_of, text_reading, type_of, value_of, value_reading};
+ghost use Rattle.scenario_text.specs.Values.{guid_at, key_of, key_reading, number_type_of, octets_of, octets_reading, text_reading, type_of, value_of, value_reading};
 
 use crate::fault::Cause;
 use crate::numbers::{named_id, signed, truth, up_to};
@@ -37,40 +37,11 @@ pub(crate) enum ValueType {
     StatusCode,
 }
 
-// The type that a word names, where it is no Boolean and no number.
-#[tactic(auto, unfolding(crate::specs::Values::other_type_of))]
-fn other_type_of(word: &str) -> Result<ValueType, Cause>
-    ensures { Gives Memory result (other_type_of word.now) }
+// The type of numbers that a word names.
+#[tactic(auto, unfolding(crate::specs::Values::number_type_of))]
+fn number_type_of(word: &str) -> Result<ValueType, Cause>
+    ensures { Gives Memory result (number_type_of word.now) }
 {
-    if word == "String" {
-        return Ok(ValueType::String);
-    }
-    if word == "DateTime" {
-        return Ok(ValueType::DateTime);
-    }
-    if word == "Guid" {
-        return Ok(ValueType::Guid);
-    }
-    if word == "ByteString" {
-        return Ok(ValueType::ByteString);
-    }
-    if word == "NodeId" {
-        return Ok(ValueType::NodeId);
-    }
-    if word == "StatusCode" {
-        return Ok(ValueType::StatusCode);
-    }
-    Err(Cause::Word)
-}
-
-/// The type that a word names.
-#[tactic(auto, unfolding(crate::specs::Values::type_of))]
-pub(crate) fn type_of(word: &str) -> Result<ValueType, Cause>
-    ensures { Gives Memory result (type_of word.now) }
-{
-    if word == "Boolean" {
-        return Ok(ValueType::Boolean);
-    }
     if word == "SByte" {
         return Ok(ValueType::SByte);
     }
@@ -95,7 +66,36 @@ pub(crate) fn type_of(word: &str) -> Result<ValueType, Cause>
     if word == "UInt64" {
         return Ok(ValueType::UInt64);
     }
-    other_type_of(word)
+    Err(Cause::Word)
+}
+
+/// The type that a word names.
+#[tactic(auto, unfolding(crate::specs::Values::type_of))]
+pub(crate) fn type_of(word: &str) -> Result<ValueType, Cause>
+    ensures { Gives Memory result (type_of word.now) }
+{
+    if word == "Boolean" {
+        return Ok(ValueType::Boolean);
+    }
+    if word == "String" {
+        return Ok(ValueType::String);
+    }
+    if word == "DateTime" {
+        return Ok(ValueType::DateTime);
+    }
+    if word == "Guid" {
+        return Ok(ValueType::Guid);
+    }
+    if word == "ByteString" {
+        return Ok(ValueType::ByteString);
+    }
+    if word == "NodeId" {
+        return Ok(ValueType::NodeId);
+    }
+    if word == "StatusCode" {
+        return Ok(ValueType::StatusCode);
+    }
+    number_type_of(word)
 }
 
 // The Guid whose text has these bytes.

@@ -1,7 +1,7 @@
 //! The first word of a line.
 
 ghost use Rattle.std.specs.Prelude.{◌≡◌};
-ghost use Rattle.scenario_text.specs.Verbs.{request_verb_of, subscription_verb_of, verb_of};
+ghost use Rattle.scenario_text.specs.Verbs.{item_verb_of, request_verb_of, sent_verb_of, subscription_verb_of, verb_of};
 
 use crate::fault::Cause;
 
@@ -46,6 +46,26 @@ pub(crate) enum Verb {
     Ask(RequestVerb),
 }
 
+// What a session asks of monitored items.
+#[tactic(auto, unfolding(crate::specs::Verbs::item_verb_of))]
+fn item_verb_of(word: &str) -> Result<RequestVerb, Cause>
+    ensures { result ≡ item_verb_of word.now }
+{
+    if word == "item" {
+        return Ok(RequestVerb::CreateItem);
+    }
+    if word == "moditem" {
+        return Ok(RequestVerb::ModifyItem);
+    }
+    if word == "itemmode" {
+        return Ok(RequestVerb::SetItemMode);
+    }
+    if word == "delitem" {
+        return Ok(RequestVerb::DeleteItems);
+    }
+    Err(Cause::Word)
+}
+
 // What a session asks of subscriptions and their items.
 #[tactic(auto, unfolding(crate::specs::Verbs::subscription_verb_of))]
 fn subscription_verb_of(word: &str) -> Result<RequestVerb, Cause>
@@ -60,17 +80,8 @@ fn subscription_verb_of(word: &str) -> Result<RequestVerb, Cause>
     if word == "mode" {
         return Ok(RequestVerb::SetPublishing);
     }
-    if word == "item" {
-        return Ok(RequestVerb::CreateItem);
-    }
-    if word == "moditem" {
-        return Ok(RequestVerb::ModifyItem);
-    }
-    if word == "itemmode" {
-        return Ok(RequestVerb::SetItemMode);
-    }
-    if word == "delitem" {
-        return Ok(RequestVerb::DeleteItems);
+    if word == "delsub" {
+        return Ok(RequestVerb::DeleteSubscriptions);
     }
     if word == "publish" {
         return Ok(RequestVerb::Publish);
@@ -78,10 +89,7 @@ fn subscription_verb_of(word: &str) -> Result<RequestVerb, Cause>
     if word == "republish" {
         return Ok(RequestVerb::Republish);
     }
-    if word == "delsub" {
-        return Ok(RequestVerb::DeleteSubscriptions);
-    }
-    Err(Cause::Word)
+    item_verb_of(word)
 }
 
 #[tactic(auto, unfolding(crate::specs::Verbs::request_verb_of))]
@@ -115,6 +123,35 @@ fn request_verb_of(word: &str) -> Result<RequestVerb, Cause>
     subscription_verb_of(word)
 }
 
+// What a line tells of bytes and chunks, or asks without a session or as one.
+#[tactic(auto, unfolding(crate::specs::Verbs::sent_verb_of))]
+fn sent_verb_of(word: &str) -> Result<Verb, Cause>
+    ensures { result ≡ sent_verb_of word.now }
+{
+    if word == "raw" {
+        return Ok(Verb::Raw);
+    }
+    if word == "cut" {
+        return Ok(Verb::Cut);
+    }
+    if word == "chunk" {
+        return Ok(Verb::Chunk);
+    }
+    if word == "abort" {
+        return Ok(Verb::Abort);
+    }
+    if word == "endpoints" {
+        return Ok(Verb::GetEndpoints);
+    }
+    if word == "session" {
+        return Ok(Verb::CreateSession);
+    }
+    match request_verb_of(word) {
+        Ok(verb) => Ok(Verb::Ask(verb)),
+        Err(cause) => Err(cause),
+    }
+}
+
 /// What the first word of a line says.
 #[tactic(auto, unfolding(crate::specs::Verbs::verb_of))]
 pub(crate) fn verb_of(word: &str) -> Result<Verb, Cause>
@@ -138,26 +175,5 @@ pub(crate) fn verb_of(word: &str) -> Result<Verb, Cause>
     if word == "tick" {
         return Ok(Verb::Tick);
     }
-    if word == "raw" {
-        return Ok(Verb::Raw);
-    }
-    if word == "cut" {
-        return Ok(Verb::Cut);
-    }
-    if word == "chunk" {
-        return Ok(Verb::Chunk);
-    }
-    if word == "abort" {
-        return Ok(Verb::Abort);
-    }
-    if word == "endpoints" {
-        return Ok(Verb::GetEndpoints);
-    }
-    if word == "session" {
-        return Ok(Verb::CreateSession);
-    }
-    match request_verb_of(word) {
-        Ok(verb) => Ok(Verb::Ask(verb)),
-        Err(cause) => Err(cause),
-    }
+    sent_verb_of(word)
 }

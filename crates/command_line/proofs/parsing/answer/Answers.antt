@@ -1,4 +1,4 @@
-use Rattle.std.proofs.Common.{rules, ◌≡◌, ◌∙◌, Some, map, ap, sym, subst}
+use Rattle.std.proofs.Common.{rules, ◌≡◌, ◌∙◌, map, ap, sym, subst}
 use Rattle.clap.specs.Words.{app_of, fault_of, is_simple_and_free, kind_of, subcommand_rows_of}
 use Rattle.clap.specs.Kinds.{HasKind}
 use Rattle.command_line.specs.Words.{IsAskedBy, IsNoCommand, program}

@@ -1,8 +1,8 @@
-use Rattle.std.proofs.Common.{◌≡◌, ◌∙◌, Option, None, Some, ap, ap₂, sym, codes, option_map}
+use Rattle.std.proofs.Common.{◌∙◌, Option, Some, ap, ap₂, sym, codes, option_map}
 use Rattle.std.proofs.lemmas.Option.{none-some}
 use Rattle.std.specs.Borrow.{Bor}
-use Rattle.clap.specs.Words.{Text, subcommand_rows_of}
-use Rattle.command_line.specs.Words.{asked_of, option_of, port_of, turns_of}
+use Rattle.clap.specs.Words.{Text}
+use Rattle.command_line.specs.Words.{port_of, turns_of}
 use Rattle.command_line.proofs.ProgramLemmas.{asked_met, no_asm, no_nodes, no_run, no_serve, no_trace, option_met}
 use Rattle.command_line.proofs.parsing.command_of.Goals as goal
 

@@ -1,4 +1,5 @@
-use Rattle.std.proofs.Common.{◌≡◌, refl, subst}
+use Rattle.std.proofs.Common.{◌≡◌, Some, refl, subst}
+use Rattle.ua_core.specs.World.{opening}
 use Rattle.socket_server.specs.declared.serve_fault.ServeFault.TheVariants as serve_fault
 use Rattle.scenario_lines.specs.Held.{place}
 use Rattle.commands.specs.Commands.{MadeBy, ServesBy}
@@ -10,4 +11,4 @@ pub returns-in-Err : goal.returns-in-Err
 returns-in-Err g c =
     let at = place g.O.Write.contents c.args.output.now in
     λ said by. unmade (ServesBy at at c.args.port c.args.turns) (at ≡ at) said c.in-Err.status (subst (λ r. MadeBy r said) c.in-Err.is by) refl
-    (λ made. refused at at c.args.port c.args.turns made serve_fault.Memory tt refl)
+    (λ made. refused at at c.args.port c.args.turns (Some (opening made.0 made.1)) serve_fault.Memory tt refl)
