@@ -1,5 +1,5 @@
 -- The number that decimal digits name.
-use Rattle.std.proofs.Common.{◌≡◌, ℕ, ◌^◌, nat_lt, true, false, List, length, None, Result, Ok, Err, inl, inr, refl, rules}
+use Rattle.std.proofs.Common.{◌≡◌, ℕ, ◌^◌, nat_lt, true, List, length, None, Result, Err, inl, inr, refl, rules}
 use Rattle.std.proofs.lemmas.Bool.{cases_Bool}
 use Rattle.std.proofs.lemmas.Str.Parse.{IsNumeralModel, numerals_by_value, parse_digits}
 use Rattle.std.proofs.lemmas.Result.{OkIff-at_err}

@@ -1,5 +1,5 @@
 -- All sockets, under the numbers of their connections.
-use Rattle.std.specs.Prelude.{◌≡◌, ⊤, ℕ, ◌+◌, Bool, true, false, List, [], ◌∷◌, ◌++◌, Option, Some, None, fold, refl}
+use Rattle.std.specs.Prelude.{◌≡◌, ⊤, ℕ, ◌+◌, Bool, true, false, List, [], Option, Some, None, fold, refl}
 use Rattle.std.specs.Coded.{Coded, code_by, coded×, coded_ℕ}
 use Rattle.std.specs.FinMap.{FinMap, get, insert, remove, empty, code}
 use Rattle.std.specs.Ordering.{nat_cmp}

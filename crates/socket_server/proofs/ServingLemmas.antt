@@ -1,5 +1,5 @@
 -- Acts, one after the other.
-use Rattle.std.proofs.Common.{◌≡◌, ◌⊎◌, ℕ, ◌+◌, Bool, true, false, List, [], ◌∷◌, ◌++◌, Option, Some, None, Result, Ok, Err, MatchResult, refl, sym, ap, ◌∙◌, subst, inl, inr, arith}
+use Rattle.std.proofs.Common.{◌≡◌, ℕ, ◌+◌, Bool, true, false, List, [], ◌∷◌, ◌++◌, Option, Some, None, Result, Ok, Err, MatchResult, refl, sym, ap, ◌∙◌, subst, inl, inr, arith}
 use Rattle.std.proofs.lemmas.Bool.{true≢false}
 use Rattle.ua_types.specs.declared.moment.Moment.{Moment}
 use Rattle.ua_core.specs.declared.event.Event.{Event}
@@ -8,10 +8,9 @@ use Rattle.socket_peers.specs.declared.peer.Heard.{Heard}
 use Rattle.socket_peers.specs.declared.peer.Heard.TheVariants as heard
 use Rattle.socket_peers.specs.Peer.{PeerState}
 use Rattle.mio.specs.declared.net.stream.TcpStream.{TcpStream}
-use Rattle.socket_peers.specs.Peers.{PeersState, nobody, at, with_joined, without, is_over_at, ReadsBy, ReadsAt, WritesAt, WritesAll}
+use Rattle.socket_peers.specs.Peers.{PeersState, nobody, at, with_joined, without, is_over_at, ReadsBy, ReadsAt, WritesAt}
 use Rattle.socket_peers.proofs.MapLemmas.{one_written}
 use Rattle.socket_server.specs.declared.serve_fault.ServeFault.{ServeFault}
-use Rattle.socket_server.specs.declared.serve_fault.ServeFault.TheVariants as serve_fault
 use Rattle.socket_server.specs.Serving.{State, Scene, scene, Act, Connects, Hears, Waits, Writes, Leaves, Passes, is_piece, Does, Runs, ticks, Fails, IsOutside, HandsIn, Goes, Stops, Serves, unknown, started, IsServed, IsStopped}
 
 ticks_append : (xs ys : List Act) → ticks (xs ++ ys) ≡ ticks xs + ticks ys

@@ -8,7 +8,6 @@ use Rattle.ua_core.specs.Stepping.{step_on, StepsTo}
 use Rattle.ua_core.specs.declared.event.Event.{Event}
 use Rattle.ua_core.specs.declared.event.Event.TheVariants.{Opened, Bytes, Gone, Tick}
 use Rattle.ua_core.specs.declared.out.Step.{Step}
-use Rattle.ua_core.specs.declared.out.StepFault.{StepFault}
 use Rattle.socket_peers.specs.declared.peer.Heard.{Heard}
 use Rattle.socket_peers.specs.declared.peer.Heard.TheVariants as heard
 use Rattle.socket_peers.specs.Peers.{PeersState, nobody, with_joined, without, is_over_at, owed_all, ReadsAt, WritesAll}

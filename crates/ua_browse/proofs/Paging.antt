@@ -1,5 +1,5 @@
 -- Pages of a list, and the calls that give them.
-use Rattle.std.proofs.Common.{◌≡◌, ℕ, zero, suc, ◌+◌, ◌-◌, ◌<◌, ◌≤◌, ◌^◌, Bool, true, false, cond, List, [], ◌∷◌, ◌++◌, length, take, drop, filter, map, slice_get, Option, Some, None, Result, Ok, Err, refl, sym, ap, subst, ◌∙◌, arith, inl, inr, append-nil, length-append}
+use Rattle.std.proofs.Common.{◌≡◌, ℕ, zero, suc, ◌+◌, ◌-◌, ◌<◌, ◌≤◌, ◌^◌, Bool, true, false, cond, List, [], ◌∷◌, ◌++◌, length, take, drop, filter, map, slice_get, Some, None, Result, Ok, Err, refl, sym, ap, subst, ◌∙◌, arith, inl, inr, append-nil, length-append}
 use Rattle.std.proofs.lemmas.Bool.{cases_Bool}
 use Rattle.std.proofs.lemmas.List.{take-append-drop, length-drop, drop_all}
 use Rattle.std.specs.Result.{result_map_both}
@@ -20,7 +20,6 @@ use Rattle.ua_browse.specs.Describing.{described}
 use Rattle.ua_browse.specs.Browsing.{place_of_first, shown_of, next_of, descriptions_of, page_of, with_point}
 use Rattle.ua_browse.specs.BrowsingLaws.{plain, joined, joined_from, BrowsesByFilter, NextIsTheSliceAfter, PagesJoinToAll}
 use Rattle.ua_browse.specs.Wanted.{Placed, placed, left_of, wanted_from, is_wanted}
-use Rattle.ua_browse.specs.declared.browsing.Page.{Page}
 
 -- ---- lists
 

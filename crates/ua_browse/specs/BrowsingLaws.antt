@@ -1,5 +1,5 @@
 -- What follows from the definition of browsing: its pages joined are the whole list.
-use Rattle.std.specs.Prelude.{◌≡◌, ◌<◌, ◌≤◌, ℕ, zero, suc, List, [], ◌++◌, length, drop, map, filter, Option, Some, None}
+use Rattle.std.specs.Prelude.{◌≡◌, ◌<◌, ℕ, zero, suc, List, [], ◌++◌, length, drop, map, filter, Option, Some, None}
 use Rattle.service_messages.specs.declared.browsing.BrowseDescription.{BrowseDescription}
 use Rattle.ua_space.specs.Nodes.{SpaceState}
 use Rattle.ua_space.specs.References.{Directed, references_of}

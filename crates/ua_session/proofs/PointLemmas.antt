@@ -2,13 +2,13 @@
 use Rattle.std.proofs.Common.{◌≡◌, ◌≢◌, ℕ, ◌+◌, ◌-◌, ◌<◌, ◌≤◌, Bool, true, false, cond, Option, Some, None, is_some, Err, refl, sym, ap, subst, ◌∙◌, arith}
 use Rattle.std.proofs.lemmas.Bool.{leb-false}
 use Rattle.std.specs.Cmp.{nat_cmp_total}
-use Rattle.std.specs.FinMap.{FinMap, get, insert, remove, empty, len, len-empty, len-insert, len-remove, contains_key, get-empty, get-insert, get-remove}
+use Rattle.std.specs.FinMap.{FinMap, get, insert, remove, len, len-empty, len-insert, len-remove, contains_key, get-empty, get-insert, get-remove}
 use Rattle.std.specs.Ordering.{nat_cmp, eq_by_cmp}
 use Rattle.ua_types.proofs.NumberMaps.{get_inserted_elsewhere}
 use Rattle.ua_types.specs.Answers.{step}
 use Rattle.ua_types.specs.declared.status.TheConstants.Status as status
 use Rattle.ua_session.specs.PointLaws.{IsSound, StaySound}
-use Rattle.ua_session.specs.Points.{PointsState, no_points, is_full, hold_of, put_of, with_point, replace_of, without_point}
+use Rattle.ua_session.specs.Points.{PointsState, is_full, hold_of, put_of, replace_of, without_point}
 use Rattle.ua_session.specs.declared.points.Point.{Point}
 
 one_more : (b : Bool) (n : ℕ) → cond b n (n + 1) ≤ n + 1

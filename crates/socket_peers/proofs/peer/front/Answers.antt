@@ -1,4 +1,4 @@
-use Rattle.std.proofs.Common.{rules, ◌≡◌, ◌∙◌, ◌<◌, length, take, sym, subst, arith}
+use Rattle.std.proofs.Common.{rules, ◌≡◌, ◌∙◌, ◌<◌, length, take, sym, subst}
 use Rattle.bytes.specs.Unread.{IsChunkOf, concat_slices}
 use Rattle.socket_peers.proofs.PeerLemmas.{first_slices}
 use Rattle.socket_peers.proofs.peer.front.Goals as goal

@@ -1,4 +1,4 @@
-use Rattle.std.proofs.Common.{rules, ◌≡◌, Some, sym, subst}
+use Rattle.std.proofs.Common.{rules, ◌≡◌, Some, subst}
 use Rattle.ua_types.proofs.NumberMaps.{insert_removed}
 use Rattle.socket_peers.specs.Peer.{Writes}
 use Rattle.socket_peers.specs.Peers.{at}

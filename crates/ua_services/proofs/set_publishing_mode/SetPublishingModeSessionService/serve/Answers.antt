@@ -1,6 +1,6 @@
 use Rattle.std.proofs.Common.{◌≡◌, ◌∙◌, ap, arith, length, subst}
 use Rattle.subscription.specs.Subs.{said}
-use Rattle.ua_services.specs.Serving.{Serving, given, given_of}
+use Rattle.ua_services.specs.Serving.{given, given_of}
 use Rattle.ua_services.specs.StatusResults.{statuses_body}
 use Rattle.ua_services.specs.SubServing.{with_subs, world_at}
 use Rattle.ua_services.proofs.SubLemmas.{named_length}
