@@ -12,10 +12,9 @@ use std::alloc::{AllocError, Global};
 pub(crate) fn uaserver<'a>(alloc: Global) -> Result<Command<'a>, AllocError>
     ensures { IfOk result (λ c. app_of c ≡ program) }
 {
-    let serve = serve(alloc)?;
     // With no word for the program's name, a command's usage would leave it out.
     with_scenarios(alloc)?
-        .subcommand(serve)?
+        .subcommand(serve(alloc)?)?
         .bin_name("uaserver")
 }
 
@@ -23,28 +22,23 @@ pub(crate) fn uaserver<'a>(alloc: Global) -> Result<Command<'a>, AllocError>
 fn with_scenarios<'a>(alloc: Global) -> Result<Command<'a>, AllocError>
     ensures { IfOk result (λ c. app_of c ≡ with_scenarios) }
 {
-    let asm = asm(alloc)?;
-    let run = run(alloc)?;
-    let trace = trace(alloc)?;
     with_nodes(alloc)?
-        .subcommand(asm)?
-        .subcommand(run)?
-        .subcommand(trace)
+        .subcommand(asm(alloc)?)?
+        .subcommand(run(alloc)?)?
+        .subcommand(trace(alloc)?)
 }
 
 // With the commands that take a node file alone.
 fn with_nodes<'a>(alloc: Global) -> Result<Command<'a>, AllocError>
     ensures { IfOk result (λ c. app_of c ≡ with_nodes) }
 {
-    let pipe = pipe(alloc)?;
-    let check = check(alloc)?;
     Command::new(alloc, "uaserver")
         .about("An OPC UA server")
         .no_binary_name(true)
         .subcommand_required(true)
         .arg_required_else_help(true)
-        .subcommand(pipe)?
-        .subcommand(check)
+        .subcommand(pipe(alloc)?)?
+        .subcommand(check(alloc)?)
 }
 
 fn pipe<'a>(alloc: Global) -> Result<Command<'a>, AllocError>
