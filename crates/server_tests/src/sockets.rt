@@ -62,17 +62,27 @@ fn all_of(alloc: Global, mut stream: TcpStream) -> Result<Vec<u8>, Fail> {
     Ok(read)
 }
 
+// Whether one of two clients is left when the other has ended its channel, and each has read what it is due. The clients'
+// sockets are the host's.
+fn are_served<R: Clock + Wait>(
+    host: &HostRuntime,
+    rt: &R,
+    alloc: Global,
+    serve: &mut Serve,
+) -> Result<bool, Fail> {
+    let address = serve.address()?;
+    let one = client(host, address, &[HELLO, ASKED])?;
+    let two = client(host, address, &[HELLO])?;
+    let is_left = takes_turns(rt, alloc, serve)?;
+    let acknowledged = waiting(alloc, &two)?;
+    let answered = all_of(alloc, one)?;
+    Ok(is_left && acknowledged.as_slice() == ACKNOWLEDGE && is_answered(answered.as_slice()))
+}
+
 #[test]
 fn two_sockets(rt: HostRuntime) -> Result<(), Fail> {
     let alloc = rt.alloc();
     let mut serve = Serve::bind(&rt, alloc, 0)?;
-    let address = serve.address()?;
-    let one = client(&rt, address, &[HELLO, ASKED])?;
-    let two = client(&rt, address, &[HELLO])?;
-    holds(&rt, "one is left", takes_turns(&rt, alloc, &mut serve)?);
-    let read = waiting(alloc, &two)?;
-    holds(&rt, "acknowledged", read.as_slice() == ACKNOWLEDGE);
-    let read = all_of(alloc, one)?;
-    holds(&rt, "answered", is_answered(read.as_slice()));
+    holds(&rt, "both", are_served(&rt, &rt, alloc, &mut serve)?);
     Ok(())
 }

@@ -110,31 +110,42 @@ fn end_of(ran: Result<(), PumpFault>) -> End {
     }
 }
 
-// A server whose connection is open.
-fn open_server(alloc: Global) -> Result<Server, Fail> {
-    let mut server = base_server(alloc)?;
-    match server.step(alloc, &opened(1)) {
-        Ok(_) => Ok(server),
-        Err(_) => Err(Fail::new("not opened")),
+// How a run of the pump ends on a connection that it opens, how many bytes it counts, and what the sink knows.
+fn pumped(
+    alloc: Global,
+    server: &mut Server,
+    source: Source,
+    sink: Sink,
+) -> Result<(End, u128, Sink), Fail> {
+    if server.step(alloc, &opened(1)).is_err() {
+        return Err(Fail::new("not opened"));
     }
-}
-
-// How a run of the pump ends, how many bytes it counts, and what the sink knows.
-fn pumped(alloc: Global, server: &mut Server, source: Source, sink: Sink) -> (End, u128, Sink) {
     let mut reader = Tap::new(source);
     let mut writer = Tap::new(sink);
     let mut pump = Pump::new();
     let end = end_of(pump.run(alloc, server, 1, &mut reader, &mut writer));
-    (end, pump.sent(), writer.into_inner())
+    Ok((end, pump.sent(), writer.into_inner()))
+}
+
+// `ends`, with this server.
+fn ends_on(
+    alloc: Global,
+    server: &mut Server,
+    source: Source,
+    sink: Sink,
+    end: End,
+    count: usize,
+) -> Result<bool, Fail> {
+    let (ended, counted, sink) = pumped(alloc, server, source, sink)?;
+    let is_flushed = ended != End::Done || sink.flushed == count;
+    Ok(ended == end && is_flushed && sink.is_due && sink.taken == count && counted == count as u128)
 }
 
 // Whether a Hello from this stream ends so, with so many bytes of its answer out there, which the pump counts, and which are
 // flushed at the end.
 fn ends(alloc: Global, source: Source, sink: Sink, end: End, count: usize) -> Result<bool, Fail> {
-    let mut server = open_server(alloc)?;
-    let (ended, counted, sink) = pumped(alloc, &mut server, source, sink);
-    let is_flushed = ended != End::Done || sink.flushed == count;
-    Ok(ended == end && is_flushed && sink.is_due && sink.taken == count && counted == count as u128)
+    let mut server = base_server(alloc)?;
+    ends_on(alloc, &mut server, source, sink, end, count)
 }
 
 #[test]
