@@ -29,7 +29,7 @@
 //! every reached world keeps, and [`laws`] states it, with what holds wherever streams are cut. What holds of
 //! sessions and subscriptions after any events, the crate `server_laws` says.
 //!
-//! Tests that drive a server stand in `conversation_tests`, `event_tests` and `worked_examples`.
+//! Conversations with a server, with what has to come of them, stand in `worked_examples`.
 #![tactic(auto)]
 
 mod event;
