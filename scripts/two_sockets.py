@@ -5,7 +5,8 @@
 
 PROGRAM is the built program, NODES a node file with the standard's limits, as crates/uaserver/data/line.toml. It tries:
 two sockets whose conversations go on at once, cut differently; 100 sockets opened and closed at once, and then one
-that is served; a client that sends nothing, and one that never reads. Nothing but Python's own library is needed.
+that is served; a client that sends nothing, and one that never reads; a port and an address that can't be had, and an
+IPv6 address. Nothing but Python's own library is needed.
 """
 import select
 import socket
@@ -199,10 +200,18 @@ def silent_and_deaf(program, nodes, port):
     deaf.close()
 
 
+def refused(program, nodes, address, port, why):
+    ran = subprocess.run([program, 'serve', nodes, '--port', str(port), '--address', address], stdout=subprocess.PIPE, stderr=subprocess.PIPE, text=True)
+    assert (ran.returncode, ran.stdout) == (6, ''), ran
+    lines = ran.stderr.splitlines()
+    assert lines[0].startswith('29 nodes, 43 references; clients are told opc.tcp://localhost:4840'), ran
+    assert lines[1:] == [why, 'network'], ran
+
+
 def main():
     program, nodes = sys.argv[1], sys.argv[2]
     port = int(sys.argv[3]) if len(sys.argv) > 3 else 48410
-    server = subprocess.Popen([program, 'serve', nodes, '--port', str(port)], stdout=subprocess.PIPE)
+    server = subprocess.Popen([program, 'serve', nodes, '--port', str(port)], stdout=subprocess.PIPE, stderr=subprocess.DEVNULL)
     try:
         line = server.stdout.readline()
         assert line == f'listening {port}\n'.encode(), line
@@ -210,9 +219,14 @@ def main():
             test(program, nodes, port)
             assert server.poll() is None, 'the server ended'
             print('ok', name)
-        taken = subprocess.run([program, 'serve', nodes, '--port', str(port)], stdout=subprocess.PIPE, stderr=subprocess.PIPE)
-        assert (taken.returncode, taken.stderr) == (6, b'network\n'), taken
+        refused(program, nodes, '127.0.0.1', port, f"can't listen at 127.0.0.1:{port}: another program has the port {port}, or only an administrator may")
         print('ok a port that is taken')
+        # 192.0.2.1 is of a network for documents alone, so it is no machine's.
+        refused(program, nodes, '192.0.2.1', port, f"can't listen at 192.0.2.1:{port}: the address 192.0.2.1 is none of this machine's")
+        print('ok an address of another machine')
+        ran = subprocess.run([program, 'serve', nodes, '--port', str(port), '--address', '::1', '--turns', '1'], stdout=subprocess.PIPE, stderr=subprocess.PIPE)
+        assert (ran.returncode, ran.stdout) == (0, line), ran
+        print('ok an IPv6 address')
     finally:
         server.kill()
         server.wait()

@@ -1,7 +1,7 @@
 -- What is wrong with some words, computed: `parse` answers a command only where nothing is.
 use Rattle.std.proofs.Common.{◌≡◌, [], ◌∷◌, Some, refl, codes}
 use Rattle.clap.specs.Words.{Text}
-use Rattle.clap.specs.declared.error.kind.ErrorKind.TheVariants.{DisplayHelp, DisplayHelpOnMissingArgumentOrSubcommand, InvalidSubcommand, MissingRequiredArgument, UnknownArgument}
+use Rattle.clap.specs.declared.error.kind.ErrorKind.TheVariants.{DisplayHelp, DisplayHelpOnMissingArgumentOrSubcommand, DisplayVersion, InvalidSubcommand, MissingRequiredArgument, UnknownArgument}
 use Rattle.clap.proofs.OnLiterals.{clap_on_literals}
 use Rattle.command_line.specs.Words.{asked, faults}
 
@@ -13,6 +13,10 @@ faults-pipe_and_no_values = refl
 pub faults-long_help : faults (codes "--help" ∷ []) ≡ DisplayHelp ∷ []
 unfolding clap_on_literals
 faults-long_help = refl
+
+pub faults-version : faults (codes "--version" ∷ []) ≡ DisplayVersion ∷ []
+unfolding clap_on_literals
+faults-version = refl
 
 pub faults-short_help : faults (codes "-h" ∷ []) ≡ DisplayHelp ∷ []
 unfolding clap_on_literals

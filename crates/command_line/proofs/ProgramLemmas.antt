@@ -3,15 +3,16 @@ use Rattle.std.proofs.Common.{rules, arith, ◌≡◌, ◌⊎◌, ◌∙◌, tru
 use Rattle.std.specs.Prelude.{slice_index, unwrap_or}
 use Rattle.std.proofs.lemmas.Option.{none-some}
 use Rattle.std.specs.Borrow.{Bor}
+use Rattle.std.specs.declared.net.ip_addr.IpAddr.{IpAddr}
 use Rattle.clap.specs.Words.{App, HasMatchesOf, IsAmong, Row, Text, first_value, found_of, is_simple, is_simple_and_free, rows_of, subcommand_name_of, subcommand_of, subcommand_rows, subcommand_rows_of}
 use Rattle.clap.specs.declared.error.kind.ErrorKind.{ErrorKind}
-use Rattle.clap.specs.declared.error.kind.ErrorKind.TheVariants.{DisplayHelp, InvalidSubcommand, OutOfMemory}
+use Rattle.clap.specs.declared.error.kind.ErrorKind.TheVariants.{DisplayHelp, DisplayVersion, InvalidSubcommand, OutOfMemory}
 use Rattle.clap.specs.declared.parser.matches.ArgMatches.{ArgMatches}
 use Rattle.clap.specs.declared.parser.matches.ArgMatches.TheViews.{out-ArgMatches, out-SubCommand}
 use Rattle.std.specs.Box.{box_value}
 use Rattle.clap.proofs.WalkLemmas.{first_value-rows}
 use Rattle.clap.proofs.OnLiterals.{clap_on_literals}
-use Rattle.command_line.specs.Words.{Answers, Asked, AsksFor, Found, HasOptions, IsNoCommand, IsPlainWord, IsStopOf, StopsBy, asked, asked_of, faults, option_of, port_of, program, turns_of, words_of}
+use Rattle.command_line.specs.Words.{Answers, Asked, AsksFor, Found, HasOptions, IsAddressIn, IsNoCommand, IsPlainWord, IsRequest, IsStopOf, StopsBy, asked, asked_of, faults, option_of, port_of, program, turns_of, words_of}
 use Rattle.command_line.proofs.PlainWord.{asked-check, asked-pipe_nodes, faults-check, faults-pipe_nodes}
 use Rattle.command_line.specs.declared.command.Command.{Command}
 use Rattle.command_line.specs.declared.command.Command.TheVariants.{Pipe, Check, Asm, Run, Trace, Serve}
@@ -91,7 +92,7 @@ no_nodes f is (Run nodes scenario) (named, _) =
 no_nodes f is (Trace nodes scenario) (named, _) =
     let first : ◌≡◌ {A = ℕ} 99 116 = first_letter (asked_of f) _ _ is named in
     absurd (omega (arith, first))
-no_nodes f is (Serve nodes port turns) (named, _) =
+no_nodes f is (Serve nodes port turns address) (named, _) =
     let first : ◌≡◌ {A = ℕ} 99 115 = first_letter (asked_of f) _ _ is named in
     absurd (omega (arith, first))
 
@@ -111,7 +112,7 @@ no_asm f nodes is none (Run given scenario) (named, _) =
 no_asm f nodes is none (Trace given scenario) (named, _) =
     let first : ◌≡◌ {A = ℕ} 97 116 = first_letter (asked_of f) _ _ is named in
     absurd (omega (arith, first))
-no_asm f nodes is none (Serve given port turns) (named, _) =
+no_asm f nodes is none (Serve given port turns address) (named, _) =
     let first : ◌≡◌ {A = ℕ} 97 115 = first_letter (asked_of f) _ _ is named in
     absurd (omega (arith, first))
 
@@ -131,7 +132,7 @@ no_run f nodes is none (Run given scenario) (named, has) = none given.now scenar
 no_run f nodes is none (Trace given scenario) (named, _) =
     let first : ◌≡◌ {A = ℕ} 114 116 = first_letter (asked_of f) _ _ is named in
     absurd (omega (arith, first))
-no_run f nodes is none (Serve given port turns) (named, _) =
+no_run f nodes is none (Serve given port turns address) (named, _) =
     let first : ◌≡◌ {A = ℕ} 114 115 = first_letter (asked_of f) _ _ is named in
     absurd (omega (arith, first))
 
@@ -151,13 +152,14 @@ no_trace f nodes is none (Run given scenario) (named, _) =
     let first : ◌≡◌ {A = ℕ} 116 114 = first_letter (asked_of f) _ _ is named in
     absurd (omega (arith, first))
 no_trace f nodes is none (Trace given scenario) (named, has) = none given.now scenario.now (nodes_same (asked_of f) _ _ is named) has
-no_trace f nodes is none (Serve given port turns) (named, _) =
+no_trace f nodes is none (Serve given port turns address) (named, _) =
     let first : ◌≡◌ {A = ℕ} 116 115 = first_letter (asked_of f) _ _ is named in
     absurd (omega (arith, first))
 
--- `serve` is no command where its NODES, its port or its turns are none
+-- `serve` is no command where its NODES, its port, its turns or its address are none
 pub no_serve : (f : Found) (nodes : Option Text) → asked_of f ≡ Some (codes "serve", nodes)
-    → ((n : Text) (port turns : ℕ) → nodes ≡ Some n → port_of (option_of (codes "port") f) ≡ Some port → turns_of (option_of (codes "turns") f) ≡ Some turns → ⊥) → IsNoCommand f
+    → ((n : Text) (port turns : ℕ) (address : IpAddr) → nodes ≡ Some n → port_of (option_of (codes "port") f) ≡ Some port
+    → turns_of (option_of (codes "turns") f) ≡ Some turns → IsAddressIn (option_of (codes "address") f) address → ⊥) → IsNoCommand f
 no_serve f nodes is none (Pipe given) (named, _) =
     let first : ◌≡◌ {A = ℕ} 115 112 = first_letter (asked_of f) _ _ is named in
     absurd (omega (arith, first))
@@ -173,14 +175,23 @@ no_serve f nodes is none (Run given scenario) (named, _) =
 no_serve f nodes is none (Trace given scenario) (named, _) =
     let first : ◌≡◌ {A = ℕ} 115 116 = first_letter (asked_of f) _ _ is named in
     absurd (omega (arith, first))
-no_serve f nodes is none (Serve given port turns) (named, numbers) =
-    none given.now port turns (nodes_same (asked_of f) _ _ is named) numbers.0 numbers.1
+no_serve f nodes is none (Serve given port turns address) (named, numbers) =
+    none given.now port turns address (nodes_same (asked_of f) _ _ is named) numbers.0 numbers.1 numbers.2
+
+-- neither want of memory nor a word that is no command is a request
+is_no_request : (k : ErrorKind) → k ≡ OutOfMemory → IsRequest k → ⊥
+is_no_request k e (inl help) = absurd (search rules)
+is_no_request k e (inr version) = absurd (search rules)
+
+is_no_request_either : (k : ErrorKind) → k ≡ InvalidSubcommand → IsRequest k → ⊥
+is_no_request_either k e (inl help) = absurd (search rules)
+is_no_request_either k e (inr version) = absurd (search rules)
 
 -- an error of a kind that may come stops by it
 pub stops_by : (words : List (List ℕ)) (k : ErrorKind) (s : Stop) → (k ≡ OutOfMemory) ⊎ IsAmong k (faults words)
     → IsStopOf k s → StopsBy words s
-stops_by words k (Help text) (inl e) is = absurd (search rules)
-stops_by words k (Help text) (inr among) is = subst (λ k. IsAmong k (faults words)) is among
+stops_by words k (Help text) (inl e) is = absurd (is_no_request k e is)
+stops_by words k (Help text) (inr among) is = (k, among, is)
 stops_by words k (Usage text) (inl e) is = absurd (is.1 e)
 stops_by words k (Usage text) (inr among) is = inl (k, among, is.0)
 stops_by words k Memory h is = tt
@@ -188,7 +199,7 @@ stops_by words k Memory h is = tt
 -- words that name no command stop by it
 pub stops_by_name : (words : List (List ℕ)) (k : ErrorKind) (s : Stop) → k ≡ InvalidSubcommand → faults words ≡ []
     → IsNoCommand (subcommand_of program words) → IsStopOf k s → StopsBy words s
-stops_by_name words k (Help text) e right none is = absurd (search rules)
+stops_by_name words k (Help text) e right none is = absurd (is_no_request_either k e is)
 stops_by_name words k (Usage text) e right none is = inr (right, none)
 stops_by_name words k Memory e right none is = tt
 
@@ -196,7 +207,7 @@ stops_by_name words k Memory e right none is = tt
 pub comes : (words : List Text) (c : Command) (r : Result Command Stop) → IfOk r (AsksFor words) → IfErr r (StopsBy words)
     → faults words ≡ [] → asked words ≡ Some (words_of c) → HasOptions (subcommand_of program words) c → Answers (words_of c) r
 comes words c (Ok d) ok err right named has = ap (λ (o : Option Asked). unwrap_or o (words_of d)) (sym ok.1.0 ∙ named)
-comes words c (Err (Help text)) ok err right named has = absurd (subst (IsAmong DisplayHelp) right err)
+comes words c (Err (Help text)) ok (k, among, request) right named has = absurd (subst (IsAmong k) right among)
 comes words c (Err (Usage text)) ok (inl (k, among, other)) right named has = absurd (subst (IsAmong k) right among)
 comes words c (Err (Usage text)) ok (inr (none_wrong, none)) right named has = absurd (none c (named, has))
 comes words c (Err Memory) ok err right named has = refl

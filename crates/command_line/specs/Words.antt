@@ -1,12 +1,14 @@
 -- What the words of the command line ask for.
 use Rattle.std.specs.Prelude.{◌≡◌, ◌≢◌, ◌⊎◌, ⊤, true, ℕ, ◌^◌, ◌&&◌, nat_lt, List, [], length, Option, Some, None, Result, Ok, Err, codes, option_map, slice_get, if◌then◌else◌}
-use Rattle.std.specs.Prelude.{option_and_then}
+use Rattle.std.specs.Prelude.{option_and_then, unwrap_or}
 use Rattle.std.specs.Char.{is_ascii_digit}
+use Rattle.std.specs.Net.Grammar.{IsIpText}
+use Rattle.std.specs.declared.net.ip_addr.IpAddr.{IpAddr}
 use Rattle.std.specs.List.{list_all}
 use Rattle.std.specs.Str.Parse.{digits_value}
 use Rattle.clap.specs.Words.{App, Kinds, IsAmong, Row, Rule, Text, fault_of, first_of, new_app, new_rule, subcommand_of, with_rule, with_subcommand}
 use Rattle.clap.specs.declared.error.kind.ErrorKind.{ErrorKind}
-use Rattle.clap.specs.declared.error.kind.ErrorKind.TheVariants.{DisplayHelp, OutOfMemory}
+use Rattle.clap.specs.declared.error.kind.ErrorKind.TheVariants.{DisplayHelp, DisplayVersion, OutOfMemory}
 use Rattle.command_line.specs.declared.command.Command.{Command}
 use Rattle.command_line.specs.declared.command.Command.TheVariants.{Pipe, Check, Asm, Run, Trace, Serve}
 use Rattle.command_line.specs.declared.stop.Stop.{Stop}
@@ -38,10 +40,14 @@ trace_app = with_rule (with_rule (new_app (codes "trace")) (record nodes_rule { 
 abbrev pub option_rule : Text → Rule
 option_rule name = record (new_rule name) { long = Some name; value_names = 1 }
 
-abbrev pub serve_app : App
-serve_app =
+-- `serve` with its NODES and its numbers
+abbrev pub serve_numbers : App
+serve_numbers =
     with_rule (with_rule (with_rule (new_app (codes "serve")) (record nodes_rule { required = true })) (record (option_rule (codes "port")) { required = true }))
     (option_rule (codes "turns"))
+
+abbrev pub serve_app : App
+serve_app = with_rule serve_numbers (option_rule (codes "address"))
 
 abbrev pub bare_program : App
 bare_program = record (new_app (codes "uaserver")) {
@@ -49,6 +55,7 @@ bare_program = record (new_app (codes "uaserver")) {
     no_binary_name = true;
     subcommand_required = true;
     arg_required_else_help = true;
+    has_version = true;
   };
 }
 
@@ -72,7 +79,7 @@ words_of (Check nodes) = (codes "check", Some nodes.now)
 words_of (Asm scenario) = (codes "asm", None)
 words_of (Run nodes scenario) = (codes "run", Some nodes.now)
 words_of (Trace nodes scenario) = (codes "trace", Some nodes.now)
-words_of (Serve nodes port turns) = (codes "serve", Some nodes.now)
+words_of (Serve nodes port turns address) = (codes "serve", Some nodes.now)
 
 -- the subcommand of a parse, where there is one, with what its arguments are
 abbrev pub Found : Type 0
@@ -103,13 +110,18 @@ abbrev pub turns_of : Option Text → Option ℕ
 turns_of None = Some 0
 turns_of (Some digits) = number_of digits
 
--- SCENARIO, and the numbers behind the options of a command
+-- an address in words, of either version; none is 127.0.0.1, which no other machine reaches
+abbrev pub IsAddressIn : Option Text → IpAddr → Type 0
+IsAddressIn text address = IsIpText (unwrap_or text (codes "127.0.0.1")) address
+
+-- SCENARIO, and the numbers and the address behind the options of a command
 abbrev pub HasOptions : Found → Command → Type 0
 HasOptions found (Asm scenario) = option_of (codes "SCENARIO") found ≡ Some scenario.now
 HasOptions found (Run nodes scenario) = option_of (codes "SCENARIO") found ≡ Some scenario.now
 HasOptions found (Trace nodes scenario) = option_of (codes "SCENARIO") found ≡ Some scenario.now
-HasOptions found (Serve nodes port turns) =
+HasOptions found (Serve nodes port turns address) =
     (port_of (option_of (codes "port") found) ≡ Some port) × (turns_of (option_of (codes "turns") found) ≡ Some turns)
+    × IsAddressIn (option_of (codes "address") found) address
 HasOptions found c = ⊤
 
 -- what was found is this command
@@ -119,11 +131,11 @@ IsAskedBy found c = (asked_of found ≡ Some (words_of c)) × HasOptions found c
 abbrev pub asked : List Text → Option Asked
 asked words = asked_of (subcommand_of program words)
 
--- the kinds of what is wrong with the words; a request for help is one
+-- the kinds of what is wrong with the words; a request for help or for the version is one
 abbrev pub faults : List Text → Kinds
 faults = fault_of program
 
--- nothing is wrong with the words, and they name the command, its NODES, its SCENARIO and its numbers
+-- nothing is wrong with the words, and they name the command, its NODES, its SCENARIO, its numbers and its address
 abbrev pub AsksFor : List Text → Command → Type 0
 AsksFor words c = (faults words ≡ []) × IsAskedBy (subcommand_of program words) c
 
@@ -131,11 +143,15 @@ AsksFor words c = (faults words ≡ []) × IsAskedBy (subcommand_of program word
 abbrev pub IsNoCommand : Found → Type 0
 IsNoCommand found = (c : Command) → IsAskedBy found c → ⊥
 
--- help comes where it is asked for, and usage where something else is wrong, or where nothing is and
--- no command is named: one with a port or turns that are no such number is none
+-- a request for help, or for the version
+abbrev pub IsRequest : ErrorKind → Type 0
+IsRequest k = (k ≡ DisplayHelp) ⊎ (k ≡ DisplayVersion)
+
+-- help or the version comes where it is asked for, and usage where something else is wrong, or where nothing is and
+-- no command is named: one with a port or turns that are no such number is none, nor is one with an address that is none
 abbrev pub StopsBy : List Text → Stop → Type 0
-StopsBy words (Help text) = IsAmong DisplayHelp (faults words)
-StopsBy words (Usage text) = ((k : ErrorKind) × IsAmong k (faults words) × (k ≢ DisplayHelp))
+StopsBy words (Help text) = (k : ErrorKind) × IsAmong k (faults words) × IsRequest k
+StopsBy words (Usage text) = ((k : ErrorKind) × IsAmong k (faults words) × (IsRequest k → ⊥))
     ⊎ ((faults words ≡ []) × IsNoCommand (subcommand_of program words))
 StopsBy words Memory = ⊤
 
@@ -150,6 +166,6 @@ Answers a (Err s) = s ≡ Memory
 
 -- the stop for an error of the kind, where memory is not refused on the way
 abbrev pub IsStopOf : ErrorKind → Stop → Type 0
-IsStopOf k (Help text) = k ≡ DisplayHelp
-IsStopOf k (Usage text) = (k ≢ DisplayHelp) × (k ≢ OutOfMemory)
+IsStopOf k (Help text) = IsRequest k
+IsStopOf k (Usage text) = (IsRequest k → ⊥) × (k ≢ OutOfMemory)
 IsStopOf k Memory = ⊤

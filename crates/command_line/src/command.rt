@@ -1,5 +1,7 @@
 //! What can be asked for.
 
+use std::net::IpAddr;
+
 /// What `uaserver` is asked to do. NODES is the path of a node file and SCENARIO that of a scenario, as
 /// they stand in the words.
 #[derive(Clone, Copy, Debug, PartialEq, Eq)]
@@ -34,11 +36,13 @@ pub enum Command<'a> {
         scenario: &'a str,
     },
 
-    /// `uaserver serve NODES --port P [--turns N]`: the server of the node file over sockets, at this port
-    /// from 1 on, for so many turns, or without end where the number is 0 or the words have none.
+    /// `uaserver serve NODES --port P [--address A] [--turns N]`: the server of the node file over sockets,
+    /// at this port from 1 on of this IPv4 or IPv6 address, which is 127.0.0.1 where the words have none, for
+    /// so many turns, or without end where the number is 0 or the words have none.
     Serve {
         nodes: &'a str,
         port: u16,
         turns: u64,
+        address: IpAddr,
     },
 }

@@ -1,24 +1,27 @@
 //! From words to a command.
 
 ghost use Rattle.std.specs.Prelude.{◌≡◌, ◌∷◌, ℕ, List, [], Some, None, IfOk, IfErr, IfSome, IsNone, codes, map, option_map};
+ghost use Rattle.std.specs.declared.net.ip_addr.IpAddr.{IpAddr};
 ghost use Rattle.std.specs.Char.{is_ascii_digit};
 ghost use Rattle.std.specs.List.{list_all};
 ghost use Rattle.clap.specs.Words.{kind_of, subcommand_rows_of};
-ghost use Rattle.command_line.specs.Words.{Answers, AsksFor, IsAskedBy, IsNoCommand, IsPlainWord, IsStopOf, StopsBy, number_of, port_of as port_in, turns_of as turns_in};
+ghost use Rattle.command_line.specs.Words.{Answers, AsksFor, IsAddressIn, IsAskedBy, IsNoCommand, IsPlainWord, IsStopOf, StopsBy, number_of, port_of as port_in, turns_of as turns_in};
 
 use crate::program::uaserver;
 use crate::{Command, Stop};
 use clap::error::ErrorKind;
 use clap::{ArgMatches, Error};
 use std::alloc::Global;
+use std::net::IpAddr;
 
 // Words that clap takes, and that are still no command.
-const NO_NUMBER: &str = "the port is a number from 1 to 65535, and the turns are one below 2^64";
+const NO_NUMBER: &str =
+    "the port is a number from 1 to 65535, the turns are one below 2^64, and the address is one of IPv4 or IPv6, as 127.0.0.1 or ::1";
 
 /// Reads the words after the program's name.
 ///
 /// A command comes where nothing is wrong with the words and they name it and its NODES, [`Stop::Help`]
-/// where they may ask for help, and [`Stop::Usage`] where something else may be wrong with them:
+/// where they may ask for help or for the version, and [`Stop::Usage`] where something else may be wrong with them:
 /// `faults` of `specs/Words.antt` is what may be wrong, and `asked` what they name, each computed from
 /// the words. So `pipe`, `pipe NODES` and `check NODES` are commands for each NODES that does not begin
 /// with a hyphen; one that does may follow a `--`. What a text says is shown by tests alone, and the
@@ -85,6 +88,7 @@ fn command_of<'a>(matches: &ArgMatches<'a>) -> Option<Command<'a>>
             nodes: nodes?,
             port: port_of(given.get_str("port"))?,
             turns: turns_of(given.get_str("turns"))?,
+            address: address_of(given.get_str("address"))?,
         }),
         _ => None,
     }
@@ -131,6 +135,21 @@ fn turns_of(text: Option<&str>) -> Option<u64>
     }
 }
 
+// The address of the words, or 127.0.0.1.
+fn address_of(text: Option<&str>) -> Option<IpAddr>
+    ensures some { IfSome result (IsAddressIn (option_map (λ t. t.now) text.entry)) }
+    ensures none { IsNone result → (address : IpAddr) → IsAddressIn (option_map (λ t. t.now) text.entry) address → ⊥ }
+{
+    let written = match text {
+        Some(written) => written,
+        None => "127.0.0.1",
+    };
+    match written.parse::<IpAddr>() {
+        Ok(address) => Some(address),
+        Err(_) => None,
+    }
+}
+
 // What to print for an error.
 fn stop_of(alloc: Global, error: &Error) -> Stop
     ensures { IsStopOf (kind_of error.now) result }
@@ -142,7 +161,7 @@ fn stop_of(alloc: Global, error: &Error) -> Stop
     let Ok(text) = format!(in alloc; "{error}") else {
         return Stop::Memory;
     };
-    if kind == ErrorKind::DisplayHelp {
+    if kind == ErrorKind::DisplayHelp || kind == ErrorKind::DisplayVersion {
         Stop::Help(text)
     } else {
         Stop::Usage(text)

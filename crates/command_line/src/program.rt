@@ -3,10 +3,13 @@
 ghost use Rattle.std.specs.Prelude.{◌≡◌, IfOk, false};
 ghost use Rattle.clap.specs.Words.{app_of, rule_of};
 ghost use Rattle.clap.specs.declared.builder.command.Command.TheViews.{out-Command as fields_of};
-ghost use Rattle.command_line.specs.Words.{asm_app, check_app, nodes_rule, option_rule, pipe_app, program, run_app, scenario_rule, serve_app, trace_app, with_nodes, with_scenarios};
+ghost use Rattle.command_line.specs.Words.{asm_app, check_app, nodes_rule, option_rule, pipe_app, program, run_app, scenario_rule, serve_app, serve_numbers, trace_app, with_nodes, with_scenarios};
 
 use clap::{Arg, Command};
 use std::alloc::{AllocError, Global};
+
+// What `--version` prints behind the program's name.
+const VERSION: &str = "0.1.0";
 
 /// The program with each of its commands.
 pub(crate) fn uaserver<'a>(alloc: Global) -> Result<Command<'a>, AllocError>
@@ -33,7 +36,10 @@ fn with_nodes<'a>(alloc: Global) -> Result<Command<'a>, AllocError>
     ensures { IfOk result (λ c. app_of c ≡ with_nodes) }
 {
     Command::new(alloc, "uaserver")
-        .about("An OPC UA server")
+        .about(
+            "An OPC UA server (opc.tcp, binary encoding, no security). README.md says what it serves and how to begin",
+        )
+        .version(VERSION)
         .no_binary_name(true)
         .subcommand_required(true)
         .arg_required_else_help(true)
@@ -45,15 +51,19 @@ fn pipe<'a>(alloc: Global) -> Result<Command<'a>, AllocError>
     ensures { IfOk result (λ c. (app_of c ≡ pipe_app) × ((fields_of c).has_globals ≡ false)) }
 {
     Command::new(alloc, "pipe")
-        .about("Serves one connection on standard input and standard output")
-        .arg(nodes(alloc))
+        .about("Serves one connection on standard input and standard output (README.md)")
+        .arg(nodes(alloc).help(
+            "a node file (TOML); the standard's base nodes alone where left out",
+        ))
 }
 
 fn check<'a>(alloc: Global) -> Result<Command<'a>, AllocError>
     ensures { IfOk result (λ c. (app_of c ≡ check_app) × ((fields_of c).has_globals ≡ false)) }
 {
     Command::new(alloc, "check")
-        .about("Counts the nodes and references of a node file")
+        .about(
+            "Counts the nodes and references of a node file, or says what is wrong with it (docs/NODE_FILE.md)",
+        )
         .arg(nodes(alloc).required(true))
 }
 
@@ -61,7 +71,7 @@ fn asm<'a>(alloc: Global) -> Result<Command<'a>, AllocError>
     ensures { IfOk result (λ c. (app_of c ≡ asm_app) × ((fields_of c).has_globals ≡ false)) }
 {
     Command::new(alloc, "asm")
-        .about("Prints the events of a scenario")
+        .about("Prints the events of a scenario (docs/SCENARIOS.md)")
         .arg(scenario(alloc))
 }
 
@@ -69,7 +79,7 @@ fn run<'a>(alloc: Global) -> Result<Command<'a>, AllocError>
     ensures { IfOk result (λ c. (app_of c ≡ run_app) × ((fields_of c).has_globals ≡ false)) }
 {
     Command::new(alloc, "run")
-        .about("Prints what is sent when a scenario happens to the server")
+        .about("Prints what is sent when a scenario happens to the server (docs/SCENARIOS.md)")
         .arg(nodes(alloc).required(true))?
         .arg(scenario(alloc))
 }
@@ -78,7 +88,9 @@ fn trace<'a>(alloc: Global) -> Result<Command<'a>, AllocError>
     ensures { IfOk result (λ c. (app_of c ≡ trace_app) × ((fields_of c).has_globals ≡ false)) }
 {
     Command::new(alloc, "trace")
-        .about("Prints the state table rows that fire when a scenario happens to the server")
+        .about(
+            "Prints the state table rows that fire when a scenario happens to the server (docs/SUBSCRIPTIONS.md)",
+        )
         .arg(nodes(alloc).required(true))?
         .arg(scenario(alloc))
 }
@@ -86,15 +98,29 @@ fn trace<'a>(alloc: Global) -> Result<Command<'a>, AllocError>
 fn serve<'a>(alloc: Global) -> Result<Command<'a>, AllocError>
     ensures { IfOk result (λ c. (app_of c ≡ serve_app) × ((fields_of c).has_globals ≡ false)) }
 {
+    serve_numbers(alloc)?.arg(option(
+        alloc,
+        "address",
+        "A",
+        "the IPv4 or IPv6 address to listen at; 127.0.0.1 where left out, 0.0.0.0 for all. Whoever reaches it may write",
+    ))
+}
+
+// `serve` with its NODES and its numbers.
+fn serve_numbers<'a>(alloc: Global) -> Result<Command<'a>, AllocError>
+    ensures { IfOk result (λ c. (app_of c ≡ serve_numbers) × ((fields_of c).has_globals ≡ false)) }
+{
     Command::new(alloc, "serve")
-        .about("Serves connections to a port of 127.0.0.1")
+        .about(
+            "Serves connections to a port, from this machine alone unless an address is given (docs/SERVE.md)",
+        )
         .arg(nodes(alloc).required(true))?
         .arg(option(alloc, "port", "P", "the port, from 1 to 65535").required(true))?
         .arg(option(
             alloc,
             "turns",
             "N",
-            "ends after so many turns of the loop, of at most 100 ms each; 0 never ends",
+            "ends after so many turns of the loop, of at most 100 ms each; 0, the default, never ends",
         ))
 }
 

@@ -9,8 +9,8 @@ use thiserror::Error;
 /// one newline, and `memory` in none.
 #[derive(Debug, Drop, Error)]
 pub enum Stop {
-    /// Help was asked for, by `--help`, `-h` or `help`. The text goes to standard output, and the
-    /// exit status is 0.
+    /// Help was asked for, by `--help`, `-h` or `help`, or the version, by `--version` or `-V`. The text
+    /// goes to standard output, and the exit status is 0.
     #[error("{0}")]
     Help(String),
 

@@ -2,16 +2,16 @@
 use Rattle.std.proofs.Common.{◌≡◌, ℕ, List, [], ◌∷◌, Option, Result, Ok, Err, MatchResult, is_ok, inl, sym, ap}
 use Rattle.std.proofs.lemmas.Bool.{false≢true}
 use Rattle.ua_types.specs.Answers as answers
-use Rattle.ua_tcp.specs.Tapped.{Tapped}
-use Rattle.ua_core.specs.Running.{run_of, then_run}
-use Rattle.ua_core.specs.Stepping.{Served, StepsTo, step_on, answer_by, server_by}
-use Rattle.ua_core.specs.declared.event.Event.{Event}
-use Rattle.ua_core.specs.declared.out.Step.{Step}
-use Rattle.ua_core.specs.declared.out.StepFault.{StepFault}
-use Rattle.pump.specs.Pumped as pump
-use Rattle.pump.specs.Pumped.{State, scene}
-use Rattle.pump.specs.declared.PumpFault.{PumpFault}
-use Rattle.pump.specs.declared.PumpFault.TheVariants as fault
+use Rattle.stream_taps.specs.Tapped.{Tapped}
+use Rattle.server_core.specs.Running.{run_of, then_run}
+use Rattle.server_core.specs.Stepping.{Served, StepsTo, step_on, answer_by, server_by}
+use Rattle.server_core.specs.declared.event.Event.{Event}
+use Rattle.server_core.specs.declared.out.Step.{Step}
+use Rattle.server_core.specs.declared.out.StepFault.{StepFault}
+use Rattle.stream_server.specs.Pumped as pump
+use Rattle.stream_server.specs.Pumped.{State, scene}
+use Rattle.stream_server.specs.declared.PumpFault.{PumpFault}
+use Rattle.stream_server.specs.declared.PumpFault.TheVariants as fault
 use Rattle.commands.specs.Commands.{opened, status_of, Pipes}
 use Rattle.commands.specs.NodeFiles.{Made}
 

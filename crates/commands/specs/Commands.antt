@@ -1,16 +1,16 @@
 -- What the commands come to.
 use Rattle.std.specs.Prelude.{◌≡◌, ◌⊎◌, ⊤, ℕ, List, [], ◌∷◌, ◌++◌, length, codes, string_bytes, Option, Some, None, option_map, replicate, Result, Ok, Err}
 use Rattle.std.specs.Fmt.{decimal}
-use Rattle.ua_tcp.specs.Tapped.{Tapped}
+use Rattle.stream_taps.specs.Tapped.{Tapped}
 use Rattle.ua_space.specs.Nodes.{SpaceState}
-use Rattle.ua_core.specs.World.{opening}
-use Rattle.ua_core.specs.Running.{run_of}
-use Rattle.ua_core.specs.declared.event.Event.TheVariants.{Opened}
-use Rattle.ua_core.specs.declared.out.StepFault.{StepFault}
-use Rattle.pump.specs.Pumped as pump
-use Rattle.pump.specs.Pumped.{State, scene}
-use Rattle.pump.specs.declared.PumpFault.{PumpFault}
-use Rattle.pump.specs.declared.PumpFault.TheVariants as fault
+use Rattle.server_core.specs.World.{opening}
+use Rattle.server_core.specs.Running.{run_of}
+use Rattle.server_core.specs.declared.event.Event.TheVariants.{Opened}
+use Rattle.server_core.specs.declared.out.StepFault.{StepFault}
+use Rattle.stream_server.specs.Pumped as pump
+use Rattle.stream_server.specs.Pumped.{State, scene}
+use Rattle.stream_server.specs.declared.PumpFault.{PumpFault}
+use Rattle.stream_server.specs.declared.PumpFault.TheVariants as fault
 use Rattle.socket_server.specs.Serving.{IsServed, IsStopped, IsOutside}
 use Rattle.socket_server.specs.declared.serve_fault.ServeFault.{ServeFault}
 use Rattle.socket_server.specs.declared.serve_fault.ServeFault.TheVariants as serve_fault
@@ -92,7 +92,7 @@ abbrev pub status_served : Result (Unit {0}) ServeFault → Status
 status_served (Ok x) = Done
 status_served (Err (serve_fault.Step f)) = Halted
 status_served (Err serve_fault.Memory) = Halted
-status_served (Err serve_fault.Network) = Network
+status_served (Err of_the_network) = Network
 
 unfoldable pub listening_line : ℕ → List ℕ
 listening_line port = codes "listening " ++ decimal port ++ codes "\n"
@@ -149,7 +149,7 @@ module _ {R W : Type 0} (remaining : R → Option (List ℕ)) (contents : W → 
       TellsFiles (place contents output) (place contents output') nodes.now scenario.now e.status e.file e.scenario × (input' ≡ input)
   Commanded (Trace nodes scenario) e =
       TracesFiles (place contents output) (place contents output') nodes.now scenario.now e.status e.file e.scenario × (input' ≡ input)
-  Commanded (Serve nodes port turns) e =
+  Commanded (Serve nodes port turns address) e =
       ServesFile (place contents output) (place contents output') port turns nodes.now e.status e.file × (input' ≡ input)
 
   abbrev pub StopsWith : Stop → Ended → Type 0

@@ -1,10 +1,10 @@
 -- What the commands come to that take a scenario.
 use Rattle.std.specs.Prelude.{◌≡◌, ◌⊎◌, ⊤, ℕ, List, [], Option, Some, None, Result, Ok, Err, MatchResult}
-use Rattle.ua_core.specs.World.{opening}
-use Rattle.ua_core.specs.declared.world.World.{World}
-use Rattle.ua_core.specs.declared.event.Event.{Event}
+use Rattle.server_core.specs.World.{opening}
+use Rattle.server_core.specs.declared.world.World.{World}
+use Rattle.server_core.specs.declared.event.Event.{Event}
 use Rattle.scenario_text.specs.declared.fault.AsmFault.{AsmFault}
-use Rattle.scenario_asm.specs.Assembly.{events_of}
+use Rattle.scenario_events.specs.Assembly.{events_of}
 use Rattle.scenario_lines.specs.Held.{Place, EventsPrinted}
 use Rattle.scenario_lines.specs.Runs.{RunPrinted}
 use Rattle.scenario_lines.specs.declared.held.PrintFault.{PrintFault}

@@ -1,30 +1,30 @@
 //! What the commands do, over words, texts and streams. Those that take a scenario stand in `scenarios`.
 
 ghost use Rattle.std.specs.Prelude.{◌≡◌, Option, Some, None, IfOk, IfErr, map, option_map, string_bytes};
-ghost use Rattle.ua_core.specs.World.{world_of};
+ghost use Rattle.server_core.specs.World.{world_of};
 ghost use Rattle.ua_space.specs.Build.{space_of};
 ghost use Rattle.scenario_lines.specs.Held.{place};
 ghost use Rattle.commands.specs.NodeFiles.{Made, ReadsNone, built, made_in, made_of_none};
 ghost use Rattle.commands.specs.Commands.{MadeBy, Says, Checks, ChecksFile, opened, status_of, status_served, Pipes, PipesMade, PipesFile, ServesOn, ServesBy, ServesMade, ServesFile, Runs};
-ghost use Rattle.commands.specs.Commands.{counts_line as counts_line_lem, listening_line as listening_line_lem};
+ghost use Rattle.commands.specs.Commands.{counts_line as counts_line_spec, listening_line as listening_line_spec};
 
 use crate::scenarios::{asm_at, run_at, trace_at};
 use crate::status::Status;
 use crate::text_file::{FileFault, TextFile};
 use command_line::{Command, Stop, parse};
 use node_loader::{Cause, Loaded, load};
-use pump::{Pump, PumpFault};
+use server_core::{Event, Server, StepFault};
 use socket_server::{Serve, ServeFault};
 use std::alloc::{AllocError, Global};
 use std::io::{Read, Write};
-use std::net::Net;
+use std::net::{IpAddr, Net, SocketAddr};
 use std::random::RandomSource;
 use std::rt::Files;
 use std::sync::Wait;
 use std::time::Clock;
-use ua_core::{Event, Server, StepFault};
+use stream_server::{Pump, PumpFault};
+use stream_taps::{Tap, put_bytes};
 use ua_space::{Node, Space, SpaceFault, Triple};
-use ua_tcp::{Tap, put_bytes};
 use ua_types::Config;
 
 /// The one connection of `pipe`.
@@ -178,7 +178,7 @@ fn no_nodes<E: Write>(alloc: Global, errors: &mut E) -> Result<(Config, Space), 
 
 // The line of `check`.
 fn counts_line(alloc: Global, space: &Space) -> Result<String, AllocError>
-    ensures { IfOk result (λ line. string_bytes line ≡ counts_line_lem space.now) }
+    ensures { IfOk result (λ line. string_bytes line ≡ counts_line_spec space.now) }
 {
     let nodes = space.node_count();
     let references = space.triple_count();
@@ -328,7 +328,7 @@ fn served<E: Write>(ran: Result<(), ServeFault>, errors: &mut E) -> Status
         Ok(()) => Status::Done,
         Err(ServeFault::Step(fault)) => step_fault(fault, errors),
         Err(ServeFault::Memory) => no_memory(errors),
-        Err(ServeFault::Network) => {
+        Err(ServeFault::Network | ServeFault::Port | ServeFault::Address) => {
             let _ = writeln!(errors, "network");
             Status::Network
         }
@@ -338,9 +338,63 @@ fn served<E: Write>(ran: Result<(), ServeFault>, errors: &mut E) -> Status
 // The line of `serve`.
 #[tactic(auto, unfolding(crate::specs::Commands::listening_line))]
 fn listening_line(alloc: Global, port: u16) -> Result<String, AllocError>
-    ensures { IfOk result (λ line. string_bytes line ≡ listening_line_lem port) }
+    ensures { IfOk result (λ line. string_bytes line ≡ listening_line_spec port) }
 {
     format!(in alloc; "listening {port}\n")
+}
+
+// Whether a URL leads to this port. Where it names none, that is 4840, the one of `opc.tcp`.
+fn leads_to(url: &str, port: u16) -> bool {
+    let host = match url.split_once("://") {
+        Some((_, rest)) => rest,
+        None => url,
+    };
+    let host = match host.split_once('/') {
+        Some((front, _)) => front,
+        None => host,
+    };
+    match host.rsplit_once(':') {
+        // An IPv6 address has colons of its own, in brackets.
+        Some((_, digits)) if !digits.ends_with(']') => digits.parse::<u16>() == Ok(port),
+        _ => port == 4840,
+    }
+}
+
+// Says on standard error what will be served, and whether clients are told another port.
+fn tell_served<E: Write>(config: &Config, space: &Space, port: u16, errors: &mut E) {
+    let nodes = space.node_count();
+    let references = space.triple_count();
+    let url = config.url.as_str().unwrap_or("");
+    let _ = write!(
+        errors,
+        "{nodes} nodes, {references} references; clients are told {url}"
+    );
+    if leads_to(url, port) {
+        let _ = writeln!(errors);
+    } else {
+        let _ = writeln!(
+            errors,
+            ", which isn't port {port}: change `url` in the node file"
+        );
+    }
+}
+
+// Says on standard error which address or port can't be had.
+fn tell_not_had<E: Write>(fault: ServeFault, address: IpAddr, port: u16, errors: &mut E) {
+    let at = SocketAddr::from((address, port));
+    let _ = match fault {
+        ServeFault::Port => writeln!(
+            errors,
+            "can't listen at {at}: another program has the port {port}, or only an administrator may"
+        ),
+        ServeFault::Address => {
+            writeln!(
+                errors,
+                "can't listen at {at}: the address {address} is none of this machine's"
+            )
+        }
+        _ => writeln!(errors, "can't listen at {at}"),
+    };
 }
 
 // Serves by this server, which knows no connection.
@@ -348,6 +402,7 @@ fn serve_on<R: Net + RandomSource + Clock + Wait, O: Write, E: Write>(
     rt: &R,
     alloc: Global,
     server: &mut Server,
+    address: IpAddr,
     port: u16,
     turns: u64,
     output: &mut Tap<O>,
@@ -358,9 +413,12 @@ fn serve_on<R: Net + RandomSource + Clock + Wait, O: Write, E: Write>(
     let Ok(line) = listening_line(alloc, port) else {
         return no_memory(errors);
     };
-    let mut serve = match Serve::bind(rt, alloc, port) {
+    let mut serve = match Serve::listen(rt, alloc, address, port) {
         Ok(serve) => serve,
-        Err(fault) => return served(Err(fault), errors),
+        Err(fault) => {
+            tell_not_had(fault, address, port, errors);
+            return served(Err(fault), errors);
+        }
     };
     match say(line.as_str(), output, errors) {
         Status::Done => {
@@ -371,17 +429,19 @@ fn serve_on<R: Net + RandomSource + Clock + Wait, O: Write, E: Write>(
     }
 }
 
-/// Serves connections to a port of 127.0.0.1 by a server of this configuration and address space, for so
-/// many turns, or without end for 0. Says `listening` and the port once clients can connect.
+/// Serves connections to a port of an address by a server of this configuration and address space, for so
+/// many turns, or without end for 0. Says `listening` and the port once clients can connect, and before
+/// that, on standard error, what is served.
 ///
-/// `Done` comes after the turns, `Network` where the port can't be had, or where the system refuses the
-/// wait, the clock or random bytes, and `Halted` where memory ran out or the server halted. `Stream` comes
-/// where a call of the output failed, so that it isn't known that the program listens: nobody is served.
+/// `Done` comes after the turns, `Network` where the port or the address can't be had, or where the system
+/// refuses the wait, the clock or random bytes, and `Halted` where memory ran out or the server halted. `Stream`
+/// comes where a call of the output failed, so that it isn't known that the program listens: nobody is served.
 pub fn serve<R: Net + RandomSource + Clock + Wait, O: Write, E: Write>(
     rt: &R,
     alloc: Global,
     config: Config,
     space: Space,
+    address: IpAddr,
     port: u16,
     turns: u64,
     output: &mut Tap<O>,
@@ -389,8 +449,9 @@ pub fn serve<R: Net + RandomSource + Clock + Wait, O: Write, E: Write>(
 ) -> Status
     ensures { ServesBy (place O.contents output.old) (place O.contents output.new) port turns (config, space) result }
 {
+    tell_served(&config, &space, port, errors);
     let mut server = Server::new(alloc, config, space);
-    serve_on(rt, alloc, &mut server, port, turns, output, errors)
+    serve_on(rt, alloc, &mut server, address, port, turns, output, errors)
 }
 
 // `serve` of what was made.
@@ -398,6 +459,7 @@ fn serve_made<R: Net + RandomSource + Clock + Wait, O: Write, E: Write>(
     rt: &R,
     alloc: Global,
     made: Result<(Config, Space), Status>,
+    address: IpAddr,
     port: u16,
     turns: u64,
     output: &mut Tap<O>,
@@ -407,7 +469,9 @@ fn serve_made<R: Net + RandomSource + Clock + Wait, O: Write, E: Write>(
         ServesMade (place O.contents output.old) (place O.contents output.new) port turns said result }
 {
     match made {
-        Ok((config, space)) => serve(rt, alloc, config, space, port, turns, output, errors),
+        Ok((config, space)) => serve(
+            rt, alloc, config, space, address, port, turns, output, errors,
+        ),
         Err(status) => status,
     }
 }
@@ -416,6 +480,7 @@ fn serve_made<R: Net + RandomSource + Clock + Wait, O: Write, E: Write>(
 fn serve_at<R: Files + AllocGlobal + Net + RandomSource + Clock + Wait, O: Write, E: Write>(
     rt: &R,
     path: &str,
+    address: IpAddr,
     port: u16,
     turns: u64,
     output: &mut Tap<O>,
@@ -428,7 +493,7 @@ fn serve_at<R: Files + AllocGlobal + Net + RandomSource + Clock + Wait, O: Write
     match read_file(rt, path, errors) {
         Ok(file) => {
             let made = nodes_in(alloc, file.text(), errors);
-            let status = serve_made(rt, alloc, made, port, turns, output, errors);
+            let status = serve_made(rt, alloc, made, address, port, turns, output, errors);
             Ended::with_nodes(status, file)
         }
         Err(status) => Ended::by(status),
@@ -452,9 +517,14 @@ pub fn run<R: Files + AllocGlobal + Net + RandomSource + Clock + Wait, I: Read, 
         Ok(Command::Asm { scenario }) => asm_at(rt, scenario, output, errors),
         Ok(Command::Run { nodes, scenario }) => run_at(rt, nodes, scenario, output, errors),
         Ok(Command::Trace { nodes, scenario }) => trace_at(rt, nodes, scenario, output, errors),
-        Ok(Command::Serve { nodes, port, turns }) => {
-            serve_at(rt, nodes, port, turns, output, errors)
-        }
+        Ok(
+            Command::Serve {
+                nodes,
+                port,
+                turns,
+                address,
+            },
+        ) => serve_at(rt, nodes, address, port, turns, output, errors),
         Err(Stop::Help(text)) => Ended::by(say(text.as_str(), output, errors)),
         Err(Stop::Usage(text)) => {
             let _ = write!(errors, "{text}");

@@ -1,7 +1,7 @@
 //! What the commands do that take a scenario.
 
 ghost use Rattle.std.specs.Prelude.{◌≡◌};
-ghost use Rattle.scenario_asm.specs.Assembly.{events_of};
+ghost use Rattle.scenario_events.specs.Assembly.{events_of};
 ghost use Rattle.scenario_lines.specs.Held.{place};
 ghost use Rattle.commands.specs.Scenarios.{AssembledBy, Assembles, AssemblesFile, Tells, TellsFile, TellsFiles, Traces, TracesFile, TracesFiles, status_printed, status_told, status_traced};
 
@@ -9,15 +9,15 @@ use crate::program::{Ended, no_memory, nodes_in, read_file, step_fault, stream};
 use crate::status::Status;
 use crate::text_file::TextFile;
 use row_tracer::TraceFault;
-use scenario_asm::assemble;
+use scenario_events::assemble;
 use scenario_lines::{PrintFault, RunFault, print_events, print_run};
 use scenario_text::Cause;
+use server_core::{Event, Server};
 use std::alloc::Global;
 use std::io::Write;
 use std::rt::Files;
-use ua_core::{Event, Server};
+use stream_taps::Tap;
 use ua_space::Space;
-use ua_tcp::Tap;
 use ua_types::{Config, Listed};
 
 // The events of a scenario, or the status of why there are none.

@@ -4,7 +4,7 @@ use crate::holding::holds;
 use std::io;
 use std::io::{ErrorKind, Read, Write};
 use std::test::*;
-use ua_tcp::{Tap, put_bytes};
+use stream_taps::{Tap, put_bytes};
 
 // Writes down each call that reaches it by two digits, 10 and the size of a read, 20 and that of a write, 30 for a flush,
 // and fails at one of them, the first being 1.

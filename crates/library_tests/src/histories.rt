@@ -1,9 +1,9 @@
 //! Histories, where no Write and no HistoryRead of a client leads: a value without a time of the source, and all times.
 
 use crate::holding::holds;
-use raw_history::{History, Interval, Kept};
 use std::alloc::{AllocError, Global};
 use std::test::*;
+use ua_history::{History, Interval, Kept};
 use ua_types::{Config, Moment, NodeId, Status};
 use ua_values::{Content, DataValue, Variant};
 

@@ -1,11 +1,11 @@
 //! The numbers of the standard, each written by hand from its tables. A check evaluates them, so that nothing runs.
 
-use service_messages::{BrowseDescription, BrowseDirection};
-use sub_messages::{DataChangeTrigger, MonitoringMode};
 use ua_messages::{
     ApplicationType, MessageSecurityMode, SecurityTokenRequestType, TimestampsToReturn,
     UserTokenType, type_ids,
 };
+use ua_service_messages::{BrowseDescription, BrowseDirection};
+use ua_subscription_messages::{DataChangeTrigger, MonitoringMode};
 use ua_types::{NodeClass, Status};
 
 // Codes of statuses (IEC 62541-6, Annex A).

@@ -2,12 +2,12 @@
 
 use crate::holding::holds;
 use bytes::Bytes;
+use server_messages::Out;
 use socket_peers::{Heard, Peer, Peers, Socket};
 use std::alloc::Global;
 use std::io;
 use std::io::ErrorKind;
 use std::test::*;
-use ua_connections::Out;
 
 // A stream that takes at most seven bytes in a write, so often, and gives no byte.
 #[derive(Drop)]
@@ -87,14 +87,14 @@ fn two_peers(alloc: Global) -> Result<Peers<Slow>, Fail> {
 #[test]
 fn each_on_its_own_connection(rt: HostRuntime) -> Result<(), Fail> {
     let mut peers = two_peers(rt.alloc())?;
-    holds(&rt, "not before its byte is out", !peers.let_go(1)?);
+    holds(&rt, "not before its byte is out", !peers.release(1)?);
     peers.flush_touched()?;
     holds(&rt, "awake", peers.is_any_awake());
-    holds(&rt, "the first goes", peers.let_go(1)?);
+    holds(&rt, "the first goes", peers.release(1)?);
     holds(
         &rt,
         "the second stays",
-        !peers.let_go(2)? && peers.len() == 1,
+        !peers.release(2)? && peers.len() == 1,
     );
     let mut piece = vec![in rt.alloc(); 0u8; 16]?;
     let heard = peers.read(2, &mut piece)?;

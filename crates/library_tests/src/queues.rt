@@ -1,9 +1,9 @@
 //! Queues of items, where what comes in finds room that was taken before: of a server's items these are empty.
 
 use crate::holding::holds;
-use item_queue::*;
 use std::alloc::{AllocError, Global};
 use std::test::*;
+use ua_item_queue::*;
 
 // The values 1 to 6, sampled into a queue.
 fn sampled(alloc: Global, size: usize, is_oldest: bool) -> Result<ItemQueue<u32>, AllocError> {

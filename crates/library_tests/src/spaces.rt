@@ -1,11 +1,11 @@
 //! Limits of an address space, what its faults print where no node file has them, and a type of lists, which no node file makes.
 
 use crate::holding::holds;
-use read_write::{Timestamps, read};
 use std::alloc::{AllocError, Global};
 use std::test::*;
 use ua_binary::Written as _;
 use ua_messages::ReadValueId;
+use ua_read_write::{Timestamps, read};
 use ua_space::*;
 use ua_types::{Config, LocalizedText, Moment, NodeId, QualifiedName, Text};
 

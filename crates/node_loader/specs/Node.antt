@@ -7,6 +7,8 @@ use Rattle.ua_types.specs.declared.moment.Moment.{Moment}
 use Rattle.ua_types.specs.declared.node_class.NodeClass.{NodeClass}
 use Rattle.ua_types.specs.declared.node_class.NodeClass.TheVariants as classes
 use Rattle.ua_types.specs.declared.node_id.NodeId.{NodeId}
+use Rattle.ua_values.specs.DataValues.{value_since}
+use Rattle.ua_values.specs.ValueTypes.{type_number}
 use Rattle.ua_values.specs.declared.data_value.DataValue.{DataValue}
 use Rattle.ua_values.specs.declared.variant.Variant.{Variant}
 use Rattle.ua_space.specs.declared.node.NodeDetails.TheVariants as details
@@ -17,7 +19,7 @@ use Rattle.ua_space.specs.declared.triple.Triple.{Triple}
 use Rattle.ua_types.specs.Answers.{◌>>=◌}
 use Rattle.node_loader.specs.Ids.{id_at, id_or, id_if_any}
 use Rattle.node_loader.specs.Keys.{only, boolean_at, number_at, required_text, required_word, text_at, text_or}
-use Rattle.node_loader.specs.Value.{type_of, number_of, value_of}
+use Rattle.node_loader.specs.Value.{type_of, value_of}
 use Rattle.node_loader.specs.declared.fault.Cause.{Cause}
 use Rattle.node_loader.specs.declared.fault.Cause.TheVariants.{WrongKind, OutOfRange}
 use Rattle.node_loader.specs.declared.node.Entry.{Entry}
@@ -25,7 +27,7 @@ use Rattle.node_loader.specs.declared.node.Kind.{Kind}
 use Rattle.node_loader.specs.declared.node.Names.{Names}
 use Rattle.node_loader.specs.declared.node.Place.{Place}
 use Rattle.node_loader.specs.declared.node.Setting.{Setting}
-use Rattle.node_loader.specs.declared.value.ValueType.{ValueType}
+use Rattle.ua_values.specs.declared.value_type.ValueType.{ValueType}
 
 -- the class that a word names
 unfoldable pub class_of : List ℕ → Result NodeClass Cause
@@ -72,11 +74,6 @@ place_of highest ms = do
   via ← id_or highest (codes "via") 35 ms
   Ok (record { parent = parent; via = via })
 
--- a value that is good since the start
-abbrev pub value_since : Moment → Variant → DataValue
-value_since start value =
-    record { value = Some value; status = record { 0 = 0 }; source_time = Some start; server_time = Some start }
-
 unfoldable pub type_at : Members → Result ValueType Cause
 type_at ms = do
   word ← required_word (codes "type") ms
@@ -84,7 +81,7 @@ type_at ms = do
 
 abbrev pub variable_with : ValueType → Variant → Moment → ℕ → Bool → Variable
 variable_with value_type value start access historizing = record {
-  data_type = number_of value_type;
+  data_type = type_number value_type;
   value_rank = ranks.Scalar;
   value = value_since start value;
   access = access;
@@ -121,7 +118,7 @@ unfoldable pub variable_type_of : Members → Result Kind Cause
 variable_type_of ms = do
   value_type ← type_at ms
   is_abstract ← boolean_at (codes "abstract") ms
-  Ok (record { details = details.VariableType (number_of value_type) ranks.Scalar is_abstract; definition = None })
+  Ok (record { details = details.VariableType (type_number value_type) ranks.Scalar is_abstract; definition = None })
 
 unfoldable pub reference_type_of : Members → Result Kind Cause
 reference_type_of ms = do

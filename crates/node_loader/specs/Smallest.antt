@@ -3,6 +3,7 @@ use Rattle.std.specs.Prelude.{◌≡◌, ℕ, ◌^◌, nat_lt, List, codes, Bool
 use Rattle.toml.specs.Data.{Members, no_members, member, string, boolean}
 use Rattle.ua_types.specs.NodeIds.{numeric_id}
 use Rattle.ua_types.specs.declared.node_id.NodeId.{NodeId}
+use Rattle.ua_values.specs.ValueTypes.{type_number}
 use Rattle.ua_values.specs.declared.content.Content.TheVariants.{Scalar}
 use Rattle.ua_values.specs.declared.variant.Variant.{Variant}
 use Rattle.ua_values.specs.declared.variant.Variant.TheVariants as variants
@@ -14,10 +15,10 @@ use Rattle.ua_space.specs.declared.node.ValueRank.TheVariants as ranks
 use Rattle.ua_space.specs.declared.triple.Part.{Part}
 use Rattle.node_loader.specs.Ids.{id_within}
 use Rattle.node_loader.specs.Node.{node_of, place_of}
-use Rattle.node_loader.specs.Value.{number_of, value_of}
+use Rattle.node_loader.specs.Value.{value_of}
 use Rattle.node_loader.specs.declared.node.Entry.{Entry}
 use Rattle.node_loader.specs.declared.node.Setting.{Setting}
-use Rattle.node_loader.specs.declared.value.ValueType.{ValueType}
+use Rattle.ua_values.specs.declared.value_type.ValueType.{ValueType}
 
 -- the keys that every node must have
 abbrev pub least : List ℕ → List ℕ → List ℕ → Members → Members
@@ -87,4 +88,4 @@ HangsByOrganizes = (highest : ℕ) (text : List ℕ) (id : NodeId) → id_within
 -- a value is of its `type`, and no list
 abbrev pub ValuesHaveTheirType : Type 0
 ValuesHaveTheirType = (kind : ValueType) (highest : ℕ) (ms : Members) (value : Variant) → value_of kind highest ms ≡ Ok value
-    → is_of (number_of kind) ranks.Scalar value ≡ true
+    → is_of (type_number kind) ranks.Scalar value ≡ true

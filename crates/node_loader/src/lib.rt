@@ -10,7 +10,7 @@
 //! `Server`, `Node` and `Reference` for the parts, with one line a key that has its name, its default
 //! and its range, and `Keys`, `Ids` and `Value` for what is read at a key.
 //!
-//! Read docs/NODE_FILE.md first, and then `specs/File.antt`.
+//! Read docs/NODES.md first, and then `specs/File.antt`.
 #![tactic(auto)]
 
 mod fault;

@@ -8,20 +8,21 @@ ghost use Rattle.ua_space.specs.declared.node.ValueRank.TheVariants as ranks;
 ghost use Rattle.ua_types.specs.Answers.{Gives};
 ghost use Rattle.node_loader.specs.declared.fault.Cause.TheVariants.{Memory};
 ghost use Rattle.node_loader.specs.Keys.{only};
-ghost use Rattle.node_loader.specs.Value.{number_of};
-ghost use Rattle.node_loader.specs.Node.{class_of, keys_of, names_of, place_of, parent_triple, definition_triple, entry_from, value_since, type_at, variable_with, variable_of, object_of, variable_node_of, object_type_of, variable_type_of, reference_type_of, data_type_of, kind_of, rest_of, node_of, entry_of};
+ghost use Rattle.ua_values.specs.DataValues.{value_since};
+ghost use Rattle.ua_values.specs.ValueTypes.{type_number};
+ghost use Rattle.node_loader.specs.Node.{class_of, keys_of, names_of, place_of, parent_triple, definition_triple, entry_from, type_at, variable_with, variable_of, object_of, variable_node_of, object_type_of, variable_type_of, reference_type_of, data_type_of, kind_of, rest_of, node_of, entry_of};
 
 use crate::fault::Cause;
 use crate::ids::{id_at, id_if_any, id_or, standard_id};
 use crate::keys::{
     boolean_at, number_at, only, required_text, required_word, text_or, text_or_null,
 };
-use crate::value::{ValueType, type_of, value_of};
+use crate::value::{type_of, value_of};
 use std::alloc::{AllocError, Global};
 use toml::{Table, Value};
 use ua_space::{Node, NodeDetails, Part, Triple, ValueRank, Variable};
-use ua_types::{Copyable, LocalizedText, Moment, NodeClass, NodeId, QualifiedName, Status, Text};
-use ua_values::{DataValue, Variant};
+use ua_types::{Copyable, LocalizedText, Moment, NodeClass, NodeId, QualifiedName, Text};
+use ua_values::{DataValue, ValueType, Variant};
 
 /// What the server's table says that nodes depend on.
 #[derive(Clone, Copy, Debug)]
@@ -214,18 +215,6 @@ struct Kind {
     definition: Option<NodeId>,
 }
 
-// A value that is good since the start.
-fn value_since(start: Moment, value: Variant) -> DataValue
-    ensures { result ≡ value_since start value }
-{
-    DataValue {
-        value: Some(value),
-        status: Status::GOOD,
-        source_time: Some(start),
-        server_time: Some(start),
-    }
-}
-
 #[tactic(auto, unfolding(crate::specs::Node::type_at))]
 fn type_at(table: &Table) -> Result<ValueType, Cause>
     ensures { Gives Memory result (type_at (table_view table.now)) }
@@ -242,14 +231,14 @@ fn variable_with(
     access: u64,
     historizing: bool,
 ) -> Variable
-    requires typed { is_of (number_of value_type) ranks.Scalar value ≡ true }
+    requires typed { is_of (type_number value_type) ranks.Scalar value ≡ true }
     requires access { access ≤ 15 }
     ensures { result ≡ variable_with value_type value start access historizing }
 {
     Variable {
         data_type: value_type.number(),
         value_rank: ValueRank::Scalar,
-        value: value_since(start, value),
+        value: DataValue::since(start, value),
         access: access as u8,
         historizing,
     }

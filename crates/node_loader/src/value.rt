@@ -1,12 +1,11 @@
-//! Values in a file: the types that they may have, and what is read as each.
+//! Values in a file: what is read as a value of each type.
 
-ghost use Rattle.std.specs.Prelude.{◌≡◌, ◌≤◌};
+ghost use Rattle.std.specs.Prelude.{◌≡◌};
 ghost use Rattle.hex.specs.Hex.{decode_of};
 ghost use Rattle.toml.specs.View.{table_view};
-ghost use Rattle.ua_types.specs.IdTexts.{guid_of};
 ghost use Rattle.ua_types.specs.Answers.{Gives};
 ghost use Rattle.node_loader.specs.declared.fault.Cause.TheVariants.{Memory};
-ghost use Rattle.node_loader.specs.Value.{number_type_of, type_of, number_of, bytes_of, guid_at, bytes_at, text_value, value_of};
+ghost use Rattle.node_loader.specs.Value.{type_of, bytes_of, guid_at, bytes_at, text_value, value_of};
 
 use crate::fault::Cause;
 use crate::ids::id_at;
@@ -16,128 +15,13 @@ use crate::keys::{
 use std::alloc::Global;
 use toml::Table;
 use ua_types::{ByteString, Guid, Moment, Status, Text};
-use ua_values::{Content, Variant};
-use uuid::Uuid;
-
-/// The types that a value in a file may have, under the words that name them there.
-#[derive(Clone, Copy, Debug, PartialEq, Eq)]
-pub(crate) enum ValueType {
-    Boolean,
-    SByte,
-    Byte,
-    Int16,
-    UInt16,
-    Int32,
-    UInt32,
-    Int64,
-    UInt64,
-    String,
-    DateTime,
-    Guid,
-    ByteString,
-    NodeId,
-    StatusCode,
-}
-
-impl ValueType {
-    /// Its number (IEC 62541-6, 5.1.2).
-    pub fn number(self) -> u8
-        ensures number { result ≡ number_of self }
-        ensures lowest { 1 ≤ result }
-        ensures highest { result ≤ 22 }
-    {
-        match self {
-            ValueType::Boolean => 1,
-            ValueType::SByte => 2,
-            ValueType::Byte => 3,
-            ValueType::Int16 => 4,
-            ValueType::UInt16 => 5,
-            ValueType::Int32 => 6,
-            ValueType::UInt32 => 7,
-            ValueType::Int64 => 8,
-            ValueType::UInt64 => 9,
-            ValueType::String => 12,
-            ValueType::DateTime => 13,
-            ValueType::Guid => 14,
-            ValueType::ByteString => 15,
-            ValueType::NodeId => 17,
-            ValueType::StatusCode => 19,
-        }
-    }
-}
-
-// The type of numbers that a word names.
-#[tactic(auto, unfolding(crate::specs::Value::number_type_of))]
-fn number_type_of(word: &str) -> Result<ValueType, Cause>
-    ensures { Gives Memory result (number_type_of word.now) }
-{
-    if word == "SByte" {
-        return Ok(ValueType::SByte);
-    }
-    if word == "Byte" {
-        return Ok(ValueType::Byte);
-    }
-    if word == "Int16" {
-        return Ok(ValueType::Int16);
-    }
-    if word == "UInt16" {
-        return Ok(ValueType::UInt16);
-    }
-    if word == "Int32" {
-        return Ok(ValueType::Int32);
-    }
-    if word == "UInt32" {
-        return Ok(ValueType::UInt32);
-    }
-    if word == "Int64" {
-        return Ok(ValueType::Int64);
-    }
-    if word == "UInt64" {
-        return Ok(ValueType::UInt64);
-    }
-    Err(Cause::OutOfRange)
-}
+use ua_values::{Content, ValueType, Variant};
 
 /// The type that a word names.
-#[tactic(auto, unfolding(crate::specs::Value::type_of))]
 pub(crate) fn type_of(word: &str) -> Result<ValueType, Cause>
     ensures { Gives Memory result (type_of word.now) }
 {
-    if word == "Boolean" {
-        return Ok(ValueType::Boolean);
-    }
-    if word == "String" {
-        return Ok(ValueType::String);
-    }
-    if word == "DateTime" {
-        return Ok(ValueType::DateTime);
-    }
-    if word == "Guid" {
-        return Ok(ValueType::Guid);
-    }
-    if word == "ByteString" {
-        return Ok(ValueType::ByteString);
-    }
-    if word == "NodeId" {
-        return Ok(ValueType::NodeId);
-    }
-    if word == "StatusCode" {
-        return Ok(ValueType::StatusCode);
-    }
-    number_type_of(word)
-}
-
-// The Guid whose text has these bytes.
-fn guid_of(uuid: &Uuid) -> Guid
-    ensures { result ≡ guid_of uuid.now }
-{
-    let (data1, data2, data3, data4) = uuid.as_fields();
-    Guid {
-        data1,
-        data2,
-        data3,
-        data4,
-    }
+    ValueType::named(word).ok_or(Cause::OutOfRange)
 }
 
 #[tactic(auto, unfolding(crate::specs::Value::guid_at))]
@@ -145,10 +29,7 @@ fn guid_at(table: &Table, key: &str) -> Result<Guid, Cause>
     ensures { Gives Memory result (guid_at key.now (table_view table.now)) }
 {
     let text = required_word(table, key)?;
-    match Uuid::try_parse(text) {
-        Ok(uuid) => Ok(guid_of(&uuid)),
-        Err(_) => Err(Cause::OutOfRange),
-    }
+    Guid::parse(text).ok_or(Cause::OutOfRange)
 }
 
 // The bytes that hex digits stand for.

@@ -6,15 +6,15 @@ use Rattle.std.proofs.lemmas.Bool.{false≢true}
 use Rattle.std.proofs.lemmas.Bool.Decides.{nat_tests}
 use Rattle.std.proofs.lemmas.List.{length-map, length-take-le, take_all, take_more, drop_more}
 use Rattle.ua_types.specs.Answers as answers
-use Rattle.ua_requests.specs.declared.fired.Fired.{Fired}
-use Rattle.ua_tcp.specs.Tapped.{Rose, counted}
-use Rattle.ua_core.specs.declared.event.Event.{Event}
-use Rattle.ua_core.specs.declared.out.Step as core_step
-use Rattle.ua_core.specs.declared.out.StepFault.{StepFault}
-use Rattle.ua_core.specs.Effects.{fired_of}
-use Rattle.ua_core.specs.Running.{Running, run_after, then_run, run_of}
-use Rattle.ua_core.specs.Stepping.{Served, step_on, StepsTo, answer_by, server_by}
-use Rattle.ua_core.proofs.RunLemmas.{and_run_by, run_of-append}
+use Rattle.server_messages.specs.declared.fired.Fired.{Fired}
+use Rattle.stream_taps.specs.Tapped.{Rose, counted}
+use Rattle.server_core.specs.declared.event.Event.{Event}
+use Rattle.server_core.specs.declared.out.Step as core_step
+use Rattle.server_core.specs.declared.out.StepFault.{StepFault}
+use Rattle.server_core.specs.Effects.{fired_of}
+use Rattle.server_core.specs.Running.{Running, run_after, then_run, run_of}
+use Rattle.server_core.specs.Stepping.{Served, step_on, StepsTo, answer_by, server_by}
+use Rattle.server_core.proofs.RunLemmas.{and_run_by, run_of-append}
 use Rattle.row_tracer.specs.declared.fault.TraceFault.{TraceFault}
 use Rattle.row_tracer.specs.declared.fault.TraceFault.TheVariants.{Write, Step, Memory}
 use Rattle.row_tracer.specs.TraceText.{rows_text, trace_text}

@@ -2,14 +2,14 @@
 use Rattle.std.specs.Prelude.{◌+◌, ◌&&◌, ℕ, Bool, not, List, [], ◌∷◌, ◌++◌, codes, Option, Some, None, if◌then◌else◌}
 use Rattle.std.specs.List.{flat_map}
 use Rattle.std.specs.Fmt.{decimal}
-use Rattle.sub_table.specs.declared.condition.Condition.{Condition}
-use Rattle.sub_table.specs.declared.row.RowId.{RowId}
-use Rattle.sub_table.specs.declared.row.Row.{Row}
-use Rattle.sub_table.specs.contracts.row.RowIdPartialEq.TheImpl as row_ids
-use Rattle.sub_table.specs.StateTable.{concerns, first_false}
-use Rattle.sub_table.specs.Rows.{printed_table}
-use Rattle.sub_table.specs.Texts.{row_text, state_text, condition_text}
-use Rattle.ua_requests.specs.declared.fired.Fired.{Fired}
+use Rattle.ua_state_table.specs.declared.condition.Condition.{Condition}
+use Rattle.ua_state_table.specs.declared.row.RowId.{RowId}
+use Rattle.ua_state_table.specs.declared.row.Row.{Row}
+use Rattle.ua_state_table.specs.contracts.row.RowIdPartialEq.TheImpl as row_ids
+use Rattle.ua_state_table.specs.StateTable.{concerns, first_false}
+use Rattle.ua_state_table.specs.Rows.{printed_table}
+use Rattle.ua_state_table.specs.Texts.{row_text, state_text, condition_text}
+use Rattle.server_messages.specs.declared.fired.Fired.{Fired}
 
 abbrev pub same_row : RowId → RowId → Bool
 same_row = row_ids.ghosts.eq

@@ -1,14 +1,14 @@
 -- What the tracer hands to a server and writes.
 use Rattle.std.specs.Prelude.{◌≡◌, ℕ, ◌≤◌, List, [], ◌∷◌, ◌++◌, map, Option, None, Err}
 use Rattle.std.specs.Io.KnownBytes.{Appends}
-use Rattle.ua_requests.specs.declared.fired.Fired.{Fired}
-use Rattle.ua_tcp.specs.Tapped.{Tapped, Rose}
-use Rattle.ua_core.specs.Effects.{fired_of}
-use Rattle.ua_core.specs.Running.{Running, run_of}
-use Rattle.ua_core.specs.Stepping.{step_on, StepsTo}
-use Rattle.ua_core.specs.declared.world.World.{World}
-use Rattle.ua_core.specs.declared.event.Event.{Event}
-use Rattle.ua_core.specs.declared.out.StepFault.{StepFault}
+use Rattle.server_messages.specs.declared.fired.Fired.{Fired}
+use Rattle.stream_taps.specs.Tapped.{Tapped, Rose}
+use Rattle.server_core.specs.Effects.{fired_of}
+use Rattle.server_core.specs.Running.{Running, run_of}
+use Rattle.server_core.specs.Stepping.{step_on, StepsTo}
+use Rattle.server_core.specs.declared.world.World.{World}
+use Rattle.server_core.specs.declared.event.Event.{Event}
+use Rattle.server_core.specs.declared.out.StepFault.{StepFault}
 use Rattle.row_tracer.specs.declared.fault.TraceFault.{TraceFault}
 use Rattle.row_tracer.specs.declared.fault.TraceFault.TheVariants.{Write, Step, Memory}
 use Rattle.row_tracer.specs.TraceText.{trace_text}

@@ -1,7 +1,7 @@
 //! Why a trace ended before its events did.
 
+use server_core::StepFault;
 use thiserror::Error;
-use ua_core::StepFault;
 
 /// Why a trace ended before its events did.
 #[derive(Clone, Copy, Debug, PartialEq, Eq, Error)]

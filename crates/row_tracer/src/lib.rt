@@ -11,9 +11,9 @@
 //! at 2 and its lifetime counter at 5. Four other rows stand for that state and event, and each has a
 //! condition that didn't hold, the first of which is named (docs/SUBSCRIPTIONS.md).
 //!
-//! The tracer chooses nothing: which rows fired is what the server's [`Step`](ua_core::Step) says, and
-//! why others didn't is what `sub_table` says of the variables before the row (beside a row that fires, each
-//! other one has a reason: `sub_table::laws`). It knows nothing of files and scenarios, and what the server
+//! The tracer chooses nothing: which rows fired is what the server's [`Step`](server_core::Step) says, and
+//! why others didn't is what `ua_state_table` says of the variables before the row (beside a row that fires, each
+//! other one has a reason: `ua_state_table::laws`). It knows nothing of files and scenarios, and what the server
 //! sends is not shown.
 //!
 //! Read [`trace`] and [`TraceFault`] first. `specs/TraceText` has the text, and `specs/Tracing` what a

@@ -3,13 +3,13 @@
 ghost use Rattle.std.specs.Prelude.{◌≡◌, ◌++◌, OnOk, string_bytes};
 ghost use Rattle.std.specs.List.{flat_map};
 ghost use Rattle.row_tracer.specs.TraceText.{is_other, reason_text, other_text, others_text, move_text, counters_text, row_line, rows_text};
-ghost use Rattle.sub_table.specs.StateTable.{first_false};
+ghost use Rattle.ua_state_table.specs.StateTable.{first_false};
 
+use server_core::Fired;
 use std::alloc::AllocError;
 use std::fmt::Write;
-use sub_table::laws::table_is_as_printed;
-use sub_table::{Row, TABLE, why_not};
-use ua_core::Fired;
+use ua_state_table::laws::table_is_as_printed;
+use ua_state_table::{Row, TABLE, why_not};
 
 // Whether the row is another one of the state and the event at which this one fired.
 fn is_other(row: &Row, fired: &Fired) -> bool

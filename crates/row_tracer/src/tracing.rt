@@ -1,15 +1,15 @@
 //! The trace of events on a server.
 
 ghost use Rattle.std.specs.Prelude.{[], ◌∷◌, MatchResult};
-ghost use Rattle.ua_core.specs.World.{world_of};
+ghost use Rattle.server_core.specs.World.{world_of};
 ghost use Rattle.row_tracer.specs.Tracing.{scene, Done, Stopped};
 
 use crate::fault::TraceFault;
 use crate::trace_text::append_lines;
+use server_core::{Event, Server};
 use std::alloc::Global;
 use std::io::Write;
-use ua_core::{Event, Server};
-use ua_tcp::{Tap, put_bytes};
+use stream_taps::{Tap, put_bytes};
 
 // One event, of this number. The text is room for its lines.
 fn trace_event<W: Write>(

@@ -6,8 +6,8 @@ use Rattle.std.proofs.KnownBytes.{Appends-nil, Appends-trans}
 use Rattle.std.proofs.lemmas.Bool.{false≢true}
 use Rattle.std.proofs.lemmas.List.{take_all, take_more, drop_more}
 use Rattle.std.proofs.lemmas.List.Concat.{flat_map-append}
-use Rattle.ua_tcp.specs.Tapped.{Rose}
-use Rattle.ua_core.specs.declared.event.Event.{Event}
+use Rattle.stream_taps.specs.Tapped.{Rose}
+use Rattle.server_core.specs.declared.event.Event.{Event}
 use Rattle.scenario_lines.specs.Held.{Place, Printed, CutShort, Holds, EventsPrinted}
 use Rattle.scenario_lines.specs.Texts.{event_line, events_lines}
 use Rattle.scenario_lines.specs.declared.held.PrintFault.{PrintFault}

@@ -3,13 +3,13 @@ use Rattle.std.proofs.Common.{◌≡◌, ◌∙◌, ℕ, ◌+◌, ◌<◌, true,
 use Rattle.std.proofs.lemmas.Bool.{false≢true}
 use Rattle.std.proofs.lemmas.List.{drop_more}
 use Rattle.std.proofs.lemmas.List.Concat.{flat_map-append}
-use Rattle.ua_core.specs.Running.{Runs}
-use Rattle.ua_core.specs.Stepping.{StepsTo, step_on}
-use Rattle.ua_core.specs.declared.world.World.{World}
-use Rattle.ua_core.specs.declared.event.Event.{Event}
-use Rattle.ua_core.specs.declared.out.Step.{Step}
-use Rattle.ua_core.specs.declared.out.StepFault.{StepFault}
-use Rattle.ua_core.proofs.RunLemmas.{Begun, begun, next, ends, ran_out}
+use Rattle.server_core.specs.Running.{Runs}
+use Rattle.server_core.specs.Stepping.{StepsTo, step_on}
+use Rattle.server_core.specs.declared.world.World.{World}
+use Rattle.server_core.specs.declared.event.Event.{Event}
+use Rattle.server_core.specs.declared.out.Step.{Step}
+use Rattle.server_core.specs.declared.out.StepFault.{StepFault}
+use Rattle.server_core.proofs.RunLemmas.{Begun, begun, next, ends, ran_out}
 use Rattle.scenario_lines.specs.Held.{Place, Printed, CutShort, Holds}
 use Rattle.scenario_lines.specs.Runs.{RunPrinted, fault_of, is_cut_short}
 use Rattle.scenario_lines.specs.Texts.{outs_lines, step_lines, steps_lines}

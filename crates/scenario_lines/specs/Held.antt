@@ -1,8 +1,8 @@
 -- Text on its way to a writer: its beginning is out, and the rest of it is held.
 use Rattle.std.specs.Prelude.{◌≡◌, ℕ, ◌≤◌, List, ◌++◌, Option, Result, Ok, Err}
 use Rattle.std.specs.Io.KnownBytes.{Appends}
-use Rattle.ua_core.specs.declared.event.Event.{Event}
-use Rattle.ua_tcp.specs.Tapped.{Tapped, Rose}
+use Rattle.server_core.specs.declared.event.Event.{Event}
+use Rattle.stream_taps.specs.Tapped.{Tapped, Rose}
 use Rattle.scenario_lines.specs.Texts.{events_lines}
 use Rattle.scenario_lines.specs.declared.held.PrintFault.{PrintFault}
 use Rattle.scenario_lines.specs.declared.held.PrintFault.TheVariants.{Write, Memory}

@@ -1,10 +1,10 @@
 -- A run of events on a server, and the lines of what it sends.
 use Rattle.std.specs.Prelude.{◌≡◌, ℕ, Bool, true, false, List, [], ◌∷◌, ◌++◌, Option, Some, None, Result, Ok, Err}
-use Rattle.ua_core.specs.Running.{Runs}
-use Rattle.ua_core.specs.declared.world.World.{World}
-use Rattle.ua_core.specs.declared.event.Event.{Event}
-use Rattle.ua_core.specs.declared.out.Step.{Step}
-use Rattle.ua_core.specs.declared.out.StepFault.{StepFault}
+use Rattle.server_core.specs.Running.{Runs}
+use Rattle.server_core.specs.declared.world.World.{World}
+use Rattle.server_core.specs.declared.event.Event.{Event}
+use Rattle.server_core.specs.declared.out.Step.{Step}
+use Rattle.server_core.specs.declared.out.StepFault.{StepFault}
 use Rattle.scenario_lines.specs.Held.{Place, Printed, CutShort}
 use Rattle.scenario_lines.specs.Texts.{steps_lines}
 use Rattle.scenario_lines.specs.declared.held.PrintFault.{PrintFault}

@@ -3,11 +3,11 @@ use Rattle.std.specs.Prelude.{ℕ, List, [], ◌∷◌, ◌++◌, codes}
 use Rattle.std.specs.Fmt.{decimal, signed_decimal}
 use Rattle.std.specs.List.{flat_map}
 use Rattle.hex.specs.Hex.{encode_lower}
-use Rattle.ua_connections.specs.declared.out.Out.{Out}
-use Rattle.ua_connections.specs.declared.out.Out.TheVariants.{Send, Close}
-use Rattle.ua_core.specs.declared.event.Event.{Event}
-use Rattle.ua_core.specs.declared.event.Event.TheVariants.{Opened, Bytes, Gone, Tick}
-use Rattle.ua_core.specs.declared.out.Step.{Step}
+use Rattle.server_messages.specs.declared.out.Out.{Out}
+use Rattle.server_messages.specs.declared.out.Out.TheVariants.{Send, Close}
+use Rattle.server_core.specs.declared.event.Event.{Event}
+use Rattle.server_core.specs.declared.event.Event.TheVariants.{Opened, Bytes, Gone, Tick}
+use Rattle.server_core.specs.declared.out.Step.{Step}
 
 -- a word, a number, and what ends a line
 abbrev pub numbered : List ℕ → ℕ → List ℕ → List ℕ

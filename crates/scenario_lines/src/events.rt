@@ -2,14 +2,14 @@
 
 ghost use Rattle.std.specs.Prelude.{◌≡◌, [], string_bytes};
 ghost use Rattle.scenario_lines.specs.Held.{EventsPrinted, Holds, place};
-ghost use Rattle.scenario_lines.specs.Texts.{event_line as event_line_lem};
+ghost use Rattle.scenario_lines.specs.Texts.{event_line as event_line_spec};
 
 use crate::held::{PrintFault, hold, put_held};
 use crate::texts::event_line;
+use server_core::Event;
 use std::alloc::Global;
 use std::io::Write;
-use ua_core::Event;
-use ua_tcp::Tap;
+use stream_taps::Tap;
 
 // The line of one event, held.
 fn hold_event<W: Write>(
@@ -19,7 +19,7 @@ fn hold_event<W: Write>(
     held: &mut String,
 ) -> Result<(), PrintFault>
     ensures { Holds result (place W.contents writer.old) (place W.contents writer.new)
-        (string_bytes held.old) (event_line_lem event.now) (string_bytes held.new) }
+        (string_bytes held.old) (event_line_spec event.now) (string_bytes held.new) }
 {
     let line = event_line(alloc, event)?;
     hold(writer, held, line.as_str())

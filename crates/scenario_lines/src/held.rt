@@ -6,8 +6,8 @@ ghost use Rattle.scenario_lines.specs.declared.held.PrintFault.TheVariants.{Memo
 
 use std::alloc::AllocError;
 use std::io::Write;
+use stream_taps::{Tap, put_bytes};
 use thiserror::Error;
-use ua_tcp::{Tap, put_bytes};
 
 /// From so many bytes on, lines are written.
 const MOST_HELD: usize = 65_536;

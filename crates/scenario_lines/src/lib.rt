@@ -5,7 +5,7 @@
 //! at the end and where something goes wrong.
 //!
 //! `specs/Texts` has the lines, `Held` what is said of text on its way to a writer, and `Runs` what a run
-//! comes to. Nothing here reads a scenario: `scenario_asm` assembles one.
+//! comes to. Nothing here reads a scenario: `scenario_events` assembles one.
 #![tactic(auto)]
 
 mod events;

@@ -1,18 +1,18 @@
 //! Events that happen to a server, and what it sends, printed.
 
 ghost use Rattle.std.specs.Prelude.{◌≡◌, [], string_bytes};
-ghost use Rattle.ua_core.specs.World.{world_of};
+ghost use Rattle.server_core.specs.World.{world_of};
 ghost use Rattle.scenario_lines.specs.Held.{Holds, place};
 ghost use Rattle.scenario_lines.specs.Runs.{RunPrinted, fault_of, is_cut_short};
-ghost use Rattle.scenario_lines.specs.Texts.{outs_lines as outs_lines_lem};
+ghost use Rattle.scenario_lines.specs.Texts.{outs_lines as outs_lines_spec};
 
 use crate::held::{PrintFault, hold, put_held};
 use crate::texts::outs_lines;
+use server_core::{Event, Out, Server, StepFault};
 use std::alloc::Global;
 use std::io::Write;
+use stream_taps::Tap;
 use thiserror::Error;
-use ua_core::{Event, Out, Server, StepFault};
-use ua_tcp::Tap;
 
 /// Why a run ended before its events did.
 #[derive(Clone, Copy, Debug, PartialEq, Eq, Error)]
@@ -55,7 +55,7 @@ fn hold_outs<W: Write>(
     held: &mut String,
 ) -> Result<(), PrintFault>
     ensures { Holds result (place W.contents writer.old) (place W.contents writer.new)
-        (string_bytes held.old) (outs_lines_lem outs.now) (string_bytes held.new) }
+        (string_bytes held.old) (outs_lines_spec outs.now) (string_bytes held.new) }
 {
     let lines = outs_lines(alloc, outs)?;
     hold(writer, held, lines.as_str())

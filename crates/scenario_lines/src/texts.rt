@@ -3,8 +3,8 @@
 ghost use Rattle.std.specs.Prelude.{◌≡◌, IfOk, string_bytes};
 ghost use Rattle.scenario_lines.specs.Texts.{event_line, out_line, outs_lines};
 
+use server_core::{Event, Out};
 use std::alloc::{AllocError, Global};
-use ua_core::{Event, Out};
 use ua_types::Moment;
 
 /// The line of an event, with its newline.

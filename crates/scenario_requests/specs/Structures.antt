@@ -14,16 +14,16 @@ use Rattle.ua_messages.specs.declared.enumerations.SecurityTokenRequestType.{Sec
 use Rattle.ua_messages.specs.declared.headers.RequestHeader.{RequestHeader}
 use Rattle.ua_messages.specs.declared.read_value_ids.ReadValueId.{ReadValueId}
 use Rattle.ua_messages.specs.declared.type_ids.TheConstants.{DATA_CHANGE_FILTER}
-use Rattle.service_messages.specs.declared.browsing.BrowseDescription.{BrowseDescription}
-use Rattle.service_messages.specs.declared.history.HistoryReadValueId.{HistoryReadValueId}
-use Rattle.service_messages.specs.declared.history.ReadRawModifiedDetails.{ReadRawModifiedDetails}
-use Rattle.service_messages.specs.declared.sessions.SignatureData.{SignatureData}
-use Rattle.service_messages.specs.declared.writing.WriteValue.{WriteValue}
-use Rattle.sub_messages.specs.MonitoringParameters.{data_change_filter_encoding}
-use Rattle.sub_messages.specs.declared.monitored_items.MonitoredItemCreateRequest.{MonitoredItemCreateRequest}
-use Rattle.sub_messages.specs.declared.monitored_items.MonitoredItemModifyRequest.{MonitoredItemModifyRequest}
-use Rattle.sub_messages.specs.declared.monitoring_parameters.MonitoringParameters.{MonitoringParameters}
-use Rattle.sub_messages.specs.declared.publishing.SubscriptionAcknowledgement.{SubscriptionAcknowledgement}
+use Rattle.ua_service_messages.specs.declared.browsing.BrowseDescription.{BrowseDescription}
+use Rattle.ua_service_messages.specs.declared.history.HistoryReadValueId.{HistoryReadValueId}
+use Rattle.ua_service_messages.specs.declared.history.ReadRawModifiedDetails.{ReadRawModifiedDetails}
+use Rattle.ua_service_messages.specs.declared.sessions.SignatureData.{SignatureData}
+use Rattle.ua_service_messages.specs.declared.writing.WriteValue.{WriteValue}
+use Rattle.ua_subscription_messages.specs.MonitoringParameters.{data_change_filter_encoding}
+use Rattle.ua_subscription_messages.specs.declared.monitored_items.MonitoredItemCreateRequest.{MonitoredItemCreateRequest}
+use Rattle.ua_subscription_messages.specs.declared.monitored_items.MonitoredItemModifyRequest.{MonitoredItemModifyRequest}
+use Rattle.ua_subscription_messages.specs.declared.monitoring_parameters.MonitoringParameters.{MonitoringParameters}
+use Rattle.ua_subscription_messages.specs.declared.publishing.SubscriptionAcknowledgement.{SubscriptionAcknowledgement}
 use Rattle.scenario_text.specs.declared.choices.ChannelRequest.{ChannelRequest}
 use Rattle.scenario_text.specs.declared.choices.ChannelRequest.TheVariants.{Issue, Renew}
 use Rattle.scenario_text.specs.declared.choices.Discard.{Discard}

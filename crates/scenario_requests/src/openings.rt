@@ -5,12 +5,12 @@ ghost use Rattle.scenario_requests.specs.Messages.{endpoints_body, create_sessio
 
 use crate::structures::{NO_DURATION, no_application, request_type};
 use scenario_text::ChannelRequest;
-use service_messages::CreateSessionRequest;
 use std::alloc::{AllocError, Global};
 use ua_messages::{
     CloseSecureChannelRequest, GetEndpointsRequest, MessageSecurityMode, OpenSecureChannelRequest,
     RequestHeader, body, type_ids,
 };
+use ua_service_messages::CreateSessionRequest;
 use ua_types::{Array, ByteString, Text};
 
 /// How long a token is asked for, in milliseconds.

@@ -12,18 +12,18 @@ use scenario_text::{
     Acknowledgement, Attribute, ChangedItem, Counts, NewItem, NewValue, Publishing, RawValues,
     References, Request, Subscriptions,
 };
-use service_messages::{
+use std::alloc::{AllocError, Global};
+use ua_messages::{RequestHeader, TimestampsToReturn, body, type_ids};
+use ua_service_messages::{
     ActivateSessionRequest, BrowseDescription, BrowseDirection, BrowseNextRequest, BrowseRequest,
     CloseSessionRequest, HistoryReadRequest, HistoryReadValueId, ReadRequest, WriteRequest,
 };
-use std::alloc::{AllocError, Global};
-use sub_messages::{
+use ua_subscription_messages::{
     CreateMonitoredItemsRequest, CreateSubscriptionRequest, DeleteMonitoredItemsRequest,
     DeleteSubscriptionsRequest, ModifyMonitoredItemsRequest, ModifySubscriptionRequest,
     MonitoredItemCreateRequest, MonitoredItemModifyRequest, MonitoringMode, PublishRequest,
     RepublishRequest, SetMonitoringModeRequest, SetPublishingModeRequest,
 };
-use ua_messages::{RequestHeader, TimestampsToReturn, body, type_ids};
 use ua_types::{Array, Listed, Moment, NodeId, Text};
 
 #[tactic(auto, unfolding(crate::specs::Messages::read_body))]

@@ -4,22 +4,22 @@ ghost use Rattle.std.specs.Prelude.{◌≡◌, IfOk, Some};
 ghost use Rattle.std.specs.Int.{w64, to_le_bytes};
 ghost use Rattle.ua_messages.specs.Structures.{object_around};
 ghost use Rattle.ua_messages.specs.declared.type_ids.TheConstants.{READ_RAW_MODIFIED_DETAILS};
-ghost use Rattle.service_messages.specs.History.{read_raw_modified_details_encoding};
-ghost use Rattle.scenario_requests.specs.Structures.{no_object, no_name, no_signature, no_application, plain_request, is_delete as is_delete_lem, is_on as is_on_lem, is_oldest, request_type as request_type_lem, attribute_sent, value_sent, point_sent, last_point_sent, acknowledgement_sent, details_of, filter_sent, parameters_sent};
+ghost use Rattle.ua_service_messages.specs.History.{read_raw_modified_details_encoding};
+ghost use Rattle.scenario_requests.specs.Structures.{no_object, no_name, no_signature, no_application, plain_request, is_delete as is_delete_spec, is_on as is_on_spec, is_oldest, request_type as request_type_spec, attribute_sent, value_sent, point_sent, last_point_sent, acknowledgement_sent, details_of, filter_sent, parameters_sent};
 
 use crate::sent::Sent;
 use scenario_text::{
     Acknowledgement, Attribute, ChannelRequest, Discard, Monitoring, NewValue, Publishing,
     Subscriptions,
 };
-use service_messages::{ReadRawModifiedDetails, SignatureData, WriteValue};
 use std::alloc::{AllocError, Global};
-use sub_messages::{
-    DataChangeFilter, DataChangeTrigger, MonitoringParameters, SubscriptionAcknowledgement,
-};
 use ua_messages::{
     ApplicationDescription, ApplicationType, ReadValueId, RequestHeader, SecurityTokenRequestType,
     extension_object, type_ids,
+};
+use ua_service_messages::{ReadRawModifiedDetails, SignatureData, WriteValue};
+use ua_subscription_messages::{
+    DataChangeFilter, DataChangeTrigger, MonitoringParameters, SubscriptionAcknowledgement,
 };
 use ua_types::{
     Array, ByteString, Duration, ExtensionObject, ExtensionObjectBody, LocalizedText, Moment,
@@ -94,7 +94,7 @@ pub fn request_header(authentication_token: NodeId, request_handle: u32) -> Requ
 }
 
 pub(crate) fn is_delete(subscriptions: Subscriptions) -> bool
-    ensures { result ≡ is_delete_lem subscriptions }
+    ensures { result ≡ is_delete_spec subscriptions }
 {
     match subscriptions {
         Subscriptions::Delete => true,
@@ -103,7 +103,7 @@ pub(crate) fn is_delete(subscriptions: Subscriptions) -> bool
 }
 
 pub(crate) fn is_on(publishing: Publishing) -> bool
-    ensures { result ≡ is_on_lem publishing }
+    ensures { result ≡ is_on_spec publishing }
 {
     match publishing {
         Publishing::On => true,
@@ -121,7 +121,7 @@ fn is_oldest(discard: Discard) -> bool
 }
 
 pub(crate) fn request_type(request: ChannelRequest) -> SecurityTokenRequestType
-    ensures { result ≡ request_type_lem request }
+    ensures { result ≡ request_type_spec request }
 {
     match request {
         ChannelRequest::Issue => SecurityTokenRequestType::ISSUE,

@@ -5,7 +5,8 @@ use Rattle.ua_types.specs.IdTexts.{behind, or_else, number_of, id_of}
 use Rattle.ua_types.specs.declared.id_texts.IdFault.{IdFault}
 use Rattle.ua_types.specs.declared.moment.Moment.{Moment}
 use Rattle.ua_types.specs.declared.node_id.NodeId.{NodeId}
-use Rattle.scenario_text.specs.Readings.{Reading, ◌>>=◌, done, judged, or_cause}
+use Rattle.std.specs.Option.{ok_or}
+use Rattle.scenario_text.specs.Readings.{Reading, ◌>>=◌, done, judged}
 use Rattle.scenario_text.specs.Words.{word}
 use Rattle.scenario_text.specs.declared.fault.Cause.{Cause}
 use Rattle.scenario_text.specs.declared.fault.Cause.TheVariants.{Word, Number, Id}
@@ -33,12 +34,12 @@ named_id cause t = id_or cause (id_of t)
 unfoldable pub unsigned_reading : ℕ → Reading ℕ
 unsigned_reading highest = do
   t ← word
-  judged (or_cause Number (number_of (highest + 1) t))
+  judged (ok_or (number_of (highest + 1) t) Number)
 
 unfoldable pub signed_reading : ℕ → ℕ → Reading ℤ
 signed_reading lowest highest = do
   t ← word
-  judged (or_cause Number (signed_of lowest highest t))
+  judged (ok_or (signed_of lowest highest t) Number)
 
 -- a Byte, a UInt32, a UInt64
 unfoldable pub byte_reading : Reading ℕ
@@ -62,7 +63,7 @@ moment_reading = do
 unfoldable pub truth_reading : Reading Bool
 truth_reading = do
   t ← word
-  judged (or_cause Word (truth_of t))
+  judged (ok_or (truth_of t) Word)
 
 unfoldable pub id_reading : Reading NodeId
 id_reading = do

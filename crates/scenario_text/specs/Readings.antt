@@ -28,10 +28,6 @@ abbrev pub judged : {A : Type 0} → Result A Cause → Reading A
 judged (Ok x) line = Ok (x, line)
 judged (Err e) line = Err e
 
-abbrev pub or_cause : {A : Type 0} → Cause → Option A → Result A Cause
-or_cause e None = Err e
-or_cause e (Some x) = Ok x
-
 -- ---- words of the contracts
 
 -- What a function returned, and the line left after it, are what reading gives, unless memory ran out.

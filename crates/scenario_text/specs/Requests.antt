@@ -4,10 +4,11 @@ use Rattle.std.specs.List.{before_first, after_first}
 use Rattle.std.specs.Str.{bytes_eq}
 use Rattle.ua_types.specs.IdTexts.{number_of}
 use Rattle.ua_types.specs.declared.moment.Moment.{Moment}
+use Rattle.std.specs.Option.{ok_or}
 use Rattle.scenario_text.specs.Choices.{discard_reading}
 use Rattle.scenario_text.specs.Entries.{while_more}
 use Rattle.scenario_text.specs.Numbers.{signed_of, byte_reading, number_reading, long_number_reading, signed_number_reading, moment_reading, truth_reading, id_reading}
-use Rattle.scenario_text.specs.Readings.{Reading, ◌>>=◌, done, judged, or_cause}
+use Rattle.scenario_text.specs.Readings.{Reading, ◌>>=◌, done, judged}
 use Rattle.scenario_text.specs.Values.{value_reading}
 use Rattle.scenario_text.specs.Words.{word}
 use Rattle.scenario_text.specs.declared.fault.Cause.{Cause}
@@ -33,7 +34,7 @@ attribute_reading = do
 abbrev pub source_time_of : List ℕ → Result (Option Moment) Cause
 source_time_of t =
     if bytes_eq t (codes "-") then Ok None
-    else or_cause Number (option_map (λ steps. Some (record { 0 = steps })) (signed_of (2 ^ 63) (2 ^ 63 - 1) t))
+    else ok_or (option_map (λ steps. Some (record { 0 = steps })) (signed_of (2 ^ 63) (2 ^ 63 - 1) t)) Number
 
 unfoldable pub source_time_reading : Reading (Option Moment)
 source_time_reading = do
@@ -134,4 +135,4 @@ acknowledgement_of t =
 unfoldable pub acknowledgement_reading : Reading Acknowledgement
 acknowledgement_reading = do
   t ← word
-  judged (or_cause Number (acknowledgement_of t))
+  judged (ok_or (acknowledgement_of t) Number)

@@ -1,53 +1,21 @@
 -- Keys, bytes, texts and values to write.
 use Rattle.std.specs.Prelude.{ℕ, ◌+◌, ◌-◌, ◌^◌, List, codes, Option, Some, None, Result, Ok, Err, if◌then◌else◌}
-use Rattle.std.specs.Str.{bytes_eq}
+use Rattle.std.specs.Option.{ok_or}
 use Rattle.hex.specs.Hex.{decode_of, decode_sized}
 use Rattle.hex.specs.declared.error.FromHexError.{FromHexError}
-use Rattle.uuid.specs.Text.{parsed}
-use Rattle.ua_types.specs.IdTexts.{number_of, guid_of}
-use Rattle.ua_types.specs.declared.guid.Guid.{Guid}
+use Rattle.ua_types.specs.Guids.{guid_said}
+use Rattle.ua_types.specs.IdTexts.{number_of}
+use Rattle.ua_values.specs.ValueTypes.{value_type_named}
 use Rattle.ua_values.specs.declared.content.Content.TheVariants.{Scalar}
 use Rattle.ua_values.specs.declared.variant.Variant.{Variant}
 use Rattle.ua_values.specs.declared.variant.Variant.TheVariants as variants
 use Rattle.scenario_text.specs.Numbers.{signed_of, truth_of, named_id}
-use Rattle.scenario_text.specs.Readings.{Reading, ◌>>=◌, done, judged, or_cause}
+use Rattle.scenario_text.specs.Readings.{Reading, ◌>>=◌, done, judged}
 use Rattle.scenario_text.specs.Words.{Spelled, spelled, word, text}
 use Rattle.scenario_text.specs.declared.fault.Cause.{Cause}
 use Rattle.scenario_text.specs.declared.fault.Cause.TheVariants.{Word, Value}
-use Rattle.scenario_text.specs.declared.values.ValueType.{ValueType}
-use Rattle.scenario_text.specs.declared.values.ValueType.TheVariants as types
-
--- the type of numbers that a word names
-unfoldable pub number_type_of : List ℕ → Result ValueType Cause
-number_type_of t =
-    if bytes_eq t (codes "SByte") then Ok types.SByte else
-    if bytes_eq t (codes "Byte") then Ok types.Byte else
-    if bytes_eq t (codes "Int16") then Ok types.Int16 else
-    if bytes_eq t (codes "UInt16") then Ok types.UInt16 else
-    if bytes_eq t (codes "Int32") then Ok types.Int32 else
-    if bytes_eq t (codes "UInt32") then Ok types.UInt32 else
-    if bytes_eq t (codes "Int64") then Ok types.Int64 else
-    if bytes_eq t (codes "UInt64") then Ok types.UInt64 else
-    Err Word
-
--- the type that a word names
-unfoldable pub type_of : List ℕ → Result ValueType Cause
-type_of t =
-    if bytes_eq t (codes "Boolean") then Ok types.Boolean else
-    if bytes_eq t (codes "String") then Ok types.String else
-    if bytes_eq t (codes "DateTime") then Ok types.DateTime else
-    if bytes_eq t (codes "Guid") then Ok types.Guid else
-    if bytes_eq t (codes "ByteString") then Ok types.ByteString else
-    if bytes_eq t (codes "NodeId") then Ok types.NodeId else
-    if bytes_eq t (codes "StatusCode") then Ok types.StatusCode else
-    number_type_of t
-
-abbrev pub some_guid : Option (List ℕ) → Result Guid Cause
-some_guid None = Err Value
-some_guid (Some bytes) = Ok (guid_of bytes)
-
-unfoldable pub guid_at : List ℕ → Result Guid Cause
-guid_at t = some_guid (parsed t)
+use Rattle.ua_values.specs.declared.value_type.ValueType.{ValueType}
+use Rattle.ua_values.specs.declared.value_type.ValueType.TheVariants as types
 
 -- the bytes that hex digits stand for
 abbrev pub octets_of : Result (List ℕ) FromHexError → Result (List ℕ) Cause
@@ -65,7 +33,7 @@ seen kind (Ok x) = Ok (kind x)
 seen kind (Err e) = Err e
 
 abbrev pub seen_if : {A : Type 0} → (A → Variant) → Option A → Result Variant Cause
-seen_if kind found = seen kind (or_cause Value found)
+seen_if kind found = seen kind (ok_or found Value)
 
 -- a text has to stand in quotes
 abbrev pub quoted_value : Spelled → Result Variant Cause
@@ -84,7 +52,7 @@ value_of types.Int64 w = seen_if (λ n. variants.Int64 (Scalar n)) (signed_of (2
 value_of types.UInt64 w = seen_if (λ n. variants.UInt64 (Scalar n)) (number_of (2 ^ 64 - 1 + 1) w.0)
 value_of types.String w = quoted_value w
 value_of types.DateTime w = seen_if (λ n. variants.DateTime (Scalar (record { 0 = n }))) (signed_of (2 ^ 63) (2 ^ 63 - 1) w.0)
-value_of types.Guid w = seen (λ g. variants.Guid (Scalar g)) (guid_at w.0)
+value_of types.Guid w = seen (λ g. variants.Guid (Scalar g)) (ok_or (guid_said w.0) Value)
 value_of types.ByteString w = seen (λ b. variants.ByteString (Scalar (Some b))) (octets_of (decode_of w.0))
 value_of types.NodeId w = seen (λ id. variants.NodeId (Scalar id)) (named_id Value w.0)
 value_of types.StatusCode w = seen_if (λ n. variants.StatusCode (Scalar (record { 0 = n }))) (number_of (0xffff_ffff + 1) w.0)
@@ -110,6 +78,6 @@ text_reading = do
 unfoldable pub value_reading : Reading Variant
 value_reading = do
   t ← word
-  kind ← judged (type_of t)
+  kind ← judged (ok_or (value_type_named t) Word)
   w ← spelled
   judged (value_of kind w)

@@ -3,7 +3,8 @@ use Rattle.std.specs.Prelude.{◌≡◌, option_map, ℕ, List, [], ◌∷◌, B
 use Rattle.std.specs.Borrow.{Bor}
 use Rattle.std.specs.List.{before_first, after_first, position_or_len}
 use Rattle.ua_types.specs.IdTexts.{behind, or_else}
-use Rattle.scenario_text.specs.Readings.{Reading, ◌>>=◌, done, judged, or_cause}
+use Rattle.std.specs.Option.{ok_or}
+use Rattle.scenario_text.specs.Readings.{Reading, ◌>>=◌, done, judged}
 use Rattle.scenario_text.specs.declared.fault.Cause.{Cause}
 use Rattle.scenario_text.specs.declared.fault.Cause.TheVariants.{Word}
 
@@ -66,7 +67,7 @@ has_more line = not (ends (past_spaces line))
 unfoldable pub spelled : Reading Spelled
 spelled = do
   found ← next_word
-  judged (or_cause Word found)
+  judged (ok_or found Word)
 
 -- its characters, quoted or not
 unfoldable pub word : Reading (List ℕ)

@@ -1,43 +1,16 @@
 //! Numbers, moments, truth values and ids.
 
-ghost use Rattle.std.specs.Prelude.{◌≡◌, ◌+◌, ◌^◌, ◌<◌, ◌≤◌, ◌≤ℤ◌, pos, neg_ℤ, IfSome, IfOk};
-ghost use Rattle.std.specs.Char.{is_ascii_digit};
-ghost use Rattle.std.specs.List.{list_all};
+ghost use Rattle.std.specs.Prelude.{◌≡◌, ◌^◌, ◌<◌, ◌≤◌, ◌≤ℤ◌, pos, neg_ℤ, IfSome, IfOk};
 ghost use Rattle.ua_types.specs.Answers.{Gives};
-ghost use Rattle.ua_types.specs.IdTexts.{number_of};
 ghost use Rattle.scenario_text.specs.Readings.{Reads};
 ghost use Rattle.scenario_text.specs.declared.fault.Cause.TheVariants.{Memory};
 ghost use Rattle.scenario_text.specs.Numbers.{signed_of, truth_of, named_id, unsigned_reading, signed_reading, byte_reading, number_reading, long_number_reading, signed_number_reading, moment_reading, truth_reading, id_reading};
 
 use crate::fault::Cause;
 use crate::phrases::Phrase;
-use crate::words::{Words, behind};
+use crate::words::Words;
 use std::alloc::Global;
-use ua_types::{IdFault, Moment, NodeId};
-
-fn all_digits(text: &str) -> bool
-    ensures { result ≡ list_all is_ascii_digit text.now }
-{
-    text.as_bytes().iter().all(|b| b.is_ascii_digit())
-}
-
-/// One or more decimal digits of a number up to the highest.
-pub(crate) fn up_to(highest: u64, digits: &str) -> Option<u64>
-    ensures value { result ≡ number_of (highest + 1) digits.now }
-    ensures fits { IfSome result (λ n. n ≤ highest) }
-{
-    if !all_digits(digits) {
-        return None;
-    }
-    let Ok(number) = digits.parse::<u64>() else {
-        return None;
-    };
-    if number <= highest {
-        Some(number)
-    } else {
-        None
-    }
-}
+use ua_types::{IdFault, Moment, NodeId, behind, decimal_up_to};
 
 /// Decimal digits of a number up to the highest, or a minus sign and digits up to the lowest.
 #[tactic(auto, unfolding(crate::specs::Numbers::signed_of))]
@@ -49,11 +22,11 @@ pub(crate) fn signed(lowest: u64, highest: u64, text: &str) -> Option<i64>
     ensures high { IfSome result (λ z. z ≤ℤ pos highest) }
 {
     match behind(text, "-") {
-        Some(digits) => match up_to(lowest, digits) {
+        Some(digits) => match decimal_up_to(lowest, digits) {
             Some(number) => Some((-(number as i128)) as i64),
             None => None,
         },
-        None => match up_to(highest, text) {
+        None => match decimal_up_to(highest, text) {
             Some(number) => Some(number as i64),
             None => None,
         },
@@ -89,7 +62,7 @@ fn unsigned(words: &mut Words<'_>, highest: u64) -> Result<u64, Cause>
     ensures read { Reads result words.new (unsigned_reading highest words.old) }
     ensures fits { IfOk result (λ n. n ≤ highest) }
 {
-    match up_to(highest, words.word()?) {
+    match decimal_up_to(highest, words.word()?) {
         Some(number) => Ok(number),
         None => Err(Cause::Number),
     }

@@ -5,11 +5,11 @@ ghost use Rattle.scenario_text.specs.Requests.{attribute_reading, source_time_re
 
 use crate::choices::Discard;
 use crate::fault::Cause;
-use crate::numbers::{signed, up_to};
+use crate::numbers::signed;
 use crate::phrases::Phrase;
 use crate::words::Words;
 use std::alloc::Global;
-use ua_types::{Moment, NodeId};
+use ua_types::{Moment, NodeId, decimal_up_to};
 use ua_values::Variant;
 
 /// An attribute of a node (ReadValueId, IEC 62541-4, section 7).
@@ -269,8 +269,8 @@ fn acknowledgement_of(word: &str) -> Option<Acknowledgement>
         Some(parts) => parts,
         None => (word, ""),
     };
-    let subscription = up_to(0xffff_ffff, first)?;
-    let sequence_number = up_to(0xffff_ffff, second)?;
+    let subscription = decimal_up_to(0xffff_ffff, first)?;
+    let sequence_number = decimal_up_to(0xffff_ffff, second)?;
     Some(Acknowledgement {
         subscription: subscription as u32,
         sequence_number: sequence_number as u32,

@@ -1,23 +1,15 @@
 //! The words of a line.
 
 ghost use Rattle.std.specs.Prelude.{◌≡◌, ◌≤◌, length, option_map};
-ghost use Rattle.std.specs.Option.{option_copied};
-ghost use Rattle.ua_types.specs.IdTexts.{behind};
 ghost use Rattle.scenario_text.specs.Readings.{Reads, ReadsAs};
 ghost use Rattle.scenario_text.specs.Words.{FoundAs, past_spaces, has, ends, is_apart, quoted, whole, bare, word_at, next_word, has_more, spelled, word, text, end_of_line};
 
 use crate::fault::Cause;
 use std::marker::Model;
+use ua_types::behind;
 
 // A word without its quotes, and whether it stands in quotes; none where the line ends. And the rest of the line.
 type Found<'a> = (Option<(&'a str, bool)>, &'a str);
-
-/// What follows a front, where the text has it.
-pub(crate) fn behind<'a>(text: &'a str, front: &str) -> Option<&'a str>
-    ensures { option_copied result ≡ behind front.now text.entry.now }
-{
-    text.strip_prefix(front)
-}
 
 // The part of a line behind the spaces at its front.
 #[tactic(auto, using(crate::proofs::Spaces::past_one, crate::proofs::Spaces::past_none, crate::proofs::Spaces::past_shorter))]

@@ -16,51 +16,51 @@ use Rattle.ua_messages.specs.Headers.{request_header_reading}
 use Rattle.ua_messages.specs.declared.headers.RequestHeader.{RequestHeader}
 use Rattle.ua_messages.specs.declared.read_value_ids.ReadValueId.{ReadValueId}
 use Rattle.ua_messages.specs.declared.type_ids.TheConstants.{BROWSE_RESPONSE, BROWSE_NEXT_RESPONSE, HISTORY_READ_RESPONSE, SET_PUBLISHING_MODE_RESPONSE, DELETE_SUBSCRIPTIONS_RESPONSE, WRITE_REQUEST}
-use Rattle.ua_requests.specs.declared.fired.Fired.{Fired}
-use Rattle.ua_requests.specs.declared.reply.Reply.{Reply}
-use Rattle.ua_requests.specs.declared.request.Request.{Request}
-use Rattle.ua_requests.specs.declared.setting.Setting.{Setting}
-use Rattle.service_messages.specs.Browsing.{browse_result_encoding, browse_request_reading, browse_next_request_reading}
-use Rattle.service_messages.specs.History.{history_read_result_encoding, history_read_request_reading}
-use Rattle.service_messages.specs.Reading.{read_request_reading}
-use Rattle.service_messages.specs.Sessions.{create_session_request_reading, activate_session_request_reading, close_session_request_reading}
-use Rattle.service_messages.specs.Writing.{write_request_reading}
-use Rattle.service_messages.specs.declared.browsing.BrowseDescription.{BrowseDescription}
-use Rattle.service_messages.specs.declared.browsing.BrowseNextRequest.{BrowseNextRequest}
-use Rattle.service_messages.specs.declared.browsing.BrowseRequest.{BrowseRequest}
-use Rattle.service_messages.specs.declared.history.HistoryReadRequest.{HistoryReadRequest}
-use Rattle.service_messages.specs.declared.history.HistoryReadValueId.{HistoryReadValueId}
-use Rattle.service_messages.specs.declared.reading.ReadRequest.{ReadRequest}
-use Rattle.service_messages.specs.declared.sessions.ActivateSessionRequest.{ActivateSessionRequest}
-use Rattle.service_messages.specs.declared.sessions.CloseSessionRequest.{CloseSessionRequest}
-use Rattle.service_messages.specs.declared.sessions.CreateSessionRequest.{CreateSessionRequest}
-use Rattle.service_messages.specs.declared.writing.WriteRequest.{WriteRequest}
-use Rattle.service_messages.specs.declared.writing.WriteValue.{WriteValue}
-use Rattle.sub_messages.specs.MonitoredItems.{create_monitored_items_request_reading, modify_monitored_items_request_reading, set_monitoring_mode_request_reading, delete_monitored_items_request_reading}
-use Rattle.sub_messages.specs.Publishing.{publish_request_reading, republish_request_reading}
-use Rattle.sub_messages.specs.Subscriptions.{create_subscription_request_reading, modify_subscription_request_reading, set_publishing_mode_request_reading, delete_subscriptions_request_reading}
-use Rattle.sub_messages.specs.declared.publishing.PublishRequest.{PublishRequest}
-use Rattle.sub_messages.specs.declared.publishing.RepublishRequest.{RepublishRequest}
-use Rattle.sub_messages.specs.declared.subscriptions.CreateSubscriptionRequest.{CreateSubscriptionRequest}
-use Rattle.sub_messages.specs.declared.subscriptions.DeleteSubscriptionsRequest.{DeleteSubscriptionsRequest}
-use Rattle.sub_messages.specs.declared.subscriptions.ModifySubscriptionRequest.{ModifySubscriptionRequest}
-use Rattle.sub_messages.specs.declared.subscriptions.SetPublishingModeRequest.{SetPublishingModeRequest}
-use Rattle.sub_table.specs.declared.vars.Vars.{Vars}
-use Rattle.read_write.specs.Timestamps.{timestamps_of}
-use Rattle.read_write.specs.declared.writing.Change.{Change}
-use Rattle.read_write.specs.declared.timestamps.Timestamps.{Timestamps}
-use Rattle.raw_history.specs.declared.reading.RawRange.{RawRange}
-use Rattle.monitored_items.specs.Items.{ItemsState}
-use Rattle.subscription.specs.Ending.{session_ended}
-use Rattle.subscription.specs.Making.{modified, republished}
-use Rattle.subscription.specs.Named.{is_own, named_all, deleted}
-use Rattle.subscription.specs.Publishing.{published}
-use Rattle.subscription.specs.Subs.{SubsState, Said, said, told, created}
+use Rattle.server_messages.specs.declared.fired.Fired.{Fired}
+use Rattle.server_messages.specs.declared.reply.Reply.{Reply}
+use Rattle.server_messages.specs.declared.request.Request.{Request}
+use Rattle.server_messages.specs.declared.setting.Setting.{Setting}
+use Rattle.ua_service_messages.specs.Browsing.{browse_result_encoding, browse_request_reading, browse_next_request_reading}
+use Rattle.ua_service_messages.specs.History.{history_read_result_encoding, history_read_request_reading}
+use Rattle.ua_service_messages.specs.Reading.{read_request_reading}
+use Rattle.ua_service_messages.specs.Sessions.{create_session_request_reading, activate_session_request_reading, close_session_request_reading}
+use Rattle.ua_service_messages.specs.Writing.{write_request_reading}
+use Rattle.ua_service_messages.specs.declared.browsing.BrowseDescription.{BrowseDescription}
+use Rattle.ua_service_messages.specs.declared.browsing.BrowseNextRequest.{BrowseNextRequest}
+use Rattle.ua_service_messages.specs.declared.browsing.BrowseRequest.{BrowseRequest}
+use Rattle.ua_service_messages.specs.declared.history.HistoryReadRequest.{HistoryReadRequest}
+use Rattle.ua_service_messages.specs.declared.history.HistoryReadValueId.{HistoryReadValueId}
+use Rattle.ua_service_messages.specs.declared.reading.ReadRequest.{ReadRequest}
+use Rattle.ua_service_messages.specs.declared.sessions.ActivateSessionRequest.{ActivateSessionRequest}
+use Rattle.ua_service_messages.specs.declared.sessions.CloseSessionRequest.{CloseSessionRequest}
+use Rattle.ua_service_messages.specs.declared.sessions.CreateSessionRequest.{CreateSessionRequest}
+use Rattle.ua_service_messages.specs.declared.writing.WriteRequest.{WriteRequest}
+use Rattle.ua_service_messages.specs.declared.writing.WriteValue.{WriteValue}
+use Rattle.ua_subscription_messages.specs.MonitoredItems.{create_monitored_items_request_reading, modify_monitored_items_request_reading, set_monitoring_mode_request_reading, delete_monitored_items_request_reading}
+use Rattle.ua_subscription_messages.specs.Publishing.{publish_request_reading, republish_request_reading}
+use Rattle.ua_subscription_messages.specs.Subscriptions.{create_subscription_request_reading, modify_subscription_request_reading, set_publishing_mode_request_reading, delete_subscriptions_request_reading}
+use Rattle.ua_subscription_messages.specs.declared.publishing.PublishRequest.{PublishRequest}
+use Rattle.ua_subscription_messages.specs.declared.publishing.RepublishRequest.{RepublishRequest}
+use Rattle.ua_subscription_messages.specs.declared.subscriptions.CreateSubscriptionRequest.{CreateSubscriptionRequest}
+use Rattle.ua_subscription_messages.specs.declared.subscriptions.DeleteSubscriptionsRequest.{DeleteSubscriptionsRequest}
+use Rattle.ua_subscription_messages.specs.declared.subscriptions.ModifySubscriptionRequest.{ModifySubscriptionRequest}
+use Rattle.ua_subscription_messages.specs.declared.subscriptions.SetPublishingModeRequest.{SetPublishingModeRequest}
+use Rattle.ua_state_table.specs.declared.vars.Vars.{Vars}
+use Rattle.ua_read_write.specs.Timestamps.{timestamps_of}
+use Rattle.ua_read_write.specs.declared.writing.Change.{Change}
+use Rattle.ua_read_write.specs.declared.timestamps.Timestamps.{Timestamps}
+use Rattle.ua_history.specs.declared.reading.RawRange.{RawRange}
+use Rattle.ua_monitored_items.specs.Items.{ItemsState}
+use Rattle.ua_subscriptions.specs.Ending.{session_ended}
+use Rattle.ua_subscriptions.specs.Making.{modified, republished}
+use Rattle.ua_subscriptions.specs.Named.{is_own, named_all, deleted}
+use Rattle.ua_subscriptions.specs.Publishing.{published}
+use Rattle.ua_subscriptions.specs.SubscriptionCalls.{SubscriptionsState, Said, said, told, created}
 use Rattle.subscription_laws.specs.Apartness.{IsRequestOf, OthersStay}
 use Rattle.subscription_laws.specs.Runs.{Move, Ran, ran_by, moved, start}
 use Rattle.subscription_laws.proofs.Others.{none_changes, requests_stay_apart}
-use Rattle.subscription.specs.Tables.{World, vars_found}
-use Rattle.subscription.specs.declared.call.Call.TheVariants as sub_call
+use Rattle.ua_subscriptions.specs.Tables.{World, vars_found}
+use Rattle.ua_subscriptions.specs.declared.call.Call.TheVariants as sub_call
 use Rattle.ua_browse.specs.Browsing.{page_size, browse_of}
 use Rattle.ua_session.specs.Sessions.{SessionsState, Named, named, points_of, with_points, create_of, activate_of, find_of, close_of, ticked, ended_by}
 use Rattle.ua_services.specs.ActivateSession.{is_anonymous, activate_session_body, activate_session_meaning}
@@ -122,7 +122,7 @@ not_shown session state = none_shown session state state.sessions (unchanged ses
 -- ---- one call of a session
 
 -- these subscriptions and items are where some calls lead from none on
-pub record CameBy (subs : SubsState) (items : ItemsState) : Type 0 where
+pub record CameBy (subs : SubscriptionsState) (items : ItemsState) : Type 0 where
   pub config : Configuration
   pub rows : List Fired
   pub came : Went (start config) subs items rows

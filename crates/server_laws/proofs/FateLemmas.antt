@@ -2,28 +2,28 @@
 use Rattle.std.proofs.Common.{◌≡◌, arith, ℕ, ◌+◌, zero, suc, List, [], ◌∷◌, ◌++◌, take, append_assoc, append-nil, fold, Option, Some, None, Result, Ok, Err, refl, sym, ap, ◌∙◌, subst}
 use Rattle.std.proofs.lemmas.List.Sums.{fold-append}
 use Rattle.ua_types.specs.Configuration.{Configuration}
-use Rattle.ua_requests.specs.declared.fired.Fired.{Fired}
-use Rattle.ua_requests.specs.declared.reply.Reply.{Reply}
+use Rattle.server_messages.specs.declared.fired.Fired.{Fired}
+use Rattle.server_messages.specs.declared.reply.Reply.{Reply}
 use Rattle.ua_space.specs.Nodes.{SpaceState}
-use Rattle.item_queue.specs.Fates.{GoesOn}
-use Rattle.monitored_items.specs.Items.{ItemsState}
-use Rattle.monitored_items.specs.Moves.{queue_at}
+use Rattle.ua_item_queue.specs.Fates.{GoesOn}
+use Rattle.ua_monitored_items.specs.Items.{ItemsState}
+use Rattle.ua_monitored_items.specs.Moves.{queue_at}
 use Rattle.subscription_laws.specs.Fates.{account_at}
 use Rattle.subscription_laws.specs.Runs.{Move, Ran, moved, run}
 use Rattle.subscription_laws.proofs.ValueFates.{those_wait, they_stay}
 use Rattle.server_laws.specs.Moving.{ran_at, Went}
 use Rattle.ua_services.specs.declared.services.Services.{Services}
-use Rattle.ua_core.specs.Coherent.{IfRuns}
-use Rattle.ua_core.specs.Effects.{fired_of}
+use Rattle.server_core.specs.Coherent.{IfRuns}
+use Rattle.server_core.specs.Effects.{fired_of}
 use Rattle.server_laws.specs.Fates.{reached_at, first_calls, CallsOf, account_of_first, HoldsWhatWaits}
-use Rattle.ua_core.specs.Running.{Running, running, joined_effects, then_run, run_of}
-use Rattle.ua_core.specs.Stepping.{Served, step_of}
+use Rattle.server_core.specs.Running.{Running, running, joined_effects, then_run, run_of}
+use Rattle.server_core.specs.Stepping.{Served, step_of}
 use Rattle.server_laws.specs.Tables.{rows_of_run, LeadTo}
-use Rattle.ua_core.specs.World.{opening}
-use Rattle.ua_core.specs.declared.world.World.{World}
-use Rattle.ua_core.specs.declared.event.Event.{Event}
-use Rattle.ua_core.specs.declared.out.StepFault.{StepFault}
-use Rattle.ua_core.proofs.EffectLemmas.{fired_of-append}
+use Rattle.server_core.specs.World.{opening}
+use Rattle.server_core.specs.declared.world.World.{World}
+use Rattle.server_core.specs.declared.event.Event.{Event}
+use Rattle.server_core.specs.declared.out.StepFault.{StepFault}
+use Rattle.server_core.proofs.EffectLemmas.{fired_of-append}
 use Rattle.server_laws.proofs.TableLemmas.{StepGoes, step_goes}
 
 -- calls lead from some state to that of a server, behind the rows that fired before

@@ -7,31 +7,31 @@ use Rattle.std.specs.Option.{is_some}
 use Rattle.std.specs.Prelude.{find}
 use Rattle.ua_types.specs.Configuration.{Configuration}
 use Rattle.ua_types.specs.declared.moment.Moment.{Moment}
-use Rattle.ua_requests.specs.declared.fired.Fired.{Fired}
-use Rattle.ua_requests.specs.declared.reply.Reply.{Reply}
+use Rattle.server_messages.specs.declared.fired.Fired.{Fired}
+use Rattle.server_messages.specs.declared.reply.Reply.{Reply}
 use Rattle.ua_space.specs.Nodes.{SpaceState}
-use Rattle.subscription.specs.declared.messages.KeptMessage.{KeptMessage}
-use Rattle.subscription.specs.declared.subscription.Subscription.{Subscription}
-use Rattle.subscription.specs.Answers.{number_of}
-use Rattle.subscription.specs.Making.{bytes_of, kept_by as bytes_kept_by, kept_at, republished}
-use Rattle.subscription.specs.Messages.{has_number}
-use Rattle.subscription.specs.Subs.{SubsState, world_of}
-use Rattle.subscription.specs.Tables.{kept_by, subscription_at}
+use Rattle.ua_subscriptions.specs.declared.messages.KeptMessage.{KeptMessage}
+use Rattle.ua_subscriptions.specs.declared.subscription.Subscription.{Subscription}
+use Rattle.ua_subscriptions.specs.Answers.{number_of}
+use Rattle.ua_subscriptions.specs.Making.{bytes_of, kept_by as bytes_kept_by, kept_at, republished}
+use Rattle.ua_subscriptions.specs.Messages.{has_number}
+use Rattle.ua_subscriptions.specs.SubscriptionCalls.{SubscriptionsState, world_of}
+use Rattle.ua_subscriptions.specs.Tables.{kept_by, subscription_at}
 use Rattle.subscription_laws.specs.Messaging.{Made, moved_made, run_made, messages_for, IsAmong}
 use Rattle.subscription_laws.specs.Runs.{Move, Ran, moved, start}
 use Rattle.subscription_laws.proofs.RunMessages.{messages_numbered, messages_live, messages_kept, messages_given_again, messages_noted}
 use Rattle.server_laws.specs.Moving.{ran_at}
-use Rattle.ua_core.specs.Coherent.{reached, IfRuns}
-use Rattle.ua_core.specs.Effects.{fired_of}
+use Rattle.server_core.specs.Coherent.{reached, IfRuns}
+use Rattle.server_core.specs.Effects.{fired_of}
 use Rattle.server_laws.specs.Messages.{LastsAreTheirs, NotesComeNext, KeepsWhatItShows, MadeThese, MakesMessages}
-use Rattle.ua_core.specs.Running.{Running, joined_effects, then_run, run_of}
-use Rattle.ua_core.specs.Stepping.{Served, step_of}
+use Rattle.server_core.specs.Running.{Running, joined_effects, then_run, run_of}
+use Rattle.server_core.specs.Stepping.{Served, step_of}
 use Rattle.server_laws.specs.Tables.{rows_of_run}
-use Rattle.ua_core.specs.World.{opening}
-use Rattle.ua_core.specs.declared.world.World.{World}
-use Rattle.ua_core.specs.declared.event.Event.{Event}
-use Rattle.ua_core.specs.declared.out.StepFault.{StepFault}
-use Rattle.ua_core.proofs.EffectLemmas.{fired_of-append}
+use Rattle.server_core.specs.World.{opening}
+use Rattle.server_core.specs.declared.world.World.{World}
+use Rattle.server_core.specs.declared.event.Event.{Event}
+use Rattle.server_core.specs.declared.out.StepFault.{StepFault}
+use Rattle.server_core.proofs.EffectLemmas.{fired_of-append}
 use Rattle.server_laws.proofs.TableLemmas.{StepGoes, step_goes, leads}
 
 -- ---- the calls of events
@@ -144,7 +144,7 @@ shown_by None = tt
 shown_by (Some s) = all_kept s.kept
 
 shows_kept : (world : World) → KeepsWhatItShows world
-shows_kept world number = let subs : SubsState = world.core.services.subs in shown_by (subscription_at number subs.table.subscriptions)
+shows_kept world number = let subs : SubscriptionsState = world.core.services.subs in shown_by (subscription_at number subs.table.subscriptions)
 
 -- ---- a server's
 

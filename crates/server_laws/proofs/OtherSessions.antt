@@ -22,9 +22,9 @@ use Rattle.ua_binary.specs.declared.fault.TakeFault.{TakeFault}
 use Rattle.ua_messages.specs.Bodies.{only_value, message_of}
 use Rattle.ua_messages.specs.Headers.{request_header_reading}
 use Rattle.ua_messages.specs.declared.headers.RequestHeader.{RequestHeader}
-use Rattle.service_messages.specs.Sessions.{signature_data_reading, signed_software_certificate_reading, activate_session_request_reading, close_session_request_reading}
-use Rattle.service_messages.specs.declared.sessions.ActivateSessionRequest.{ActivateSessionRequest}
-use Rattle.service_messages.specs.declared.sessions.CloseSessionRequest.{CloseSessionRequest}
+use Rattle.ua_service_messages.specs.Sessions.{signature_data_reading, signed_software_certificate_reading, activate_session_request_reading, close_session_request_reading}
+use Rattle.ua_service_messages.specs.declared.sessions.ActivateSessionRequest.{ActivateSessionRequest}
+use Rattle.ua_service_messages.specs.declared.sessions.CloseSessionRequest.{CloseSessionRequest}
 use Rattle.ua_session.specs.Points.{PointsState}
 use Rattle.ua_session.specs.Sessions.{SessionsState, Named, if_secret, named_by, named, without, ticked, ended_by, with_session, with_points, refused, is_full, found, find_of, activated, activate_of, closed, close_of, create_of}
 use Rattle.ua_session.specs.Tokens.{parts_of}

@@ -1,13 +1,13 @@
 -- Each message that is made at an event is in a reply that is given then.
 use Rattle.std.proofs.Common.{◌≡◌, ◌⊎◌, inl, inr, ℕ, List, [], ◌∷◌, ◌++◌, Option, Some, None, refl, sym, ap, ◌∙◌, subst}
 use Rattle.ua_types.specs.Configuration.{Configuration}
-use Rattle.ua_requests.specs.declared.fired.Fired.{Fired}
-use Rattle.ua_requests.specs.declared.reply.Reply.{Reply}
+use Rattle.server_messages.specs.declared.fired.Fired.{Fired}
+use Rattle.server_messages.specs.declared.reply.Reply.{Reply}
 use Rattle.ua_space.specs.Nodes.{SpaceState}
-use Rattle.ua_connections.specs.Connecting.{taking_of}
-use Rattle.ua_connections.specs.declared.asked.Asked.{Asked}
-use Rattle.monitored_items.specs.Items.{ItemsState}
-use Rattle.subscription.specs.Subs.{SubsState}
+use Rattle.server_connections.specs.Connecting.{taking_of}
+use Rattle.server_connections.specs.declared.frame_outcome.FrameOutcome.{FrameOutcome}
+use Rattle.ua_monitored_items.specs.Items.{ItemsState}
+use Rattle.ua_subscriptions.specs.SubscriptionCalls.{SubscriptionsState}
 use Rattle.subscription_laws.specs.Answering.{Brings, AreBrought}
 use Rattle.subscription_laws.specs.Messaging.{Made, run_made}
 use Rattle.subscription_laws.specs.Runs.{Move, Ran, run}
@@ -20,11 +20,11 @@ use Rattle.server_laws.specs.Tables.{rows_of_run, LeadTo}
 use Rattle.ua_services.specs.Serving.{Serving}
 use Rattle.ua_services.specs.Services.{serving_of, ticking_of}
 use Rattle.ua_services.specs.declared.services.Services.{Services}
-use Rattle.ua_core.specs.Coherent.{IfRuns}
-use Rattle.ua_core.specs.Handling.{asked_for, setting_at, handled}
-use Rattle.ua_core.specs.declared.world.World.{World}
-use Rattle.ua_core.specs.declared.parts.Core.{Core}
-use Rattle.ua_core.specs.declared.event.Event.{Event}
+use Rattle.server_core.specs.Coherent.{IfRuns}
+use Rattle.server_core.specs.Handling.{asked_for, setting_at, handled}
+use Rattle.server_core.specs.declared.world.World.{World}
+use Rattle.server_core.specs.declared.parts.Core.{Core}
+use Rattle.server_core.specs.declared.event.Event.{Event}
 use Rattle.server_laws.proofs.MovingLemmas.{serving_on, ticking_on}
 
 -- ---- among more replies
@@ -66,7 +66,7 @@ brings_from : (config : Configuration) (moves : List Move) (state : Services) (s
 brings_from config moves state s subs items goes =
     let r = run config moves in
     let same : ran_at state r.rows r.replies ≡ r =
-    ap (λ (x : SubsState). record { subs = x; items = state.items; rows = r.rows; replies = r.replies }) (sym subs)
+    ap (λ (x : SubscriptionsState). record { subs = x; items = state.items; rows = r.rows; replies = r.replies }) (sym subs)
     ∙ ap (λ (x : ItemsState). record { subs = r.subs; items = x; rows = r.rows; replies = r.replies }) (sym items) in
     subst (λ (from : Ran). BringsItsMessages from s) same (brings state s r.rows r.replies (subst IsRunKept (sym same) (run_kept config moves)) goes)
 
@@ -88,6 +88,6 @@ brings_messages config space events c n =
 pub sends_replies : (core : Core) → SendsReplies core
 unfolding handled
 sends_replies core = record {
-  frames = λ conn frame request e. let t = taking_of core.setting conn core.connections frame in ap (λ (a : Asked). (asked_for conn (record core { connections = t.connections }) t.outs a).outs) e;
+  frames = λ conn frame request e. let t = taking_of core.setting conn core.connections frame in ap (λ (a : FrameOutcome). (asked_for conn (record core { connections = t.connections }) t.outs a).outs) e;
   ticks = λ clock. refl;
 }

@@ -12,21 +12,21 @@ use Rattle.ua_tcp.specs.Frames.{End, Rest, Broken}
 use Rattle.ua_tcp.specs.Pieces.{Done, and_then, all_handled, at_end}
 use Rattle.ua_tcp.specs.declared.frame.Frame.{Frame}
 use Rattle.ua_tcp.specs.declared.frame.FrameFault.{FrameFault}
-use Rattle.ua_requests.specs.declared.fired.Fired.{Fired}
-use Rattle.ua_requests.specs.declared.reply.Reply.{Reply}
-use Rattle.ua_requests.specs.declared.request.Request.{Request}
-use Rattle.ua_requests.specs.declared.setting.Setting.{Setting}
+use Rattle.server_messages.specs.declared.fired.Fired.{Fired}
+use Rattle.server_messages.specs.declared.reply.Reply.{Reply}
+use Rattle.server_messages.specs.declared.request.Request.{Request}
+use Rattle.server_messages.specs.declared.setting.Setting.{Setting}
 use Rattle.ua_space.specs.Nodes.{SpaceState}
-use Rattle.ua_connections.specs.Connecting.{is_known, is_new, turned_away, taking_of, break_of}
-use Rattle.ua_connections.specs.Delivering.{delivery_of}
-use Rattle.ua_connections.specs.declared.asked.Asked.{Asked}
-use Rattle.ua_connections.specs.declared.asked.Asked.TheVariants as asked
-use Rattle.ua_connections.specs.declared.connections.Connections.{Connections}
-use Rattle.ua_connections.specs.declared.out.Out.{Out}
+use Rattle.server_connections.specs.Connecting.{is_known, is_new, turned_away, taking_of, break_of}
+use Rattle.server_connections.specs.Delivering.{delivery_of}
+use Rattle.server_connections.specs.declared.frame_outcome.FrameOutcome.{FrameOutcome}
+use Rattle.server_connections.specs.declared.frame_outcome.FrameOutcome.TheVariants as outcome
+use Rattle.server_connections.specs.declared.connections.Connections.{Connections}
+use Rattle.server_messages.specs.declared.out.Out.{Out}
 use Rattle.subscription_laws.specs.Calm.{AreSteady}
 use Rattle.subscription_laws.specs.Histories.{AreLawful}
 use Rattle.subscription_laws.specs.Runs.{Move, Ran, moved, start}
-use Rattle.subscription.specs.Tables.{TableState}
+use Rattle.ua_subscriptions.specs.Tables.{TableState}
 use Rattle.subscription_laws.proofs.Reached.{rows_are_lawful, all_steady, none_beside, lives_count, none_skipped}
 use Rattle.server_laws.specs.Moving.{Went, ComesOn, ran_at}
 use Rattle.ua_services.specs.Serving.{Serving, rows_of}
@@ -35,22 +35,22 @@ use Rattle.ua_services.specs.declared.services.Services.{Services}
 use Rattle.server_laws.proofs.ApartLemmas.{CameBy, keeps_apart, stays_fresh, tick_fresh}
 use Rattle.server_laws.proofs.OtherSessions.{IsFresh}
 use Rattle.server_laws.proofs.MovingLemmas.{goes_on, none, and_on, serving_on, ticking_on, forgotten_on}
-use Rattle.ua_core.specs.Coherent.{reached, IfRuns}
-use Rattle.ua_core.specs.Effects.{Effect, doing, effects_of, fired_of}
-use Rattle.ua_core.specs.Handling.{answered, asked_for, handled, broken, ticked_core}
-use Rattle.ua_core.specs.Running.{Running, joined_effects, then_run, run_of}
+use Rattle.server_core.specs.Coherent.{reached, IfRuns}
+use Rattle.server_core.specs.Effects.{Effect, doing, effects_of, fired_of}
+use Rattle.server_core.specs.Handling.{answered, asked_for, handled, broken, ticked_core}
+use Rattle.server_core.specs.Running.{Running, joined_effects, then_run, run_of}
 use Rattle.server_laws.specs.SessionsApart.{KeepsSessionsApart, ServesByFrames}
-use Rattle.ua_core.specs.Stepping as stepping
-use Rattle.ua_core.specs.Stepping.{Served, served, fed_to, fed, step_of}
+use Rattle.server_core.specs.Stepping as stepping
+use Rattle.server_core.specs.Stepping.{Served, served, fed_to, fed, step_of}
 use Rattle.server_laws.specs.Tables.{rows_of_run, IfShown, LeadTo, ComesByCalls, StaysSteady, NoneWaitsBesideARequest, LivesCountTimers, NoKeepAliveIsSkipped}
-use Rattle.ua_core.specs.World.{opening}
-use Rattle.ua_core.specs.declared.world.World.{World}
-use Rattle.ua_core.specs.declared.parts.Core.{Core}
-use Rattle.ua_core.specs.declared.event.Event.{Event}
-use Rattle.ua_core.specs.declared.event.Event.TheVariants.{Opened, Bytes, Gone, Tick}
-use Rattle.ua_core.specs.declared.out.StepFault.{StepFault}
-use Rattle.ua_core.specs.declared.out.StepFault.TheVariants.{KnownConnection, UnknownConnection}
-use Rattle.ua_core.proofs.EffectLemmas.{fired_of-append, fired_of_doing, fired_of_effects}
+use Rattle.server_core.specs.World.{opening}
+use Rattle.server_core.specs.declared.world.World.{World}
+use Rattle.server_core.specs.declared.parts.Core.{Core}
+use Rattle.server_core.specs.declared.event.Event.{Event}
+use Rattle.server_core.specs.declared.event.Event.TheVariants.{Opened, Bytes, Gone, Tick}
+use Rattle.server_core.specs.declared.out.StepFault.{StepFault}
+use Rattle.server_core.specs.declared.out.StepFault.TheVariants.{KnownConnection, UnknownConnection}
+use Rattle.server_core.proofs.EffectLemmas.{fired_of-append, fired_of_doing, fired_of_effects}
 
 -- ---- calls, and the numbers of sessions
 
@@ -111,11 +111,11 @@ forgotten_goes : (services : Services) (conn : ℕ) (outs : List Out) → Goes s
 forgotten_goes services conn outs =
     subst (λ (rows : List Fired). Goes services (forgotten services conn) rows) (sym (fired_of_doing outs)) (forgetting services conn)
 
-asked_goes : (conn : ℕ) (core : Core) (connections : Connections) (outs : List Out) (found : Asked) →
+asked_goes : (conn : ℕ) (core : Core) (connections : Connections) (outs : List Out) (found : FrameOutcome) →
     (let d = asked_for conn (record core { connections = connections }) outs found in Goes core.services d.state.services (fired_of d.outs))
-asked_goes conn core connections outs asked.Nothing = no_rows core.services (doing outs) (fired_of_doing outs)
-asked_goes conn core connections outs asked.Closed = forgotten_goes core.services conn outs
-asked_goes conn core connections outs (asked.Request request) =
+asked_goes conn core connections outs outcome.Nothing = no_rows core.services (doing outs) (fired_of_doing outs)
+asked_goes conn core connections outs outcome.Closed = forgotten_goes core.services conn outs
+asked_goes conn core connections outs (outcome.Request request) =
     let at : Core = record core { connections = connections } in
     answered_goes at outs core.services (serving_of core.setting request core.services) (serving_goes core.setting request core.services)
 
@@ -161,7 +161,7 @@ fed_goes_by world conn piece (Some framing) =
 
 fed_goes : (world : World) (conn : ℕ) (piece : List ℕ) → (let s = fed world conn piece in Goes world.core.services s.world.core.services (fired_of s.effects))
 unfolding fed
-fed_goes world conn piece = fed_goes_by world conn piece (get world.links conn)
+fed_goes world conn piece = fed_goes_by world conn piece (get world.framers conn)
 
 -- ---- any event
 
@@ -273,4 +273,4 @@ pub serves_by_frames : (core : Core) → ServesByFrames core
 unfolding handled
 serves_by_frames core conn frame request e =
     let t = taking_of core.setting conn core.connections frame in
-    ap (λ (a : Asked). (asked_for conn (record core { connections = t.connections }) t.outs a).state.services) e
+    ap (λ (a : FrameOutcome). (asked_for conn (record core { connections = t.connections }) t.outs a).state.services) e

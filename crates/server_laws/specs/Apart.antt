@@ -7,13 +7,13 @@ use Rattle.ua_messages.specs.Bodies.{message_id_of, message_of}
 use Rattle.ua_messages.specs.Headers.{request_header_reading}
 use Rattle.ua_messages.specs.declared.headers.RequestHeader.{RequestHeader}
 use Rattle.ua_messages.specs.declared.type_ids.TheConstants.{WRITE_REQUEST}
-use Rattle.service_messages.specs.Writing.{write_request_reading}
-use Rattle.service_messages.specs.declared.writing.WriteRequest.{WriteRequest}
-use Rattle.service_messages.specs.declared.writing.WriteValue.{WriteValue}
-use Rattle.read_write.specs.Writing.{write_of}
-use Rattle.read_write.specs.declared.writing.Change.{Change}
-use Rattle.ua_requests.specs.declared.request.Request.{Request}
-use Rattle.ua_requests.specs.declared.setting.Setting.{Setting}
+use Rattle.ua_service_messages.specs.Writing.{write_request_reading}
+use Rattle.ua_service_messages.specs.declared.writing.WriteRequest.{WriteRequest}
+use Rattle.ua_service_messages.specs.declared.writing.WriteValue.{WriteValue}
+use Rattle.ua_read_write.specs.Writing.{write_of}
+use Rattle.ua_read_write.specs.declared.writing.Change.{Change}
+use Rattle.server_messages.specs.declared.request.Request.{Request}
+use Rattle.server_messages.specs.declared.setting.Setting.{Setting}
 use Rattle.ua_session.specs.Sessions.{SessionsState, Named, named, find_of}
 use Rattle.ua_session.specs.declared.session.Session.{Session}
 use Rattle.subscription_laws.specs.Apartness.{OthersStay}

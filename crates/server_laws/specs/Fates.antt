@@ -3,19 +3,19 @@ use Rattle.std.specs.Prelude.{◌≡◌, ℕ, List, [], ◌∷◌, ◌++◌, tak
 use Rattle.ua_types.specs.Configuration.{Configuration}
 use Rattle.ua_space.specs.Nodes.{SpaceState}
 use Rattle.ua_values.specs.declared.data_value.DataValue.{DataValue}
-use Rattle.item_queue.specs.Fates.{Told, waiting}
-use Rattle.item_queue.specs.ItemQueue.{Deed}
-use Rattle.monitored_items.specs.Moves as item_moves
-use Rattle.monitored_items.specs.Moves.{queue_at}
+use Rattle.ua_item_queue.specs.Fates.{AccountEntry, waiting}
+use Rattle.ua_item_queue.specs.ItemQueue.{Deed}
+use Rattle.ua_monitored_items.specs.Moves as item_moves
+use Rattle.ua_monitored_items.specs.Moves.{queue_at}
 use Rattle.subscription_laws.specs.Fates.{deeds_at, account_at}
 use Rattle.subscription_laws.specs.ItemCalls.{item_calls}
 use Rattle.subscription_laws.specs.Runs.{Move}
 use Rattle.ua_services.specs.declared.services.Services.{Services}
-use Rattle.ua_core.specs.Coherent.{reached, IfRuns}
-use Rattle.ua_core.specs.Running.{Running}
+use Rattle.server_core.specs.Coherent.{reached, IfRuns}
+use Rattle.server_core.specs.Running.{Running}
 use Rattle.server_laws.specs.Tables.{rows_of_run, LeadTo}
-use Rattle.ua_core.specs.declared.world.World.{World}
-use Rattle.ua_core.specs.declared.event.Event.{Event}
+use Rattle.server_core.specs.declared.world.World.{World}
+use Rattle.server_core.specs.declared.event.Event.{Event}
 
 -- the server after the first n of some events
 abbrev pub reached_at : Configuration → SpaceState → List Event → ℕ → Running
@@ -43,9 +43,9 @@ first_item_calls config n calls = item_calls config (first_calls n calls)
 abbrev pub deeds_after : Configuration → List (List Move) → ℕ → ℕ → List (Deed DataValue)
 deeds_after config calls n number = deeds_at config (first_calls n calls) number
 
-abbrev pub account_of_first : Configuration → List (List Move) → ℕ → ℕ → List (Told DataValue)
+abbrev pub account_of_first : Configuration → List (List Move) → ℕ → ℕ → List (AccountEntry DataValue)
 account_of_first config calls n number = account_at config (first_calls n calls) number
 
 -- the values of an account that wait are what the queue of the server's item of a number holds
-abbrev pub HoldsWhatWaits : List (Told DataValue) → ℕ → World → Type 0
+abbrev pub HoldsWhatWaits : List (AccountEntry DataValue) → ℕ → World → Type 0
 HoldsWhatWaits account number world = let services : Services = world.core.services in waiting account ≡ queue_at number services.items.items

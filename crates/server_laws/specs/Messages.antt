@@ -3,21 +3,21 @@ use Rattle.std.specs.Prelude.{◌≡◌, ℕ, true, List, ◌++◌, Some, is_som
 use Rattle.std.specs.List.{AllByRecursion}
 use Rattle.ua_types.specs.Configuration.{Configuration}
 use Rattle.ua_types.specs.declared.moment.Moment.{Moment}
-use Rattle.ua_requests.specs.declared.fired.Fired.{Fired}
+use Rattle.server_messages.specs.declared.fired.Fired.{Fired}
 use Rattle.ua_space.specs.Nodes.{SpaceState}
-use Rattle.subscription.specs.Making.{republished}
-use Rattle.subscription.specs.Subs.{SubsState, world_of}
-use Rattle.subscription.specs.Tables.{TableState, part_at, subscription_at}
-use Rattle.subscription.specs.declared.subscription.Subscription.{Subscription}
+use Rattle.ua_subscriptions.specs.Making.{republished}
+use Rattle.ua_subscriptions.specs.SubscriptionCalls.{SubscriptionsState, world_of}
+use Rattle.ua_subscriptions.specs.Tables.{TableState, part_at, subscription_at}
+use Rattle.ua_subscriptions.specs.declared.subscription.Subscription.{Subscription}
 use Rattle.subscription_laws.specs.Messaging.{Made, run_made, messages_for, IsAmong, AreNotes}
 use Rattle.subscription_laws.specs.Numbering.{AreNumbered, last_number}
 use Rattle.subscription_laws.specs.Runs.{start}
 use Rattle.ua_services.specs.declared.services.Services.{Services}
-use Rattle.ua_core.specs.Coherent.{reached, IfRuns}
-use Rattle.ua_core.specs.Subscriptions.{kept_numbers_on, kept_on}
+use Rattle.server_core.specs.Coherent.{reached, IfRuns}
+use Rattle.server_core.specs.Subscriptions.{kept_numbers_on, kept_on}
 use Rattle.server_laws.specs.Tables.{rows_of_run, ComesByCalls}
-use Rattle.ua_core.specs.declared.world.World.{World}
-use Rattle.ua_core.specs.declared.event.Event.{Event}
+use Rattle.server_core.specs.declared.world.World.{World}
+use Rattle.server_core.specs.declared.event.Event.{Event}
 
 -- those of each subscription are numbered from 1 without a gap, after the last of 32 bits comes 1; also once it is no more
 abbrev pub AllAreNumbered : List Made → Type 0
@@ -51,8 +51,8 @@ pub record MadeThese (config : Configuration) (made : List Made) (rows : List Fi
   pub came : ComesByCalls config rows world
   pub by_calls : run_made (start config) came.moves ≡ made
   pub numbered : AllAreNumbered made
-  pub lasts : let subs : SubsState = world.core.services.subs in LastsAreTheirs made subs.table
-  pub notes : let subs : SubsState = world.core.services.subs in NotesComeNext made subs.table
+  pub lasts : let subs : SubscriptionsState = world.core.services.subs in LastsAreTheirs made subs.table
+  pub notes : let subs : SubscriptionsState = world.core.services.subs in NotesComeNext made subs.table
   pub kept : KeepsWhatWasMade made world
   pub republished : GivesAgainWhatWasMade made world
   pub shown : KeepsWhatItShows world

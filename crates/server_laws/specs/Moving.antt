@@ -1,10 +1,10 @@
 -- What the services do, told as calls of the subscriptions and their items.
 use Rattle.std.specs.Prelude.{◌≡◌, ⊤, ◌⊎◌, List, [], ◌∷◌, ◌++◌, fold}
-use Rattle.ua_requests.specs.declared.fired.Fired.{Fired}
-use Rattle.ua_requests.specs.declared.reply.Reply.{Reply}
-use Rattle.monitored_items.specs.Items.{ItemsState}
+use Rattle.server_messages.specs.declared.fired.Fired.{Fired}
+use Rattle.server_messages.specs.declared.reply.Reply.{Reply}
+use Rattle.ua_monitored_items.specs.Items.{ItemsState}
 use Rattle.subscription_laws.specs.Runs.{Move, Ran, moved}
-use Rattle.subscription.specs.Subs.{SubsState}
+use Rattle.ua_subscriptions.specs.SubscriptionCalls.{SubscriptionsState}
 use Rattle.ua_services.specs.declared.services.Services.{Services}
 use Rattle.ua_services.specs.Serving.{Serving, rows_of}
 
@@ -13,7 +13,7 @@ abbrev pub ran_at : Services → List Fired → List Reply → Ran
 ran_at state rows replies = record { subs = state.subs; items = state.items; rows = rows; replies = replies }
 
 -- calls that lead to these subscriptions and items; all rows are these then
-pub record Went (from : Ran) (subs : SubsState) (items : ItemsState) (rows : List Fired) : Type 0 where
+pub record Went (from : Ran) (subs : SubscriptionsState) (items : ItemsState) (rows : List Fired) : Type 0 where
   pub moves : List Move
   pub replied : List Reply
   pub left : fold moved from moves ≡ record { subs = subs; items = items; rows = rows; replies = replied }
@@ -29,7 +29,7 @@ StandIn (x ∷ xs) [] = ⊥
 StandIn (x ∷ xs) (y ∷ ys) = ((x ≡ y) × StandIn xs ys) ⊎ StandIn (x ∷ xs) ys
 
 -- calls that lead on to these subscriptions and items, and fire these rows; their answers to Publish requests stand among these replies
-pub record WentOn (from : Ran) (subs : SubsState) (items : ItemsState) (rows : List Fired) (given : List Reply) : Type 0 where
+pub record WentOn (from : Ran) (subs : SubscriptionsState) (items : ItemsState) (rows : List Fired) (given : List Reply) : Type 0 where
   pub moves : List Move
   pub answers : List Reply
   pub left : fold moved from moves ≡ record { subs = subs; items = items; rows = from.rows ++ rows; replies = from.replies ++ answers }

@@ -2,10 +2,10 @@
 use Rattle.std.specs.Prelude.{◌≡◌, ℕ, ◌++◌}
 use Rattle.ua_types.specs.declared.moment.Moment.{Moment}
 use Rattle.ua_tcp.specs.declared.frame.Frame.{Frame}
-use Rattle.ua_requests.specs.declared.request.Request.{Request}
-use Rattle.ua_connections.specs.Connecting.{taking_of}
-use Rattle.ua_connections.specs.Delivering.{delivery_of}
-use Rattle.ua_connections.specs.declared.asked.Asked.TheVariants as asked
+use Rattle.server_messages.specs.declared.request.Request.{Request}
+use Rattle.server_connections.specs.Connecting.{taking_of}
+use Rattle.server_connections.specs.Delivering.{delivery_of}
+use Rattle.server_connections.specs.declared.frame_outcome.FrameOutcome.TheVariants as outcome
 use Rattle.subscription_laws.specs.Answering.{AreBrought}
 use Rattle.subscription_laws.specs.Messaging.{run_made}
 use Rattle.subscription_laws.specs.Runs.{Ran}
@@ -13,10 +13,10 @@ use Rattle.server_laws.specs.Moving.{WentOn}
 use Rattle.ua_services.specs.Serving.{Serving, rows_of}
 use Rattle.ua_services.specs.Services.{serving_of, ticking_of}
 use Rattle.ua_services.specs.declared.services.Services.{Services}
-use Rattle.ua_core.specs.Effects.{effects_of, doing}
-use Rattle.ua_core.specs.Handling.{setting_at, handled, ticked_core}
-use Rattle.ua_core.specs.declared.world.World.{World}
-use Rattle.ua_core.specs.declared.parts.Core.{Core}
+use Rattle.server_core.specs.Effects.{effects_of, doing}
+use Rattle.server_core.specs.Handling.{setting_at, handled, ticked_core}
+use Rattle.server_core.specs.declared.world.World.{World}
+use Rattle.server_core.specs.declared.parts.Core.{Core}
 
 -- a serving goes on by calls, from where earlier ones led, and each message that these make is brought by a reply of its own
 pub record BringsItsMessages (from : Ran) (s : Serving) : Type 0 where
@@ -30,7 +30,7 @@ pub record BringsMessages (from : Ran) (world : World) : Type 0 where
 
 -- what is replied to a request that a frame completes, or at a tick, is what is sent then
 pub record SendsReplies (core : Core) : Type 0 where
-  pub frames : (conn : ℕ) (frame : Frame) (request : Request) → let t = taking_of core.setting conn core.connections frame in t.asked ≡ asked.Request request →
+  pub frames : (conn : ℕ) (frame : Frame) (request : Request) → let t = taking_of core.setting conn core.connections frame in t.asked ≡ outcome.Request request →
       let s = serving_of core.setting request core.services in
       (handled conn core frame).outs ≡ doing t.outs ++ effects_of s.acts (delivery_of core.setting t.connections s.replies)
   pub ticks : (clock : Moment) → let s = ticking_of (setting_at core clock) core.services in

@@ -1,14 +1,14 @@
 -- A request of one session, and what a server keeps of others.
 use Rattle.std.specs.Prelude.{◌≡◌, ℕ}
 use Rattle.ua_tcp.specs.declared.frame.Frame.{Frame}
-use Rattle.ua_requests.specs.declared.request.Request.{Request}
-use Rattle.ua_connections.specs.Connecting.{taking_of}
-use Rattle.ua_connections.specs.declared.asked.Asked.TheVariants as asked
+use Rattle.server_messages.specs.declared.request.Request.{Request}
+use Rattle.server_connections.specs.Connecting.{taking_of}
+use Rattle.server_connections.specs.declared.frame_outcome.FrameOutcome.TheVariants as outcome
 use Rattle.server_laws.specs.Apart.{KeepsApart}
 use Rattle.ua_services.specs.Services.{serving_of}
-use Rattle.ua_core.specs.Handling.{handled}
-use Rattle.ua_core.specs.declared.world.World.{World}
-use Rattle.ua_core.specs.declared.parts.Core.{Core}
+use Rattle.server_core.specs.Handling.{handled}
+use Rattle.server_core.specs.declared.world.World.{World}
+use Rattle.server_core.specs.declared.parts.Core.{Core}
 
 -- whatever request comes next, it leaves what is of other sessions
 abbrev pub KeepsSessionsApart : World → Type 0
@@ -16,5 +16,5 @@ KeepsSessionsApart world = let core : Core = world.core in (request : Request) �
 
 -- a frame that completes a request leaves the services that serving it leaves
 abbrev pub ServesByFrames : Core → Type 0
-ServesByFrames core = (conn : ℕ) (frame : Frame) (request : Request) → (taking_of core.setting conn core.connections frame).asked ≡ asked.Request request →
+ServesByFrames core = (conn : ℕ) (frame : Frame) (request : Request) → (taking_of core.setting conn core.connections frame).asked ≡ outcome.Request request →
     (handled conn core frame).state.services ≡ (serving_of core.setting request core.services).state

@@ -1,19 +1,19 @@
 -- What holds of the subscriptions of a server, after any events.
 use Rattle.std.specs.Prelude.{◌≡◌, ◌<◌, ◌+◌, ℕ, true, List, [], Option, Some}
 use Rattle.ua_types.specs.Configuration.{Configuration}
-use Rattle.ua_requests.specs.declared.fired.Fired.{Fired}
+use Rattle.server_messages.specs.declared.fired.Fired.{Fired}
 use Rattle.subscription_laws.specs.Calm.{AreSteady}
 use Rattle.subscription_laws.specs.Histories.{counts_at, life_at}
-use Rattle.subscription.specs.Ranks.{is_waiting}
+use Rattle.ua_subscriptions.specs.Ranks.{is_waiting}
 use Rattle.subscription_laws.specs.Runs.{Move, run}
-use Rattle.subscription.specs.Subs.{SubsState}
-use Rattle.subscription.specs.Tables.{TableState, part_at, subscription_at}
-use Rattle.subscription.specs.declared.subscription.Subscription.{Subscription}
+use Rattle.ua_subscriptions.specs.SubscriptionCalls.{SubscriptionsState}
+use Rattle.ua_subscriptions.specs.Tables.{TableState, part_at, subscription_at}
+use Rattle.ua_subscriptions.specs.declared.subscription.Subscription.{Subscription}
 use Rattle.ua_services.specs.declared.services.Services.{Services}
-use Rattle.ua_core.specs.Coherent.{IfRuns}
-use Rattle.ua_core.specs.Effects.{fired_of}
-use Rattle.ua_core.specs.Running.{Running, joined_effects}
-use Rattle.ua_core.specs.declared.world.World.{World}
+use Rattle.server_core.specs.Coherent.{IfRuns}
+use Rattle.server_core.specs.Effects.{fired_of}
+use Rattle.server_core.specs.Running.{Running, joined_effects}
+use Rattle.server_core.specs.declared.world.World.{World}
 
 -- the rows of all events, the oldest first
 abbrev pub rows_of_run : Running → List Fired
@@ -21,7 +21,7 @@ rows_of_run r = fired_of (joined_effects r.steps)
 
 -- of the subscriptions of a server, if it isn't halted
 abbrev pub IfShown : (TableState → Type 0) → Option World → Type 0
-IfShown P server = IfRuns (λ (world : World). let subs : SubsState = world.core.services.subs in P subs.table) server
+IfShown P server = IfRuns (λ (world : World). let subs : SubscriptionsState = world.core.services.subs in P subs.table) server
 
 -- calls that lead from none to the subscriptions and items of a server, and fire these rows
 pub record LeadTo (config : Configuration) (moves : List Move) (rows : List Fired) (world : World) : Type 0 where

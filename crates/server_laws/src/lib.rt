@@ -1,6 +1,6 @@
 //! Laws of the server: what holds of its sessions and subscriptions after every list of events.
 //!
-//! The laws have no code: their contracts state them, over the definitions of the crate [`ua_core`] and those below it.
+//! The laws have no code: their contracts state them, over the definitions of the crate [`server_core`] and those below it.
 //! By `Moving` each service comes by calls of subscriptions and items ([`services_go_on_by_calls`]), and `Apart` says what a
 //! request leaves of other sessions; `Tables`, `Messages`, `Replying`, `Fates` and `SessionsApart` have what is said of the runs
 //! of a server. What follows of calls alone, the crate `subscription_laws` says.
@@ -10,11 +10,11 @@
 
 ghost use Rattle.std.specs.Prelude.{◌≡◌, ◌+◌, ℕ, List, []};
 ghost use Rattle.ua_types.specs.Configuration.{Configuration};
-ghost use Rattle.ua_requests.specs.declared.request.Request.{Request};
-ghost use Rattle.ua_requests.specs.declared.setting.Setting.{Setting};
+ghost use Rattle.server_messages.specs.declared.request.Request.{Request};
+ghost use Rattle.server_messages.specs.declared.setting.Setting.{Setting};
 ghost use Rattle.ua_space.specs.Nodes.{SpaceState};
-ghost use Rattle.item_queue.specs.Fates.{GoesOn, IsInOrder, TellsLosses};
-ghost use Rattle.item_queue.specs.Sendings.{values_of, sampled_by, sent_of};
+ghost use Rattle.ua_item_queue.specs.Fates.{GoesOn, IsInOrder, TellsLosses};
+ghost use Rattle.ua_item_queue.specs.Sendings.{values_of, sampled_by, sent_of};
 ghost use Rattle.subscription_laws.specs.Answering.{AreBrought};
 ghost use Rattle.subscription_laws.specs.Fates.{AreCaused, HaveTheirCauses, TellsEachLoss};
 ghost use Rattle.subscription_laws.specs.Histories.{AreLawful};
@@ -23,15 +23,15 @@ ghost use Rattle.subscription_laws.specs.Runs.{start, run};
 ghost use Rattle.subscription_laws.specs.Tellings.{all_taken, AreTold, entries_told};
 ghost use Rattle.ua_services.specs.Services.{serving_of, ticking_of, forgotten};
 ghost use Rattle.ua_services.specs.declared.services.Services.{Services};
-ghost use Rattle.ua_core.specs.Coherent.{reached, IfRuns};
-ghost use Rattle.ua_core.specs.declared.event.Event.{Event};
+ghost use Rattle.server_core.specs.Coherent.{reached, IfRuns};
+ghost use Rattle.server_core.specs.declared.event.Event.{Event};
 ghost use Rattle.server_laws.specs.Messages.{MakesMessages};
 ghost use Rattle.server_laws.specs.Moving.{ComesOn, ComesOnBy};
 ghost use Rattle.server_laws.specs.Replying.{BringsMessages, SendsReplies};
 ghost use Rattle.server_laws.specs.SessionsApart.{KeepsSessionsApart, ServesByFrames};
 ghost use Rattle.server_laws.specs.Fates.{CallsOf, reached_at, first_calls, first_item_calls, deeds_after, account_of_first, HoldsWhatWaits};
 ghost use Rattle.server_laws.specs.Tables.{rows_of_run, IfShown, ComesByCalls, StaysSteady, NoneWaitsBesideARequest, LivesCountTimers, NoKeepAliveIsSkipped};
-ghost use Rattle.ua_core.specs.declared.parts.Core.{Core};
+ghost use Rattle.server_core.specs.declared.parts.Core.{Core};
 
 /// Each request, served or refused, each tick, and each connection that is gone comes to some calls of the
 /// subscriptions and their items: they lead from those before to those after, fire its rows behind all that
@@ -92,8 +92,8 @@ pub fn no_keep_alive_is_skipped()
 ///
 /// - The messages of a subscription are numbered from 1 without a gap, after the last of 32 bits comes 1,
 ///   also once it is no more. A live one has the number of its last message.
-/// - What [`Server::kept`](ua_core::Server::kept) gives is, byte for byte, a message that was made under that
-///   number, and under each number that [`Server::kept_numbers`](ua_core::Server::kept_numbers) shows there is
+/// - What [`Server::kept`](server_core::Server::kept) gives is, byte for byte, a message that was made under that
+///   number, and under each number that [`Server::kept_numbers`](server_core::Server::kept_numbers) shows there is
 ///   one. So is what Republish gives.
 /// - The note of a time-out has the number that its subscription's next message would have had.
 pub fn all_messages_are_numbered()
@@ -176,7 +176,7 @@ pub fn sent_values_stand_in_messages()
 /// It goes out when it is made: the next request, served or refused, and the next tick come to calls whose
 /// answers are among the replies, and each message that these calls make is in one of its own. What is
 /// replied is what is sent, each reply on the connection that its request came by, which has a channel
-/// ([`loses_no_reply`](ua_core::laws::loses_no_reply)); a reply that is too large for its client is a fault there.
+/// ([`loses_no_reply`](server_core::laws::loses_no_reply)); a reply that is too large for its client is a fault there.
 pub fn messages_are_answers()
     ensures answers { (config : Configuration) (space : SpaceState) (events : List Event) (c : CallsOf config space events) (n : ℕ) →
         AreBrought (run config (first_calls n c.calls)).replies (run_made (start config) (first_calls n c.calls)) }

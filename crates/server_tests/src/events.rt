@@ -1,10 +1,10 @@
 //! Events that no scenario brings: its connections are opened once, and before they are gone.
 
 use crate::holding::holds;
+use server_core::{Event, Server, StepFault};
 use std::alloc::Global;
 use std::process::Abort;
 use std::test::*;
-use ua_core::{Event, Server, StepFault};
 use ua_space::Space;
 use ua_types::{Config, Moment};
 

@@ -2,12 +2,12 @@
 
 use crate::events::base_server;
 use crate::holding::holds;
-use scenario_asm::assemble;
+use scenario_events::assemble;
+use server_core::{Out, Ran, Server, Step};
 use std::alloc::Global;
 use std::process::Abort;
 use std::test::*;
-use sub_table::State;
-use ua_core::{Out, Ran, Server, Step};
+use ua_state_table::State;
 
 // A subscription of one value a message with three items, whose names are their first values: two requests are answered at
 // the timer and a third one, which acknowledges the first message, at once. The second message is published again.

@@ -10,7 +10,7 @@ use std::rt::Files;
 use std::sync::Wait;
 use std::test::*;
 use std::time::Clock;
-use ua_tcp::Tap;
+use stream_taps::Tap;
 
 // Whether these words are done, and answer this input so.
 fn answers<R: Files + AllocGlobal + Net + RandomSource + Clock + Wait>(

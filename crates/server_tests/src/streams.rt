@@ -3,13 +3,13 @@
 use crate::bytes_due::{ACKNOWLEDGE, HELLO};
 use crate::events::{base_server, opened};
 use crate::holding::holds;
-use pump::{Pump, PumpFault};
+use server_core::Server;
 use std::alloc::Global;
 use std::io;
 use std::io::{ErrorKind, Read, Write};
 use std::test::*;
-use ua_core::Server;
-use ua_tcp::Tap;
+use stream_server::{Pump, PumpFault};
+use stream_taps::Tap;
 
 // Gives its bytes a few at a time, and fails at one call, the first being 1.
 #[derive(Drop)]

@@ -13,8 +13,9 @@ fn serves(alloc: Global, words: &[&str], port: u16, turns: u64) -> bool {
                 nodes,
                 port: found,
                 turns: counted,
+                address,
             },
-        ) => nodes == "line.toml" && found == port && counted == turns,
+        ) => { nodes == "line.toml" && found == port && counted == turns && address.is_loopback() }
         _ => false,
     }
 }

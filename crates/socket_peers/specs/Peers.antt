@@ -3,8 +3,8 @@ use Rattle.std.specs.Prelude.{◌≡◌, ⊤, ℕ, ◌+◌, Bool, true, false, L
 use Rattle.std.specs.Coded.{Coded, code_by, coded×, coded_ℕ}
 use Rattle.std.specs.FinMap.{FinMap, get, insert, remove, empty, code}
 use Rattle.std.specs.Ordering.{nat_cmp}
-use Rattle.ua_connections.specs.declared.out.Out.{Out}
-use Rattle.ua_connections.specs.declared.out.Out.TheVariants.{Send, Close}
+use Rattle.server_messages.specs.declared.out.Out.{Out}
+use Rattle.server_messages.specs.declared.out.Out.TheVariants.{Send, Close}
 use Rattle.socket_peers.specs.declared.peer.Heard.{Heard}
 use Rattle.socket_peers.specs.declared.peer.Heard.TheVariants.{Nothing}
 use Rattle.socket_peers.specs.Peer.{PeerState, peer_code, owing, closing, fresh, is_over, Reads, Writes}

@@ -2,7 +2,7 @@
 
 ghost use Rattle.std.specs.Prelude.{◌≡◌, ◌<◌, ℕ, [], take, OnOk, OnErr, length};
 ghost use Rattle.bytes.specs.Unread.{IsChunkOf, concat_slices};
-ghost use Rattle.socket_peers.specs.Peer.{fresh, owing, closing, is_over as is_over_lem, listens as listens_lem, Reads, Writes};
+ghost use Rattle.socket_peers.specs.Peer.{fresh, owing, closing, is_over as is_over_spec, listens as listens_spec, Reads, Writes};
 
 use crate::socket::Socket;
 use bytes::{Buf, Bytes, BytesQueue};
@@ -125,14 +125,14 @@ impl<S> Peer<S> {
 
     /// Whether the socket can be let go of.
     pub fn is_over(&self) -> bool
-        ensures { result ≡ is_over_lem self.now }
+        ensures { result ≡ is_over_spec self.now }
     {
         self.has_failed || self.is_closing && self.owed.is_empty()
     }
 
     /// Whether there is something to read from it now: it isn't closing, and isn't owed too much.
     pub fn listens(&self) -> bool
-        ensures { result ≡ listens_lem self.now }
+        ensures { result ≡ listens_spec self.now }
     {
         !self.is_closing && !self.has_failed && self.owed.len() <= MOST_OWED
     }

@@ -6,10 +6,11 @@ ghost use Rattle.socket_peers.specs.Peers.{nobody, with_joined, owed_out, owed_a
 
 use crate::peer::{Heard, Peer};
 use crate::socket::Socket;
+use server_messages::Out;
 use std::alloc::{AllocError, Global};
 use std::marker::Model;
 use std::mem;
-use ua_connections::{Numbered, Out};
+use ua_types::Numbered;
 
 /// The sockets that are connected, under the numbers of their connections, and which of them are to be
 /// looked at.
@@ -129,7 +130,7 @@ impl<S: Drop> Peers<S> {
 
     /// Lets go of a socket that is over, and of what it is owed. Says whether it did.
     #[tactic(auto, using(crate::proofs::MapLemmas::put_back))]
-    pub fn let_go(&mut self, number: u64) -> Result<bool, AllocError>
+    pub fn release(&mut self, number: u64) -> Result<bool, AllocError>
         ensures { IfOk result (LetsGo number self.old self.new) }
     {
         let Some(peer) = self.connected.remove(number) else {

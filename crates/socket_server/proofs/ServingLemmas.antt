@@ -2,8 +2,8 @@
 use Rattle.std.proofs.Common.{◌≡◌, ℕ, ◌+◌, Bool, true, false, List, [], ◌∷◌, ◌++◌, Option, Some, None, Result, Ok, Err, MatchResult, refl, sym, ap, ◌∙◌, subst, inl, inr, arith}
 use Rattle.std.proofs.lemmas.Bool.{true≢false}
 use Rattle.ua_types.specs.declared.moment.Moment.{Moment}
-use Rattle.ua_core.specs.declared.event.Event.{Event}
-use Rattle.ua_core.specs.declared.event.Event.TheVariants.{Opened, Bytes, Gone, Tick}
+use Rattle.server_core.specs.declared.event.Event.{Event}
+use Rattle.server_core.specs.declared.event.Event.TheVariants.{Opened, Bytes, Gone, Tick}
 use Rattle.socket_peers.specs.declared.peer.Heard.{Heard}
 use Rattle.socket_peers.specs.declared.peer.Heard.TheVariants as heard
 use Rattle.socket_peers.specs.Peer.{PeerState}
@@ -11,9 +11,9 @@ use Rattle.mio.specs.declared.net.stream.TcpStream.{TcpStream}
 use Rattle.socket_peers.specs.Peers.{PeersState, nobody, at, with_joined, without, is_over_at, ReadsBy, ReadsAt, WritesAt}
 use Rattle.socket_peers.proofs.MapLemmas.{one_written}
 use Rattle.socket_server.specs.declared.serve_fault.ServeFault.{ServeFault}
-use Rattle.socket_server.specs.Serving.{State, Scene, scene, Act, Connects, Hears, Waits, Writes, Leaves, Passes, is_piece, Does, Runs, ticks, Fails, IsOutside, HandsIn, Goes, Stops, Serves, unknown, started, IsServed, IsStopped}
+use Rattle.socket_server.specs.Serving.{State, Scene, scene, Happening, Connects, Hears, Waits, Writes, Leaves, Passes, is_piece, Does, Runs, ticks, Fails, IsOutside, HandsIn, Goes, Stops, Serves, unknown, started, IsServed, IsStopped}
 
-ticks_append : (xs ys : List Act) → ticks (xs ++ ys) ≡ ticks xs + ticks ys
+ticks_append : (xs ys : List Happening) → ticks (xs ++ ys) ≡ ticks xs + ticks ys
 ticks_append [] ys = omega arith
 ticks_append (Passes now ∷ xs) ys = let e = ticks_append xs ys in omega arith
 ticks_append (Connects key ∷ xs) ys = ticks_append xs ys
@@ -23,7 +23,7 @@ ticks_append (Writes ∷ xs) ys = ticks_append xs ys
 ticks_append (Leaves conn ∷ xs) ys = ticks_append xs ys
 
 module _ {S : Type 0} (remaining contents : S → Option (List ℕ)) where
-  runs_trans : (xs ys : List Act) (a b c : Scene S) → Runs remaining contents xs a b → Runs remaining contents ys b c → Runs remaining contents (xs ++ ys) a c
+  runs_trans : (xs ys : List Happening) (a b c : Scene S) → Runs remaining contents xs a b → Runs remaining contents ys b c → Runs remaining contents (xs ++ ys) a c
   runs_trans [] ys a b c p q = subst (λ s. Runs remaining contents ys s c) p q
   runs_trans (x ∷ xs) ys a b c (mid, d, p) q = (mid, d, runs_trans xs ys mid b c p q)
 
@@ -51,7 +51,7 @@ module _ {S : Type 0} (remaining contents : S → Option (List ℕ)) where
 
   -- ---- one act, and the writes behind it
 
-  acted : (act : Act) (a b c : Scene S) → ticks (act ∷ []) ≡ 0 → Does remaining contents act a b → Does remaining contents Writes b c → Goes remaining contents 0 a c
+  acted : (act : Happening) (a b c : Scene S) → ticks (act ∷ []) ≡ 0 → Does remaining contents act a b → Does remaining contents Writes b c → Goes remaining contents 0 a c
   acted act a b c quiet d w = (act ∷ Writes ∷ [], ticks_append (act ∷ []) (Writes ∷ []) ∙ ap (λ n. n + 0) quiet, (b, d, (c, w, refl)))
 
   pub connects : (key : List ℕ) (stream : S) (a c : Scene S) → HandsIn remaining contents (Opened (a.peers.last + 1) key) (record a { peers = with_joined a.peers stream }) c

@@ -3,11 +3,11 @@ use Rattle.std.specs.Prelude.{◌≡◌, ◌⊎◌, ⊤, ℕ, ◌+◌, Bool, tru
 use Rattle.mio.specs.declared.net.stream.TcpStream.{TcpStream}
 use Rattle.rand_core.specs.Stream.{Stream, fill_bytes}
 use Rattle.ua_types.specs.declared.moment.Moment.{Moment}
-use Rattle.ua_core.specs.declared.world.World.{World}
-use Rattle.ua_core.specs.Stepping.{step_on, StepsTo}
-use Rattle.ua_core.specs.declared.event.Event.{Event}
-use Rattle.ua_core.specs.declared.event.Event.TheVariants.{Opened, Bytes, Gone, Tick}
-use Rattle.ua_core.specs.declared.out.Step.{Step}
+use Rattle.server_core.specs.declared.world.World.{World}
+use Rattle.server_core.specs.Stepping.{step_on, StepsTo}
+use Rattle.server_core.specs.declared.event.Event.{Event}
+use Rattle.server_core.specs.declared.event.Event.TheVariants.{Opened, Bytes, Gone, Tick}
+use Rattle.server_core.specs.declared.out.Step.{Step}
 use Rattle.socket_peers.specs.declared.peer.Heard.{Heard}
 use Rattle.socket_peers.specs.declared.peer.Heard.TheVariants as heard
 use Rattle.socket_peers.specs.Peers.{PeersState, nobody, with_joined, without, is_over_at, owed_all, ReadsAt, WritesAll}
@@ -29,13 +29,13 @@ is_piece other = false
 
 -- One thing that happens: a socket connects and gets this key; a piece comes from a socket; a read from one gives nothing; sockets
 -- take some of what they are owed; one that is over is let go of; time passes
-pub data Act : Type 0 where
-  Connects : List ℕ → Act
-  Hears : ℕ → List ℕ → Act
-  Waits : ℕ → Act
-  Writes : Act
-  Leaves : ℕ → Act
-  Passes : Moment → Act
+pub data Happening : Type 0 where
+  Connects : List ℕ → Happening
+  Hears : ℕ → List ℕ → Happening
+  Waits : ℕ → Happening
+  Writes : Happening
+  Leaves : ℕ → Happening
+  Passes : Moment → Happening
 
 module _ {S : Type 0} where
   abbrev pub scene : State → PeersState S → Scene S
@@ -49,7 +49,7 @@ module _ {S : Type 0} where
 module _ {S : Type 0} (remaining contents : S → Option (List ℕ)) where
   -- What an act does. What comes from a socket is handed in as it came, in pieces of at most 4096 bytes; a socket that connects has
   -- the next number; one is let go of only where it is over, and then the connection is gone
-  abbrev pub Does : Act → Scene S → Scene S → Type 0
+  abbrev pub Does : Happening → Scene S → Scene S → Type 0
   Does (Connects key) old new = (stream : S) × Takes (Opened (old.peers.last + 1) key) (record old { peers = with_joined old.peers stream }) new
   Does (Hears conn piece) old new =
       (peers : PeersState S) × ReadsAt remaining contents conn old.peers peers 4096 piece heard.Piece × Takes (Bytes conn piece) (record old { peers = peers }) new
@@ -60,12 +60,12 @@ module _ {S : Type 0} (remaining contents : S → Option (List ℕ)) where
   Does (Passes now) old new = Takes (Tick now) old new
 
   -- one act after the other
-  abbrev pub Runs : List Act → Scene S → Scene S → Type 0
+  abbrev pub Runs : List Happening → Scene S → Scene S → Type 0
   Runs [] old new = new ≡ old
   Runs (act ∷ acts) old new = (mid : Scene S) × Does act old mid × Runs acts mid new
 
 -- how often time passes
-abbrev pub ticks : List Act → ℕ
+abbrev pub ticks : List Happening → ℕ
 ticks [] = 0
 ticks (Passes now ∷ acts) = ticks acts + 1
 ticks (act ∷ acts) = ticks acts
@@ -78,8 +78,8 @@ IsOutside fault = ⊤
 -- why an event was not handed in whole: the server didn't answer it, or its answer may be lost for want of memory
 abbrev pub Fails : Event → State → State → ServeFault → Type 0
 Fails event old new (serve_fault.Step fault) = StepsTo (Err fault) old new (step_on old event)
-Fails event old new serve_fault.Network = ⊥
 Fails event old new serve_fault.Memory = (new ≡ old) ⊎ ((x : Step) × StepsTo (Ok x) old new (step_on old event))
+Fails event old new fault = ⊥
 
 module _ {S : Type 0} (remaining contents : S → Option (List ℕ)) where
   -- the server takes this event, and the sockets take some of what they are owed then
@@ -88,7 +88,7 @@ module _ {S : Type 0} (remaining contents : S → Option (List ℕ)) where
 
   -- some acts, and time passed so often
   abbrev pub Goes : ℕ → Scene S → Scene S → Type 0
-  Goes turns old new = (acts : List Act) × (ticks acts ≡ turns) × Runs remaining contents acts old new
+  Goes turns old new = (acts : List Happening) × (ticks acts ≡ turns) × Runs remaining contents acts old new
 
   -- Some acts, and then the server is as they left it, or it stopped at an event. The network fails between events alone
   abbrev pub Stops : Scene S → State → ServeFault → Type 0

@@ -2,15 +2,15 @@
 //! sends is owed to the sockets.
 
 ghost use Rattle.std.specs.Prelude.{◌≡◌, ◌+◌, true, MatchResult};
-ghost use Rattle.ua_core.specs.declared.event.Event.TheVariants as happening;
-ghost use Rattle.ua_core.specs.World.{world_of};
+ghost use Rattle.server_core.specs.declared.event.Event.TheVariants as happening;
+ghost use Rattle.server_core.specs.World.{world_of};
 ghost use Rattle.socket_server.specs.Serving.{scene, HandsIn, Fails, Serves};
 
 use crate::serve_fault::ServeFault;
 use bytes::Bytes;
+use server_core::{Event, Server};
 use socket_peers::{Heard, Peers, Socket};
 use std::alloc::Global;
-use ua_core::{Event, Server};
 
 // The most bytes of a piece.
 const PIECE: usize = 4096;
@@ -108,7 +108,7 @@ fn hear<S: Socket + Drop>(
 }
 
 // Lets go of a socket that is over, and tells the server that its connection is no more.
-fn let_go<S: Socket + Drop>(
+fn release<S: Socket + Drop>(
     alloc: Global,
     peers: &mut Peers<S>,
     server: &mut Server,
@@ -116,7 +116,7 @@ fn let_go<S: Socket + Drop>(
 ) -> Result<(), ServeFault>
     ensures { Serves S.remaining S.contents 0 (scene (world_of server.old) peers.old) (scene (world_of server.new) peers.new) result }
 {
-    match peers.let_go(number) {
+    match peers.release(number) {
         Err(_) => Err(ServeFault::Memory),
         Ok(false) => Ok(()),
         Ok(true) => {
@@ -128,7 +128,7 @@ fn let_go<S: Socket + Drop>(
 
 // Hands in what a socket has sent, at most two pieces. One that may have more is to be looked at again,
 // behind all others.
-fn hear_some<S: Socket + Drop>(
+fn read_pieces<S: Socket + Drop>(
     alloc: Global,
     peers: &mut Peers<S>,
     server: &mut Server,
@@ -163,8 +163,8 @@ fn attend<S: Socket + Drop>(
         Ok(()) => {}
         Err(_) => return Err(ServeFault::Memory),
     }
-    match hear_some(alloc, peers, server, number) {
-        Ok(()) => let_go(alloc, peers, server, number),
+    match read_pieces(alloc, peers, server, number) {
+        Ok(()) => release(alloc, peers, server, number),
         Err(fault) => Err(fault),
     }
 }
@@ -189,7 +189,7 @@ pub(crate) fn attend_all<S: Socket + Drop>(
 
 /// Takes in a socket that has connected, and looks at it at once: it may have sent its first frame, or be
 /// gone again.
-pub(crate) fn welcome<S: Socket + Drop>(
+pub(crate) fn join_socket<S: Socket + Drop>(
     alloc: Global,
     peers: &mut Peers<S>,
     server: &mut Server,

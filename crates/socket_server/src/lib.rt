@@ -1,7 +1,7 @@
 //! The server over sockets: one loop, one thread, and no call that waits but that of the loop itself.
 //!
-//! [`Serve::bind`] listens, and [`Serve::run`] takes turns: it waits until a socket is ready or 100 ms are
-//! over, takes in who connects, hands each piece that is read to the [`ua_core::Server`] as an event,
+//! [`Serve::listen`] listens, and [`Serve::run`] takes turns: it waits until a socket is ready or 100 ms are
+//! over, takes in who connects, hands each piece that is read to the [`server_core::Server`] as an event,
 //! puts what the server sends into the queues of the sockets, and writes what they take.
 //!
 //! Only `src/serve.rt` knows of `mio`. What a turn is made of stands in `src/events.rt`, over any stream

@@ -3,26 +3,26 @@
 ghost use Rattle.std.specs.Prelude.{◌≡◌, ◌+◌, OnOk, IfOk, IfErr};
 ghost use Rattle.std.specs.FinMap as map;
 ghost use Rattle.socket_peers.specs.Peers.{nobody};
-ghost use Rattle.ua_core.specs.World.{world_of};
+ghost use Rattle.server_core.specs.World.{world_of};
 ghost use Rattle.socket_server.specs.Serving.{scene, unknown, IsOutside, Serves, Drawn};
 
-use crate::events::{attend_all, hand_in, welcome};
+use crate::events::{attend_all, hand_in, join_socket};
 use crate::serve_fault::ServeFault;
 use mio::net::{TcpListener, TcpStream};
 use mio::{Events, Interest, Poll, Token};
 use rand::make_rng;
 use rand::rngs::StdRng;
 use rand_core::Rng;
+use server_core::{Event, Server};
 use socket_peers::Peers;
 use std::alloc::{AllocError, Global};
 use std::io;
 use std::io::ErrorKind;
 use std::marker::Model;
-use std::net::{Ipv4Addr, Net, SocketAddr};
+use std::net::{IpAddr, Ipv4Addr, Net, SocketAddr};
 use std::random::RandomSource;
 use std::sync::Wait;
 use std::time::{Clock, Duration, SystemTime};
-use ua_core::{Event, Server};
 use ua_types::Moment;
 
 // The listening socket. Connections have the numbers from 1 on.
@@ -40,7 +40,7 @@ const ACCEPTS: usize = 256;
 // The 100 ns units from 1601, where moments begin, to 1970, where the system's clock does.
 const FROM_1601_TO_1970: u128 = 116_444_736_000_000_000;
 
-/// A listening socket on 127.0.0.1, and the sockets of the connections that it took in.
+/// A listening socket, and the sockets of the connections that it took in.
 #[derive(Drop)]
 pub struct Serve {
     poll: Poll,
@@ -81,6 +81,17 @@ fn report_all(peers: &mut Peers<TcpStream>, events: &Events) -> Result<bool, All
     Ok(connected)
 }
 
+// Why it can't be listened.
+fn not_had(kind: ErrorKind) -> ServeFault
+    ensures { IsOutside result }
+{
+    match kind {
+        ErrorKind::AddrInUse | ErrorKind::PermissionDenied => ServeFault::Port,
+        ErrorKind::AddrNotAvailable => ServeFault::Address,
+        _ => ServeFault::Network,
+    }
+}
+
 // The key of a new connection: the next bytes of a generator that the system seeded.
 fn fresh_key<K: Rng>(keys: &mut K) -> [u8; 32]
     ensures { Drawn K.stream keys.old keys.new result }
@@ -103,8 +114,7 @@ fn moment<R: Clock>(rt: &R) -> io::Result<Moment> {
 }
 
 impl Serve {
-    /// Listens at this port of 127.0.0.1, where port 0 is one that the system chooses. `Network` where the
-    /// port can't be had.
+    /// Listens at this port of 127.0.0.1, as [`Serve::listen`] does.
     pub fn bind<R: Net + RandomSource>(
         rt: &R,
         alloc: Global,
@@ -113,9 +123,23 @@ impl Serve {
         ensures ok { IfOk result (λ serve. serve ≡ nobody) }
         ensures err { IfErr result IsOutside }
     {
-        let address = SocketAddr::from((Ipv4Addr::LOCALHOST, port));
-        let Ok(mut listener) = TcpListener::bind(rt, address) else {
-            return Err(ServeFault::Network);
+        Serve::listen(rt, alloc, IpAddr::V4(Ipv4Addr::LOCALHOST), port)
+    }
+
+    /// Listens at this port of this address, where port 0 is one that the system chooses, and the
+    /// addresses 0.0.0.0 and :: are all that the machine has. `Port` or `Address` where that can't be had.
+    pub fn listen<R: Net + RandomSource>(
+        rt: &R,
+        alloc: Global,
+        address: IpAddr,
+        port: u16,
+    ) -> Result<Serve, ServeFault>
+        ensures ok { IfOk result (λ serve. serve ≡ nobody) }
+        ensures err { IfErr result IsOutside }
+    {
+        let mut listener = match TcpListener::bind(rt, SocketAddr::from((address, port))) {
+            Ok(listener) => listener,
+            Err(error) => return Err(not_had(error.kind())),
         };
         let Ok(poll) = Poll::new(rt) else {
             return Err(ServeFault::Network);
@@ -323,6 +347,6 @@ impl Serve {
             return Ok(());
         }
         let key = fresh_key(&mut self.keys);
-        welcome(alloc, &mut self.peers, server, number, stream, key)
+        join_socket(alloc, &mut self.peers, server, number, stream, key)
     }
 }

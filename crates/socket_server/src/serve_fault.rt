@@ -3,14 +3,20 @@
 ghost use Rattle.std.specs.Prelude.{◌≡◌};
 ghost use Rattle.socket_server.specs.declared.serve_fault.ServeFault.TheVariants as serve_fault;
 
+use server_core::StepFault;
 use std::alloc::{AllocError, AllocFailed};
 use thiserror::Error;
-use ua_core::StepFault;
 
 /// Why serving ended. No socket that fails ends it, and no client.
 #[derive(Clone, Copy, Debug, PartialEq, Eq, Error)]
 pub enum ServeFault {
-    /// The port can't be had, or the system refused the wait, the clock or random bytes.
+    /// The port can't be had: another program has it, or only an administrator may.
+    #[error("the port can't be had")]
+    Port,
+    /// The address is none of this machine's.
+    #[error("the address can't be had")]
+    Address,
+    /// The system refused to listen for another reason, or the wait, the clock or random bytes.
     #[error("the network")]
     Network,
     /// The server didn't answer an event.

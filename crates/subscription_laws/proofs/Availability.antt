@@ -9,20 +9,20 @@ use Rattle.std.specs.Prelude.{◌==◌, fold, nat_lt}
 use Rattle.ua_types.proofs.NumberMaps.{same_number}
 use Rattle.ua_types.specs.Configuration.{Configuration}
 use Rattle.ua_values.specs.declared.data_value.DataValue.{DataValue}
-use Rattle.read_write.specs.declared.writing.Change.{Change}
-use Rattle.item_queue.specs.ItemQueue.{acted, queue_after, marked_front}
-use Rattle.item_queue.specs.ItemQueue.Act.{Queued, FrontDropped, NewestReplaced, OnlyReplaced}
-use Rattle.item_queue.specs.ItemQueue.Deed.{Sample}
-use Rattle.item_queue.specs.declared.entry.Entry.{Entry}
-use Rattle.monitored_items.specs.Item.{is_reporting, takes, queued, seen}
-use Rattle.monitored_items.specs.ItemTables.{Numbered, item_at, is_of, numbers_of, with_found, AreAbove, AreRising}
-use Rattle.monitored_items.specs.Items.{ItemsState, no_items, is_available, any_waits, waits_in, Visit, visited, sampled_items, all_visits}
-use Rattle.monitored_items.specs.Moves.{Move, Moved, moved, moved_on, run, OthersStay, IsOfSubscription}
-use Rattle.monitored_items.specs.Moves.Move.{Show}
-use Rattle.monitored_items.specs.declared.item.Item.{Item}
-use Rattle.monitored_items.proofs.Apart.{subscriptions_stay_apart}
-use Rattle.monitored_items.proofs.Runs.{run_step}
-use Rattle.monitored_items.proofs.Tables.{greater}
+use Rattle.ua_read_write.specs.declared.writing.Change.{Change}
+use Rattle.ua_item_queue.specs.ItemQueue.{acted, queue_after, marked_front}
+use Rattle.ua_item_queue.specs.ItemQueue.ItemAct.{Queued, FrontDropped, NewestReplaced, OnlyReplaced}
+use Rattle.ua_item_queue.specs.ItemQueue.Deed.{Sample}
+use Rattle.ua_item_queue.specs.declared.entry.Entry.{Entry}
+use Rattle.ua_monitored_items.specs.Item.{is_reporting, takes, queued, seen}
+use Rattle.ua_monitored_items.specs.ItemTables.{Numbered, item_at, is_of, numbers_of, with_found, AreAbove, AreRising}
+use Rattle.ua_monitored_items.specs.Items.{ItemsState, no_items, is_available, any_waits, waits_in, Visit, visited, sampled_items, all_visits}
+use Rattle.ua_monitored_items.specs.Moves.{Move, Moved, moved, moved_on, run, OthersStay, IsOfSubscription}
+use Rattle.ua_monitored_items.specs.Moves.Move.{Show}
+use Rattle.ua_monitored_items.specs.declared.item.Item.{Item}
+use Rattle.ua_monitored_items.proofs.Apart.{subscriptions_stay_apart}
+use Rattle.ua_monitored_items.proofs.Runs.{run_step}
+use Rattle.ua_monitored_items.proofs.Tables.{greater}
 use Rattle.subscription_laws.specs.Calm.{AreReached}
 use Rattle.subscription_laws.proofs.Entries.{at_itself, same_or_not, set_here, set_other}
 

@@ -1,23 +1,23 @@
 -- Whatever is called, each message that a row makes is brought by an answer to a request.
 use Rattle.std.proofs.Common.{◌≡◌, ℕ, Bool, ◌||◌, List, [], ◌∷◌, ◌++◌, fold, Option, Some, None, refl, sym, ap, subst}
 use Rattle.ua_types.specs.Configuration.{Configuration}
-use Rattle.ua_requests.specs.declared.fired.Fired.{Fired}
-use Rattle.ua_requests.specs.declared.reply.Reply.{Reply}
-use Rattle.sub_messages.specs.declared.publishing.SubscriptionAcknowledgement.{SubscriptionAcknowledgement}
-use Rattle.sub_table.specs.declared.vars.Vars.{Vars}
-use Rattle.monitored_items.specs.Moves as item_moves
-use Rattle.subscription.specs.declared.call.Call.TheVariants as call
-use Rattle.subscription.specs.declared.publish_call.PublishCall.{PublishCall}
-use Rattle.subscription.specs.declared.ranks.Rank.{Rank}
-use Rattle.subscription.specs.declared.session_part.TimeoutNote.{TimeoutNote}
-use Rattle.subscription.specs.Ending.{session_ended}
-use Rattle.subscription.specs.Making.{modified, republished, timed}
-use Rattle.subscription.specs.Named.{named_all, deleted}
-use Rattle.subscription.specs.Publishing.{acknowledged_all, note_of, asked_by, met_by_best, answered_to, answered_by, with_results, published}
-use Rattle.subscription.specs.Queues.{first_of}
-use Rattle.subscription.specs.Ranks.{waiting_of, due_numbers}
-use Rattle.subscription.specs.Subs.{world_of, Said, said, told, created}
-use Rattle.subscription.specs.Tables.{World, met, all_met, part_at, vars_found}
+use Rattle.server_messages.specs.declared.fired.Fired.{Fired}
+use Rattle.server_messages.specs.declared.reply.Reply.{Reply}
+use Rattle.ua_subscription_messages.specs.declared.publishing.SubscriptionAcknowledgement.{SubscriptionAcknowledgement}
+use Rattle.ua_state_table.specs.declared.vars.Vars.{Vars}
+use Rattle.ua_monitored_items.specs.Moves as item_moves
+use Rattle.ua_subscriptions.specs.declared.call.Call.TheVariants as call
+use Rattle.ua_subscriptions.specs.declared.publish_call.PublishCall.{PublishCall}
+use Rattle.ua_subscriptions.specs.declared.ranks.Rank.{Rank}
+use Rattle.ua_subscriptions.specs.declared.session_part.TimeoutNote.{TimeoutNote}
+use Rattle.ua_subscriptions.specs.Ending.{session_ended}
+use Rattle.ua_subscriptions.specs.Making.{modified, republished, timed}
+use Rattle.ua_subscriptions.specs.Named.{named_all, deleted}
+use Rattle.ua_subscriptions.specs.Publishing.{acknowledged_all, note_of, asked_by, met_by_best, answered_to, answered_by, with_results, published}
+use Rattle.ua_subscriptions.specs.Queues.{first_of}
+use Rattle.ua_subscriptions.specs.Ranks.{waiting_of, due_numbers}
+use Rattle.ua_subscriptions.specs.SubscriptionCalls.{world_of, Said, said, told, created}
+use Rattle.ua_subscriptions.specs.Tables.{World, met, all_met, part_at, vars_found}
 use Rattle.subscription_laws.specs.Answering.{AreBrought}
 use Rattle.subscription_laws.specs.Calm.{is_listed}
 use Rattle.subscription_laws.specs.Messaging.{Made, met_made, all_made, best_made, asked_made, unless_noted, published_made, moved_made, run_made}

@@ -2,26 +2,26 @@
 use Rattle.std.proofs.Common.{◌≡◌, ◌⊎◌, inl, inr, ℕ, Bool, true, false, ◌&&◌, ◌||◌, not, cond, List, [], ◌∷◌, ◌++◌, append-nil, append_assoc, map, drop, nat_le, length, Option, Some, None, refl, sym, ap, ◌∙◌}
 use Rattle.std.proofs.lemmas.Bool.{false≢true}
 use Rattle.std.specs.Option.{is_some}
-use Rattle.ua_requests.specs.declared.reply.Reply.{Reply}
-use Rattle.sub_table.specs.Chosen.{Answers, answers, timer_row, publish_row, chosen}
-use Rattle.sub_table.specs.declared.row.RowId.{RowId}
-use Rattle.sub_table.specs.declared.row.RowId.TheVariants.{N1, N2, N3, N4, N5, N6, L1, L2, K1, K2, K3, K4, K5, G6}
-use Rattle.sub_table.specs.declared.state.State.{State}
-use Rattle.sub_table.specs.declared.state.State.TheVariants.{Closed, Normal, Late, KeepAlive}
-use Rattle.subscription.specs.declared.call.Call.{Call}
-use Rattle.subscription.specs.declared.call.Call.TheVariants.{Create, Publish, Timer, Republish, SessionEnd}
-use Rattle.subscription.specs.declared.publish_call.PublishCall.{PublishCall}
-use Rattle.subscription.specs.declared.session_part.SessionPart.{SessionPart}
-use Rattle.subscription.specs.declared.subscription.Subscription.{Subscription}
-use Rattle.subscription.specs.declared.turn.Turn.{Turn}
-use Rattle.subscription.specs.Answers.{number_of, published_of}
-use Rattle.subscription.specs.Calls.{event_of}
-use Rattle.subscription.specs.Firing.{vars_in, before_by, row_of, fired}
-use Rattle.subscription.specs.Queues.{first_of}
-use Rattle.subscription.specs.Ranks.{waits_in, is_waiting}
-use Rattle.subscription.specs.Scenes.{Scene, Noting, noting, sending, note_sent, rest_sent, notes_sent, with_asked, with_refused, Queueing, enqueued, enqueued_by, dequeued, started, life_reset, answered_by, counted, subscription_noted, message_made, row_done}
-use Rattle.subscription.specs.Subscriptions.{is_any}
-use Rattle.subscription.specs.Tables.{World, with_call, without_closed, met_found, met, all_met, subscription_at}
+use Rattle.server_messages.specs.declared.reply.Reply.{Reply}
+use Rattle.ua_state_table.specs.Chosen.{Answers, answers, timer_row, publish_row, chosen}
+use Rattle.ua_state_table.specs.declared.row.RowId.{RowId}
+use Rattle.ua_state_table.specs.declared.row.RowId.TheVariants.{N1, N2, N3, N4, N5, N6, L1, L2, K1, K2, K3, K4, K5, G6}
+use Rattle.ua_state_table.specs.declared.state.State.{State}
+use Rattle.ua_state_table.specs.declared.state.State.TheVariants.{Closed, Normal, Late, KeepAlive}
+use Rattle.ua_subscriptions.specs.declared.call.Call.{Call}
+use Rattle.ua_subscriptions.specs.declared.call.Call.TheVariants.{Create, Publish, Timer, Republish, SessionEnd}
+use Rattle.ua_subscriptions.specs.declared.publish_call.PublishCall.{PublishCall}
+use Rattle.ua_subscriptions.specs.declared.session_part.SessionSubscriptions.{SessionSubscriptions}
+use Rattle.ua_subscriptions.specs.declared.subscription.Subscription.{Subscription}
+use Rattle.ua_subscriptions.specs.declared.turn.Turn.{Turn}
+use Rattle.ua_subscriptions.specs.Answers.{number_of, published_of}
+use Rattle.ua_subscriptions.specs.Calls.{event_of}
+use Rattle.ua_subscriptions.specs.Firing.{vars_in, before_by, row_of, fired}
+use Rattle.ua_subscriptions.specs.Queues.{first_of}
+use Rattle.ua_subscriptions.specs.Ranks.{waits_in, is_waiting}
+use Rattle.ua_subscriptions.specs.Scenes.{Scene, Noting, noting, sending, note_sent, rest_sent, notes_sent, with_asked, with_refused, Queueing, enqueued, enqueued_by, dequeued, started, life_reset, answered_by, counted, subscription_noted, message_made, row_done}
+use Rattle.ua_subscriptions.specs.Subscriptions.{is_any}
+use Rattle.ua_subscriptions.specs.Tables.{World, with_call, without_closed, met_found, met, all_met, subscription_at}
 use Rattle.subscription_laws.specs.Answering.{sends, dequeues, answering, Brings, AreBrought}
 use Rattle.subscription_laws.specs.Messaging.{Made, made_of, made_by, met_made, all_made}
 use Rattle.subscription_laws.specs.Numbering.{note_made, rest_made, notes_made, messages_of}
@@ -120,7 +120,7 @@ keep_alive_answers : (asked : Option PublishCall) (turn : Turn) (s : Subscriptio
 keep_alive_answers None turn s more message = none_answered turn.replies
 keep_alive_answers (Some call) turn s more message = one_answered turn.replies (published_of turn.clock call turn.own (map number_of s.kept) more message)
 
-enqueued_answers : (turn : Turn) (part : SessionPart) → AreAnswered turn.replies (enqueued turn part).turn.replies []
+enqueued_answers : (turn : Turn) (part : SessionSubscriptions) → AreAnswered turn.replies (enqueued turn part).turn.replies []
 unfolding enqueued
 enqueued_answers turn part = by turn.asked
   where

@@ -1,17 +1,17 @@
 -- Which rows queue a request, and which leave their session, by what comes.
 use Rattle.std.proofs.Common.{◌≡◌, ◌≢◌, Bool, true, false, cond, ◌||◌, refl}
 use Rattle.std.specs.Prelude.{not}
-use Rattle.sub_table.specs.Chosen.{Answers, answers, timer_row, publish_row, chosen}
-use Rattle.sub_table.specs.Doing.{enqueues}
-use Rattle.sub_table.specs.Events.{fits}
-use Rattle.sub_table.specs.declared.row.RowId.TheVariants.{N1, N2, N3, N4, N5, N6, L1, L2, K2, K3, K4, K5, G6}
-use Rattle.sub_table.specs.declared.state.State.{State}
-use Rattle.sub_table.specs.declared.state.State.TheVariants.{Closed, Normal, Late, KeepAlive}
-use Rattle.sub_table.specs.declared.vars.Vars.{Vars}
-use Rattle.subscription.specs.declared.call.Call.{Call}
-use Rattle.subscription.specs.declared.call.Call.TheVariants.{Create, Publish, Timer, Modify, SetMode, Republish, Delete, Items, SessionEnd}
-use Rattle.subscription.specs.Calls.{event_of}
-use Rattle.subscription.specs.Ranks.{waits_in}
+use Rattle.ua_state_table.specs.Chosen.{Answers, answers, timer_row, publish_row, chosen}
+use Rattle.ua_state_table.specs.Doing.{enqueues}
+use Rattle.ua_state_table.specs.Events.{fits}
+use Rattle.ua_state_table.specs.declared.row.RowId.TheVariants.{N1, N2, N3, N4, N5, N6, L1, L2, K2, K3, K4, K5, G6}
+use Rattle.ua_state_table.specs.declared.state.State.{State}
+use Rattle.ua_state_table.specs.declared.state.State.TheVariants.{Closed, Normal, Late, KeepAlive}
+use Rattle.ua_state_table.specs.declared.vars.Vars.{Vars}
+use Rattle.ua_subscriptions.specs.declared.call.Call.{Call}
+use Rattle.ua_subscriptions.specs.declared.call.Call.TheVariants.{Create, Publish, Timer, Modify, SetMode, Republish, Delete, Items, SessionEnd}
+use Rattle.ua_subscriptions.specs.Calls.{event_of}
+use Rattle.ua_subscriptions.specs.Ranks.{waits_in}
 use Rattle.subscription_laws.proofs.Remains.{leaves}
 
 -- a call that comes to live subscriptions, and is no Publish; its items weren't changed before

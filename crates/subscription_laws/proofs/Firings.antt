@@ -3,28 +3,28 @@ use Rattle.std.proofs.Common.{◌≡◌, ◌⊎◌, inl, inr, ℕ, ◌+◌, Bool
 use Rattle.std.specs.BTreeMap.{is_at}
 use Rattle.std.specs.Ordering.{nat_cmp}
 use Rattle.std.specs.Set.{remove_key}
-use Rattle.ua_requests.specs.declared.fired.Fired.{Fired}
-use Rattle.sub_table.specs.Doing.{Standing, enqueues, answerable_after}
-use Rattle.sub_table.specs.Events.{fits}
-use Rattle.sub_table.specs.Laws.{TimesOut}
-use Rattle.sub_table.specs.Sound.{IsSound}
-use Rattle.sub_table.specs.StateTable.{actions_of, fires}
-use Rattle.sub_table.specs.Steady.{IsSteady}
-use Rattle.sub_table.specs.declared.event.TableEvent.TheVariants as event
-use Rattle.sub_table.specs.declared.row.RowId.{RowId}
-use Rattle.sub_table.specs.declared.row.RowId.TheVariants.{G6}
-use Rattle.sub_table.specs.declared.state.State.TheVariants.{Closed}
-use Rattle.sub_table.specs.declared.vars.Vars.{Vars}
-use Rattle.sub_table.proofs.SteadyLemmas as table
-use Rattle.subscription.specs.declared.session_part.SessionPart.{SessionPart}
-use Rattle.subscription.specs.Calls.{event_of}
+use Rattle.server_messages.specs.declared.fired.Fired.{Fired}
+use Rattle.ua_state_table.specs.Doing.{Standing, enqueues, answerable_after}
+use Rattle.ua_state_table.specs.Events.{fits}
+use Rattle.ua_state_table.specs.Laws.{TimesOut}
+use Rattle.ua_state_table.specs.Sound.{IsSound}
+use Rattle.ua_state_table.specs.StateTable.{actions_of, fires}
+use Rattle.ua_state_table.specs.Steady.{IsSteady}
+use Rattle.ua_state_table.specs.declared.event.TableEvent.TheVariants as event
+use Rattle.ua_state_table.specs.declared.row.RowId.{RowId}
+use Rattle.ua_state_table.specs.declared.row.RowId.TheVariants.{G6}
+use Rattle.ua_state_table.specs.declared.state.State.TheVariants.{Closed}
+use Rattle.ua_state_table.specs.declared.vars.Vars.{Vars}
+use Rattle.ua_state_table.proofs.SteadyLemmas as table
+use Rattle.ua_subscriptions.specs.declared.session_part.SessionSubscriptions.{SessionSubscriptions}
+use Rattle.ua_subscriptions.specs.Calls.{event_of}
 use Rattle.subscription_laws.specs.Calm.{IsCalm}
-use Rattle.subscription.specs.Firing.{is_closed, vars_in, before_of, row_of, fired_in, fired}
+use Rattle.ua_subscriptions.specs.Firing.{is_closed, vars_in, before_of, row_of, fired_in, fired}
 use Rattle.subscription_laws.specs.Histories.{started_by, counts_after, counts_at, sets_life, life_at, IsLawful}
-use Rattle.subscription.specs.Scenes.{Scene, row_done}
+use Rattle.ua_subscriptions.specs.Scenes.{Scene, row_done}
 use Rattle.subscription_laws.specs.Standings.{Counts, standing, standing_in, row_counts, IsAsked}
-use Rattle.subscription.specs.Subscriptions.{is_any, vars_of}
-use Rattle.subscription.specs.Tables.{TableState, subscription_at, part_of}
+use Rattle.ua_subscriptions.specs.Subscriptions.{is_any, vars_of}
+use Rattle.ua_subscriptions.specs.Tables.{TableState, subscription_at, part_of}
 use Rattle.subscription_laws.proofs.Remains.{AreApart, row_remains, row_none, row_session_or}
 use Rattle.subscription_laws.proofs.RowCounts.{counts_own, life_own, counts_of_row, life_of_row}
 use Rattle.subscription_laws.proofs.RowSteady as row_steady
@@ -122,7 +122,7 @@ life_told rows c live set same counted =
 module _ (rows : List Fired) (t : TableState) (c : Scene) (found : subscription_at c.turn.own t.subscriptions ≡ Some c.subscription) (placed : c.part ≡ part_of c.subscription.session t.sessions) (h : IsCalm rows t c.items) where
   steady_now : IsSteady (standing_in c.turn.own c (counts_at c.turn.own rows))
   steady_now =
-      subst (λ (p : SessionPart). IsSteady (standing (vars_of c.subscription p c.items c.turn.own) c.subscription (counts_at c.turn.own rows))) (sym placed) (h.steady c.turn.own c.subscription found)
+      subst (λ (p : SessionSubscriptions). IsSteady (standing (vars_of c.subscription p c.items c.turn.own) c.subscription (counts_at c.turn.own rows))) (sym placed) (h.steady c.turn.own c.subscription found)
 
   told_now : IsTold rows (firing c).subscription (standing_in c.turn.own c (counts_at c.turn.own rows))
   told_now = record {
@@ -138,13 +138,13 @@ module _ (rows : List Fired) (t : TableState) (c : Scene) (found : subscription_
 
     quiet : (b : Bool) → enqueues (row_of c) ≡ b → (is_any (part_of c.subscription.session t.sessions).requests ≡ false → is_any (fired c).part.requests ≡ false) ⊎ NoneWaits t c.subscription.session
     quiet true e = inr (asked e).1
-    quiet false e = inl (λ none. fired_none c e (ap (λ (p : SessionPart). is_any p.requests) placed ∙ none))
+    quiet false e = inl (λ none. fired_none c e (ap (λ (p : SessionSubscriptions). is_any p.requests) placed ∙ none))
 
     pub step : IsStep rows t c.items c.turn.own c.subscription (firing c) (fired c).subscription (fired c).part (fired c).items
     step = record {
       found = found;
       number = fired_number c;
-      numbers = fired_numbers c ∙ ap (λ (p : SessionPart). cond (is_closed (fired c).subscription) (remove_key (is_at (nat_cmp c.turn.own)) p.numbers) p.numbers) placed;
+      numbers = fired_numbers c ∙ ap (λ (p : SessionSubscriptions). cond (is_closed (fired c).subscription) (remove_key (is_at (nat_cmp c.turn.own)) p.numbers) p.numbers) placed;
       session = fired_session c;
       apart = fired_items c;
       own = own_steady;

@@ -6,35 +6,35 @@ use Rattle.ua_types.specs.Configuration.{Configuration}
 use Rattle.ua_types.specs.declared.moment.Moment.{Moment}
 use Rattle.ua_types.specs.declared.status.Status.{Status}
 use Rattle.ua_types.specs.declared.status.TheConstants.Status as status
-use Rattle.sub_messages.specs.declared.publishing.SubscriptionAcknowledgement.{SubscriptionAcknowledgement}
-use Rattle.sub_table.specs.Chosen.{chosen}
-use Rattle.sub_table.specs.StateTable.{actions_of}
-use Rattle.sub_table.specs.declared.action.Action.{Action}
-use Rattle.sub_table.specs.declared.action.Action.TheVariants.{SendNotifications, DeleteItems}
-use Rattle.sub_table.specs.declared.row.RowId.{RowId}
-use Rattle.sub_table.specs.declared.vars.Vars.{Vars}
-use Rattle.monitored_items.specs.Items.{ItemsState, no_items}
-use Rattle.monitored_items.specs.Moves as item_moves
-use Rattle.monitored_items.specs.Moves.{Moved, moved_on}
-use Rattle.subscription.specs.declared.call.Call.{Call}
-use Rattle.subscription.specs.declared.call.Call.TheVariants as call
-use Rattle.subscription.specs.declared.publish_call.PublishCall.{PublishCall}
-use Rattle.subscription.specs.declared.ranks.Rank.{Rank}
-use Rattle.subscription.specs.declared.session_part.TimeoutNote.{TimeoutNote}
-use Rattle.subscription.specs.declared.settings.Settings.{Settings}
-use Rattle.subscription.specs.declared.subs.Created.{Created}
-use Rattle.subscription.specs.declared.subscription.Subscription.{Subscription}
-use Rattle.subscription.specs.Calls.{event_of}
-use Rattle.subscription.specs.Ending.{session_ended}
-use Rattle.subscription.specs.Firing.{before_of, row_of, fired}
-use Rattle.subscription.specs.Making.{revised_of, kept_at, modified, republished, refused_one, added}
-use Rattle.subscription.specs.Named.{Outcome, outcome, is_own, own_met, named_one, named_all, all_refused, has_none, deleted}
-use Rattle.subscription.specs.Publishing.{acknowledged_all, note_of, without_note, asked_by, met_by_best, answered_to, answered_by, with_results, published}
-use Rattle.subscription.specs.Queues.{first_of}
-use Rattle.subscription.specs.Ranks.{waiting_of, due_numbers}
-use Rattle.subscription.specs.Scenes.{Scene, Noting, noting, sending, note_sent, with_asked, rest_sent, notes_sent, done, all_done, row_done}
-use Rattle.subscription.specs.Subs.{world_of, Said, is_full, refused, created_one, created}
-use Rattle.subscription.specs.Tables.{World, with_call, without_closed, met_found, met, all_met, part_at, subscription_at, vars_found}
+use Rattle.ua_subscription_messages.specs.declared.publishing.SubscriptionAcknowledgement.{SubscriptionAcknowledgement}
+use Rattle.ua_state_table.specs.Chosen.{chosen}
+use Rattle.ua_state_table.specs.StateTable.{actions_of}
+use Rattle.ua_state_table.specs.declared.action.Action.{Action}
+use Rattle.ua_state_table.specs.declared.action.Action.TheVariants.{SendNotifications, DeleteItems}
+use Rattle.ua_state_table.specs.declared.row.RowId.{RowId}
+use Rattle.ua_state_table.specs.declared.vars.Vars.{Vars}
+use Rattle.ua_monitored_items.specs.Items.{ItemsState, no_items}
+use Rattle.ua_monitored_items.specs.Moves as item_moves
+use Rattle.ua_monitored_items.specs.Moves.{Moved, moved_on}
+use Rattle.ua_subscriptions.specs.declared.call.Call.{Call}
+use Rattle.ua_subscriptions.specs.declared.call.Call.TheVariants as call
+use Rattle.ua_subscriptions.specs.declared.publish_call.PublishCall.{PublishCall}
+use Rattle.ua_subscriptions.specs.declared.ranks.Rank.{Rank}
+use Rattle.ua_subscriptions.specs.declared.session_part.TimeoutNote.{TimeoutNote}
+use Rattle.ua_subscriptions.specs.declared.settings.Settings.{Settings}
+use Rattle.ua_subscriptions.specs.declared.subscriptions.Created.{Created}
+use Rattle.ua_subscriptions.specs.declared.subscription.Subscription.{Subscription}
+use Rattle.ua_subscriptions.specs.Calls.{event_of}
+use Rattle.ua_subscriptions.specs.Ending.{session_ended}
+use Rattle.ua_subscriptions.specs.Firing.{before_of, row_of, fired}
+use Rattle.ua_subscriptions.specs.Making.{revised_of, kept_at, modified, republished, refused_one, added}
+use Rattle.ua_subscriptions.specs.Named.{Outcome, outcome, is_own, own_met, named_one, named_all, all_refused, has_none, deleted}
+use Rattle.ua_subscriptions.specs.Publishing.{acknowledged_all, note_of, without_note, asked_by, met_by_best, answered_to, answered_by, with_results, published}
+use Rattle.ua_subscriptions.specs.Queues.{first_of}
+use Rattle.ua_subscriptions.specs.Ranks.{waiting_of, due_numbers}
+use Rattle.ua_subscriptions.specs.Scenes.{Scene, Noting, noting, sending, note_sent, with_asked, rest_sent, notes_sent, done, all_done, row_done}
+use Rattle.ua_subscriptions.specs.SubscriptionCalls.{world_of, Said, is_full, refused, created_one, created}
+use Rattle.ua_subscriptions.specs.Tables.{World, with_call, without_closed, met_found, met, all_met, part_at, subscription_at, vars_found}
 use Rattle.subscription_laws.specs.ItemCalls.{note_call, rest_calls, notes_calls, action_calls, actions_calls, row_calls, calls_by, met_calls, all_calls, own_calls, named_calls, best_calls, asked_calls, unless_noted, published_calls, served_calls, calls_of, calls_from, item_calls, ItemsComeByTheirCalls}
 use Rattle.subscription_laws.specs.Runs.{ItemsCall, on_items, Move, Ran, start, ran_by, items_ran, moved, run}
 use Rattle.subscription_laws.proofs.Keeping.{scene_at}

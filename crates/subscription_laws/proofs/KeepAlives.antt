@@ -1,14 +1,14 @@
 -- A keep-alive answers one request, with the number that comes next.
 use Rattle.std.proofs.Common.{◌≡◌, true, false, [], ◌∷◌, ◌++◌, map, Option, Some, refl, ap}
-use Rattle.sub_table.specs.declared.row.RowId.{RowId}
-use Rattle.sub_table.specs.declared.row.RowId.TheVariants.{N4, L2, K3}
-use Rattle.subscription.specs.declared.publish_call.PublishCall.{PublishCall}
-use Rattle.subscription.specs.declared.subscription.Subscription.{Subscription}
-use Rattle.subscription.specs.declared.turn.Turn.{Turn}
-use Rattle.subscription.specs.Answers.{number_of, published_of}
-use Rattle.subscription.specs.Messages.{number_after, keep_alive_message}
-use Rattle.subscription.specs.Queues.{first_of}
-use Rattle.subscription.specs.Scenes.{Scene, answered_by, counted, placed, dequeued, started, life_reset, row_done}
+use Rattle.ua_state_table.specs.declared.row.RowId.{RowId}
+use Rattle.ua_state_table.specs.declared.row.RowId.TheVariants.{N4, L2, K3}
+use Rattle.ua_subscriptions.specs.declared.publish_call.PublishCall.{PublishCall}
+use Rattle.ua_subscriptions.specs.declared.subscription.Subscription.{Subscription}
+use Rattle.ua_subscriptions.specs.declared.turn.Turn.{Turn}
+use Rattle.ua_subscriptions.specs.Answers.{number_of, published_of}
+use Rattle.ua_subscriptions.specs.Messages.{number_after, keep_alive_message}
+use Rattle.ua_subscriptions.specs.Queues.{first_of}
+use Rattle.ua_subscriptions.specs.Scenes.{Scene, answered_by, counted, placed, dequeued, started, life_reset, row_done}
 use Rattle.subscription_laws.specs.Answering.{sends_keep_alive, answering}
 
 -- the one answer more

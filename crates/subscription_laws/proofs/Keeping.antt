@@ -1,21 +1,21 @@
 -- What every call keeps, while subscriptions meet what comes to them.
 use Rattle.std.proofs.Common.{◌≡◌, ◌≢◌, ◌⊎◌, inl, inr, ℕ, true, false, List, [], ◌∷◌, ◌++◌, Option, Some, None, refl, sym, ap, ◌∙◌, subst, append_assoc}
-use Rattle.ua_requests.specs.declared.fired.Fired.{Fired}
-use Rattle.sub_table.specs.Chosen.{chosen}
-use Rattle.sub_table.specs.Doing.{enqueues}
-use Rattle.sub_table.specs.Events.{fits}
-use Rattle.sub_table.specs.declared.state.State.TheVariants.{Closed}
-use Rattle.sub_table.specs.declared.vars.Vars.{Vars}
-use Rattle.monitored_items.specs.Items.{ItemsState}
-use Rattle.subscription.specs.declared.call.Call.{Call}
-use Rattle.subscription.specs.declared.call.Call.TheVariants.{Create, Publish, Items}
-use Rattle.subscription.specs.declared.subscription.Subscription.{Subscription}
-use Rattle.subscription.specs.Calls.{event_of}
+use Rattle.server_messages.specs.declared.fired.Fired.{Fired}
+use Rattle.ua_state_table.specs.Chosen.{chosen}
+use Rattle.ua_state_table.specs.Doing.{enqueues}
+use Rattle.ua_state_table.specs.Events.{fits}
+use Rattle.ua_state_table.specs.declared.state.State.TheVariants.{Closed}
+use Rattle.ua_state_table.specs.declared.vars.Vars.{Vars}
+use Rattle.ua_monitored_items.specs.Items.{ItemsState}
+use Rattle.ua_subscriptions.specs.declared.call.Call.{Call}
+use Rattle.ua_subscriptions.specs.declared.call.Call.TheVariants.{Create, Publish, Items}
+use Rattle.ua_subscriptions.specs.declared.subscription.Subscription.{Subscription}
+use Rattle.ua_subscriptions.specs.Calls.{event_of}
 use Rattle.subscription_laws.specs.Calm.{ListsItsOwn, AreLists, IsCalm}
-use Rattle.subscription.specs.Firing.{vars_in, before_by, row_of, fired}
-use Rattle.subscription.specs.Scenes.{Scene, scene}
+use Rattle.ua_subscriptions.specs.Firing.{vars_in, before_by, row_of, fired}
+use Rattle.ua_subscriptions.specs.Scenes.{Scene, scene}
 use Rattle.subscription_laws.specs.Standings.{IsAsked}
-use Rattle.subscription.specs.Tables.{TableState, World, with_call, without_closed, met_found, met, all_met, part_of, subscription_at}
+use Rattle.ua_subscriptions.specs.Tables.{TableState, World, with_call, without_closed, met_found, met, all_met, part_of, subscription_at}
 use Rattle.subscription_laws.proofs.ChosenRows.{is_plain, is_end, plain_none, plain_stays, plain_creates, live_fits}
 use Rattle.subscription_laws.proofs.Firings.{firing, fired_rows, fired_session, step}
 use Rattle.subscription_laws.proofs.Remains.{leaves, row_session}

@@ -1,30 +1,30 @@
 -- What every call keeps, while the items of a subscription are served, and while values are shown to items.
 use Rattle.std.proofs.Common.{◌≡◌, ◌≢◌, inl, ℕ, List, [], ◌∷◌, ◌++◌, Option, Some, None, refl, sym, ap, ◌∙◌, subst}
-use Rattle.ua_requests.specs.declared.fired.Fired.{Fired}
-use Rattle.read_write.specs.declared.writing.Change.{Change}
-use Rattle.sub_table.specs.Doing.{Standing, after}
-use Rattle.sub_table.specs.StateTable.{fires}
-use Rattle.sub_table.specs.Steady.{IsSteady}
-use Rattle.sub_table.specs.declared.event.TableEvent.TheVariants as event
-use Rattle.sub_table.specs.declared.row.RowId.TheVariants.{G7}
-use Rattle.sub_table.specs.declared.vars.Vars.{Vars}
-use Rattle.sub_table.proofs.OneRow.{one_row}
-use Rattle.sub_table.proofs.SteadyLemmas as table
-use Rattle.monitored_items.specs.Items.{ItemsState}
-use Rattle.monitored_items.specs.Moves as item_moves
-use Rattle.monitored_items.specs.Moves.{IsOfSubscription}
-use Rattle.monitored_items.specs.Moves.Move.{Show}
-use Rattle.subscription.specs.declared.call.Call.TheVariants.{Items}
-use Rattle.subscription.specs.declared.subscription.Subscription.{Subscription}
+use Rattle.server_messages.specs.declared.fired.Fired.{Fired}
+use Rattle.ua_read_write.specs.declared.writing.Change.{Change}
+use Rattle.ua_state_table.specs.Doing.{Standing, after}
+use Rattle.ua_state_table.specs.StateTable.{fires}
+use Rattle.ua_state_table.specs.Steady.{IsSteady}
+use Rattle.ua_state_table.specs.declared.event.TableEvent.TheVariants as event
+use Rattle.ua_state_table.specs.declared.row.RowId.TheVariants.{G7}
+use Rattle.ua_state_table.specs.declared.vars.Vars.{Vars}
+use Rattle.ua_state_table.proofs.OneRow.{one_row}
+use Rattle.ua_state_table.proofs.SteadyLemmas as table
+use Rattle.ua_monitored_items.specs.Items.{ItemsState}
+use Rattle.ua_monitored_items.specs.Moves as item_moves
+use Rattle.ua_monitored_items.specs.Moves.{IsOfSubscription}
+use Rattle.ua_monitored_items.specs.Moves.Move.{Show}
+use Rattle.ua_subscriptions.specs.declared.call.Call.TheVariants.{Items}
+use Rattle.ua_subscriptions.specs.declared.subscription.Subscription.{Subscription}
 use Rattle.subscription_laws.specs.Calm.{ListsItsOwn, AreLists, IsCalm}
-use Rattle.subscription.specs.Firing.{fired}
+use Rattle.ua_subscriptions.specs.Firing.{fired}
 use Rattle.subscription_laws.specs.Histories.{counts_at, life_at}
 use Rattle.subscription_laws.specs.Runs.{ItemsCall, on_items}
 use Rattle.subscription_laws.specs.Runs.ItemsCall.{Create, Modify, SetMode, Delete}
-use Rattle.subscription.specs.Scenes.{Scene, row_done}
+use Rattle.ua_subscriptions.specs.Scenes.{Scene, row_done}
 use Rattle.subscription_laws.specs.Standings.{Counts, standing, standing_in, circumstances, counts_of}
-use Rattle.subscription.specs.Subscriptions.{vars_of}
-use Rattle.subscription.specs.Tables.{TableState, World, with_call, without_closed, met_found, met, part_of, subscription_at}
+use Rattle.ua_subscriptions.specs.Subscriptions.{vars_of}
+use Rattle.ua_subscriptions.specs.Tables.{TableState, World, with_call, without_closed, met_found, met, part_of, subscription_at}
 use Rattle.subscription_laws.proofs.Availability.{reached_rise, reached_on, reached_stay, shown_available}
 use Rattle.subscription_laws.proofs.ChosenRows.{live_fits}
 use Rattle.subscription_laws.proofs.Firings.{lawful, firing, fired_rows, fired_number, fired_items, fired_numbers, fired_none, life_told}

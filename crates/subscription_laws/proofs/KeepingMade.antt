@@ -5,35 +5,35 @@ use Rattle.std.specs.BTreeMap.{insert_entry, is_at}
 use Rattle.std.specs.Map.{remove_entry}
 use Rattle.std.specs.Option.{is_some}
 use Rattle.std.specs.Ordering.{nat_cmp}
-use Rattle.ua_requests.specs.declared.fired.Fired.{Fired}
-use Rattle.sub_table.specs.Chosen.{chosen}
-use Rattle.sub_table.specs.Doing.{answerable_after}
-use Rattle.sub_table.specs.Events.{fits}
-use Rattle.sub_table.specs.Sound.{IsSound}
-use Rattle.sub_table.specs.StateTable.{actions_of, fires}
-use Rattle.sub_table.specs.Steady.{IsSteady}
-use Rattle.sub_table.specs.declared.event.TableEvent.{TableEvent}
-use Rattle.sub_table.specs.declared.event.TableEvent.TheVariants as event
-use Rattle.sub_table.specs.declared.row.RowId.{RowId}
-use Rattle.sub_table.specs.declared.row.RowId.TheVariants.{C1, C2, G6}
-use Rattle.sub_table.specs.declared.state.State.TheVariants.{Closed}
-use Rattle.sub_table.specs.declared.vars.Vars.{Vars}
-use Rattle.sub_table.proofs.KeptLemmas.{begins}
-use Rattle.sub_table.proofs.OneRow.{one_row}
-use Rattle.monitored_items.specs.Items.{ItemsState}
-use Rattle.subscription.specs.declared.call.Call.TheVariants.{Create}
-use Rattle.subscription.specs.declared.publish_call.PublishCall.{PublishCall}
-use Rattle.subscription.specs.declared.session_part.SessionPart.{SessionPart}
-use Rattle.subscription.specs.declared.settings.Settings.{Settings}
-use Rattle.subscription.specs.declared.subscription.Subscription.{Subscription}
+use Rattle.server_messages.specs.declared.fired.Fired.{Fired}
+use Rattle.ua_state_table.specs.Chosen.{chosen}
+use Rattle.ua_state_table.specs.Doing.{answerable_after}
+use Rattle.ua_state_table.specs.Events.{fits}
+use Rattle.ua_state_table.specs.Sound.{IsSound}
+use Rattle.ua_state_table.specs.StateTable.{actions_of, fires}
+use Rattle.ua_state_table.specs.Steady.{IsSteady}
+use Rattle.ua_state_table.specs.declared.event.TableEvent.{TableEvent}
+use Rattle.ua_state_table.specs.declared.event.TableEvent.TheVariants as event
+use Rattle.ua_state_table.specs.declared.row.RowId.{RowId}
+use Rattle.ua_state_table.specs.declared.row.RowId.TheVariants.{C1, C2, G6}
+use Rattle.ua_state_table.specs.declared.state.State.TheVariants.{Closed}
+use Rattle.ua_state_table.specs.declared.vars.Vars.{Vars}
+use Rattle.ua_state_table.proofs.KeptLemmas.{begins}
+use Rattle.ua_state_table.proofs.OneRow.{one_row}
+use Rattle.ua_monitored_items.specs.Items.{ItemsState}
+use Rattle.ua_subscriptions.specs.declared.call.Call.TheVariants.{Create}
+use Rattle.ua_subscriptions.specs.declared.publish_call.PublishCall.{PublishCall}
+use Rattle.ua_subscriptions.specs.declared.session_part.SessionSubscriptions.{SessionSubscriptions}
+use Rattle.ua_subscriptions.specs.declared.settings.Settings.{Settings}
+use Rattle.ua_subscriptions.specs.declared.subscription.Subscription.{Subscription}
 use Rattle.subscription_laws.specs.Calm.{is_listed, IsListed, ListsItsOwn, AreLists, AreNumbersRising, standing_at, AreSteady, LivesAreSet, IsCalm}
-use Rattle.subscription.specs.Firing.{is_closed, before_of, row_of, fired}
+use Rattle.ua_subscriptions.specs.Firing.{is_closed, before_of, row_of, fired}
 use Rattle.subscription_laws.specs.Histories.{started_by, counts_after, counts_at, sets_life, life_after, life_at, IsLawful}
-use Rattle.subscription.specs.Making.{refused_scene, refused_one, with_number, added}
-use Rattle.subscription.specs.Scenes.{Scene, scene, row_done}
+use Rattle.ua_subscriptions.specs.Making.{refused_scene, refused_one, with_number, added}
+use Rattle.ua_subscriptions.specs.Scenes.{Scene, scene, row_done}
 use Rattle.subscription_laws.specs.Standings.{Counts, standing, standing_in, circumstances, row_counts}
-use Rattle.subscription.specs.Subscriptions.{unborn, no_part, is_any, no_vars, vars_of}
-use Rattle.subscription.specs.Tables.{TableState, World, with_call, part_at, part_of, subscription_at}
+use Rattle.ua_subscriptions.specs.Subscriptions.{unborn, no_part, is_any, no_vars, vars_of}
+use Rattle.ua_subscriptions.specs.Tables.{TableState, World, with_call, part_at, part_of, subscription_at}
 use Rattle.subscription_laws.proofs.Entries.{same_or_not, put_here, put_other, gone_other, rising_put, rising_gone, listed_put, listed_still, listed_before, numbers_rising_put}
 use Rattle.subscription_laws.proofs.Firings.{firing, fired_rows, fired_number, fired_numbers, life_told}
 use Rattle.subscription_laws.proofs.Keeping.{IsKept}
@@ -190,20 +190,20 @@ begun rows c is =
     }
 
 -- the table with it
-abbrev with_made : ℕ → ℕ → Subscription → SessionPart → TableState → TableState
+abbrev with_made : ℕ → ℕ → Subscription → SessionSubscriptions → TableState → TableState
 with_made number session s part t = record {
   subscriptions = insert_entry nat_cmp t.subscriptions number s;
   sessions = insert_entry nat_cmp (remove_entry (is_at (nat_cmp session)) t.sessions) session (with_number number part);
 }
 
-module _ (rows : List Fired) (t : TableState) (items : ItemsState) (number session : ℕ) (s : Subscription) (part : SessionPart) (f : Fired) (h : IsCalm rows t items) (is : f.subscription ≡ number) (own : s.session ≡ Some session)
+module _ (rows : List Fired) (t : TableState) (items : ItemsState) (number session : ℕ) (s : Subscription) (part : SessionSubscriptions) (f : Fired) (h : IsCalm rows t items) (is : f.subscription ≡ number) (own : s.session ≡ Some session)
     (numbers : part.numbers ≡ (part_at session t.sessions).numbers) (requests : part.requests ≡ (part_at session t.sessions).requests) where
   made_part : part_at session (with_made number session s part t).sessions ≡ with_number number part
-  made_part = ap (λ (o : Option SessionPart). unwrap_or o no_part) (put_here session (with_number number part) (remove_entry (is_at (nat_cmp session)) t.sessions))
+  made_part = ap (λ (o : Option SessionSubscriptions). unwrap_or o no_part) (put_here session (with_number number part) (remove_entry (is_at (nat_cmp session)) t.sessions))
 
   other_part : (k : ℕ) → k ≢ session → part_at k (with_made number session s part t).sessions ≡ part_at k t.sessions
   other_part k other =
-      ap (λ (o : Option SessionPart). unwrap_or o no_part)
+      ap (λ (o : Option SessionSubscriptions). unwrap_or o no_part)
       (put_other session k (with_number number part) other (remove_entry (is_at (nat_cmp session)) t.sessions) ∙ gone_other session k other t.sessions)
 
   same_requests : (k : ℕ) → is_any (part_at k (with_made number session s part t).sessions).requests ≡ is_any (part_at k t.sessions).requests
@@ -211,9 +211,9 @@ module _ (rows : List Fired) (t : TableState) (items : ItemsState) (number sessi
     where
       by : (k ≡ session) ⊎ (k ≢ session) → is_any (part_at k (with_made number session s part t).sessions).requests ≡ is_any (part_at k t.sessions).requests
       by (inl same) =
-          ap (λ (i : ℕ). is_any (part_at i (with_made number session s part t).sessions).requests) same ∙ ap (λ (p : SessionPart). is_any p.requests) made_part ∙ ap is_any requests
+          ap (λ (i : ℕ). is_any (part_at i (with_made number session s part t).sessions).requests) same ∙ ap (λ (p : SessionSubscriptions). is_any p.requests) made_part ∙ ap is_any requests
           ∙ ap (λ (i : ℕ). is_any (part_at i t.sessions).requests) (sym same)
-      by (inr other) = ap (λ (p : SessionPart). is_any p.requests) (other_part k other)
+      by (inr other) = ap (λ (p : SessionSubscriptions). is_any p.requests) (other_part k other)
 
   same_asks : (o : Option ℕ) → (is_some o && is_any (part_of o (with_made number session s part t).sessions).requests) ≡ (is_some o && is_any (part_of o t.sessions).requests)
   same_asks None = refl
@@ -235,12 +235,12 @@ module _ (rows : List Fired) (t : TableState) (items : ItemsState) (number sessi
     where
       by : (k ≡ session) ⊎ (k ≢ session) → is_listed m (part_at k (with_made number session s part t).sessions).numbers ≡ true
       by (inl same) =
-          ap (λ (i : ℕ). is_listed m (part_at i (with_made number session s part t).sessions).numbers) same ∙ ap (λ (p : SessionPart). is_listed m p.numbers) made_part
+          ap (λ (i : ℕ). is_listed m (part_at i (with_made number session s part t).sessions).numbers) same ∙ ap (λ (p : SessionSubscriptions). is_listed m p.numbers) made_part
           ∙ listed_still m number part.numbers (ap (is_listed m) numbers ∙ ap (λ (i : ℕ). is_listed m (part_at i t.sessions).numbers) (sym same) ∙ listed)
-      by (inr other) = ap (λ (p : SessionPart). is_listed m p.numbers) (other_part k other) ∙ listed
+      by (inr other) = ap (λ (p : SessionSubscriptions). is_listed m p.numbers) (other_part k other) ∙ listed
 
   lists_it : is_listed number (part_at session (with_made number session s part t).sessions).numbers ≡ true
-  lists_it = ap (λ (p : SessionPart). is_listed number p.numbers) made_part ∙ listed_put number part.numbers
+  lists_it = ap (λ (p : SessionSubscriptions). is_listed number p.numbers) made_part ∙ listed_put number part.numbers
 
   -- and nothing else
   lists_less : (m k : ℕ) → is_listed m (part_at k (with_made number session s part t).sessions).numbers ≡ true → ((m ≡ number) × (k ≡ session)) ⊎ (is_listed m (part_at k t.sessions).numbers ≡ true)
@@ -253,8 +253,8 @@ module _ (rows : List Fired) (t : TableState) (items : ItemsState) (number sessi
       by : (k ≡ session) ⊎ (k ≢ session) → ((m ≡ number) × (k ≡ session)) ⊎ (is_listed m (part_at k t.sessions).numbers ≡ true)
       by (inl same) =
           old same (listed_before m number part.numbers
-          (sym (ap (λ (i : ℕ). is_listed m (part_at i (with_made number session s part t).sessions).numbers) same ∙ ap (λ (p : SessionPart). is_listed m p.numbers) made_part) ∙ listed))
-      by (inr other) = inr (sym (ap (λ (p : SessionPart). is_listed m p.numbers) (other_part k other)) ∙ listed)
+          (sym (ap (λ (i : ℕ). is_listed m (part_at i (with_made number session s part t).sessions).numbers) same ∙ ap (λ (p : SessionSubscriptions). is_listed m p.numbers) made_part) ∙ listed))
+      by (inr other) = inr (sym (ap (λ (p : SessionSubscriptions). is_listed m p.numbers) (other_part k other)) ∙ listed)
 
   made_listed : IsListed (with_made number session s part t)
   made_listed = record {
@@ -298,8 +298,8 @@ module _ (rows : List Fired) (t : TableState) (items : ItemsState) (number sessi
       rising : (k : ℕ) → (k ≡ session) ⊎ (k ≢ session) → AreNumbersRising (part_at k (with_made number session s part t).sessions).numbers
       rising k (inl same) =
           subst (λ (i : ℕ). AreNumbersRising (part_at i (with_made number session s part t).sessions).numbers) (sym same)
-          (subst (λ (p : SessionPart). AreNumbersRising p.numbers) (sym made_part) (numbers_rising_put number part.numbers (subst AreNumbersRising (sym numbers) (lists.rising session))))
-      rising k (inr other) = subst (λ (p : SessionPart). AreNumbersRising p.numbers) (sym (other_part k other)) (lists.rising k)
+          (subst (λ (p : SessionSubscriptions). AreNumbersRising p.numbers) (sym made_part) (numbers_rising_put number part.numbers (subst AreNumbersRising (sym numbers) (lists.rising session))))
+      rising k (inr other) = subst (λ (p : SessionSubscriptions). AreNumbersRising p.numbers) (sym (other_part k other)) (lists.rising k)
 
   module _ (steady : IsSteady (standing (vars_of s part items number) s (counts_at number (rows ++ f ∷ [])))) (life : life_at number (rows ++ f ∷ []) ≡ s.life_count) (law : IsLawful rows f) where
     own_asks : (is_some s.session && is_any (part_of s.session (with_made number session s part t).sessions).requests) ≡ (is_some s.session && is_any part.requests)

@@ -6,22 +6,22 @@ use Rattle.std.specs.Map.{remove_entry}
 use Rattle.std.specs.Ordering.{nat_cmp}
 use Rattle.ua_types.specs.declared.status.Status.{Status}
 use Rattle.ua_types.specs.declared.status.TheConstants.Status as status
-use Rattle.ua_requests.specs.declared.fired.Fired.{Fired}
-use Rattle.sub_table.specs.declared.row.RowId.{RowId}
-use Rattle.sub_table.specs.declared.row.RowId.TheVariants.{G8, G9}
-use Rattle.subscription.specs.declared.call.Call.{Call}
-use Rattle.subscription.specs.declared.call.Call.TheVariants.{Modify, Republish, Delete, SessionEnd}
-use Rattle.subscription.specs.declared.session_part.SessionPart.{SessionPart}
-use Rattle.subscription.specs.declared.settings.Settings.{Settings}
-use Rattle.subscription.specs.declared.subscription.Subscription.{Subscription}
+use Rattle.server_messages.specs.declared.fired.Fired.{Fired}
+use Rattle.ua_state_table.specs.declared.row.RowId.{RowId}
+use Rattle.ua_state_table.specs.declared.row.RowId.TheVariants.{G8, G9}
+use Rattle.ua_subscriptions.specs.declared.call.Call.{Call}
+use Rattle.ua_subscriptions.specs.declared.call.Call.TheVariants.{Modify, Republish, Delete, SessionEnd}
+use Rattle.ua_subscriptions.specs.declared.session_part.SessionSubscriptions.{SessionSubscriptions}
+use Rattle.ua_subscriptions.specs.declared.settings.Settings.{Settings}
+use Rattle.ua_subscriptions.specs.declared.subscription.Subscription.{Subscription}
 use Rattle.subscription_laws.specs.Calm.{AreRising, AreNumbersRising, is_listed}
-use Rattle.subscription.specs.Ending.{without_session, session_ended}
-use Rattle.subscription.specs.Firing.{is_closed, row_of, fired}
-use Rattle.subscription.specs.Making.{revised_of, kept_at, modified, republished}
-use Rattle.subscription.specs.Named.{Outcome, outcome, is_own, own_met, named_one, named_all, without_requests, sessions_without_requests, all_refused, has_none, deleted}
-use Rattle.subscription.specs.Scenes.{Scene, row_done}
-use Rattle.subscription.specs.Subscriptions.{no_part, is_any}
-use Rattle.subscription.specs.Tables.{World, with_call, without_closed, met_found, met, all_met, part_at, subscription_at}
+use Rattle.ua_subscriptions.specs.Ending.{without_session, session_ended}
+use Rattle.ua_subscriptions.specs.Firing.{is_closed, row_of, fired}
+use Rattle.ua_subscriptions.specs.Making.{revised_of, kept_at, modified, republished}
+use Rattle.ua_subscriptions.specs.Named.{Outcome, outcome, is_own, own_met, named_one, named_all, without_requests, sessions_without_requests, all_refused, has_none, deleted}
+use Rattle.ua_subscriptions.specs.Scenes.{Scene, row_done}
+use Rattle.ua_subscriptions.specs.Subscriptions.{no_part, is_any}
+use Rattle.ua_subscriptions.specs.Tables.{World, with_call, without_closed, met_found, met, all_met, part_at, subscription_at}
 use Rattle.std.specs.Option.{is_some, ok_or}
 use Rattle.subscription_laws.proofs.ChosenRows.{is_plain, is_end}
 use Rattle.subscription_laws.proofs.Entries.{same_or_not, at_itself, apart, gone_here, gone_other, rising_gone}
@@ -172,11 +172,11 @@ all_end session made past deleting [] w h = h
 all_end session made past deleting (n ∷ ns) w h = all_end session made past deleting ns (met w n (SessionEnd deleting)) (met_ends session made past deleting n ns w h)
 
 -- nothing of a session is left
-pub part_gone : (session : ℕ) (sessions : List (ℕ × SessionPart)) → AreRising sessions → part_at session (remove_entry (is_at (nat_cmp session)) sessions) ≡ no_part
-part_gone session sessions rising = ap (λ (o : Option SessionPart). unwrap_or o no_part) (gone_here session sessions rising)
+pub part_gone : (session : ℕ) (sessions : List (ℕ × SessionSubscriptions)) → AreRising sessions → part_at session (remove_entry (is_at (nat_cmp session)) sessions) ≡ no_part
+part_gone session sessions rising = ap (λ (o : Option SessionSubscriptions). unwrap_or o no_part) (gone_here session sessions rising)
 
-pub part_stays : (session k : ℕ) (sessions : List (ℕ × SessionPart)) → k ≢ session → part_at k (remove_entry (is_at (nat_cmp session)) sessions) ≡ part_at k sessions
-part_stays session k sessions other = ap (λ (o : Option SessionPart). unwrap_or o no_part) (gone_other session k other sessions)
+pub part_stays : (session k : ℕ) (sessions : List (ℕ × SessionSubscriptions)) → k ≢ session → part_at k (remove_entry (is_at (nat_cmp session)) sessions) ≡ part_at k sessions
+part_stays session k sessions other = ap (λ (o : Option SessionSubscriptions). unwrap_or o no_part) (gone_other session k other sessions)
 
 module _ (session made : ℕ) (past : List Fired) (w : World) (k : IsKept (Some session) made past w) (none : (m : ℕ) (s : Subscription) → subscription_at m w.table.subscriptions ≡ Some s → s.session ≢ Some session) where
   -- what is listed yet was listed, in another session
@@ -187,9 +187,9 @@ module _ (session made : ℕ) (past : List Fired) (w : World) (k : IsKept (Some 
       by (inl same) =
           let gone : part_at j (remove_entry (is_at (nat_cmp session)) w.table.sessions) ≡ no_part =
           ap (λ (i : ℕ). part_at i (remove_entry (is_at (nat_cmp session)) w.table.sessions)) same ∙ part_gone session w.table.sessions k.calm.listed.sessions in
-          let clash : false ≡ true = sym (ap (λ (p : SessionPart). is_listed m p.numbers) gone) ∙ listed in
+          let clash : false ≡ true = sym (ap (λ (p : SessionSubscriptions). is_listed m p.numbers) gone) ∙ listed in
           absurd (false≢true clash)
-      by (inr other) = (other, sym (ap (λ (p : SessionPart). is_listed m p.numbers) (part_stays session j w.table.sessions other)) ∙ listed)
+      by (inr other) = (other, sym (ap (λ (p : SessionSubscriptions). is_listed m p.numbers) (part_stays session j w.table.sessions other)) ∙ listed)
 
   asks_yet : (j : ℕ) → is_any (part_at j (remove_entry (is_at (nat_cmp session)) w.table.sessions)).requests ≡ true → is_any (part_at j w.table.sessions).requests ≡ true
   asks_yet j any = by (same_or_not j session)
@@ -198,13 +198,13 @@ module _ (session made : ℕ) (past : List Fired) (w : World) (k : IsKept (Some 
       by (inl same) =
           let gone : part_at j (remove_entry (is_at (nat_cmp session)) w.table.sessions) ≡ no_part =
           ap (λ (i : ℕ). part_at i (remove_entry (is_at (nat_cmp session)) w.table.sessions)) same ∙ part_gone session w.table.sessions k.calm.listed.sessions in
-          let clash : false ≡ true = sym (ap (λ (p : SessionPart). is_any p.requests) gone) ∙ any in
+          let clash : false ≡ true = sym (ap (λ (p : SessionSubscriptions). is_any p.requests) gone) ∙ any in
           absurd (false≢true clash)
-      by (inr other) = sym (ap (λ (p : SessionPart). is_any p.requests) (part_stays session j w.table.sessions other)) ∙ any
+      by (inr other) = sym (ap (λ (p : SessionSubscriptions). is_any p.requests) (part_stays session j w.table.sessions other)) ∙ any
 
   still_listed : (m : ℕ) (s : Subscription) (j : ℕ) → subscription_at m w.table.subscriptions ≡ Some s → s.session ≡ Some j → is_listed m (part_at j (remove_entry (is_at (nat_cmp session)) w.table.sessions)).numbers ≡ true
   still_listed m s j found own =
-      ap (λ (p : SessionPart). is_listed m p.numbers) (part_stays session j w.table.sessions (λ same. none m s found (own ∙ ap Some same))) ∙ k.calm.listed.listed m s j found own
+      ap (λ (p : SessionSubscriptions). is_listed m p.numbers) (part_stays session j w.table.sessions (λ same. none m s found (own ∙ ap Some same))) ∙ k.calm.listed.listed m s j found own
 
   rising_yet : (j : ℕ) → AreNumbersRising (part_at j (remove_entry (is_at (nat_cmp session)) w.table.sessions)).numbers
   rising_yet j = by (same_or_not j session)
@@ -213,8 +213,8 @@ module _ (session made : ℕ) (past : List Fired) (w : World) (k : IsKept (Some 
       by (inl same) =
           let gone : part_at j (remove_entry (is_at (nat_cmp session)) w.table.sessions) ≡ no_part =
           ap (λ (i : ℕ). part_at i (remove_entry (is_at (nat_cmp session)) w.table.sessions)) same ∙ part_gone session w.table.sessions k.calm.listed.sessions in
-          subst (λ (p : SessionPart). AreNumbersRising p.numbers) (sym gone) tt
-      by (inr other) = subst (λ (p : SessionPart). AreNumbersRising p.numbers) (sym (part_stays session j w.table.sessions other)) (k.within.rising j)
+          subst (λ (p : SessionSubscriptions). AreNumbersRising p.numbers) (sym gone) tt
+      by (inr other) = subst (λ (p : SessionSubscriptions). AreNumbersRising p.numbers) (sym (part_stays session j w.table.sessions other)) (k.within.rising j)
 
   left_without : IsKept None made past (without_session session w)
   left_without = record {

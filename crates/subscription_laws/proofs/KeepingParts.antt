@@ -5,28 +5,28 @@ use Rattle.std.specs.BTreeMap.{is_at}
 use Rattle.std.specs.Map.{lookup, set_value}
 use Rattle.std.specs.Option.{is_some}
 use Rattle.std.specs.Ordering.{nat_cmp}
-use Rattle.ua_requests.specs.declared.fired.Fired.{Fired}
-use Rattle.sub_table.specs.Steady.{IsSteady}
-use Rattle.monitored_items.specs.Items.{ItemsState}
-use Rattle.subscription.specs.declared.messages.KeptMessage.{KeptMessage}
-use Rattle.subscription.specs.declared.publish_call.PublishCall.{PublishCall}
-use Rattle.subscription.specs.declared.session_part.SessionPart.{SessionPart}
-use Rattle.subscription.specs.declared.subscription.Subscription.{Subscription}
+use Rattle.server_messages.specs.declared.fired.Fired.{Fired}
+use Rattle.ua_state_table.specs.Steady.{IsSteady}
+use Rattle.ua_monitored_items.specs.Items.{ItemsState}
+use Rattle.ua_subscriptions.specs.declared.messages.KeptMessage.{KeptMessage}
+use Rattle.ua_subscriptions.specs.declared.publish_call.PublishCall.{PublishCall}
+use Rattle.ua_subscriptions.specs.declared.session_part.SessionSubscriptions.{SessionSubscriptions}
+use Rattle.ua_subscriptions.specs.declared.subscription.Subscription.{Subscription}
 use Rattle.subscription_laws.specs.Calm.{AreAbove, AreRising, is_listed, ListsItsOwn, AreLists, AreNumbersRising, standing_at, IsCalm}
-use Rattle.subscription.specs.Ending.{came_by_other, part_without_conn, entry_without_conn}
+use Rattle.ua_subscriptions.specs.Ending.{came_by_other, part_without_conn, entry_without_conn}
 use Rattle.subscription_laws.specs.Histories.{counts_at}
-use Rattle.subscription.specs.Subscriptions.{no_part, is_any}
-use Rattle.subscription.specs.Tables.{TableState, subscription_at, part_at, part_of}
+use Rattle.ua_subscriptions.specs.Subscriptions.{no_part, is_any}
+use Rattle.ua_subscriptions.specs.Tables.{TableState, subscription_at, part_at, part_of}
 use Rattle.subscription_laws.proofs.Entries.{same_or_not, set_here, set_other, rising_set}
-use Rattle.subscription.proofs.Meetings.{set_absent}
+use Rattle.ua_subscriptions.proofs.Meetings.{set_absent}
 use Rattle.subscription_laws.proofs.Settling.{still}
 
-abbrev pub with_sessions : TableState → List (ℕ × SessionPart) → TableState
+abbrev pub with_sessions : TableState → List (ℕ × SessionSubscriptions) → TableState
 with_sessions t sessions = record { subscriptions = t.subscriptions; sessions = sessions }
 
 -- ---- sessions have other parts: they list what lives, and no request is there that wasn't
 
-pub fewer_calm : (rows : List Fired) (t : TableState) (items : ItemsState) (sessions : List (ℕ × SessionPart)) → AreRising sessions →
+pub fewer_calm : (rows : List Fired) (t : TableState) (items : ItemsState) (sessions : List (ℕ × SessionSubscriptions)) → AreRising sessions →
     ((m : ℕ) (s : Subscription) (k : ℕ) → subscription_at m t.subscriptions ≡ Some s → s.session ≡ Some k → is_listed m (part_at k sessions).numbers ≡ true) →
     ((k : ℕ) → is_any (part_at k sessions).requests ≡ true → is_any (part_at k t.sessions).requests ≡ true) →
     IsCalm rows t items → IsCalm rows (with_sessions t sessions) items
@@ -44,12 +44,12 @@ fewer_calm rows t items sessions rising listed fewer h = record {
     asks (Some k) e = fewer k e
 
 -- parts that list the same, with no request that wasn't there
-pub record AreFewer (sessions sessions2 : List (ℕ × SessionPart)) : Type 0 where
+pub record AreFewer (sessions sessions2 : List (ℕ × SessionSubscriptions)) : Type 0 where
   pub rising : AreRising sessions → AreRising sessions2
   pub numbers : (k : ℕ) → (part_at k sessions2).numbers ≡ (part_at k sessions).numbers
   pub requests : (k : ℕ) → is_any (part_at k sessions2).requests ≡ true → is_any (part_at k sessions).requests ≡ true
 
-module _ (rows : List Fired) (t : TableState) (items : ItemsState) (sessions : List (ℕ × SessionPart)) (f : AreFewer t.sessions sessions) where
+module _ (rows : List Fired) (t : TableState) (items : ItemsState) (sessions : List (ℕ × SessionSubscriptions)) (f : AreFewer t.sessions sessions) where
   pub parts_calm : IsCalm rows t items → IsCalm rows (with_sessions t sessions) items
   parts_calm h =
       fewer_calm rows t items sessions (f.rising h.listed.sessions) (λ m s k found own. ap (is_listed m) (f.numbers k) ∙ h.listed.listed m s k found own) f.requests h
@@ -64,14 +64,14 @@ module _ (rows : List Fired) (t : TableState) (items : ItemsState) (sessions : L
   }
 
 -- one session has another part
-pub set_part_is : (k j : ℕ) (part : SessionPart) (sessions : List (ℕ × SessionPart)) →
+pub set_part_is : (k j : ℕ) (part : SessionSubscriptions) (sessions : List (ℕ × SessionSubscriptions)) →
     (part_at j (set_value (is_at (nat_cmp k)) sessions part) ≡ part_at j sessions) ⊎ ((j ≡ k) × (part_at j (set_value (is_at (nat_cmp k)) sessions part) ≡ part))
 set_part_is k j part sessions = by (same_or_not j k)
   where
-    here : (o : Option SessionPart) → lookup (is_at (nat_cmp k)) sessions ≡ o →
+    here : (o : Option SessionSubscriptions) → lookup (is_at (nat_cmp k)) sessions ≡ o →
         (part_at k (set_value (is_at (nat_cmp k)) sessions part) ≡ part_at k sessions) ⊎ (part_at k (set_value (is_at (nat_cmp k)) sessions part) ≡ part)
     here None none = inl (ap (part_at k) (set_absent (is_at (nat_cmp k)) sessions part none))
-    here (Some old) found = inr (ap (λ (o : Option SessionPart). unwrap_or o no_part) (set_here k old part sessions found))
+    here (Some old) found = inr (ap (λ (o : Option SessionSubscriptions). unwrap_or o no_part) (set_here k old part sessions found))
 
     at_k : (j ≡ k) → (part_at k (set_value (is_at (nat_cmp k)) sessions part) ≡ part_at k sessions) ⊎ (part_at k (set_value (is_at (nat_cmp k)) sessions part) ≡ part) →
         (part_at j (set_value (is_at (nat_cmp k)) sessions part) ≡ part_at j sessions) ⊎ ((j ≡ k) × (part_at j (set_value (is_at (nat_cmp k)) sessions part) ≡ part))
@@ -80,9 +80,9 @@ set_part_is k j part sessions = by (same_or_not j k)
 
     by : (j ≡ k) ⊎ (j ≢ k) → (part_at j (set_value (is_at (nat_cmp k)) sessions part) ≡ part_at j sessions) ⊎ ((j ≡ k) × (part_at j (set_value (is_at (nat_cmp k)) sessions part) ≡ part))
     by (inl same) = at_k same (here (lookup (is_at (nat_cmp k)) sessions) refl)
-    by (inr other) = inl (ap (λ (o : Option SessionPart). unwrap_or o no_part) (set_other k j part other sessions))
+    by (inr other) = inl (ap (λ (o : Option SessionSubscriptions). unwrap_or o no_part) (set_other k j part other sessions))
 
-pub set_fewer : (k : ℕ) (part : SessionPart) (sessions : List (ℕ × SessionPart)) → part.numbers ≡ (part_at k sessions).numbers → (is_any part.requests ≡ true → is_any (part_at k sessions).requests ≡ true) →
+pub set_fewer : (k : ℕ) (part : SessionSubscriptions) (sessions : List (ℕ × SessionSubscriptions)) → part.numbers ≡ (part_at k sessions).numbers → (is_any part.requests ≡ true → is_any (part_at k sessions).requests ≡ true) →
     AreFewer sessions (set_value (is_at (nat_cmp k)) sessions part)
 set_fewer k part sessions same fewer = record {
   rising = λ r. rising_set k part sessions r;
@@ -92,13 +92,13 @@ set_fewer k part sessions same fewer = record {
   where
     numbers : (j : ℕ) → (part_at j (set_value (is_at (nat_cmp k)) sessions part) ≡ part_at j sessions) ⊎ ((j ≡ k) × (part_at j (set_value (is_at (nat_cmp k)) sessions part) ≡ part)) →
         (part_at j (set_value (is_at (nat_cmp k)) sessions part)).numbers ≡ (part_at j sessions).numbers
-    numbers j (inl e) = ap (λ (p : SessionPart). p.numbers) e
-    numbers j (inr (is, e)) = ap (λ (p : SessionPart). p.numbers) e ∙ same ∙ ap (λ (i : ℕ). (part_at i sessions).numbers) (sym is)
+    numbers j (inl e) = ap (λ (p : SessionSubscriptions). p.numbers) e
+    numbers j (inr (is, e)) = ap (λ (p : SessionSubscriptions). p.numbers) e ∙ same ∙ ap (λ (i : ℕ). (part_at i sessions).numbers) (sym is)
 
     requests : (j : ℕ) → (part_at j (set_value (is_at (nat_cmp k)) sessions part) ≡ part_at j sessions) ⊎ ((j ≡ k) × (part_at j (set_value (is_at (nat_cmp k)) sessions part) ≡ part)) →
         is_any (part_at j (set_value (is_at (nat_cmp k)) sessions part)).requests ≡ true → is_any (part_at j sessions).requests ≡ true
-    requests j (inl e) any = sym (ap (λ (p : SessionPart). is_any p.requests) e) ∙ any
-    requests j (inr (is, e)) any = ap (λ (i : ℕ). is_any (part_at i sessions).requests) is ∙ fewer (sym (ap (λ (p : SessionPart). is_any p.requests) e) ∙ any)
+    requests j (inl e) any = sym (ap (λ (p : SessionSubscriptions). is_any p.requests) e) ∙ any
+    requests j (inr (is, e)) any = ap (λ (i : ℕ). is_any (part_at i sessions).requests) is ∙ fewer (sym (ap (λ (p : SessionSubscriptions). is_any p.requests) e) ∙ any)
 
 -- ---- the requests of a connection go
 
@@ -106,7 +106,7 @@ filtered_any : (conn : ℕ) (calls : List PublishCall) → is_any (filter (came_
 filtered_any conn [] h = h
 filtered_any conn (call ∷ calls) h = refl
 
-pub conn_part : (conn k : ℕ) (sessions : List (ℕ × SessionPart)) → part_at k (map (entry_without_conn conn) sessions) ≡ part_without_conn conn (part_at k sessions)
+pub conn_part : (conn k : ℕ) (sessions : List (ℕ × SessionSubscriptions)) → part_at k (map (entry_without_conn conn) sessions) ≡ part_without_conn conn (part_at k sessions)
 conn_part conn k [] = refl
 conn_part conn k (e ∷ es) = by (is_at (nat_cmp k) e.0) (conn_part conn k es)
   where
@@ -115,19 +115,19 @@ conn_part conn k (e ∷ es) = by (is_at (nat_cmp k) e.0) (conn_part conn k es)
     by true rest = refl
     by false rest = rest
 
-conn_above : (conn k : ℕ) (sessions : List (ℕ × SessionPart)) → AreAbove k sessions → AreAbove k (map (entry_without_conn conn) sessions)
+conn_above : (conn k : ℕ) (sessions : List (ℕ × SessionSubscriptions)) → AreAbove k sessions → AreAbove k (map (entry_without_conn conn) sessions)
 conn_above conn k [] h = tt
 conn_above conn k (e ∷ es) h = (h.0, conn_above conn k es h.1)
 
-conn_rises : (conn : ℕ) (sessions : List (ℕ × SessionPart)) → AreRising sessions → AreRising (map (entry_without_conn conn) sessions)
+conn_rises : (conn : ℕ) (sessions : List (ℕ × SessionSubscriptions)) → AreRising sessions → AreRising (map (entry_without_conn conn) sessions)
 conn_rises conn [] h = tt
 conn_rises conn (e ∷ es) h = (conn_above conn e.0 es h.0, conn_rises conn es h.1)
 
-pub conn_fewer : (conn : ℕ) (sessions : List (ℕ × SessionPart)) → AreFewer sessions (map (entry_without_conn conn) sessions)
+pub conn_fewer : (conn : ℕ) (sessions : List (ℕ × SessionSubscriptions)) → AreFewer sessions (map (entry_without_conn conn) sessions)
 conn_fewer conn sessions = record {
   rising = conn_rises conn sessions;
-  numbers = λ k. ap (λ (p : SessionPart). p.numbers) (conn_part conn k sessions);
-  requests = λ k any. filtered_any conn (part_at k sessions).requests (sym (ap (λ (p : SessionPart). is_any p.requests) (conn_part conn k sessions)) ∙ any);
+  numbers = λ k. ap (λ (p : SessionSubscriptions). p.numbers) (conn_part conn k sessions);
+  requests = λ k any. filtered_any conn (part_at k sessions).requests (sym (ap (λ (p : SessionSubscriptions). is_any p.requests) (conn_part conn k sessions)) ∙ any);
 }
 
 -- ---- a message is no longer kept

@@ -8,29 +8,29 @@ use Rattle.std.specs.Ordering.{nat_cmp, match_ordering}
 use Rattle.std.specs.declared.cmp.Ordering.{Ordering}
 use Rattle.std.specs.declared.cmp.Ordering.TheVariants.{Less, Equal, Greater}
 use Rattle.ua_types.specs.declared.status.TheConstants.Status as status
-use Rattle.ua_requests.specs.declared.fired.Fired.{Fired}
-use Rattle.sub_messages.specs.declared.publishing.SubscriptionAcknowledgement.{SubscriptionAcknowledgement}
-use Rattle.sub_table.specs.Chosen.{answers, publish_row}
-use Rattle.sub_table.specs.Doing.{enqueues}
-use Rattle.sub_table.specs.declared.row.RowId.{RowId}
-use Rattle.sub_table.specs.declared.row.RowId.TheVariants.{N1, K1}
-use Rattle.sub_table.specs.declared.state.State.{State}
-use Rattle.sub_table.specs.declared.state.State.TheVariants.{Closed, Normal, Late, KeepAlive}
-use Rattle.subscription.specs.declared.call.Call.TheVariants.{Publish}
-use Rattle.subscription.specs.declared.publish_call.PublishCall.{PublishCall}
-use Rattle.subscription.specs.declared.ranks.Rank.{Rank}
-use Rattle.subscription.specs.declared.session_part.SessionPart.{SessionPart}
-use Rattle.subscription.specs.declared.session_part.TimeoutNote.{TimeoutNote}
-use Rattle.subscription.specs.declared.subscription.Subscription.{Subscription}
+use Rattle.server_messages.specs.declared.fired.Fired.{Fired}
+use Rattle.ua_subscription_messages.specs.declared.publishing.SubscriptionAcknowledgement.{SubscriptionAcknowledgement}
+use Rattle.ua_state_table.specs.Chosen.{answers, publish_row}
+use Rattle.ua_state_table.specs.Doing.{enqueues}
+use Rattle.ua_state_table.specs.declared.row.RowId.{RowId}
+use Rattle.ua_state_table.specs.declared.row.RowId.TheVariants.{N1, K1}
+use Rattle.ua_state_table.specs.declared.state.State.{State}
+use Rattle.ua_state_table.specs.declared.state.State.TheVariants.{Closed, Normal, Late, KeepAlive}
+use Rattle.ua_subscriptions.specs.declared.call.Call.TheVariants.{Publish}
+use Rattle.ua_subscriptions.specs.declared.publish_call.PublishCall.{PublishCall}
+use Rattle.ua_subscriptions.specs.declared.ranks.Rank.{Rank}
+use Rattle.ua_subscriptions.specs.declared.session_part.SessionSubscriptions.{SessionSubscriptions}
+use Rattle.ua_subscriptions.specs.declared.session_part.TimeoutNote.{TimeoutNote}
+use Rattle.ua_subscriptions.specs.declared.subscription.Subscription.{Subscription}
 use Rattle.subscription_laws.specs.Calm.{is_listed}
-use Rattle.subscription.specs.Firing.{vars_in, row_of, fired}
-use Rattle.subscription.specs.Publishing.{forgotten, without_kept, Acknowledged, acknowledgement_status, acknowledged_by, acknowledged, AllAcknowledged, with_acknowledged, acknowledged_all, note_of, part_without_note, without_note, asked_by, met_by_best, answered_to, answered_by, with_results, published}
-use Rattle.subscription.specs.Queues.{first_of}
-use Rattle.subscription.specs.Ranks.{rank_cmp, rank_of, with_rank, waits_in, is_waiting, waiting_by, with_waiting, waiting_of}
-use Rattle.subscription.specs.Scenes.{Scene, row_done}
+use Rattle.ua_subscriptions.specs.Firing.{vars_in, row_of, fired}
+use Rattle.ua_subscriptions.specs.Publishing.{forgotten, without_kept, Acknowledged, acknowledgement_status, acknowledged_by, acknowledged, AllAcknowledged, with_acknowledged, acknowledged_all, note_of, part_without_note, without_note, asked_by, met_by_best, answered_to, answered_by, with_results, published}
+use Rattle.ua_subscriptions.specs.Queues.{first_of}
+use Rattle.ua_subscriptions.specs.Ranks.{rank_cmp, rank_of, with_rank, waits_in, is_waiting, waiting_by, with_waiting, waiting_of}
+use Rattle.ua_subscriptions.specs.Scenes.{Scene, row_done}
 use Rattle.subscription_laws.specs.Standings.{IsAsked}
-use Rattle.subscription.specs.Subscriptions.{is_any, is_of}
-use Rattle.subscription.specs.Tables.{TableState, World, with_call, without_closed, met_found, met, all_met, part_at, part_of, set_part, subscription_at}
+use Rattle.ua_subscriptions.specs.Subscriptions.{is_any, is_of}
+use Rattle.ua_subscriptions.specs.Tables.{TableState, World, with_call, without_closed, met_found, met, all_met, part_at, part_of, set_part, subscription_at}
 use Rattle.subscription_laws.proofs.ChosenRows.{publish_stays, waiting_none, live_fits}
 use Rattle.subscription_laws.proofs.Entries.{same_or_not, at_itself, apart}
 use Rattle.subscription_laws.proofs.Keeping.{IsKept, scene_at, world_after, live_kept, fired_stays}
@@ -265,7 +265,7 @@ module _ (session made : ℕ) (past : List Fired) (w : World) (n : ℕ) (ns : Li
         asking = record {
           kept = live_kept None made past w n Publish s found h.kept refl (live_fits s.state Publish refl live) (λ e. (is, none)) (inl stays);
           none = λ m u after same. none_after s found queued.calm own m u (back_is n s (fired (scene_at w n Publish s)).subscription w.table.subscriptions h.kept.calm.listed.subscriptions found m u after) same;
-          asked = either (is_some (fired (scene_at w n Publish s)).turn.asked) _ (ap (λ (p : SessionPart). is_any p.requests) part ∙ queued.any);
+          asked = either (is_some (fired (scene_at w n Publish s)).turn.asked) _ (ap (λ (p : SessionSubscriptions). is_any p.requests) part ∙ queued.any);
         };
         of = λ m u listed after. of_after s (stays ∙ own) m u listed (back_is n s (fired (scene_at w n Publish s)).subscription w.table.subscriptions h.kept.calm.listed.subscriptions found m u after);
       }

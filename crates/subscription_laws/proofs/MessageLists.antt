@@ -3,12 +3,12 @@ use Rattle.std.proofs.Common.{◌≡◌, ◌≢◌, inl, inr, ℕ, zero, suc, �
 use Rattle.std.proofs.lemmas.Bool.{eq-eqb, eqb-true}
 use Rattle.std.specs.List.{position}
 use Rattle.std.specs.Prelude.{◌==◌, nat_lt}
-use Rattle.subscription.specs.declared.messages.KeptMessage.{KeptMessage}
-use Rattle.subscription.specs.Messages.{has_number}
+use Rattle.ua_subscriptions.specs.declared.messages.KeptMessage.{KeptMessage}
+use Rattle.ua_subscriptions.specs.Messages.{has_number}
 use Rattle.subscription_laws.specs.Messaging.{Made, made_of, messages_for, IsAmong, AreAmong}
 use Rattle.subscription_laws.specs.Numbering.{AreNumbered, last_number, all_kept}
-use Rattle.subscription.specs.Publishing.{without_at, forgotten}
-use Rattle.subscription.specs.Scenes.{kept_with}
+use Rattle.ua_subscriptions.specs.Publishing.{without_at, forgotten}
+use Rattle.ua_subscriptions.specs.Scenes.{kept_with}
 
 -- ---- more numbers
 

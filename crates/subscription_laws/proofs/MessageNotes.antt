@@ -4,25 +4,25 @@ use Rattle.std.specs.BTreeMap.{is_at}
 use Rattle.std.specs.List.{list_any}
 use Rattle.std.specs.Map.{set_value, remove_entry}
 use Rattle.std.specs.Ordering.{nat_cmp}
-use Rattle.sub_table.specs.StateTable.{actions_of}
-use Rattle.sub_table.specs.declared.action.Action.{Action}
-use Rattle.sub_table.specs.declared.action.Action.TheVariants.{Enqueue, NoteTimeout}
-use Rattle.sub_table.specs.declared.row.RowId.{RowId}
-use Rattle.sub_table.specs.declared.row.RowId.TheVariants.{G6}
-use Rattle.subscription.specs.declared.call.Call.{Call}
-use Rattle.subscription.specs.declared.messages.KeptMessage.{KeptMessage}
-use Rattle.subscription.specs.declared.publish_call.PublishCall.{PublishCall}
-use Rattle.subscription.specs.declared.session_part.SessionPart.{SessionPart}
-use Rattle.subscription.specs.declared.session_part.TimeoutNote.{TimeoutNote}
-use Rattle.subscription.specs.declared.subscription.Subscription.{Subscription}
-use Rattle.subscription.specs.declared.turn.Turn.{Turn}
+use Rattle.ua_state_table.specs.StateTable.{actions_of}
+use Rattle.ua_state_table.specs.declared.action.Action.{Action}
+use Rattle.ua_state_table.specs.declared.action.Action.TheVariants.{Enqueue, NoteTimeout}
+use Rattle.ua_state_table.specs.declared.row.RowId.{RowId}
+use Rattle.ua_state_table.specs.declared.row.RowId.TheVariants.{G6}
+use Rattle.ua_subscriptions.specs.declared.call.Call.{Call}
+use Rattle.ua_subscriptions.specs.declared.messages.KeptMessage.{KeptMessage}
+use Rattle.ua_subscriptions.specs.declared.publish_call.PublishCall.{PublishCall}
+use Rattle.ua_subscriptions.specs.declared.session_part.SessionSubscriptions.{SessionSubscriptions}
+use Rattle.ua_subscriptions.specs.declared.session_part.TimeoutNote.{TimeoutNote}
+use Rattle.ua_subscriptions.specs.declared.subscription.Subscription.{Subscription}
+use Rattle.ua_subscriptions.specs.declared.turn.Turn.{Turn}
 use Rattle.subscription_laws.specs.Calm.{AreRising}
-use Rattle.subscription.specs.Firing.{is_closed, row_of, fired}
-use Rattle.subscription.specs.Messages.{number_after}
+use Rattle.ua_subscriptions.specs.Firing.{is_closed, row_of, fired}
+use Rattle.ua_subscriptions.specs.Messages.{number_after}
 use Rattle.subscription_laws.specs.Messaging.{Made, made_of, made_by, met_made, all_made, messages_for, AreNotes}
 use Rattle.subscription_laws.specs.Numbering.{last_number, messages_of}
-use Rattle.subscription.specs.Scenes.{Scene, Queueing, enqueued, enqueued_by, done, all_done, row_done}
-use Rattle.subscription.specs.Tables.{TableState, World, with_call, without_closed, met_found, met, all_met, part_at, part_of, set_part, subscription_at}
+use Rattle.ua_subscriptions.specs.Scenes.{Scene, Queueing, enqueued, enqueued_by, done, all_done, row_done}
+use Rattle.ua_subscriptions.specs.Tables.{TableState, World, with_call, without_closed, met_found, met, all_met, part_at, part_of, set_part, subscription_at}
 use Rattle.subscription_laws.proofs.ChosenRows.{is_create}
 use Rattle.subscription_laws.proofs.Entries.{gone_here, rising_set}
 use Rattle.subscription_laws.proofs.Keeping.{scene_at}
@@ -86,15 +86,15 @@ abbrev pub is_noting : Action → Bool
 is_noting NoteTimeout = true
 is_noting action = false
 
-enqueued_notes_if : (full : Bool) (part : SessionPart) (a b : Queueing) → a.part.notes ≡ part.notes → b.part.notes ≡ part.notes → (cond full a b).part.notes ≡ part.notes
+enqueued_notes_if : (full : Bool) (part : SessionSubscriptions) (a b : Queueing) → a.part.notes ≡ part.notes → b.part.notes ≡ part.notes → (cond full a b).part.notes ≡ part.notes
 enqueued_notes_if true part a b g h = g
 enqueued_notes_if false part a b g h = h
 
-enqueued_notes_by : (asked : Option PublishCall) (turn : Turn) (part : SessionPart) → (enqueued_by asked turn part).part.notes ≡ part.notes
+enqueued_notes_by : (asked : Option PublishCall) (turn : Turn) (part : SessionSubscriptions) → (enqueued_by asked turn part).part.notes ≡ part.notes
 enqueued_notes_by None turn part = refl
 enqueued_notes_by (Some call) turn part = enqueued_notes_if (nat_le turn.bounds.publish_queue (length part.requests)) part _ _ refl refl
 
-enqueued_notes : (turn : Turn) (part : SessionPart) → (enqueued turn part).part.notes ≡ part.notes
+enqueued_notes : (turn : Turn) (part : SessionSubscriptions) → (enqueued turn part).part.notes ≡ part.notes
 unfolding enqueued
 enqueued_notes turn part = enqueued_notes_by turn.asked turn part
 
@@ -203,8 +203,8 @@ module _ (made : ℕ) (ms : List Made) (w : World) (n : ℕ) (call : Call) (s : 
     where
       by : (part_at k (set_value (is_at (nat_cmp j)) w.table.sessions (fired here).part) ≡ part_at k w.table.sessions) ⊎ ((k ≡ j) × (part_at k (set_value (is_at (nat_cmp j)) w.table.sessions (fired here).part) ≡ (fired here).part)) →
           AllNotes made after left (part_at k (set_value (is_at (nat_cmp j)) w.table.sessions (fired here).part)).notes
-      by (inl same) = subst (λ (p : SessionPart). AllNotes made after left p.notes) (sym same) (notes_before k)
-      by (inr (at, is)) = subst (λ (p : SessionPart). AllNotes made after left p.notes) (sym is) own_notes
+      by (inl same) = subst (λ (p : SessionSubscriptions). AllNotes made after left p.notes) (sym same) (notes_before k)
+      by (inr (at, is)) = subst (λ (p : SessionSubscriptions). AllNotes made after left p.notes) (sym is) own_notes
 
 met_notes : (made : ℕ) (ms : List Made) (w : World) (n : ℕ) (call : Call) → IsMessaged made ms w.table → (k : ℕ) → AllNotes made (ms ++ met_made w n call) (met w n call).table.subscriptions (part_at k (met w n call).table.sessions).notes
 unfolding met

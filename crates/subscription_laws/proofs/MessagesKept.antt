@@ -2,23 +2,23 @@
 use Rattle.std.proofs.Common.{◌≡◌, ◌≢◌, ◌⊎◌, inl, inr, ℕ, ◌<◌, ◌≤◌, arith, Bool, true, false, ◌||◌, cond, List, [], ◌∷◌, ◌++◌, append-nil, append_assoc, Option, Some, None, refl, sym, ap, ◌∙◌, subst}
 use Rattle.std.proofs.lemmas.Bool.{false≢true}
 use Rattle.std.specs.Prelude.{not}
-use Rattle.sub_table.specs.Chosen.{Answers, answers, timer_row, publish_row, chosen}
-use Rattle.sub_table.specs.declared.row.RowId.{RowId}
-use Rattle.sub_table.specs.declared.row.RowId.TheVariants.{C2, N1, N2, N3, N4, N5, N6, L1, L2, K2, K3, K4, K5, G5, G6, G8}
-use Rattle.sub_table.specs.declared.state.State.{State}
-use Rattle.sub_table.specs.declared.state.State.TheVariants.{Closed, Normal, Late, KeepAlive}
-use Rattle.sub_table.specs.declared.vars.Vars.{Vars}
-use Rattle.subscription.specs.declared.call.Call.{Call}
-use Rattle.subscription.specs.declared.call.Call.TheVariants.{Create, Publish, Timer, Modify, SetMode, Republish, Delete, Items, SessionEnd}
-use Rattle.subscription.specs.declared.messages.KeptMessage.{KeptMessage}
-use Rattle.subscription.specs.declared.subscription.Subscription.{Subscription}
-use Rattle.subscription.specs.Calls.{event_of}
+use Rattle.ua_state_table.specs.Chosen.{Answers, answers, timer_row, publish_row, chosen}
+use Rattle.ua_state_table.specs.declared.row.RowId.{RowId}
+use Rattle.ua_state_table.specs.declared.row.RowId.TheVariants.{C2, N1, N2, N3, N4, N5, N6, L1, L2, K2, K3, K4, K5, G5, G6, G8}
+use Rattle.ua_state_table.specs.declared.state.State.{State}
+use Rattle.ua_state_table.specs.declared.state.State.TheVariants.{Closed, Normal, Late, KeepAlive}
+use Rattle.ua_state_table.specs.declared.vars.Vars.{Vars}
+use Rattle.ua_subscriptions.specs.declared.call.Call.{Call}
+use Rattle.ua_subscriptions.specs.declared.call.Call.TheVariants.{Create, Publish, Timer, Modify, SetMode, Republish, Delete, Items, SessionEnd}
+use Rattle.ua_subscriptions.specs.declared.messages.KeptMessage.{KeptMessage}
+use Rattle.ua_subscriptions.specs.declared.subscription.Subscription.{Subscription}
+use Rattle.ua_subscriptions.specs.Calls.{event_of}
 use Rattle.subscription_laws.specs.Calm.{AreRising}
-use Rattle.subscription.specs.Firing.{is_closed, before_of, row_of, fired}
+use Rattle.ua_subscriptions.specs.Firing.{is_closed, before_of, row_of, fired}
 use Rattle.subscription_laws.specs.Messaging.{Made, made_of, made_by, met_made, all_made, messages_for, AreAmong, AreItsMessages}
 use Rattle.subscription_laws.specs.Numbering.{AreNumbered, last_number, IsMade, messages_of, begins_or_ends}
-use Rattle.subscription.specs.Scenes.{Scene, row_done}
-use Rattle.subscription.specs.Tables.{World, with_call, without_closed, met_found, met, all_met, subscription_at}
+use Rattle.ua_subscriptions.specs.Scenes.{Scene, row_done}
+use Rattle.ua_subscriptions.specs.Tables.{World, with_call, without_closed, met_found, met, all_met, subscription_at}
 use Rattle.subscription_laws.proofs.ChosenRows.{is_create}
 use Rattle.subscription_laws.proofs.Entries.{same_or_not}
 use Rattle.subscription_laws.proofs.Firings.{fired_subscription}

@@ -13,34 +13,34 @@ use Rattle.ua_types.specs.Configuration.{Configuration}
 use Rattle.ua_types.specs.declared.moment.Moment.{Moment}
 use Rattle.ua_types.specs.declared.status.Status.{Status}
 use Rattle.ua_types.specs.declared.status.TheConstants.Status as status
-use Rattle.sub_messages.specs.declared.publishing.SubscriptionAcknowledgement.{SubscriptionAcknowledgement}
-use Rattle.sub_table.specs.declared.vars.Vars.{Vars}
-use Rattle.monitored_items.specs.Items.{ItemsState}
-use Rattle.monitored_items.specs.ItemTables.{item_at, is_of}
-use Rattle.monitored_items.specs.Moves as item_moves
-use Rattle.monitored_items.specs.declared.item.Item.{Item}
-use Rattle.subscription.specs.declared.call.Call.{Call}
-use Rattle.subscription.specs.declared.call.Call.TheVariants as call
-use Rattle.subscription.specs.declared.publish_call.PublishCall.{PublishCall}
-use Rattle.subscription.specs.declared.ranks.Rank.{Rank}
-use Rattle.subscription.specs.declared.session_part.SessionPart.{SessionPart}
-use Rattle.subscription.specs.declared.session_part.TimeoutNote.{TimeoutNote}
-use Rattle.subscription.specs.declared.settings.Settings.{Settings}
-use Rattle.subscription.specs.declared.subs.Created.{Created}
-use Rattle.subscription.specs.declared.subscription.Subscription.{Subscription}
+use Rattle.ua_subscription_messages.specs.declared.publishing.SubscriptionAcknowledgement.{SubscriptionAcknowledgement}
+use Rattle.ua_state_table.specs.declared.vars.Vars.{Vars}
+use Rattle.ua_monitored_items.specs.Items.{ItemsState}
+use Rattle.ua_monitored_items.specs.ItemTables.{item_at, is_of}
+use Rattle.ua_monitored_items.specs.Moves as item_moves
+use Rattle.ua_monitored_items.specs.declared.item.Item.{Item}
+use Rattle.ua_subscriptions.specs.declared.call.Call.{Call}
+use Rattle.ua_subscriptions.specs.declared.call.Call.TheVariants as call
+use Rattle.ua_subscriptions.specs.declared.publish_call.PublishCall.{PublishCall}
+use Rattle.ua_subscriptions.specs.declared.ranks.Rank.{Rank}
+use Rattle.ua_subscriptions.specs.declared.session_part.SessionSubscriptions.{SessionSubscriptions}
+use Rattle.ua_subscriptions.specs.declared.session_part.TimeoutNote.{TimeoutNote}
+use Rattle.ua_subscriptions.specs.declared.settings.Settings.{Settings}
+use Rattle.ua_subscriptions.specs.declared.subscriptions.Created.{Created}
+use Rattle.ua_subscriptions.specs.declared.subscription.Subscription.{Subscription}
 use Rattle.subscription_laws.specs.Apartness.{IsRequestOf, OthersStay}
 use Rattle.subscription_laws.specs.Calm.{is_listed, AreRising, AreReached}
-use Rattle.subscription.specs.Ending.{session_ended}
-use Rattle.subscription.specs.Firing.{fired}
-use Rattle.subscription.specs.Making.{revised_of, kept_at, modified, republished, refused_one, with_number, added}
-use Rattle.subscription.specs.Named.{Outcome, outcome, is_own_in, is_own, own_met, named_one, named_all, without_requests, all_refused, has_none, deleted}
-use Rattle.subscription.specs.Publishing.{without_kept, Acknowledged, acknowledgement_status, acknowledged_by, acknowledged, AllAcknowledged, with_acknowledged, acknowledged_all, note_of, part_without_note, without_note, asked_by, met_by_best, answered_to, answered_by, with_results, published}
-use Rattle.subscription.specs.Queues.{first_of}
-use Rattle.subscription.specs.Ranks.{rank_cmp, rank_of, with_rank, is_waiting, waiting_by, with_waiting, waiting_of}
+use Rattle.ua_subscriptions.specs.Ending.{session_ended}
+use Rattle.ua_subscriptions.specs.Firing.{fired}
+use Rattle.ua_subscriptions.specs.Making.{revised_of, kept_at, modified, republished, refused_one, with_number, added}
+use Rattle.ua_subscriptions.specs.Named.{Outcome, outcome, is_own_in, is_own, own_met, named_one, named_all, without_requests, all_refused, has_none, deleted}
+use Rattle.ua_subscriptions.specs.Publishing.{without_kept, Acknowledged, acknowledgement_status, acknowledged_by, acknowledged, AllAcknowledged, with_acknowledged, acknowledged_all, note_of, part_without_note, without_note, asked_by, met_by_best, answered_to, answered_by, with_results, published}
+use Rattle.ua_subscriptions.specs.Queues.{first_of}
+use Rattle.ua_subscriptions.specs.Ranks.{rank_cmp, rank_of, with_rank, is_waiting, waiting_by, with_waiting, waiting_of}
 use Rattle.subscription_laws.specs.Runs.{ItemsCall, on_items, Move, Ran, ran_by, items_ran, moved, run}
-use Rattle.subscription.specs.Subs.{world_of, Said, is_full, refused, created_one, created}
-use Rattle.subscription.specs.Subscriptions.{no_part, is_of as is_of_session}
-use Rattle.subscription.specs.Tables.{TableState, World, with_call, without_closed, met_found, met, all_met, part_at, set_part, subscription_at, vars_found}
+use Rattle.ua_subscriptions.specs.SubscriptionCalls.{world_of, Said, is_full, refused, created_one, created}
+use Rattle.ua_subscriptions.specs.Subscriptions.{no_part, is_of as is_of_session}
+use Rattle.ua_subscriptions.specs.Tables.{TableState, World, with_call, without_closed, met_found, met, all_met, part_at, set_part, subscription_at, vars_found}
 use Rattle.subscription_laws.proofs.Entries.{same_or_not, at_itself, set_here, set_other, put_here, put_other, gone_other, rising_set}
 use Rattle.subscription_laws.proofs.Firings.{fired_items, fired_session}
 use Rattle.subscription_laws.proofs.Keeping.{scene_at}
@@ -124,7 +124,7 @@ module _ (session : ℕ) (t : TableState) (items : ItemsState) (w : World) (n : 
       parts : (k : ℕ) → k ≢ session → (s.session ≡ Some session) ⊎ (s.session ≡ None) → part_at k (set_part s.session w.table.sessions (fired (scene_at w n asked s)).part) ≡ part_at k w.table.sessions
       parts k other (inl e) =
           ap (λ (o : Option ℕ). part_at k (set_part o w.table.sessions (fired (scene_at w n asked s)).part)) e
-          ∙ ap (λ (o : Option SessionPart). unwrap_or o no_part) (set_other session k (fired (scene_at w n asked s)).part other w.table.sessions)
+          ∙ ap (λ (o : Option SessionSubscriptions). unwrap_or o no_part) (set_other session k (fired (scene_at w n asked s)).part other w.table.sessions)
       parts k other (inr e) = ap (λ (o : Option ℕ). part_at k (set_part o w.table.sessions (fired (scene_at w n asked s)).part)) e
 
       own : (m : ℕ) (u : Subscription) → subscription_at m (put_back n (fired (scene_at w n asked s)).subscription w.table.subscriptions) ≡ Some u → u.session ≡ Some session → (m ≡ n) ⊎ (m ≢ n) → is_own t session m ≡ true
@@ -221,11 +221,11 @@ republished_apart session t items number wanted w h =
 
 -- ---- the session has another part
 
-part_apart : (session : ℕ) (t : TableState) (items items2 : ItemsState) (v : TableState) (part : SessionPart) → IsApart session t items v items2 →
+part_apart : (session : ℕ) (t : TableState) (items items2 : ItemsState) (v : TableState) (part : SessionSubscriptions) → IsApart session t items v items2 →
     IsApart session t items (record { subscriptions = v.subscriptions; sessions = set_value (is_at (nat_cmp session)) v.sessions part }) items2
 part_apart session t items items2 v part h = record {
   others = record {
-    parts = λ k other. ap (λ (o : Option SessionPart). unwrap_or o no_part) (set_other session k part other v.sessions) ∙ h.others.parts k other;
+    parts = λ k other. ap (λ (o : Option SessionSubscriptions). unwrap_or o no_part) (set_other session k part other v.sessions) ∙ h.others.parts k other;
     subscriptions = h.others.subscriptions;
     none_comes = h.others.none_comes;
     items_stay = h.others.items_stay;
@@ -260,7 +260,7 @@ ended_apart session t items deleting w its h =
     let k = refused_apart session t items status.BAD_SESSION_CLOSED v (all_apart session t items (call.SessionEnd deleting) (part_at session w.table.sessions).numbers w its h) in
     record {
       parts = λ j other.
-          ap (λ (o : Option SessionPart). unwrap_or o no_part) (gone_other session j other (all_refused session status.BAD_SESSION_CLOSED v).table.sessions) ∙ k.others.parts j other;
+          ap (λ (o : Option SessionSubscriptions). unwrap_or o no_part) (gone_other session j other (all_refused session status.BAD_SESSION_CLOSED v).table.sessions) ∙ k.others.parts j other;
       subscriptions = k.others.subscriptions;
       none_comes = k.others.none_comes;
       items_stay = k.others.items_stay;
@@ -269,7 +269,7 @@ ended_apart session t items deleting w its h =
 
 -- ---- Publish
 
-module _ (session : ℕ) (t : TableState) (items items2 : ItemsState) (sessions : List (ℕ × SessionPart)) where
+module _ (session : ℕ) (t : TableState) (items items2 : ItemsState) (sessions : List (ℕ × SessionSubscriptions)) where
   abbrev ApartWith : List (ℕ × Subscription) → Type 0
   ApartWith subscriptions = IsApart session t items (record { subscriptions = subscriptions; sessions = sessions }) items2
 
@@ -386,7 +386,7 @@ answered_apart : (session : ℕ) (t : TableState) (items : ItemsState) (asked : 
 answered_apart session t items asked w (Some note) its h = h
 answered_apart session t items asked w None its h = to_apart session t items asked (part_at session w.table.sessions).numbers w its h
 
-same_numbers : (session : ℕ) (sessions : List (ℕ × SessionPart)) → (part_at session (without_note session sessions)).numbers ≡ (part_at session sessions).numbers
+same_numbers : (session : ℕ) (sessions : List (ℕ × SessionSubscriptions)) → (part_at session (without_note session sessions)).numbers ≡ (part_at session sessions).numbers
 same_numbers session sessions = (set_fewer session (part_without_note (part_at session sessions)) sessions refl (λ e. e)).numbers session
 
 published_apart : (session : ℕ) (t : TableState) (items : ItemsState) (asked : PublishCall) (acks : List SubscriptionAcknowledgement) (w : World) → AreIts session t (part_at session w.table.sessions).numbers → Apart session t items w →
@@ -409,7 +409,7 @@ added_others session made asked enabled w given =
     let c = added_start session (made + 1) asked enabled w in
     record {
       parts = λ k other.
-          ap (λ (o : Option SessionPart). unwrap_or o no_part)
+          ap (λ (o : Option SessionSubscriptions). unwrap_or o no_part)
           (put_other session k (with_number (made + 1) (fired c).part) other (remove_entry (is_at (nat_cmp session)) w.table.sessions) ∙ gone_other session k other w.table.sessions);
       subscriptions = λ m s found other. put_other (made + 1) m (fired c).subscription (fresh m s found) w.table.subscriptions ∙ found;
       none_comes = λ m u found other. come (fired c).subscription m u (begun_rest c refl).0 other found (same_or_not m (made + 1));

@@ -1,18 +1,18 @@
 -- A row keeps whose turn it is, the moment, what the server allows, and what came.
 use Rattle.std.proofs.Common.{◌≡◌, ℕ, Bool, true, false, List, [], ◌∷◌, nat_le, length, Option, Some, None, refl, cond, ◌∙◌}
 use Rattle.ua_types.specs.declared.moment.Moment.{Moment}
-use Rattle.sub_table.specs.StateTable.{actions_of}
-use Rattle.sub_table.specs.declared.action.Action.{Action}
-use Rattle.sub_table.specs.declared.action.Action.TheVariants.{RefuseTooMany, Initialise, StartTimer, Answer, DeleteAcknowledged, Enqueue, Dequeue, ResetLife, ResetKeep, CountKeep, SendNotifications, SendKeepAlive, SetSent, DeleteItems, NoteTimeout, Update, LimitKeep, SetEnabled, ClearMore, AnswerKept, RefuseNotKept, CallItems, LimitMore, LeaveSession}
-use Rattle.sub_table.specs.declared.row.RowId.{RowId}
-use Rattle.subscription.specs.declared.call.Call.{Call}
-use Rattle.subscription.specs.declared.publish_call.PublishCall.{PublishCall}
-use Rattle.subscription.specs.declared.session_part.SessionPart.{SessionPart}
-use Rattle.subscription.specs.declared.settings.Bounds.{Bounds}
-use Rattle.subscription.specs.declared.subscription.Subscription.{Subscription}
-use Rattle.subscription.specs.declared.turn.Turn.{Turn}
-use Rattle.subscription.specs.Queues.{first_of}
-use Rattle.subscription.specs.Scenes.{Scene, Noting, sending, with_asked, with_refused, Queueing, enqueued, enqueued_by, answered_by, note_sent, rest_sent, notes_sent, noting, done, all_done, row_done}
+use Rattle.ua_state_table.specs.StateTable.{actions_of}
+use Rattle.ua_state_table.specs.declared.action.Action.{Action}
+use Rattle.ua_state_table.specs.declared.action.Action.TheVariants.{RefuseTooMany, Initialise, StartTimer, Answer, DeleteAcknowledged, Enqueue, Dequeue, ResetLife, ResetKeep, CountKeep, SendNotifications, SendKeepAlive, SetSent, DeleteItems, NoteTimeout, Update, LimitKeep, SetEnabled, ClearMore, AnswerKept, RefuseNotKept, CallItems, LimitMore, LeaveSession}
+use Rattle.ua_state_table.specs.declared.row.RowId.{RowId}
+use Rattle.ua_subscriptions.specs.declared.call.Call.{Call}
+use Rattle.ua_subscriptions.specs.declared.publish_call.PublishCall.{PublishCall}
+use Rattle.ua_subscriptions.specs.declared.session_part.SessionSubscriptions.{SessionSubscriptions}
+use Rattle.ua_subscriptions.specs.declared.settings.Bounds.{Bounds}
+use Rattle.ua_subscriptions.specs.declared.subscription.Subscription.{Subscription}
+use Rattle.ua_subscriptions.specs.declared.turn.Turn.{Turn}
+use Rattle.ua_subscriptions.specs.Queues.{first_of}
+use Rattle.ua_subscriptions.specs.Scenes.{Scene, Noting, sending, with_asked, with_refused, Queueing, enqueued, enqueued_by, answered_by, note_sent, rest_sent, notes_sent, noting, done, all_done, row_done}
 
 -- what a turn keeps
 pub record Frame : Type 0 where
@@ -32,11 +32,11 @@ enqueued_frame_if : (full : Bool) (turn : Turn) (a b : Queueing) → frame a.tur
 enqueued_frame_if true turn a b g h = g
 enqueued_frame_if false turn a b g h = h
 
-enqueued_frame_by : (asked : Option PublishCall) (turn : Turn) (part : SessionPart) → frame (enqueued_by asked turn part).turn ≡ frame turn
+enqueued_frame_by : (asked : Option PublishCall) (turn : Turn) (part : SessionSubscriptions) → frame (enqueued_by asked turn part).turn ≡ frame turn
 enqueued_frame_by None turn part = refl
 enqueued_frame_by (Some call) turn part = enqueued_frame_if (nat_le turn.bounds.publish_queue (length part.requests)) turn _ _ (refused_frame (record turn { asked = None }) (first_of part.requests)) refl
 
-enqueued_frame : (turn : Turn) (part : SessionPart) → frame (enqueued turn part).turn ≡ frame turn
+enqueued_frame : (turn : Turn) (part : SessionSubscriptions) → frame (enqueued turn part).turn ≡ frame turn
 unfolding enqueued
 enqueued_frame turn part = enqueued_frame_by turn.asked turn part
 

@@ -3,15 +3,15 @@ use Rattle.std.proofs.Common.{◌≡◌, ◌<◌, ◌+◌, ℕ, Bool, true, fals
 use Rattle.std.proofs.lemmas.Bool.{false≢true}
 use Rattle.std.specs.Option.{is_some}
 use Rattle.ua_types.specs.Configuration.{Configuration}
-use Rattle.sub_table.proofs.SteadyLemmas.{patient}
-use Rattle.subscription.specs.declared.publish_call.PublishCall.{PublishCall}
-use Rattle.subscription.specs.declared.subscription.Subscription.{Subscription}
+use Rattle.ua_state_table.proofs.SteadyLemmas.{patient}
+use Rattle.ua_subscriptions.specs.declared.publish_call.PublishCall.{PublishCall}
+use Rattle.ua_subscriptions.specs.declared.subscription.Subscription.{Subscription}
 use Rattle.subscription_laws.specs.Calm.{IsListed, ListsItsOwn, AreLists, standing_at, AreSteady}
 use Rattle.subscription_laws.specs.Histories.{counts_at, life_at, AreLawful}
-use Rattle.subscription.specs.Ranks.{is_waiting}
+use Rattle.ua_subscriptions.specs.Ranks.{is_waiting}
 use Rattle.subscription_laws.specs.Runs.{Move, run}
-use Rattle.subscription.specs.Subscriptions.{is_any}
-use Rattle.subscription.specs.Tables.{part_at, part_of, subscription_at}
+use Rattle.ua_subscriptions.specs.Subscriptions.{is_any}
+use Rattle.ua_subscriptions.specs.Tables.{part_at, part_of, subscription_at}
 use Rattle.subscription_laws.proofs.RunsKept.{run_kept}
 use Rattle.subscription_laws.proofs.Settling.{waits_same}
 

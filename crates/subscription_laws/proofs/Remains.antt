@@ -2,23 +2,23 @@
 -- items of others.
 use Rattle.std.proofs.Common.{◌≡◌, ◌⊎◌, inl, inr, ℕ, Bool, true, false, ◌||◌, List, [], ◌∷◌, drop, nat_le, length, Option, Some, None, refl, cond, ap, ◌∙◌, subst}
 use Rattle.std.specs.List.{list_any}
-use Rattle.sub_table.specs.Doing.{is_enqueueing, enqueues}
-use Rattle.sub_table.specs.StateTable.{actions_of}
-use Rattle.sub_table.specs.declared.action.Action.{Action}
-use Rattle.sub_table.specs.declared.action.Action.TheVariants.{Enqueue, Dequeue, SendNotifications, SendKeepAlive, DeleteItems, LeaveSession}
-use Rattle.sub_table.specs.declared.row.RowId.{RowId}
-use Rattle.monitored_items.specs.Items.{ItemsState, ended}
-use Rattle.monitored_items.specs.Moves.{OthersStay}
-use Rattle.monitored_items.proofs.Apart.{stays_none, stays_then}
-use Rattle.monitored_items.specs.Moves.Move.{End, TakeNotes}
-use Rattle.subscription.specs.declared.publish_call.PublishCall.{PublishCall}
-use Rattle.subscription.specs.declared.session_part.SessionPart.{SessionPart}
-use Rattle.subscription.specs.declared.subscription.Subscription.{Subscription}
-use Rattle.subscription.specs.declared.turn.Turn.{Turn}
+use Rattle.ua_state_table.specs.Doing.{is_enqueueing, enqueues}
+use Rattle.ua_state_table.specs.StateTable.{actions_of}
+use Rattle.ua_state_table.specs.declared.action.Action.{Action}
+use Rattle.ua_state_table.specs.declared.action.Action.TheVariants.{Enqueue, Dequeue, SendNotifications, SendKeepAlive, DeleteItems, LeaveSession}
+use Rattle.ua_state_table.specs.declared.row.RowId.{RowId}
+use Rattle.ua_monitored_items.specs.Items.{ItemsState, ended}
+use Rattle.ua_monitored_items.specs.Moves.{OthersStay}
+use Rattle.ua_monitored_items.proofs.Apart.{stays_none, stays_then}
+use Rattle.ua_monitored_items.specs.Moves.Move.{End, TakeNotes}
+use Rattle.ua_subscriptions.specs.declared.publish_call.PublishCall.{PublishCall}
+use Rattle.ua_subscriptions.specs.declared.session_part.SessionSubscriptions.{SessionSubscriptions}
+use Rattle.ua_subscriptions.specs.declared.subscription.Subscription.{Subscription}
+use Rattle.ua_subscriptions.specs.declared.turn.Turn.{Turn}
 use Rattle.subscription_laws.specs.Calm.{AreReached}
-use Rattle.subscription.specs.Queues.{first_of}
-use Rattle.subscription.specs.Scenes.{Scene, Noting, sending, with_asked, with_refused, Queueing, enqueued, enqueued_by, answered_by, note_sent, rest_sent, notes_sent, noting, done, all_done, row_done}
-use Rattle.subscription.specs.Subscriptions.{is_any}
+use Rattle.ua_subscriptions.specs.Queues.{first_of}
+use Rattle.ua_subscriptions.specs.Scenes.{Scene, Noting, sending, with_asked, with_refused, Queueing, enqueued, enqueued_by, answered_by, note_sent, rest_sent, notes_sent, noting, done, all_done, row_done}
+use Rattle.ua_subscriptions.specs.Subscriptions.{is_any}
 use Rattle.subscription_laws.proofs.Availability.{reached_on, reached_stay}
 use Rattle.subscription_laws.proofs.Owners.{Frame, done_frame, note_frame}
 use Rattle.subscription_laws.proofs.RowLinks.{notes_fixed}
@@ -33,11 +33,11 @@ enqueued_rows_if : (full : Bool) (turn : Turn) (a b : Queueing) → a.turn.rows 
 enqueued_rows_if true turn a b g h = g
 enqueued_rows_if false turn a b g h = h
 
-enqueued_rows_by : (asked : Option PublishCall) (turn : Turn) (part : SessionPart) → (enqueued_by asked turn part).turn.rows ≡ turn.rows
+enqueued_rows_by : (asked : Option PublishCall) (turn : Turn) (part : SessionSubscriptions) → (enqueued_by asked turn part).turn.rows ≡ turn.rows
 enqueued_rows_by None turn part = refl
 enqueued_rows_by (Some call) turn part = enqueued_rows_if (nat_le turn.bounds.publish_queue (length part.requests)) turn _ _ (refused_rows (record turn { asked = None }) (first_of part.requests)) refl
 
-enqueued_rows : (turn : Turn) (part : SessionPart) → (enqueued turn part).turn.rows ≡ turn.rows
+enqueued_rows : (turn : Turn) (part : SessionSubscriptions) → (enqueued turn part).turn.rows ≡ turn.rows
 unfolding enqueued
 enqueued_rows turn part = enqueued_rows_by turn.asked turn part
 
@@ -69,15 +69,15 @@ done_rows c action = refl
 
 -- ---- the numbers of the session's part
 
-enqueued_numbers_if : (full : Bool) (part : SessionPart) (a b : Queueing) → a.part.numbers ≡ part.numbers → b.part.numbers ≡ part.numbers → (cond full a b).part.numbers ≡ part.numbers
+enqueued_numbers_if : (full : Bool) (part : SessionSubscriptions) (a b : Queueing) → a.part.numbers ≡ part.numbers → b.part.numbers ≡ part.numbers → (cond full a b).part.numbers ≡ part.numbers
 enqueued_numbers_if true part a b g h = g
 enqueued_numbers_if false part a b g h = h
 
-enqueued_numbers_by : (asked : Option PublishCall) (turn : Turn) (part : SessionPart) → (enqueued_by asked turn part).part.numbers ≡ part.numbers
+enqueued_numbers_by : (asked : Option PublishCall) (turn : Turn) (part : SessionSubscriptions) → (enqueued_by asked turn part).part.numbers ≡ part.numbers
 enqueued_numbers_by None turn part = refl
 enqueued_numbers_by (Some call) turn part = enqueued_numbers_if (nat_le turn.bounds.publish_queue (length part.requests)) part _ _ refl refl
 
-enqueued_numbers : (turn : Turn) (part : SessionPart) → (enqueued turn part).part.numbers ≡ part.numbers
+enqueued_numbers : (turn : Turn) (part : SessionSubscriptions) → (enqueued turn part).part.numbers ≡ part.numbers
 unfolding enqueued
 enqueued_numbers turn part = enqueued_numbers_by turn.asked turn part
 

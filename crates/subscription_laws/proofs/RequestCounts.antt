@@ -10,37 +10,37 @@ use Rattle.ua_types.specs.Configuration.{Configuration}
 use Rattle.ua_types.specs.declared.moment.Moment.{Moment}
 use Rattle.ua_types.specs.declared.status.Status.{Status}
 use Rattle.ua_types.specs.declared.status.TheConstants.Status as status
-use Rattle.ua_requests.specs.declared.reply.Reply.{Reply}
-use Rattle.sub_messages.specs.declared.publishing.SubscriptionAcknowledgement.{SubscriptionAcknowledgement}
-use Rattle.sub_table.specs.StateTable.{actions_of}
-use Rattle.sub_table.specs.declared.action.Action.{Action}
-use Rattle.sub_table.specs.declared.action.Action.TheVariants.{Enqueue, Dequeue, SendNotifications, SendKeepAlive}
-use Rattle.sub_table.specs.declared.row.RowId.{RowId}
-use Rattle.sub_table.specs.declared.vars.Vars.{Vars}
-use Rattle.monitored_items.specs.Moves as item_moves
-use Rattle.subscription.specs.declared.call.Call.{Call}
-use Rattle.subscription.specs.declared.call.Call.TheVariants as call
-use Rattle.subscription.specs.declared.publish_call.PublishCall.{PublishCall}
-use Rattle.subscription.specs.declared.ranks.Rank.{Rank}
-use Rattle.subscription.specs.declared.session_part.SessionPart.{SessionPart}
-use Rattle.subscription.specs.declared.session_part.TimeoutNote.{TimeoutNote}
-use Rattle.subscription.specs.declared.settings.Settings.{Settings}
-use Rattle.subscription.specs.declared.subs.Created.{Created}
-use Rattle.subscription.specs.declared.subscription.Subscription.{Subscription}
-use Rattle.subscription.specs.declared.turn.Turn.{Turn}
-use Rattle.subscription.specs.Answers.{refused_of}
-use Rattle.subscription.specs.Ending.{came_by_other, session_ended, entry_without_conn}
-use Rattle.subscription.specs.Firing.{row_of, fired}
-use Rattle.subscription.specs.Making.{revised_of, kept_at, modified, republished, timed, refused_one, refused_scene, added, added_scene, with_number}
-use Rattle.subscription.specs.Named.{Outcome, outcome, is_own, own_met, named_one, named_all, all_refused, has_none, deleted, without_requests}
-use Rattle.subscription.specs.Publishing.{acknowledged_all, note_of, without_note, part_without_note, asked_by, met_by_best, answered_to, answered_by, with_results, published}
-use Rattle.subscription.specs.Queues.{first_of}
-use Rattle.subscription.specs.Ranks.{waiting_of, due_numbers}
-use Rattle.subscription.specs.Scenes as scenes
-use Rattle.subscription.specs.Scenes.{Scene, Noting, Queueing, Sending, noting, sending, note_sent, rest_sent, notes_sent, with_asked, with_refused, enqueued, enqueued_by, counted, subscription_noted, message_made, done, all_done, row_done}
-use Rattle.subscription.specs.Subs.{world_of, Said, said, told, is_full, refused, created_one, created}
-use Rattle.subscription.specs.Subscriptions.{no_part}
-use Rattle.subscription.specs.Tables.{World, with_call, without_closed, met_found, met, all_met, part_at, part_of, set_part, subscription_at, vars_found}
+use Rattle.server_messages.specs.declared.reply.Reply.{Reply}
+use Rattle.ua_subscription_messages.specs.declared.publishing.SubscriptionAcknowledgement.{SubscriptionAcknowledgement}
+use Rattle.ua_state_table.specs.StateTable.{actions_of}
+use Rattle.ua_state_table.specs.declared.action.Action.{Action}
+use Rattle.ua_state_table.specs.declared.action.Action.TheVariants.{Enqueue, Dequeue, SendNotifications, SendKeepAlive}
+use Rattle.ua_state_table.specs.declared.row.RowId.{RowId}
+use Rattle.ua_state_table.specs.declared.vars.Vars.{Vars}
+use Rattle.ua_monitored_items.specs.Moves as item_moves
+use Rattle.ua_subscriptions.specs.declared.call.Call.{Call}
+use Rattle.ua_subscriptions.specs.declared.call.Call.TheVariants as call
+use Rattle.ua_subscriptions.specs.declared.publish_call.PublishCall.{PublishCall}
+use Rattle.ua_subscriptions.specs.declared.ranks.Rank.{Rank}
+use Rattle.ua_subscriptions.specs.declared.session_part.SessionSubscriptions.{SessionSubscriptions}
+use Rattle.ua_subscriptions.specs.declared.session_part.TimeoutNote.{TimeoutNote}
+use Rattle.ua_subscriptions.specs.declared.settings.Settings.{Settings}
+use Rattle.ua_subscriptions.specs.declared.subscriptions.Created.{Created}
+use Rattle.ua_subscriptions.specs.declared.subscription.Subscription.{Subscription}
+use Rattle.ua_subscriptions.specs.declared.turn.Turn.{Turn}
+use Rattle.ua_subscriptions.specs.Answers.{refused_of}
+use Rattle.ua_subscriptions.specs.Ending.{came_by_other, session_ended, entry_without_conn}
+use Rattle.ua_subscriptions.specs.Firing.{row_of, fired}
+use Rattle.ua_subscriptions.specs.Making.{revised_of, kept_at, modified, republished, timed, refused_one, refused_scene, added, added_scene, with_number}
+use Rattle.ua_subscriptions.specs.Named.{Outcome, outcome, is_own, own_met, named_one, named_all, all_refused, has_none, deleted, without_requests}
+use Rattle.ua_subscriptions.specs.Publishing.{acknowledged_all, note_of, without_note, part_without_note, asked_by, met_by_best, answered_to, answered_by, with_results, published}
+use Rattle.ua_subscriptions.specs.Queues.{first_of}
+use Rattle.ua_subscriptions.specs.Ranks.{waiting_of, due_numbers}
+use Rattle.ua_subscriptions.specs.Scenes as scenes
+use Rattle.ua_subscriptions.specs.Scenes.{Scene, Noting, Queueing, Sending, noting, sending, note_sent, rest_sent, notes_sent, with_asked, with_refused, enqueued, enqueued_by, counted, subscription_noted, message_made, done, all_done, row_done}
+use Rattle.ua_subscriptions.specs.SubscriptionCalls.{world_of, Said, said, told, is_full, refused, created_one, created}
+use Rattle.ua_subscriptions.specs.Subscriptions.{no_part}
+use Rattle.ua_subscriptions.specs.Tables.{World, with_call, without_closed, met_found, met, all_met, part_at, part_of, set_part, subscription_at, vars_found}
 use Rattle.subscription_laws.specs.Requests.{Name, name_of, one_if, such_calls, such_waiting, such_answers, came_by, such_came}
 use Rattle.subscription_laws.specs.Runs.{ItemsCall, on_items, Move, Ran, start, ran_by, items_ran, moved, run}
 use Rattle.subscription_laws.proofs.Keeping.{scene_at}
@@ -110,7 +110,7 @@ module _ (such : Name → Bool) where
   abbrev of_queueing : Queueing → ℕ
   of_queueing q = of_turn q.turn + such_calls such q.part.requests
 
-  enqueued_less : (turn : Turn) (part : SessionPart) → of_queueing (enqueued turn part) ≤ of_turn turn + such_calls such part.requests
+  enqueued_less : (turn : Turn) (part : SessionSubscriptions) → of_queueing (enqueued turn part) ≤ of_turn turn + such_calls such part.requests
   unfolding enqueued
   enqueued_less turn part = by turn.asked refl
     where
@@ -170,7 +170,7 @@ module _ (such : Name → Bool) where
   abbrev of_world : World → ℕ
   of_world w = of_turn w.turn + such_waiting such w.table.sessions
 
-  set_less : (k : ℕ) (part : SessionPart) (sessions : List (ℕ × SessionPart)) →
+  set_less : (k : ℕ) (part : SessionSubscriptions) (sessions : List (ℕ × SessionSubscriptions)) →
       such_waiting such (set_value (is_at (nat_cmp k)) sessions part) + such_calls such (part_at k sessions).requests ≤ such_waiting such sessions + such_calls such part.requests
   set_less k part [] = omega arith
   set_less k part (e ∷ sessions) = by (is_at (nat_cmp k) e.0) (set_less k part sessions)
@@ -181,7 +181,7 @@ module _ (such : Name → Bool) where
       by true h = omega arith
       by false h = omega (arith, h)
 
-  part_less : (o : Option ℕ) (part : SessionPart) (sessions : List (ℕ × SessionPart)) →
+  part_less : (o : Option ℕ) (part : SessionSubscriptions) (sessions : List (ℕ × SessionSubscriptions)) →
       such_waiting such (set_part o sessions part) + such_calls such (part_of o sessions).requests ≤ such_waiting such sessions + such_calls such part.requests
   part_less None part sessions = omega arith
   part_less (Some k) part sessions = set_less k part sessions
@@ -266,7 +266,7 @@ module _ (such : Name → Bool) where
 
   -- ---- ends
 
-  removed_less : (k : ℕ) (sessions : List (ℕ × SessionPart)) → such_waiting such (remove_entry (is_at (nat_cmp k)) sessions) + such_calls such (part_at k sessions).requests ≤ such_waiting such sessions
+  removed_less : (k : ℕ) (sessions : List (ℕ × SessionSubscriptions)) → such_waiting such (remove_entry (is_at (nat_cmp k)) sessions) + such_calls such (part_at k sessions).requests ≤ such_waiting such sessions
   removed_less k [] = omega arith
   removed_less k (e ∷ sessions) = by (is_at (nat_cmp k) e.0) (removed_less k sessions)
     where
@@ -295,7 +295,7 @@ module _ (such : Name → Bool) where
       by true h = omega (arith, h)
       by false h = omega (arith, h)
 
-  gone_less : (conn : ℕ) (sessions : List (ℕ × SessionPart)) → such_waiting such (map (entry_without_conn conn) sessions) ≤ such_waiting such sessions
+  gone_less : (conn : ℕ) (sessions : List (ℕ × SessionSubscriptions)) → such_waiting such (map (entry_without_conn conn) sessions) ≤ such_waiting such sessions
   gone_less conn [] = omega arith
   gone_less conn (e ∷ sessions) =
       let h : such_waiting such (map (entry_without_conn conn) sessions) ≤ such_waiting such sessions = gone_less conn sessions in
@@ -310,7 +310,7 @@ module _ (such : Name → Bool) where
       let h : of_scene (refused_scene session asked enabled w) ≤ of_turn w.turn + 0 = fired_less _ in
       omega (arith, h)
 
-  put_less : (k : ℕ) (part : SessionPart) (sessions : List (ℕ × SessionPart)) → such_waiting such (insert_entry nat_cmp sessions k part) ≤ such_waiting such sessions + such_calls such part.requests
+  put_less : (k : ℕ) (part : SessionSubscriptions) (sessions : List (ℕ × SessionSubscriptions)) → such_waiting such (insert_entry nat_cmp sessions k part) ≤ such_waiting such sessions + such_calls such part.requests
   put_less k part [] = omega arith
   put_less k part (e ∷ sessions) = by (nat_cmp k e.0) (put_less k part sessions)
     where

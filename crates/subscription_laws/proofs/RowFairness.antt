@@ -1,15 +1,15 @@
 -- What the table is told of a row is fair.
 use Rattle.std.proofs.Common.{◌≡◌, ℕ, ◌&&◌, Bool, true, false, List, [], ◌∷◌, drop, refl, arith, cond, sym, ap, ◌∙◌, subst}
 use Rattle.std.specs.Option.{is_some}
-use Rattle.sub_table.specs.Steady.{AreFair, AreRevised}
-use Rattle.sub_table.specs.declared.row.RowId.{RowId}
-use Rattle.sub_table.specs.declared.row.RowId.TheVariants.{C1, C2, N1, N2, N3, N4, N5, N6, L1, L2, L3, K1, K2, K3, K4, K5, G1, G2, G3, G4, G5, G6, G7, G8, G9}
-use Rattle.monitored_items.specs.Items.{is_available}
-use Rattle.subscription.specs.declared.publish_call.PublishCall.{PublishCall}
-use Rattle.subscription.specs.Scenes.{Scene, Noting, sending, noting, note_sent, rest_sent, notes_sent, with_asked, dequeued, started, life_reset, row_done}
-use Rattle.subscription.specs.Settings.{revised_keep, revised_life}
+use Rattle.ua_state_table.specs.Steady.{AreFair, AreRevised}
+use Rattle.ua_state_table.specs.declared.row.RowId.{RowId}
+use Rattle.ua_state_table.specs.declared.row.RowId.TheVariants.{C1, C2, N1, N2, N3, N4, N5, N6, L1, L2, L3, K1, K2, K3, K4, K5, G1, G2, G3, G4, G5, G6, G7, G8, G9}
+use Rattle.ua_monitored_items.specs.Items.{is_available}
+use Rattle.ua_subscriptions.specs.declared.publish_call.PublishCall.{PublishCall}
+use Rattle.ua_subscriptions.specs.Scenes.{Scene, Noting, sending, noting, note_sent, rest_sent, notes_sent, with_asked, dequeued, started, life_reset, row_done}
+use Rattle.ua_subscriptions.specs.Settings.{revised_keep, revised_life}
 use Rattle.subscription_laws.specs.Standings.{circumstances, sends_notes}
-use Rattle.subscription.specs.Subscriptions.{is_any}
+use Rattle.ua_subscriptions.specs.Subscriptions.{is_any}
 use Rattle.subscription_laws.proofs.Owners.{Frame, note_frame}
 
 pub revised : (keep life : ℕ) → AreRevised (revised_keep keep) (revised_life (revised_keep keep) life)

@@ -1,19 +1,19 @@
 -- What a row does to a subscription is what the state table sees of it.
 use Rattle.std.proofs.Common.{◌≡◌, ◌&&◌, ◌||◌, Bool, true, false, List, [], ◌∷◌, ◌++◌, drop, nat_le, length, Option, Some, None, refl, cond, sym, ap, ◌∙◌}
 use Rattle.std.specs.Option.{is_some}
-use Rattle.sub_table.specs.Doing.{Standing, after}
-use Rattle.sub_table.specs.Laws.{with_queued}
-use Rattle.sub_table.specs.declared.state.State.TheVariants.{Normal}
-use Rattle.sub_table.specs.declared.row.RowId.{RowId}
-use Rattle.sub_table.specs.declared.row.RowId.TheVariants.{C2, N1, N2, N3, N4, N5, N6, L1, L2, L3, K1, K2, K3, K4, K5, G1, G2, G3, G4, G7, G9}
-use Rattle.monitored_items.specs.Items.{is_available}
-use Rattle.subscription.specs.declared.publish_call.PublishCall.{PublishCall}
-use Rattle.subscription.specs.declared.session_part.SessionPart.{SessionPart}
-use Rattle.subscription.specs.declared.subscription.Subscription.{Subscription}
-use Rattle.subscription.specs.declared.turn.Turn.{Turn}
-use Rattle.subscription.specs.Scenes.{Scene, Noting, sending, noting, note_sent, rest_sent, notes_sent, with_asked, Queueing, enqueued, enqueued_by, dequeued, started, life_reset, row_done}
+use Rattle.ua_state_table.specs.Doing.{Standing, after}
+use Rattle.ua_state_table.specs.Laws.{with_queued}
+use Rattle.ua_state_table.specs.declared.state.State.TheVariants.{Normal}
+use Rattle.ua_state_table.specs.declared.row.RowId.{RowId}
+use Rattle.ua_state_table.specs.declared.row.RowId.TheVariants.{C2, N1, N2, N3, N4, N5, N6, L1, L2, L3, K1, K2, K3, K4, K5, G1, G2, G3, G4, G7, G9}
+use Rattle.ua_monitored_items.specs.Items.{is_available}
+use Rattle.ua_subscriptions.specs.declared.publish_call.PublishCall.{PublishCall}
+use Rattle.ua_subscriptions.specs.declared.session_part.SessionSubscriptions.{SessionSubscriptions}
+use Rattle.ua_subscriptions.specs.declared.subscription.Subscription.{Subscription}
+use Rattle.ua_subscriptions.specs.declared.turn.Turn.{Turn}
+use Rattle.ua_subscriptions.specs.Scenes.{Scene, Noting, sending, noting, note_sent, rest_sent, notes_sent, with_asked, Queueing, enqueued, enqueued_by, dequeued, started, life_reset, row_done}
 use Rattle.subscription_laws.specs.Standings.{Counts, standing_in, circumstances, counts_of, IsAsked}
-use Rattle.subscription.specs.Subscriptions.{is_any}
+use Rattle.ua_subscriptions.specs.Subscriptions.{is_any}
 
 -- how a subscription stands after a row is how the table says
 abbrev pub Links : RowId → Scene → Scene → Type 0
@@ -197,7 +197,7 @@ any_if : (full : Bool) (a b : Queueing) → is_any a.part.requests ≡ true → 
 any_if true a b g h = g
 any_if false a b g h = h
 
-enqueued_any_by : (asked : Option PublishCall) (turn : Turn) (part : SessionPart) → (is_some asked || is_any part.requests) ≡ true → is_any (enqueued_by asked turn part).part.requests ≡ true
+enqueued_any_by : (asked : Option PublishCall) (turn : Turn) (part : SessionSubscriptions) → (is_some asked || is_any part.requests) ≡ true → is_any (enqueued_by asked turn part).part.requests ≡ true
 enqueued_any_by None turn part h = h
 enqueued_any_by (Some call) turn part h = any_if (nat_le turn.bounds.publish_queue (length part.requests)) _ _ (any_more (drop 1 part.requests) call) (any_more part.requests call)
 

@@ -1,20 +1,20 @@
 -- A row that fires keeps a subscription steady.
 use Rattle.std.proofs.Common.{◌≡◌, ◌≢◌, true, false, [], ◌∷◌, refl, sym, subst}
-use Rattle.sub_table.specs.Doing.{enqueues}
-use Rattle.sub_table.specs.Chosen.{chosen}
-use Rattle.sub_table.specs.Events.{fits, is_closed}
-use Rattle.sub_table.specs.StateTable.{fires, next_of}
-use Rattle.sub_table.specs.Steady.{IsSteady}
-use Rattle.sub_table.specs.declared.event.TableEvent.{TableEvent}
-use Rattle.sub_table.specs.declared.row.RowId.{RowId}
-use Rattle.sub_table.specs.declared.row.RowId.TheVariants.{C1, C2, N1, N2, N3, N4, N5, N6, L1, L2, L3, K1, K2, K3, K4, K5, G1, G2, G3, G4, G5, G6, G7, G8, G9}
-use Rattle.sub_table.specs.declared.state.State.{State}
-use Rattle.sub_table.specs.declared.state.State.TheVariants.{Closed, Normal, Late, KeepAlive}
-use Rattle.sub_table.proofs.OneRow.{one_row}
-use Rattle.sub_table.proofs.SteadyLemmas as table
-use Rattle.subscription.specs.Calls.{event_of}
-use Rattle.subscription.specs.Firing.{fired, before_of, vars_in, row_of}
-use Rattle.subscription.specs.Scenes.{Scene, row_done}
+use Rattle.ua_state_table.specs.Doing.{enqueues}
+use Rattle.ua_state_table.specs.Chosen.{chosen}
+use Rattle.ua_state_table.specs.Events.{fits, is_closed}
+use Rattle.ua_state_table.specs.StateTable.{fires, next_of}
+use Rattle.ua_state_table.specs.Steady.{IsSteady}
+use Rattle.ua_state_table.specs.declared.event.TableEvent.{TableEvent}
+use Rattle.ua_state_table.specs.declared.row.RowId.{RowId}
+use Rattle.ua_state_table.specs.declared.row.RowId.TheVariants.{C1, C2, N1, N2, N3, N4, N5, N6, L1, L2, L3, K1, K2, K3, K4, K5, G1, G2, G3, G4, G5, G6, G7, G8, G9}
+use Rattle.ua_state_table.specs.declared.state.State.{State}
+use Rattle.ua_state_table.specs.declared.state.State.TheVariants.{Closed, Normal, Late, KeepAlive}
+use Rattle.ua_state_table.proofs.OneRow.{one_row}
+use Rattle.ua_state_table.proofs.SteadyLemmas as table
+use Rattle.ua_subscriptions.specs.Calls.{event_of}
+use Rattle.ua_subscriptions.specs.Firing.{fired, before_of, vars_in, row_of}
+use Rattle.ua_subscriptions.specs.Scenes.{Scene, row_done}
 use Rattle.subscription_laws.specs.Standings.{Counts, standing_in, circumstances, row_counts, IsAsked}
 use Rattle.subscription_laws.proofs.RowFairness.{fair}
 use Rattle.subscription_laws.proofs.RowLinks.{Links, link_C2, link_N1, link_N2, link_N3, link_N4, link_N5, link_N6, link_L1, link_L2, link_L3, link_K1, link_K2, link_K3, link_K4, link_K5, link_G1, link_G2, link_G3, link_G4, link_G7, link_G9}

@@ -10,38 +10,38 @@ use Rattle.ua_types.specs.Configuration.{Configuration}
 use Rattle.ua_types.specs.declared.moment.Moment.{Moment}
 use Rattle.ua_types.specs.declared.status.Status.{Status}
 use Rattle.ua_types.specs.declared.status.TheConstants.Status as status
-use Rattle.sub_messages.specs.declared.publishing.SubscriptionAcknowledgement.{SubscriptionAcknowledgement}
-use Rattle.sub_table.specs.Chosen.{chosen}
-use Rattle.sub_table.specs.declared.row.RowId.{RowId}
-use Rattle.sub_table.specs.declared.row.RowId.TheVariants.{C2}
-use Rattle.sub_table.specs.declared.vars.Vars.{Vars}
-use Rattle.monitored_items.specs.Moves as item_moves
-use Rattle.subscription.specs.declared.call.Call.{Call}
-use Rattle.subscription.specs.declared.call.Call.TheVariants as call
-use Rattle.subscription.specs.declared.messages.KeptMessage.{KeptMessage}
-use Rattle.subscription.specs.declared.publish_call.PublishCall.{PublishCall}
-use Rattle.subscription.specs.declared.ranks.Rank.{Rank}
-use Rattle.subscription.specs.declared.session_part.TimeoutNote.{TimeoutNote}
-use Rattle.subscription.specs.declared.settings.Settings.{Settings}
-use Rattle.subscription.specs.declared.subs.Created.{Created}
-use Rattle.subscription.specs.declared.subscription.Subscription.{Subscription}
-use Rattle.subscription.specs.Calls.{event_of}
-use Rattle.subscription.specs.Ending.{session_ended, without_session, without_conn}
-use Rattle.subscription.specs.Firing.{before_of, row_of, fired}
-use Rattle.subscription.specs.Messages.{has_number}
-use Rattle.subscription.specs.Making.{revised_of, kept_at, modified, republished, refused_one, added, bytes_of, kept_by, with_number}
+use Rattle.ua_subscription_messages.specs.declared.publishing.SubscriptionAcknowledgement.{SubscriptionAcknowledgement}
+use Rattle.ua_state_table.specs.Chosen.{chosen}
+use Rattle.ua_state_table.specs.declared.row.RowId.{RowId}
+use Rattle.ua_state_table.specs.declared.row.RowId.TheVariants.{C2}
+use Rattle.ua_state_table.specs.declared.vars.Vars.{Vars}
+use Rattle.ua_monitored_items.specs.Moves as item_moves
+use Rattle.ua_subscriptions.specs.declared.call.Call.{Call}
+use Rattle.ua_subscriptions.specs.declared.call.Call.TheVariants as call
+use Rattle.ua_subscriptions.specs.declared.messages.KeptMessage.{KeptMessage}
+use Rattle.ua_subscriptions.specs.declared.publish_call.PublishCall.{PublishCall}
+use Rattle.ua_subscriptions.specs.declared.ranks.Rank.{Rank}
+use Rattle.ua_subscriptions.specs.declared.session_part.TimeoutNote.{TimeoutNote}
+use Rattle.ua_subscriptions.specs.declared.settings.Settings.{Settings}
+use Rattle.ua_subscriptions.specs.declared.subscriptions.Created.{Created}
+use Rattle.ua_subscriptions.specs.declared.subscription.Subscription.{Subscription}
+use Rattle.ua_subscriptions.specs.Calls.{event_of}
+use Rattle.ua_subscriptions.specs.Ending.{session_ended, without_session, without_conn}
+use Rattle.ua_subscriptions.specs.Firing.{before_of, row_of, fired}
+use Rattle.ua_subscriptions.specs.Messages.{has_number}
+use Rattle.ua_subscriptions.specs.Making.{revised_of, kept_at, modified, republished, refused_one, added, bytes_of, kept_by, with_number}
 use Rattle.subscription_laws.specs.Messaging.{Made, made_of, made_by, met_made, best_made, asked_made, unless_noted, published_made, moved_made, run_made, messages_for, AreAmong, AreItsMessages, IsAmong, AreNotes}
-use Rattle.subscription.specs.Named.{Outcome, outcome, is_own, own_met, named_one, named_all, all_refused, has_none, deleted, without_requests}
+use Rattle.ua_subscriptions.specs.Named.{Outcome, outcome, is_own, own_met, named_one, named_all, all_refused, has_none, deleted, without_requests}
 use Rattle.subscription_laws.specs.Numbering.{AreNumbered, messages_of}
-use Rattle.subscription.specs.Publishing.{without_kept, Acknowledged, acknowledgement_status, acknowledged_by, acknowledged, AllAcknowledged, with_acknowledged, acknowledged_all, note_of, without_note, asked_by, met_by_best, answered_to, answered_by, with_results, published, part_without_note}
-use Rattle.subscription.specs.Queues.{first_of}
-use Rattle.subscription.specs.Ranks.{waiting_of, due_numbers}
+use Rattle.ua_subscriptions.specs.Publishing.{without_kept, Acknowledged, acknowledgement_status, acknowledged_by, acknowledged, AllAcknowledged, with_acknowledged, acknowledged_all, note_of, without_note, asked_by, met_by_best, answered_to, answered_by, with_results, published, part_without_note}
+use Rattle.ua_subscriptions.specs.Queues.{first_of}
+use Rattle.ua_subscriptions.specs.Ranks.{waiting_of, due_numbers}
 use Rattle.subscription_laws.specs.Runs.{ItemsCall, on_items, Move, Ran, start, ran_by, items_ran, moved, run}
-use Rattle.subscription.specs.Scenes.{Scene, row_done}
-use Rattle.subscription.specs.Subs.{world_of, Said, is_full, refused, created_one, created}
-use Rattle.subscription.specs.Subscriptions.{is_of, no_part}
-use Rattle.subscription.specs.Tables.{World, met, all_met, part_at, subscription_at, vars_found, TableState}
-use Rattle.subscription.specs.declared.session_part.SessionPart.{SessionPart}
+use Rattle.ua_subscriptions.specs.Scenes.{Scene, row_done}
+use Rattle.ua_subscriptions.specs.SubscriptionCalls.{world_of, Said, is_full, refused, created_one, created}
+use Rattle.ua_subscriptions.specs.Subscriptions.{is_of, no_part}
+use Rattle.ua_subscriptions.specs.Tables.{World, met, all_met, part_at, subscription_at, vars_found, TableState}
+use Rattle.ua_subscriptions.specs.declared.session_part.SessionSubscriptions.{SessionSubscriptions}
 use Rattle.subscription_laws.proofs.KeepingParts.{set_part_is, conn_fewer, conn_part}
 use Rattle.subscription_laws.proofs.KeepingNamed.{part_gone, part_stays}
 use Rattle.subscription_laws.proofs.ChosenRows.{is_create}
@@ -113,7 +113,7 @@ named_numbered made ms session asked e (n ∷ ns) before h =
     named_numbered made ms session asked e ns (named_one session asked before n) (own_numbered made ms session asked e before.world n h)
 
 -- one session has another part, with notes that it had
-part_messaged : (made : ℕ) (ms : List Made) (t : TableState) (session : ℕ) (part : SessionPart) → AllNotes made ms t.subscriptions part.notes → IsMessaged made ms t →
+part_messaged : (made : ℕ) (ms : List Made) (t : TableState) (session : ℕ) (part : SessionSubscriptions) → AllNotes made ms t.subscriptions part.notes → IsMessaged made ms t →
     IsMessaged made ms (record { subscriptions = t.subscriptions; sessions = set_value (is_at (nat_cmp session)) t.sessions part })
 part_messaged made ms t session part notes h = record {
   rising = rising_set session part t.sessions h.rising;
@@ -123,8 +123,8 @@ part_messaged made ms t session part notes h = record {
   where
     by : (k : ℕ) → (part_at k (set_value (is_at (nat_cmp session)) t.sessions part) ≡ part_at k t.sessions) ⊎ ((k ≡ session) × (part_at k (set_value (is_at (nat_cmp session)) t.sessions part) ≡ part)) →
         AllNotes made ms t.subscriptions (part_at k (set_value (is_at (nat_cmp session)) t.sessions part)).notes
-    by k (inl same) = subst (λ (p : SessionPart). AllNotes made ms t.subscriptions p.notes) (sym same) (h.notes k)
-    by k (inr (at, is)) = subst (λ (p : SessionPart). AllNotes made ms t.subscriptions p.notes) (sym is) notes
+    by k (inl same) = subst (λ (p : SessionSubscriptions). AllNotes made ms t.subscriptions p.notes) (sym same) (h.notes k)
+    by k (inr (at, is)) = subst (λ (p : SessionSubscriptions). AllNotes made ms t.subscriptions p.notes) (sym is) notes
 
 refused_numbered : (made : ℕ) (ms : List Made) (session : ℕ) (code : Status) (w : World) → IsMessaged made ms w.table → IsMessaged made ms (all_refused session code w).table
 unfolding all_refused
@@ -161,8 +161,8 @@ without_numbered made ms session w h = record { rising = rising_gone session w.t
     by : (k : ℕ) → (k ≡ session) ⊎ (k ≢ session) → AllNotes made ms w.table.subscriptions (part_at k (remove_entry (is_at (nat_cmp session)) w.table.sessions)).notes
     by k (inl same) =
         subst (λ (i : ℕ). AllNotes made ms w.table.subscriptions (part_at i (remove_entry (is_at (nat_cmp session)) w.table.sessions)).notes) (sym same)
-        (subst (λ (p : SessionPart). AllNotes made ms w.table.subscriptions p.notes) (sym (part_gone session w.table.sessions h.rising)) tt)
-    by k (inr other) = subst (λ (p : SessionPart). AllNotes made ms w.table.subscriptions p.notes) (sym (part_stays session k w.table.sessions other)) (h.notes k)
+        (subst (λ (p : SessionSubscriptions). AllNotes made ms w.table.subscriptions p.notes) (sym (part_gone session w.table.sessions h.rising)) tt)
+    by k (inr other) = subst (λ (p : SessionSubscriptions). AllNotes made ms w.table.subscriptions p.notes) (sym (part_stays session k w.table.sessions other)) (h.notes k)
 
 ended_numbered : (made : ℕ) (ms : List Made) (session : ℕ) (deleting : Bool) (w : World) → IsMessaged made ms w.table → IsMessaged made ms (session_ended session deleting w).table
 unfolding session_ended
@@ -212,7 +212,7 @@ note_stays made ms subscriptions s note h =
     let most : note.subscription ≤ made = h.given in
     record { number = h.number; over = put_other (made + 1) note.subscription s (λ same. absurd (omega (arith, most, same))) subscriptions ∙ h.over; given = omega (arith, most) }
 
-added_notes : (made : ℕ) (ms : List Made) (t : TableState) (session : ℕ) (s : Subscription) (part : SessionPart) → part.notes ≡ (part_at session t.sessions).notes → IsMessaged made ms t → (k : ℕ) → (k ≡ session) ⊎ (k ≢ session) →
+added_notes : (made : ℕ) (ms : List Made) (t : TableState) (session : ℕ) (s : Subscription) (part : SessionSubscriptions) → part.notes ≡ (part_at session t.sessions).notes → IsMessaged made ms t → (k : ℕ) → (k ≡ session) ⊎ (k ≢ session) →
     AllNotes (made + 1) ms (insert_entry nat_cmp t.subscriptions (made + 1) s) (part_at k (insert_entry nat_cmp (remove_entry (is_at (nat_cmp session)) t.sessions) session (with_number (made + 1) part))).notes
 added_notes made ms t session s part same h k at = by at
   where
@@ -221,20 +221,20 @@ added_notes made ms t session s part same h k at = by at
         notes_map made (made + 1) ms ms t.subscriptions (insert_entry nat_cmp t.subscriptions (made + 1) s) (note_stays made ms t.subscriptions s) (part_at j t.sessions).notes (h.notes j)
 
     here : part_at session (insert_entry nat_cmp (remove_entry (is_at (nat_cmp session)) t.sessions) session (with_number (made + 1) part)) ≡ with_number (made + 1) part
-    here = ap (λ (o : Option SessionPart). unwrap_or o no_part) (put_here session (with_number (made + 1) part) (remove_entry (is_at (nat_cmp session)) t.sessions))
+    here = ap (λ (o : Option SessionSubscriptions). unwrap_or o no_part) (put_here session (with_number (made + 1) part) (remove_entry (is_at (nat_cmp session)) t.sessions))
 
     there : k ≢ session → part_at k (insert_entry nat_cmp (remove_entry (is_at (nat_cmp session)) t.sessions) session (with_number (made + 1) part)) ≡ part_at k t.sessions
     there other =
-        ap (λ (o : Option SessionPart). unwrap_or o no_part)
+        ap (λ (o : Option SessionSubscriptions). unwrap_or o no_part)
         (put_other session k (with_number (made + 1) part) other (remove_entry (is_at (nat_cmp session)) t.sessions) ∙ gone_other session k other t.sessions)
 
     by : (k ≡ session) ⊎ (k ≢ session) →
         AllNotes (made + 1) ms (insert_entry nat_cmp t.subscriptions (made + 1) s) (part_at k (insert_entry nat_cmp (remove_entry (is_at (nat_cmp session)) t.sessions) session (with_number (made + 1) part))).notes
     by (inl is) =
         subst (λ (i : ℕ). AllNotes (made + 1) ms (insert_entry nat_cmp t.subscriptions (made + 1) s) (part_at i (insert_entry nat_cmp (remove_entry (is_at (nat_cmp session)) t.sessions) session (with_number (made + 1) part))).notes) (sym is)
-        (subst (λ (p : SessionPart). AllNotes (made + 1) ms (insert_entry nat_cmp t.subscriptions (made + 1) s) p.notes) (sym here)
+        (subst (λ (p : SessionSubscriptions). AllNotes (made + 1) ms (insert_entry nat_cmp t.subscriptions (made + 1) s) p.notes) (sym here)
         (subst (AllNotes (made + 1) ms (insert_entry nat_cmp t.subscriptions (made + 1) s)) (sym same) (old session)))
-    by (inr other) = subst (λ (p : SessionPart). AllNotes (made + 1) ms (insert_entry nat_cmp t.subscriptions (made + 1) s) p.notes) (sym (there other)) (old k)
+    by (inr other) = subst (λ (p : SessionSubscriptions). AllNotes (made + 1) ms (insert_entry nat_cmp t.subscriptions (made + 1) s) p.notes) (sym (there other)) (old k)
 
 added_numbered : (made : ℕ) (ms : List Made) (session : ℕ) (asked : Settings) (enabled : Bool) (w : World) → IsMessaged made ms w.table →
     IsMessaged (made + 1) ms (added session (made + 1) asked enabled w).table
@@ -284,7 +284,7 @@ module _ (made : ℕ) (ms : List Made) (subscriptions : List (ℕ × Subscriptio
     live = λ k u after. (was_live k u after).1;
   }
 
-abbrev with_table : List (ℕ × SessionPart) → List (ℕ × Subscription) → TableState
+abbrev with_table : List (ℕ × SessionSubscriptions) → List (ℕ × Subscription) → TableState
 with_table sessions subscriptions = record { subscriptions = subscriptions; sessions = sessions }
 
 note_acknowledged : (made : ℕ) (ms : List Made) (subscriptions : List (ℕ × Subscription)) (n : ℕ) (s : Subscription) (number : ℕ) → subscription_at n subscriptions ≡ Some s → (note : TimeoutNote) →
@@ -295,7 +295,7 @@ note_acknowledged made ms subscriptions n s number found note h = record {
   given = h.given;
 }
 
-acknowledged_numbered : (made : ℕ) (ms : List Made) (session : ℕ) (sessions : List (ℕ × SessionPart)) (subscriptions : List (ℕ × Subscription)) (a : SubscriptionAcknowledgement) → IsMessaged made ms (with_table sessions subscriptions) →
+acknowledged_numbered : (made : ℕ) (ms : List Made) (session : ℕ) (sessions : List (ℕ × SessionSubscriptions)) (subscriptions : List (ℕ × Subscription)) (a : SubscriptionAcknowledgement) → IsMessaged made ms (with_table sessions subscriptions) →
     IsMessaged made ms (with_table sessions (acknowledged session subscriptions a).subscriptions)
 unfolding acknowledged
 acknowledged_numbered made ms session sessions subscriptions a h = by (subscription_at a.subscription_id subscriptions) refl
@@ -318,7 +318,7 @@ acknowledged_numbered made ms session sessions subscriptions a h = by (subscript
     by None found = h
     by (Some s) found = own s found (is_of s.session session)
 
-all_acknowledged : (made : ℕ) (ms : List Made) (session : ℕ) (sessions : List (ℕ × SessionPart)) (acks : List SubscriptionAcknowledgement) (before : AllAcknowledged) → IsMessaged made ms (with_table sessions before.subscriptions) →
+all_acknowledged : (made : ℕ) (ms : List Made) (session : ℕ) (sessions : List (ℕ × SessionSubscriptions)) (acks : List SubscriptionAcknowledgement) (before : AllAcknowledged) → IsMessaged made ms (with_table sessions before.subscriptions) →
     IsMessaged made ms (with_table sessions (fold (with_acknowledged session) before acks).subscriptions)
 all_acknowledged made ms session sessions [] before h = h
 all_acknowledged made ms session sessions (a ∷ acks) before h =
@@ -385,7 +385,7 @@ gone_run : (ms : List Made) (r : Ran) (conn : ℕ) → IsRunNumbered ms r → Is
 gone_run ms r conn h = record {
   rising = (conn_fewer conn r.subs.table.sessions).rising h.rising;
   numbered = h.numbered;
-  notes = λ k. subst (λ (p : SessionPart). AllNotes r.subs.made ms r.subs.table.subscriptions p.notes) (sym (conn_part conn k r.subs.table.sessions)) (h.notes k);
+  notes = λ k. subst (λ (p : SessionSubscriptions). AllNotes r.subs.made ms r.subs.table.subscriptions p.notes) (sym (conn_part conn k r.subs.table.sessions)) (h.notes k);
 }
 
 one_run : (ms : List Made) (r : Ran) (m : Move) → IsRunNumbered ms r → IsRunNumbered (ms ++ moved_made r m) (moved r m)

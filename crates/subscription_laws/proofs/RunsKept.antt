@@ -3,23 +3,23 @@ use Rattle.std.proofs.Common.{◌≡◌, ℕ, ◌+◌, arith, Bool, true, false,
 use Rattle.ua_types.specs.Configuration.{Configuration}
 use Rattle.ua_types.specs.declared.moment.Moment.{Moment}
 use Rattle.ua_types.specs.declared.status.Status.{Status}
-use Rattle.ua_requests.specs.declared.fired.Fired.{Fired}
-use Rattle.sub_table.specs.declared.vars.Vars.{Vars}
-use Rattle.monitored_items.specs.Moves as item_moves
-use Rattle.subscription.specs.declared.call.Call.TheVariants as call
-use Rattle.subscription.specs.declared.settings.Settings.{Settings}
-use Rattle.subscription.specs.declared.subs.Created.{Created}
-use Rattle.subscription.specs.declared.subscription.Subscription.{Subscription}
+use Rattle.server_messages.specs.declared.fired.Fired.{Fired}
+use Rattle.ua_state_table.specs.declared.vars.Vars.{Vars}
+use Rattle.ua_monitored_items.specs.Moves as item_moves
+use Rattle.ua_subscriptions.specs.declared.call.Call.TheVariants as call
+use Rattle.ua_subscriptions.specs.declared.settings.Settings.{Settings}
+use Rattle.ua_subscriptions.specs.declared.subscriptions.Created.{Created}
+use Rattle.ua_subscriptions.specs.declared.subscription.Subscription.{Subscription}
 use Rattle.subscription_laws.specs.Calm.{ListsItsOwn, AreLists, IsCalm}
-use Rattle.subscription.specs.Ending.{session_ended}
-use Rattle.subscription.specs.Making.{modified, republished, timed}
-use Rattle.subscription.specs.Named.{Outcome, named_all, deleted}
-use Rattle.subscription.specs.Publishing.{published}
-use Rattle.subscription.specs.Ranks.{due_numbers}
+use Rattle.ua_subscriptions.specs.Ending.{session_ended}
+use Rattle.ua_subscriptions.specs.Making.{modified, republished, timed}
+use Rattle.ua_subscriptions.specs.Named.{Outcome, named_all, deleted}
+use Rattle.ua_subscriptions.specs.Publishing.{published}
+use Rattle.ua_subscriptions.specs.Ranks.{due_numbers}
 use Rattle.subscription_laws.specs.Runs.{ItemsCall, on_items, Move, Ran, start, ran_by, items_ran, moved, run}
-use Rattle.subscription.specs.Subs.{world_of, Said, said, told, is_full, refused, created_one, created}
-use Rattle.subscription.specs.Tables.{World, vars_by, part_of, subscription_at}
-use Rattle.subscription.specs.Subscriptions.{vars_of}
+use Rattle.ua_subscriptions.specs.SubscriptionCalls.{world_of, Said, said, told, is_full, refused, created_one, created}
+use Rattle.ua_subscriptions.specs.Tables.{World, vars_by, part_of, subscription_at}
+use Rattle.ua_subscriptions.specs.Subscriptions.{vars_of}
 use Rattle.subscription_laws.proofs.Keeping.{IsKept, all_plain}
 use Rattle.subscription_laws.proofs.KeepingItems.{shown_calm, served_apart, served_kept}
 use Rattle.subscription_laws.proofs.KeepingMade.{refused_one_kept, added_kept}

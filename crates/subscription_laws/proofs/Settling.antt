@@ -6,21 +6,21 @@ use Rattle.std.specs.Map.{lookup, set_value, remove_entry}
 use Rattle.std.specs.Option.{is_some}
 use Rattle.std.specs.Ordering.{nat_cmp}
 use Rattle.std.specs.Set.{remove_key}
-use Rattle.ua_requests.specs.declared.fired.Fired.{Fired}
-use Rattle.sub_table.specs.Steady as table
-use Rattle.sub_table.specs.Steady.{IsSteady}
-use Rattle.sub_table.specs.declared.state.State.{State}
-use Rattle.sub_table.specs.declared.state.State.TheVariants.{Closed, Normal, Late, KeepAlive}
-use Rattle.monitored_items.specs.Items.{ItemsState, is_available}
-use Rattle.subscription.specs.declared.session_part.SessionPart.{SessionPart}
-use Rattle.subscription.specs.declared.subscription.Subscription.{Subscription}
+use Rattle.server_messages.specs.declared.fired.Fired.{Fired}
+use Rattle.ua_state_table.specs.Steady as table
+use Rattle.ua_state_table.specs.Steady.{IsSteady}
+use Rattle.ua_state_table.specs.declared.state.State.{State}
+use Rattle.ua_state_table.specs.declared.state.State.TheVariants.{Closed, Normal, Late, KeepAlive}
+use Rattle.ua_monitored_items.specs.Items.{ItemsState, is_available}
+use Rattle.ua_subscriptions.specs.declared.session_part.SessionSubscriptions.{SessionSubscriptions}
+use Rattle.ua_subscriptions.specs.declared.subscription.Subscription.{Subscription}
 use Rattle.subscription_laws.specs.Calm.{AreRising, is_listed, IsListed, ListsItsOwn, AreLists, AreNumbersRising, standing_at, AreSteady, LivesAreSet, IsCalm}
-use Rattle.subscription.specs.Firing.{is_closed}
+use Rattle.ua_subscriptions.specs.Firing.{is_closed}
 use Rattle.subscription_laws.specs.Histories.{counts_at, life_at, IsLawful, AreLawful}
-use Rattle.subscription.specs.Ranks.{waits_in, is_waiting}
+use Rattle.ua_subscriptions.specs.Ranks.{waits_in, is_waiting}
 use Rattle.subscription_laws.specs.Standings.{Counts, standing}
-use Rattle.subscription.specs.Subscriptions.{no_part, is_any, vars_of}
-use Rattle.subscription.specs.Tables.{TableState, subscription_at, part_at, part_of, set_part}
+use Rattle.ua_subscriptions.specs.Subscriptions.{no_part, is_any, vars_of}
+use Rattle.ua_subscriptions.specs.Tables.{TableState, subscription_at, part_at, part_of, set_part}
 use Rattle.subscription_laws.proofs.Availability.{reached_rise, stays_available}
 use Rattle.subscription_laws.proofs.Entries.{same_or_not, set_here, set_other, gone_here, gone_other, rising_set, rising_gone, listed_stays, listed_gone, numbers_gone_here, numbers_rising_gone}
 use Rattle.subscription_laws.proofs.Remains.{AreApart}
@@ -35,10 +35,10 @@ waits_same Late left = refl
 waits_same KeepAlive left = refl
 
 -- whether a request of its session waits
-abbrev pub asks : Subscription → SessionPart → Bool
+abbrev pub asks : Subscription → SessionSubscriptions → Bool
 asks s part = is_some s.session && is_any part.requests
 
-pub still : (s : Subscription) (n : ℕ) (part part2 : SessionPart) (items items2 : ItemsState) (counts counts2 : Counts) → counts2 ≡ counts → (is_available items n ≡ true → is_available items2 n ≡ true) →
+pub still : (s : Subscription) (n : ℕ) (part part2 : SessionSubscriptions) (items items2 : ItemsState) (counts counts2 : Counts) → counts2 ≡ counts → (is_available items n ≡ true → is_available items2 n ≡ true) →
     (asks s part2 ≡ true → (asks s part ≡ true) ⊎ (is_waiting s ≡ false)) → IsSteady (standing (vars_of s part items n) s counts) → IsSteady (standing (vars_of s part2 items2 n) s counts2)
 still s n part part2 items items2 counts counts2 same up fewer h = subst (λ (k : Counts). IsSteady (standing (vars_of s part2 items2 n) s k)) (sym same) (record {
   live = h.live;
@@ -114,21 +114,21 @@ back_rises n d subscriptions rising = by (is_closed d)
     by true = rising_gone n (set_value (is_at (nat_cmp n)) subscriptions d) (rising_set n d subscriptions rising)
     by false = rising_set n d subscriptions rising
 
-pub part_rises : (o : Option ℕ) (part : SessionPart) (sessions : List (ℕ × SessionPart)) → AreRising sessions → AreRising (set_part o sessions part)
+pub part_rises : (o : Option ℕ) (part : SessionSubscriptions) (sessions : List (ℕ × SessionSubscriptions)) → AreRising sessions → AreRising (set_part o sessions part)
 part_rises None part sessions rising = rising
 part_rises (Some k) part sessions rising = rising_set k part sessions rising
 
-part_other : (o : Option ℕ) (k : ℕ) (part : SessionPart) (sessions : List (ℕ × SessionPart)) → o ≢ Some k → part_at k (set_part o sessions part) ≡ part_at k sessions
+part_other : (o : Option ℕ) (k : ℕ) (part : SessionSubscriptions) (sessions : List (ℕ × SessionSubscriptions)) → o ≢ Some k → part_at k (set_part o sessions part) ≡ part_at k sessions
 part_other None k part sessions other = refl
-part_other (Some j) k part sessions other = ap (λ (o : Option SessionPart). unwrap_or o no_part) (set_other j k part (λ same. other (ap Some (sym same))) sessions)
+part_other (Some j) k part sessions other = ap (λ (o : Option SessionSubscriptions). unwrap_or o no_part) (set_other j k part (λ same. other (ap Some (sym same))) sessions)
 
 -- a session that lists a number has a part
-pub part_own : (k n : ℕ) (part : SessionPart) (sessions : List (ℕ × SessionPart)) → is_listed n (part_at k sessions).numbers ≡ true → part_at k (set_part (Some k) sessions part) ≡ part
+pub part_own : (k n : ℕ) (part : SessionSubscriptions) (sessions : List (ℕ × SessionSubscriptions)) → is_listed n (part_at k sessions).numbers ≡ true → part_at k (set_part (Some k) sessions part) ≡ part
 part_own k n part sessions listed = by (lookup (is_at (nat_cmp k)) sessions) refl listed
   where
-    by : (o : Option SessionPart) → lookup (is_at (nat_cmp k)) sessions ≡ o → is_listed n (unwrap_or o no_part).numbers ≡ true → part_at k (set_part (Some k) sessions part) ≡ part
+    by : (o : Option SessionSubscriptions) → lookup (is_at (nat_cmp k)) sessions ≡ o → is_listed n (unwrap_or o no_part).numbers ≡ true → part_at k (set_part (Some k) sessions part) ≡ part
     by None e h = absurd (cc)
-    by (Some old) e h = ap (λ (o : Option SessionPart). unwrap_or o no_part) (set_here k old part sessions e)
+    by (Some old) e h = ap (λ (o : Option SessionSubscriptions). unwrap_or o no_part) (set_here k old part sessions e)
 
 pub some_same : (j k : ℕ) → Some j ≡ Some k → j ≡ k
 some_same j k e = cc
@@ -181,7 +181,7 @@ abbrev pub NoneWaits : TableState → Option ℕ → Type 0
 NoneWaits t session = (m : ℕ) (s : Subscription) → subscription_at m t.subscriptions ≡ Some s → s.session ≡ session → is_waiting s ≡ false
 
 -- what one subscription meets: a row fires, and leaves it so, with this of its session and these items
-pub record IsStep (rows : List Fired) (t : TableState) (items : ItemsState) (n : ℕ) (s : Subscription) (f : Fired) (d : Subscription) (part : SessionPart) (after : ItemsState) : Type 0 where
+pub record IsStep (rows : List Fired) (t : TableState) (items : ItemsState) (n : ℕ) (s : Subscription) (f : Fired) (d : Subscription) (part : SessionSubscriptions) (after : ItemsState) : Type 0 where
   pub found : subscription_at n t.subscriptions ≡ Some s
   pub number : f.subscription ≡ n
   pub numbers : part.numbers ≡ cond (is_closed d) (remove_key (is_at (nat_cmp n)) (part_of s.session t.sessions).numbers) (part_of s.session t.sessions).numbers
@@ -192,10 +192,10 @@ pub record IsStep (rows : List Fired) (t : TableState) (items : ItemsState) (n :
   pub others : (is_any (part_of s.session t.sessions).requests ≡ false → is_any part.requests ≡ false) ⊎ NoneWaits t s.session
   pub lawful : IsLawful rows f
 
-abbrev pub table_after : ℕ → Subscription → Subscription → SessionPart → TableState → TableState
+abbrev pub table_after : ℕ → Subscription → Subscription → SessionSubscriptions → TableState → TableState
 table_after n s d part t = record { subscriptions = put_back n d t.subscriptions; sessions = set_part s.session t.sessions part }
 
-module _ (rows : List Fired) (t : TableState) (items : ItemsState) (n : ℕ) (s : Subscription) (f : Fired) (d : Subscription) (part : SessionPart) (after : ItemsState) (h : IsCalm rows t items) (step : IsStep rows t items n s f d part after) where
+module _ (rows : List Fired) (t : TableState) (items : ItemsState) (n : ℕ) (s : Subscription) (f : Fired) (d : Subscription) (part : SessionSubscriptions) (after : ItemsState) (h : IsCalm rows t items) (step : IsStep rows t items n s f d part after) where
   own_session : (k : ℕ) → d.session ≡ Some k → s.session ≡ Some k
   own_session k e = by step.session
     where
@@ -227,15 +227,15 @@ module _ (rows : List Fired) (t : TableState) (items : ItemsState) (n : ℕ) (s 
     where
       by : (s.session ≡ Some k) ⊎ (s.session ≢ Some k) → is_listed m (part_at k (set_part s.session t.sessions part)).numbers ≡ true
       by (inl own) =
-          ap (λ (p : SessionPart). is_listed m p.numbers) (here k own) ∙ ap (is_listed m) step.numbers
-          ∙ kept_numbers (is_closed d) m (part_of s.session t.sessions).numbers other (ap (λ (p : SessionPart). is_listed m p.numbers) (old_part k own) ∙ e)
-      by (inr apart) = ap (λ (p : SessionPart). is_listed m p.numbers) (there k apart) ∙ e
+          ap (λ (p : SessionSubscriptions). is_listed m p.numbers) (here k own) ∙ ap (is_listed m) step.numbers
+          ∙ kept_numbers (is_closed d) m (part_of s.session t.sessions).numbers other (ap (λ (p : SessionSubscriptions). is_listed m p.numbers) (old_part k own) ∙ e)
+      by (inr apart) = ap (λ (p : SessionSubscriptions). is_listed m p.numbers) (there k apart) ∙ e
 
   lists_own : (k : ℕ) → is_closed d ≡ false → s.session ≡ Some k → is_listed n (part_at k (set_part s.session t.sessions part)).numbers ≡ true
   lists_own k live own =
-      ap (λ (p : SessionPart). is_listed n p.numbers) (here k own)
+      ap (λ (p : SessionSubscriptions). is_listed n p.numbers) (here k own)
       ∙ ap (is_listed n) (step.numbers ∙ open_numbers (is_closed d) (part_of s.session t.sessions).numbers live)
-      ∙ ap (λ (p : SessionPart). is_listed n p.numbers) (old_part k own) ∙ h.listed.listed n s k step.found own
+      ∙ ap (λ (p : SessionSubscriptions). is_listed n p.numbers) (old_part k own) ∙ h.listed.listed n s k step.found own
 
   before : (m : ℕ) (u : Subscription) → m ≢ n → subscription_at m (put_back n d t.subscriptions) ≡ Some u → subscription_at m t.subscriptions ≡ Some u
   before m u other found = sym (back_other n m d t.subscriptions other) ∙ found
@@ -263,7 +263,7 @@ module _ (rows : List Fired) (t : TableState) (items : ItemsState) (n : ℕ) (s 
 
   own_asks : (o : Option ℕ) → d.session ≡ o → (is_some o && is_any (part_of o (set_part s.session t.sessions part)).requests) ≡ (is_some o && is_any part.requests)
   own_asks None e = refl
-  own_asks (Some k) e = ap (λ (p : SessionPart). is_any p.requests) (here k (own_session k e))
+  own_asks (Some k) e = ap (λ (p : SessionSubscriptions). is_any p.requests) (here k (own_session k e))
 
   own_steady : is_closed d ≡ false → IsSteady (standing_at (table_after n s d part t) after (rows ++ f ∷ []) n d)
   own_steady live =
@@ -276,8 +276,8 @@ module _ (rows : List Fired) (t : TableState) (items : ItemsState) (n : ℕ) (s 
   fewer m u found (Some k) own e = by (same_session s.session k)
     where
       old : s.session ≡ Some k → (is_any (part_of s.session t.sessions).requests ≡ false → is_any part.requests ≡ false) → (b : Bool) → is_any (part_of s.session t.sessions).requests ≡ b → is_any (part_at k t.sessions).requests ≡ true
-      old mine shrinks true is = ap (λ (p : SessionPart). is_any p.requests) (sym (old_part k mine)) ∙ is
-      old mine shrinks false is = absurd (false≢true (sym (shrinks is) ∙ ap (λ (p : SessionPart). is_any p.requests) (sym (here k mine)) ∙ e))
+      old mine shrinks true is = ap (λ (p : SessionSubscriptions). is_any p.requests) (sym (old_part k mine)) ∙ is
+      old mine shrinks false is = absurd (false≢true (sym (shrinks is) ∙ ap (λ (p : SessionSubscriptions). is_any p.requests) (sym (here k mine)) ∙ e))
 
       one : s.session ≡ Some k → (is_any (part_of s.session t.sessions).requests ≡ false → is_any part.requests ≡ false) ⊎ NoneWaits t s.session → (is_any (part_at k t.sessions).requests ≡ true) ⊎ (is_waiting u ≡ false)
       one mine (inl shrinks) = inl (old mine shrinks (is_any (part_of s.session t.sessions).requests) refl)
@@ -285,7 +285,7 @@ module _ (rows : List Fired) (t : TableState) (items : ItemsState) (n : ℕ) (s 
 
       by : (s.session ≡ Some k) ⊎ (s.session ≢ Some k) → (is_any (part_at k t.sessions).requests ≡ true) ⊎ (is_waiting u ≡ false)
       by (inl mine) = one mine step.others
-      by (inr apart) = inl (ap (λ (p : SessionPart). is_any p.requests) (sym (there k apart)) ∙ e)
+      by (inr apart) = inl (ap (λ (p : SessionSubscriptions). is_any p.requests) (sym (there k apart)) ∙ e)
 
   other_steady : (m : ℕ) (u : Subscription) → m ≢ n → subscription_at m t.subscriptions ≡ Some u → IsSteady (standing_at (table_after n s d part t) after (rows ++ f ∷ []) m u)
   other_steady m u other found =
@@ -333,9 +333,9 @@ module _ (rows : List Fired) (t : TableState) (items : ItemsState) (n : ℕ) (s 
 
       by : (s.session ≡ Some k) ⊎ (s.session ≢ Some k) → is_listed m (part_at k t.sessions).numbers ≡ true
       by (inl own) =
-          ap (λ (p : SessionPart). is_listed m p.numbers) (sym (old_part k own))
-          ∙ shrunk (is_closed d) (part_of s.session t.sessions).numbers (sym (ap (is_listed m) step.numbers) ∙ sym (ap (λ (p : SessionPart). is_listed m p.numbers) (here k own)) ∙ e)
-      by (inr apart) = sym (ap (λ (p : SessionPart). is_listed m p.numbers) (there k apart)) ∙ e
+          ap (λ (p : SessionSubscriptions). is_listed m p.numbers) (sym (old_part k own))
+          ∙ shrunk (is_closed d) (part_of s.session t.sessions).numbers (sym (ap (is_listed m) step.numbers) ∙ sym (ap (λ (p : SessionSubscriptions). is_listed m p.numbers) (here k own)) ∙ e)
+      by (inr apart) = sym (ap (λ (p : SessionSubscriptions). is_listed m p.numbers) (there k apart)) ∙ e
 
   own_live : is_closed d ≡ false → subscription_at n (put_back n d t.subscriptions) ≡ Some d
   own_live live = by (is_closed d) live
@@ -350,8 +350,8 @@ module _ (rows : List Fired) (t : TableState) (items : ItemsState) (n : ℕ) (s 
   -- one that is closed is listed no more
   not_listed : (k : ℕ) → AreNumbersRising (part_at k t.sessions).numbers → s.session ≡ Some k → is_closed d ≡ true → is_listed n (part_at k (set_part s.session t.sessions part)).numbers ≡ false
   not_listed k rising own closed =
-      ap (λ (p : SessionPart). is_listed n p.numbers) (here k own) ∙ ap (is_listed n) (step.numbers ∙ closed_numbers (is_closed d) (part_of s.session t.sessions).numbers closed)
-      ∙ numbers_gone_here n (part_of s.session t.sessions).numbers (subst (λ (p : SessionPart). AreNumbersRising p.numbers) (sym (old_part k own)) rising)
+      ap (λ (p : SessionSubscriptions). is_listed n p.numbers) (here k own) ∙ ap (is_listed n) (step.numbers ∙ closed_numbers (is_closed d) (part_of s.session t.sessions).numbers closed)
+      ∙ numbers_gone_here n (part_of s.session t.sessions).numbers (subst (λ (p : SessionSubscriptions). AreNumbersRising p.numbers) (sym (old_part k own)) rising)
     where
       closed_numbers : (b : Bool) (ns : List ℕ) → b ≡ true → cond b (remove_key (is_at (nat_cmp n)) ns) ns ≡ remove_key (is_at (nat_cmp n)) ns
       closed_numbers true ns e = refl
@@ -384,7 +384,7 @@ module _ (rows : List Fired) (t : TableState) (items : ItemsState) (n : ℕ) (s 
 
       rising : (k : ℕ) → (s.session ≡ Some k) ⊎ (s.session ≢ Some k) → AreNumbersRising (part_at k (set_part s.session t.sessions part)).numbers
       rising k (inl own) =
-          subst (λ (p : SessionPart). AreNumbersRising p.numbers) (sym (here k own))
+          subst (λ (p : SessionSubscriptions). AreNumbersRising p.numbers) (sym (here k own))
           (subst AreNumbersRising (sym step.numbers)
-          (shrunk (is_closed d) (part_of s.session t.sessions).numbers (subst (λ (p : SessionPart). AreNumbersRising p.numbers) (sym (old_part k own)) (lists.rising k))))
-      rising k (inr apart) = subst (λ (p : SessionPart). AreNumbersRising p.numbers) (sym (there k apart)) (lists.rising k)
+          (shrunk (is_closed d) (part_of s.session t.sessions).numbers (subst (λ (p : SessionSubscriptions). AreNumbersRising p.numbers) (sym (old_part k own)) (lists.rising k))))
+      rising k (inr apart) = subst (λ (p : SessionSubscriptions). AreNumbersRising p.numbers) (sym (there k apart)) (lists.rising k)

@@ -2,35 +2,35 @@
 use Rattle.std.proofs.Common.{◌≡◌, ℕ, Bool, true, false, cond, List, [], ◌∷◌, ◌++◌, append_assoc, append-nil, drop, Option, Some, None, refl, sym, ap, ◌∙◌, subst}
 use Rattle.ua_types.specs.Configuration.{Configuration}
 use Rattle.ua_values.specs.declared.data_value.DataValue.{DataValue}
-use Rattle.sub_messages.specs.declared.publishing.SubscriptionAcknowledgement.{SubscriptionAcknowledgement}
-use Rattle.sub_messages.specs.declared.publishing.MonitoredItemNotification.{MonitoredItemNotification}
-use Rattle.sub_table.specs.Chosen.{chosen}
-use Rattle.sub_table.specs.declared.row.RowId.{RowId}
-use Rattle.sub_table.specs.declared.row.RowId.TheVariants.{N2, N3, L1, K2}
-use Rattle.sub_table.specs.declared.vars.Vars.{Vars}
-use Rattle.item_queue.specs.Sendings.{sent_of}
-use Rattle.item_queue.specs.declared.entry.Entry.{Entry}
-use Rattle.monitored_items.specs.Givings.{given_to, all_given, entries_of}
-use Rattle.monitored_items.specs.Items.{ItemsState, no_items}
-use Rattle.monitored_items.specs.ItemTables.{numbers_of}
-use Rattle.monitored_items.specs.Moves as item_moves
-use Rattle.monitored_items.proofs.Sent.{entries-append, notes_are_of_givings, givings_are_what_was_sent}
-use Rattle.subscription.specs.declared.call.Call.{Call}
-use Rattle.subscription.specs.declared.call.Call.TheVariants as call
-use Rattle.subscription.specs.declared.publish_call.PublishCall.{PublishCall}
-use Rattle.subscription.specs.declared.ranks.Rank.{Rank}
-use Rattle.subscription.specs.declared.session_part.TimeoutNote.{TimeoutNote}
-use Rattle.subscription.specs.declared.subscription.Subscription.{Subscription}
-use Rattle.subscription.specs.Calls.{event_of}
-use Rattle.subscription.specs.Firing.{before_of, row_of}
-use Rattle.subscription.specs.Messages.{number_after, data_message}
-use Rattle.subscription.specs.Named.{is_own, own_met}
-use Rattle.subscription.specs.Publishing.{acknowledged_all, note_of, without_note, asked_by, with_results}
-use Rattle.subscription.specs.Queues.{first_of}
-use Rattle.subscription.specs.Ranks.{waiting_of, due_numbers}
-use Rattle.subscription.specs.Scenes.{Scene, Noting, noting, note_sent, with_asked, dequeued, started, life_reset}
-use Rattle.subscription.specs.Subs.{world_of}
-use Rattle.subscription.specs.Tables.{World, met, part_at, subscription_at, vars_found}
+use Rattle.ua_subscription_messages.specs.declared.publishing.SubscriptionAcknowledgement.{SubscriptionAcknowledgement}
+use Rattle.ua_subscription_messages.specs.declared.publishing.MonitoredItemNotification.{MonitoredItemNotification}
+use Rattle.ua_state_table.specs.Chosen.{chosen}
+use Rattle.ua_state_table.specs.declared.row.RowId.{RowId}
+use Rattle.ua_state_table.specs.declared.row.RowId.TheVariants.{N2, N3, L1, K2}
+use Rattle.ua_state_table.specs.declared.vars.Vars.{Vars}
+use Rattle.ua_item_queue.specs.Sendings.{sent_of}
+use Rattle.ua_item_queue.specs.declared.entry.Entry.{Entry}
+use Rattle.ua_monitored_items.specs.Givings.{given_to, all_given, entries_of}
+use Rattle.ua_monitored_items.specs.Items.{ItemsState, no_items}
+use Rattle.ua_monitored_items.specs.ItemTables.{numbers_of}
+use Rattle.ua_monitored_items.specs.Moves as item_moves
+use Rattle.ua_monitored_items.proofs.Sent.{entries-append, notes_are_of_givings, givings_are_what_was_sent}
+use Rattle.ua_subscriptions.specs.declared.call.Call.{Call}
+use Rattle.ua_subscriptions.specs.declared.call.Call.TheVariants as call
+use Rattle.ua_subscriptions.specs.declared.publish_call.PublishCall.{PublishCall}
+use Rattle.ua_subscriptions.specs.declared.ranks.Rank.{Rank}
+use Rattle.ua_subscriptions.specs.declared.session_part.TimeoutNote.{TimeoutNote}
+use Rattle.ua_subscriptions.specs.declared.subscription.Subscription.{Subscription}
+use Rattle.ua_subscriptions.specs.Calls.{event_of}
+use Rattle.ua_subscriptions.specs.Firing.{before_of, row_of}
+use Rattle.ua_subscriptions.specs.Messages.{number_after, data_message}
+use Rattle.ua_subscriptions.specs.Named.{is_own, own_met}
+use Rattle.ua_subscriptions.specs.Publishing.{acknowledged_all, note_of, without_note, asked_by, with_results}
+use Rattle.ua_subscriptions.specs.Queues.{first_of}
+use Rattle.ua_subscriptions.specs.Ranks.{waiting_of, due_numbers}
+use Rattle.ua_subscriptions.specs.Scenes.{Scene, Noting, noting, note_sent, with_asked, dequeued, started, life_reset}
+use Rattle.ua_subscriptions.specs.SubscriptionCalls.{world_of}
+use Rattle.ua_subscriptions.specs.Tables.{World, met, part_at, subscription_at, vars_found}
 use Rattle.subscription_laws.specs.Fates.{account_at}
 use Rattle.subscription_laws.specs.ItemCalls as calls
 use Rattle.subscription_laws.specs.ItemCalls.{note_call, rest_calls, notes_calls, row_calls, calls_by, met_calls, all_calls, own_calls, named_calls, best_calls, asked_calls, published_calls, served_calls, calls_of, calls_from, item_calls}

@@ -3,20 +3,20 @@ use Rattle.std.proofs.Common.{◌≡◌, ℕ, List, [], ◌∷◌, ◌++◌, app
 use Rattle.std.proofs.lemmas.List.Sums.{fold-append}
 use Rattle.ua_types.specs.Configuration.{Configuration}
 use Rattle.ua_values.specs.declared.data_value.DataValue.{DataValue}
-use Rattle.item_queue.specs.Fates.{Told, account, account_after, waiting, GoesOn, IsInOrder, TellsLosses, MarksLosses}
-use Rattle.item_queue.specs.ItemQueue.{Deed}
-use Rattle.item_queue.specs.ItemQueue.Deed.{Sample}
-use Rattle.item_queue.specs.Sendings.{values_of, sampled_by}
-use Rattle.item_queue.specs.Causes.{may_give, GetsOnly}
-use Rattle.item_queue.proofs.CauseLemmas.{own_fates}
-use Rattle.item_queue.proofs.KeptLemmas.{deeds_go}
-use Rattle.item_queue.proofs.MarkLemmas.{marks_losses}
-use Rattle.item_queue.proofs.ValueLemmas.{values_are_told}
-use Rattle.monitored_items.specs.Items.{ItemsState}
-use Rattle.monitored_items.specs.Moves as item_moves
-use Rattle.monitored_items.specs.Moves.{queue_at}
-use Rattle.monitored_items.proofs.Causing.{fates_have_their_causes}
-use Rattle.monitored_items.proofs.Runs.{queues_are_what_waits, fates_are_final, accounts_are_in_order, accounts_tell_losses}
+use Rattle.ua_item_queue.specs.Fates.{AccountEntry, account, account_after, waiting, GoesOn, IsInOrder, TellsLosses, MarksLosses}
+use Rattle.ua_item_queue.specs.ItemQueue.{Deed}
+use Rattle.ua_item_queue.specs.ItemQueue.Deed.{Sample}
+use Rattle.ua_item_queue.specs.Sendings.{values_of, sampled_by}
+use Rattle.ua_item_queue.specs.Causes.{may_give, GetsOnly}
+use Rattle.ua_item_queue.proofs.CauseLemmas.{own_fates}
+use Rattle.ua_item_queue.proofs.KeptLemmas.{deeds_go}
+use Rattle.ua_item_queue.proofs.MarkLemmas.{marks_losses}
+use Rattle.ua_item_queue.proofs.ValueLemmas.{values_are_told}
+use Rattle.ua_monitored_items.specs.Items.{ItemsState}
+use Rattle.ua_monitored_items.specs.Moves as item_moves
+use Rattle.ua_monitored_items.specs.Moves.{queue_at}
+use Rattle.ua_monitored_items.proofs.Causing.{fates_have_their_causes}
+use Rattle.ua_monitored_items.proofs.Runs.{queues_are_what_waits, fates_are_final, accounts_are_in_order, accounts_tell_losses}
 use Rattle.subscription_laws.specs.Fates.{deeds_at, account_at, AreCaused, HaveTheirCauses, TellsEachLoss}
 use Rattle.subscription_laws.specs.ItemCalls.{calls_from, item_calls}
 use Rattle.subscription_laws.specs.Runs.{Move, run}
@@ -45,17 +45,17 @@ are_caused config calls number before after call is = fates_have_their_causes co
 
 pub have_their_causes : (deeds : List (Deed DataValue)) → HaveTheirCauses deeds
 have_their_causes deeds before after deed is =
-    subst (λ (ts : List (Told DataValue)). GetsOnly (may_give (account before) deed) (account before) ts) (sym (fold-append account_after [] before (deed ∷ []))) (own_fates deed (account before))
+    subst (λ (ts : List (AccountEntry DataValue)). GetsOnly (may_give (account before) deed) (account before) ts) (sym (fold-append account_after [] before (deed ∷ []))) (own_fates deed (account before))
 
 -- what stands in the account stays, whatever else is done
 stays : (before : List (Deed DataValue)) (deed : Deed DataValue) (after : List (Deed DataValue)) → GoesOn (account (before ++ deed ∷ [])) (account (before ++ deed ∷ after))
 stays before deed after =
-    subst (λ (ts : List (Told DataValue)). GoesOn (account (before ++ deed ∷ [])) ts)
+    subst (λ (ts : List (AccountEntry DataValue)). GoesOn (account (before ++ deed ∷ [])) ts)
     (sym (fold-append account_after [] (before ++ deed ∷ []) after) ∙ ap (λ (deeds : List (Deed DataValue)). account deeds) (append_assoc before (deed ∷ []) after))
     (deeds_go after (account (before ++ deed ∷ [])))
 
 pub each_loss_is_told : (deeds : List (Deed DataValue)) → TellsEachLoss deeds
 each_loss_is_told deeds before after size oldest value is large = record {
-  at_once = subst (λ (ts : List (Told DataValue)). MarksLosses (account before) ts) (sym (fold-append account_after [] before (Sample size oldest value ∷ []))) (marks_losses (account before) size oldest value large);
+  at_once = subst (λ (ts : List (AccountEntry DataValue)). MarksLosses (account before) ts) (sym (fold-append account_after [] before (Sample size oldest value ∷ []))) (marks_losses (account before) size oldest value large);
   for_good = stays before (Sample size oldest value) after;
 }

@@ -2,16 +2,16 @@
 use Rattle.std.specs.Prelude.{◌≡◌, ⊤, ◌⊎◌, ℕ, Bool, true, false, List, [], ◌∷◌, Option, if◌then◌else◌}
 use Rattle.std.specs.List.{list_any}
 use Rattle.ua_types.specs.declared.moment.Moment.{Moment}
-use Rattle.ua_requests.specs.declared.reply.Reply.{Reply}
-use Rattle.sub_table.specs.Doing.{is_sending}
-use Rattle.sub_table.specs.StateTable.{actions_of}
-use Rattle.sub_table.specs.declared.action.Action.{Action}
-use Rattle.sub_table.specs.declared.action.Action.TheVariants.{Dequeue, SendKeepAlive}
-use Rattle.sub_table.specs.declared.row.RowId.{RowId}
-use Rattle.subscription.specs.declared.publish_call.PublishCall.{PublishCall}
-use Rattle.subscription.specs.Answers.{published_of}
-use Rattle.subscription.specs.Queues.{first_of}
-use Rattle.subscription.specs.Scenes.{Scene}
+use Rattle.server_messages.specs.declared.reply.Reply.{Reply}
+use Rattle.ua_state_table.specs.Doing.{is_sending}
+use Rattle.ua_state_table.specs.StateTable.{actions_of}
+use Rattle.ua_state_table.specs.declared.action.Action.{Action}
+use Rattle.ua_state_table.specs.declared.action.Action.TheVariants.{Dequeue, SendKeepAlive}
+use Rattle.ua_state_table.specs.declared.row.RowId.{RowId}
+use Rattle.ua_subscriptions.specs.declared.publish_call.PublishCall.{PublishCall}
+use Rattle.ua_subscriptions.specs.Answers.{published_of}
+use Rattle.ua_subscriptions.specs.Queues.{first_of}
+use Rattle.ua_subscriptions.specs.Scenes.{Scene}
 use Rattle.subscription_laws.specs.Messaging.{Made}
 
 -- ---- a row

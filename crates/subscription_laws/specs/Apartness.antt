@@ -1,12 +1,12 @@
 -- A request of one session, and what is of others.
 use Rattle.std.specs.Prelude.{◌≡◌, ◌≢◌, ◌⊎◌, ℕ, true, false, None, Some}
-use Rattle.monitored_items.specs.Items.{ItemsState}
-use Rattle.monitored_items.specs.ItemTables.{item_at}
-use Rattle.monitored_items.specs.declared.item.Item.{Item}
-use Rattle.subscription.specs.declared.subscription.Subscription.{Subscription}
-use Rattle.subscription.specs.Named.{is_own}
+use Rattle.ua_monitored_items.specs.Items.{ItemsState}
+use Rattle.ua_monitored_items.specs.ItemTables.{item_at}
+use Rattle.ua_monitored_items.specs.declared.item.Item.{Item}
+use Rattle.ua_subscriptions.specs.declared.subscription.Subscription.{Subscription}
+use Rattle.ua_subscriptions.specs.Named.{is_own}
 use Rattle.subscription_laws.specs.Runs.{Move}
-use Rattle.subscription.specs.Tables.{TableState, part_at, subscription_at}
+use Rattle.ua_subscriptions.specs.Tables.{TableState, part_at, subscription_at}
 
 -- a call is a request of a session; one on items is so where the subscription is the session's
 abbrev pub IsRequestOf : ℕ → TableState → Move → Type 0

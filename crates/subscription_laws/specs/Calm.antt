@@ -4,16 +4,16 @@ use Rattle.std.specs.BTreeMap.{is_at}
 use Rattle.std.specs.List.{list_any}
 use Rattle.std.specs.Ordering.{nat_cmp}
 use Rattle.ua_types.specs.Configuration.{Configuration}
-use Rattle.ua_requests.specs.declared.fired.Fired.{Fired}
-use Rattle.sub_table.specs.Doing.{Standing}
-use Rattle.sub_table.specs.Steady.{IsSteady}
-use Rattle.monitored_items.specs.Items.{ItemsState}
-use Rattle.monitored_items.specs.Moves.{Move, run}
-use Rattle.subscription.specs.declared.subscription.Subscription.{Subscription}
+use Rattle.server_messages.specs.declared.fired.Fired.{Fired}
+use Rattle.ua_state_table.specs.Doing.{Standing}
+use Rattle.ua_state_table.specs.Steady.{IsSteady}
+use Rattle.ua_monitored_items.specs.Items.{ItemsState}
+use Rattle.ua_monitored_items.specs.Moves.{Move, run}
+use Rattle.ua_subscriptions.specs.declared.subscription.Subscription.{Subscription}
 use Rattle.subscription_laws.specs.Histories.{counts_at, life_at, AreLawful}
 use Rattle.subscription_laws.specs.Standings.{standing}
-use Rattle.subscription.specs.Subscriptions.{vars_of}
-use Rattle.subscription.specs.Tables.{TableState, part_at, part_of, subscription_at}
+use Rattle.ua_subscriptions.specs.Subscriptions.{vars_of}
+use Rattle.ua_subscriptions.specs.Tables.{TableState, part_at, part_of, subscription_at}
 
 -- ---- numbers
 

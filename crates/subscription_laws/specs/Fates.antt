@@ -2,12 +2,12 @@
 use Rattle.std.specs.Prelude.{◌≡◌, ◌<◌, ℕ, Bool, List, [], ◌∷◌, ◌++◌}
 use Rattle.ua_types.specs.Configuration.{Configuration}
 use Rattle.ua_values.specs.declared.data_value.DataValue.{DataValue}
-use Rattle.item_queue.specs.Causes.{may_give, GetsOnly}
-use Rattle.item_queue.specs.Fates.{Told, account, GoesOn, MarksLosses}
-use Rattle.item_queue.specs.ItemQueue.{Deed}
-use Rattle.item_queue.specs.ItemQueue.Deed.{Sample}
-use Rattle.monitored_items.specs.Causes.{call_may_give}
-use Rattle.monitored_items.specs.Moves as item_moves
+use Rattle.ua_item_queue.specs.Causes.{may_give, GetsOnly}
+use Rattle.ua_item_queue.specs.Fates.{AccountEntry, account, GoesOn, MarksLosses}
+use Rattle.ua_item_queue.specs.ItemQueue.{Deed}
+use Rattle.ua_item_queue.specs.ItemQueue.Deed.{Sample}
+use Rattle.ua_monitored_items.specs.Causes.{call_may_give}
+use Rattle.ua_monitored_items.specs.Moves as item_moves
 use Rattle.subscription_laws.specs.ItemCalls.{item_calls}
 use Rattle.subscription_laws.specs.Runs.{Move}
 
@@ -16,7 +16,7 @@ abbrev pub deeds_at : Configuration → List Move → ℕ → List (Deed DataVal
 deeds_at config moves number = item_moves.deeds_of number (item_moves.run config (item_calls config moves)).deeds
 
 -- the account of all values that the item ever queued, oldest first, each with its fate and its mark
-abbrev pub account_at : Configuration → List Move → ℕ → List (Told DataValue)
+abbrev pub account_at : Configuration → List Move → ℕ → List (AccountEntry DataValue)
 account_at config moves number = account (deeds_at config moves number)
 
 -- each of some calls of the items gives a value no fate but its own: a message sends values, and so on

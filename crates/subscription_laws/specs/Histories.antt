@@ -2,16 +2,16 @@
 -- keep-alive counters).
 use Rattle.std.specs.Prelude.{◌≡◌, ℕ, ◌+◌, ◌==◌, Bool, true, false, List, [], ◌∷◌, ◌++◌, fold, if◌then◌else◌}
 use Rattle.std.specs.List.{list_any}
-use Rattle.ua_requests.specs.declared.fired.Fired.{Fired}
-use Rattle.sub_table.specs.Doing.{answerable_after}
-use Rattle.sub_table.specs.Sound.{IsSound}
-use Rattle.sub_table.specs.StateTable.{actions_of, fires}
-use Rattle.sub_table.specs.declared.action.Action.{Action}
-use Rattle.sub_table.specs.declared.action.Action.TheVariants.{Initialise, StartTimer, ResetLife}
-use Rattle.sub_table.specs.declared.event.TableEvent.TheVariants.{Timer}
-use Rattle.sub_table.specs.declared.row.RowId.{RowId}
-use Rattle.sub_table.specs.declared.row.RowId.TheVariants.{G6}
-use Rattle.sub_table.specs.declared.state.State.TheVariants.{Late}
+use Rattle.server_messages.specs.declared.fired.Fired.{Fired}
+use Rattle.ua_state_table.specs.Doing.{answerable_after}
+use Rattle.ua_state_table.specs.Sound.{IsSound}
+use Rattle.ua_state_table.specs.StateTable.{actions_of, fires}
+use Rattle.ua_state_table.specs.declared.action.Action.{Action}
+use Rattle.ua_state_table.specs.declared.action.Action.TheVariants.{Initialise, StartTimer, ResetLife}
+use Rattle.ua_state_table.specs.declared.event.TableEvent.TheVariants.{Timer}
+use Rattle.ua_state_table.specs.declared.row.RowId.{RowId}
+use Rattle.ua_state_table.specs.declared.row.RowId.TheVariants.{G6}
+use Rattle.ua_state_table.specs.declared.state.State.TheVariants.{Late}
 use Rattle.subscription_laws.specs.Standings.{Counts}
 
 -- how often the timer was started since the life counter was last set

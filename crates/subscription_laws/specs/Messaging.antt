@@ -1,24 +1,24 @@
 -- The messages with notifications that any calls make, in order (IEC 62541-4, 5.13: SequenceNumber). Those that Publish
 -- requests and timers fire rows for may make some; no other row sends notifications.
 use Rattle.std.specs.Prelude.{◌≡◌, ⊤, ◌⊎◌, ℕ, ◌==◌, List, [], ◌∷◌, ◌++◌, map, Option, Some, None, if◌then◌else◌}
-use Rattle.sub_messages.specs.declared.publishing.SubscriptionAcknowledgement.{SubscriptionAcknowledgement}
-use Rattle.subscription.specs.declared.call.Call.{Call}
-use Rattle.subscription.specs.declared.call.Call.TheVariants.{Publish, Timer}
-use Rattle.subscription.specs.declared.messages.KeptMessage.{KeptMessage}
-use Rattle.subscription.specs.declared.publish_call.PublishCall.{PublishCall}
-use Rattle.subscription.specs.declared.ranks.Rank.{Rank}
-use Rattle.subscription.specs.declared.session_part.TimeoutNote.{TimeoutNote}
-use Rattle.subscription.specs.declared.subscription.Subscription.{Subscription}
-use Rattle.subscription.specs.Firing.{row_of}
-use Rattle.subscription.specs.Messages.{number_after}
+use Rattle.ua_subscription_messages.specs.declared.publishing.SubscriptionAcknowledgement.{SubscriptionAcknowledgement}
+use Rattle.ua_subscriptions.specs.declared.call.Call.{Call}
+use Rattle.ua_subscriptions.specs.declared.call.Call.TheVariants.{Publish, Timer}
+use Rattle.ua_subscriptions.specs.declared.messages.KeptMessage.{KeptMessage}
+use Rattle.ua_subscriptions.specs.declared.publish_call.PublishCall.{PublishCall}
+use Rattle.ua_subscriptions.specs.declared.ranks.Rank.{Rank}
+use Rattle.ua_subscriptions.specs.declared.session_part.TimeoutNote.{TimeoutNote}
+use Rattle.ua_subscriptions.specs.declared.subscription.Subscription.{Subscription}
+use Rattle.ua_subscriptions.specs.Firing.{row_of}
+use Rattle.ua_subscriptions.specs.Messages.{number_after}
 use Rattle.subscription_laws.specs.Numbering.{last_number, messages_of}
-use Rattle.subscription.specs.Publishing.{acknowledged_all, note_of, without_note, asked_by, with_results}
-use Rattle.subscription.specs.Queues.{first_of}
-use Rattle.subscription.specs.Ranks.{waiting_of, due_numbers}
+use Rattle.ua_subscriptions.specs.Publishing.{acknowledged_all, note_of, without_note, asked_by, with_results}
+use Rattle.ua_subscriptions.specs.Queues.{first_of}
+use Rattle.ua_subscriptions.specs.Ranks.{waiting_of, due_numbers}
 use Rattle.subscription_laws.specs.Runs.{Move, Ran, moved}
-use Rattle.subscription.specs.Scenes.{scene}
-use Rattle.subscription.specs.Subs.{world_of}
-use Rattle.subscription.specs.Tables.{World, with_call, met, part_of, part_at, subscription_at}
+use Rattle.ua_subscriptions.specs.Scenes.{scene}
+use Rattle.ua_subscriptions.specs.SubscriptionCalls.{world_of}
+use Rattle.ua_subscriptions.specs.Tables.{World, with_call, met, part_of, part_at, subscription_at}
 
 -- a message, and whose it is
 pub record Made : Type 0 where

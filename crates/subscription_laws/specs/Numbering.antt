@@ -1,12 +1,12 @@
 -- The messages that a row makes, and their numbers (IEC 62541-4, 5.13: SequenceNumber and the retransmission queue).
 use Rattle.std.specs.Prelude.{◌≡◌, ⊤, ℕ, Bool, true, false, List, [], ◌∷◌, drop, fold, if◌then◌else◌}
-use Rattle.sub_table.specs.declared.row.RowId.{RowId}
-use Rattle.sub_table.specs.declared.row.RowId.TheVariants.{C2, N2, N3, L1, K2, G5, G6, G8}
-use Rattle.subscription.specs.declared.messages.KeptMessage.{KeptMessage}
-use Rattle.subscription.specs.declared.publish_call.PublishCall.{PublishCall}
-use Rattle.subscription.specs.declared.subscription.Subscription.{Subscription}
-use Rattle.subscription.specs.Messages.{number_after}
-use Rattle.subscription.specs.Scenes.{Scene, Noting, noting, note_sent, with_asked, message_made, kept_with, started, dequeued, life_reset}
+use Rattle.ua_state_table.specs.declared.row.RowId.{RowId}
+use Rattle.ua_state_table.specs.declared.row.RowId.TheVariants.{C2, N2, N3, L1, K2, G5, G6, G8}
+use Rattle.ua_subscriptions.specs.declared.messages.KeptMessage.{KeptMessage}
+use Rattle.ua_subscriptions.specs.declared.publish_call.PublishCall.{PublishCall}
+use Rattle.ua_subscriptions.specs.declared.subscription.Subscription.{Subscription}
+use Rattle.ua_subscriptions.specs.Messages.{number_after}
+use Rattle.ua_subscriptions.specs.Scenes.{Scene, Noting, noting, note_sent, with_asked, message_made, kept_with, started, dequeued, life_reset}
 
 -- the message that is made next
 abbrev pub note_made : Noting → KeptMessage

@@ -1,8 +1,8 @@
 -- Publish requests: how many of some came, were answered, and wait (IEC 62541-4, "Publish").
 use Rattle.std.specs.Prelude.{ℕ, ◌+◌, Bool, true, false, List, [], ◌∷◌}
-use Rattle.ua_requests.specs.declared.reply.Reply.{Reply}
-use Rattle.subscription.specs.declared.publish_call.PublishCall.{PublishCall}
-use Rattle.subscription.specs.declared.session_part.SessionPart.{SessionPart}
+use Rattle.server_messages.specs.declared.reply.Reply.{Reply}
+use Rattle.ua_subscriptions.specs.declared.publish_call.PublishCall.{PublishCall}
+use Rattle.ua_subscriptions.specs.declared.session_part.SessionSubscriptions.{SessionSubscriptions}
 use Rattle.subscription_laws.specs.Runs.{Move}
 
 -- a request, as its answer names it: the connection that it came by, its number there, and the handle in its header
@@ -27,7 +27,7 @@ such_calls such [] = 0
 such_calls such (call ∷ calls) = one_if (such (name_of call)) + such_calls such calls
 
 -- so many wait, in all sessions
-abbrev pub such_waiting : (Name → Bool) → List (ℕ × SessionPart) → ℕ
+abbrev pub such_waiting : (Name → Bool) → List (ℕ × SessionSubscriptions) → ℕ
 such_waiting such [] = 0
 such_waiting such (e ∷ sessions) = such_calls such e.1.requests + such_waiting such sessions
 

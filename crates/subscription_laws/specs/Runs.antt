@@ -2,27 +2,27 @@
 use Rattle.std.specs.Prelude.{ℕ, Bool, List, [], ◌++◌, fold, Option, Some, None}
 use Rattle.ua_types.specs.Configuration.{Configuration}
 use Rattle.ua_types.specs.declared.moment.Moment.{Moment}
-use Rattle.ua_requests.specs.declared.fired.Fired.{Fired}
-use Rattle.ua_requests.specs.declared.reply.Reply.{Reply}
+use Rattle.server_messages.specs.declared.fired.Fired.{Fired}
+use Rattle.server_messages.specs.declared.reply.Reply.{Reply}
 use Rattle.ua_space.specs.Nodes.{Nodes}
-use Rattle.read_write.specs.declared.timestamps.Timestamps.{Timestamps}
-use Rattle.read_write.specs.declared.writing.Change.{Change}
-use Rattle.sub_messages.specs.declared.monitored_items.MonitoredItemCreateRequest.{MonitoredItemCreateRequest}
-use Rattle.sub_messages.specs.declared.monitored_items.MonitoredItemModifyRequest.{MonitoredItemModifyRequest}
-use Rattle.sub_messages.specs.declared.publishing.SubscriptionAcknowledgement.{SubscriptionAcknowledgement}
-use Rattle.sub_table.specs.declared.vars.Vars.{Vars}
-use Rattle.monitored_items.specs.Items.{ItemsState, no_items}
-use Rattle.monitored_items.specs.Moves as item_moves
-use Rattle.monitored_items.specs.declared.kinds.Mode.{Mode}
-use Rattle.subscription.specs.declared.call.Call.TheVariants as call
-use Rattle.subscription.specs.declared.publish_call.PublishCall.{PublishCall}
-use Rattle.subscription.specs.declared.settings.Settings.{Settings}
-use Rattle.subscription.specs.Ending.{session_ended, without_conn}
-use Rattle.subscription.specs.Making.{modified, republished, timed}
-use Rattle.subscription.specs.Named.{named_all, deleted}
-use Rattle.subscription.specs.Publishing.{published}
-use Rattle.subscription.specs.Subs.{SubsState, no_subs, world_of, Said, said, told, created}
-use Rattle.subscription.specs.Tables.{met, vars_found}
+use Rattle.ua_read_write.specs.declared.timestamps.Timestamps.{Timestamps}
+use Rattle.ua_read_write.specs.declared.writing.Change.{Change}
+use Rattle.ua_subscription_messages.specs.declared.monitored_items.MonitoredItemCreateRequest.{MonitoredItemCreateRequest}
+use Rattle.ua_subscription_messages.specs.declared.monitored_items.MonitoredItemModifyRequest.{MonitoredItemModifyRequest}
+use Rattle.ua_subscription_messages.specs.declared.publishing.SubscriptionAcknowledgement.{SubscriptionAcknowledgement}
+use Rattle.ua_state_table.specs.declared.vars.Vars.{Vars}
+use Rattle.ua_monitored_items.specs.Items.{ItemsState, no_items}
+use Rattle.ua_monitored_items.specs.Moves as item_moves
+use Rattle.ua_monitored_items.specs.declared.kinds.Mode.{Mode}
+use Rattle.ua_subscriptions.specs.declared.call.Call.TheVariants as call
+use Rattle.ua_subscriptions.specs.declared.publish_call.PublishCall.{PublishCall}
+use Rattle.ua_subscriptions.specs.declared.settings.Settings.{Settings}
+use Rattle.ua_subscriptions.specs.Ending.{session_ended, without_conn}
+use Rattle.ua_subscriptions.specs.Making.{modified, republished, timed}
+use Rattle.ua_subscriptions.specs.Named.{named_all, deleted}
+use Rattle.ua_subscriptions.specs.Publishing.{published}
+use Rattle.ua_subscriptions.specs.SubscriptionCalls.{SubscriptionsState, no_subscriptions, world_of, Said, said, told, created}
+use Rattle.ua_subscriptions.specs.Tables.{met, vars_found}
 
 -- what a client asks of the items of a subscription
 pub data ItemsCall : Type 0 where
@@ -37,7 +37,7 @@ on_items number (ItemsCall.Modify timestamps requests) = item_moves.Move.Modify 
 on_items number (ItemsCall.SetMode nodes clock mode numbers) = item_moves.Move.SetMode nodes clock number mode numbers
 on_items number (ItemsCall.Delete numbers) = item_moves.Move.Delete number numbers
 
--- a call: of `Subs`; of the items of a subscription, of which `Subs` is told then; or the items are shown what was written
+-- a call: of `Subscriptions`; of the items of a subscription, of which `Subscriptions` is told then; or the items are shown what was written
 pub data Move : Type 0 where
   Create : (clock : Moment) → (session : ℕ) → Settings → (enabled : Bool) → Move
   Modify : (clock : Moment) → (session number : ℕ) → Settings → Move
@@ -53,13 +53,13 @@ pub data Move : Type 0 where
 
 -- the subscriptions and the items, and what was done so far: the rows that fired, and what was answered to Publish requests
 pub record Ran : Type 0 where
-  pub subs : SubsState
+  pub subs : SubscriptionsState
   pub items : ItemsState
   pub rows : List Fired
   pub replies : List Reply
 
 abbrev pub start : Configuration → Ran
-start config = record { subs = no_subs config; items = no_items config; rows = []; replies = [] }
+start config = record { subs = no_subscriptions config; items = no_items config; rows = []; replies = [] }
 
 abbrev pub ran_by : {A : Type 0} → Ran → Said A → Ran
 ran_by before s = record {
@@ -85,7 +85,7 @@ moved r (Move.Publish clock session asked acks) = ran_by r (told r.subs (publish
 moved r (Move.Republish clock session number wanted) = ran_by r (said r.subs (republished session number wanted (world_of r.subs r.items clock)))
 moved r (Move.Timers clock) = ran_by r (told r.subs (timed (world_of r.subs r.items clock)))
 moved r (Move.EndSession clock session deleting) = ran_by r (told r.subs (session_ended session deleting (world_of r.subs r.items clock)))
-moved r (Move.Gone conn) = let subs : SubsState = r.subs in record r { subs = record subs { table = without_conn conn subs.table } }
+moved r (Move.Gone conn) = let subs : SubscriptionsState = r.subs in record r { subs = record subs { table = without_conn conn subs.table } }
 moved r (Move.Items clock number asked) = items_ran clock number asked r (vars_found number r.items r.subs.table)
 moved r (Move.Show changed) = record r { items = (item_moves.moved r.items (item_moves.Move.Show changed)).state }
 

@@ -1,16 +1,16 @@
 -- A subscription as the state table sees it.
 use Rattle.std.specs.Prelude.{◌≡◌, ℕ, ◌&&◌, ◌||◌, Bool, true, false}
 use Rattle.std.specs.Option.{is_some}
-use Rattle.sub_table.specs.Doing.{Standing, Circumstances, after}
-use Rattle.sub_table.specs.declared.row.RowId.{RowId}
-use Rattle.sub_table.specs.declared.row.RowId.TheVariants.{N2, N3, L1, K2}
-use Rattle.sub_table.specs.declared.vars.Vars.{Vars}
-use Rattle.monitored_items.specs.Items.{is_available}
-use Rattle.subscription.specs.declared.subscription.Subscription.{Subscription}
-use Rattle.subscription.specs.Calls.{settings_of, asks_enabled}
-use Rattle.subscription.specs.Scenes.{Scene, row_done}
-use Rattle.subscription.specs.Settings.{revised_keep, revised_life}
-use Rattle.subscription.specs.Subscriptions.{vars_of, is_any}
+use Rattle.ua_state_table.specs.Doing.{Standing, Circumstances, after}
+use Rattle.ua_state_table.specs.declared.row.RowId.{RowId}
+use Rattle.ua_state_table.specs.declared.row.RowId.TheVariants.{N2, N3, L1, K2}
+use Rattle.ua_state_table.specs.declared.vars.Vars.{Vars}
+use Rattle.ua_monitored_items.specs.Items.{is_available}
+use Rattle.ua_subscriptions.specs.declared.subscription.Subscription.{Subscription}
+use Rattle.ua_subscriptions.specs.Calls.{settings_of, asks_enabled}
+use Rattle.ua_subscriptions.specs.Scenes.{Scene, row_done}
+use Rattle.ua_subscriptions.specs.Settings.{revised_keep, revised_life}
+use Rattle.ua_subscriptions.specs.Subscriptions.{vars_of, is_any}
 
 -- the two counts that no code keeps: the timers started since the life counter was set, and those that found a request
 -- since a message was sent, or one of them found none, or the counts were set

@@ -3,11 +3,11 @@ use Rattle.std.specs.Prelude.{◌≡◌, ⊤, ℕ, List, [], ◌∷◌, ◌++◌
 use Rattle.ua_types.specs.Configuration.{Configuration}
 use Rattle.ua_types.specs.declared.moment.Moment.{Moment}
 use Rattle.ua_values.specs.declared.data_value.DataValue.{DataValue}
-use Rattle.item_queue.specs.declared.entry.Entry.{Entry}
-use Rattle.monitored_items.specs.Givings.{Giving, given_to, notes_given, entries_of}
-use Rattle.monitored_items.specs.Items.{ItemsState, no_items}
-use Rattle.monitored_items.specs.Moves as item_moves
-use Rattle.subscription.specs.Messages.{data_message}
+use Rattle.ua_item_queue.specs.declared.entry.Entry.{Entry}
+use Rattle.ua_monitored_items.specs.Givings.{Giving, given_to, notes_given, entries_of}
+use Rattle.ua_monitored_items.specs.Items.{ItemsState, no_items}
+use Rattle.ua_monitored_items.specs.Moves as item_moves
+use Rattle.ua_subscriptions.specs.Messages.{data_message}
 use Rattle.subscription_laws.specs.ItemCalls.{item_calls}
 use Rattle.subscription_laws.specs.Messaging.{Made}
 use Rattle.subscription_laws.specs.Runs.{Move}

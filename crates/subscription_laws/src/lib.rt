@@ -10,38 +10,38 @@
 #![tactic(auto)]
 
 ghost use Rattle.std.specs.Prelude.{◌≡◌, ◌<◌, ◌≤◌, ◌+◌, ℕ, Bool, true, false, List, [], ◌∷◌, ◌++◌, map, is_some, Some, Ok};
-ghost use Rattle.item_queue.specs.Fates.{waiting, GoesOn, IsInOrder, TellsLosses};
-ghost use Rattle.item_queue.specs.Sendings.{values_of, sampled_by, sent_of};
-ghost use Rattle.monitored_items.specs.Moves.{queue_at};
-ghost use Rattle.sub_table.specs.Doing.{enqueues};
-ghost use Rattle.sub_table.specs.Events.{fits, is_closed};
-ghost use Rattle.sub_table.specs.StateTable.{fires};
-ghost use Rattle.sub_table.specs.Steady.{IsSteady};
-ghost use Rattle.sub_table.specs.declared.row.RowId.{RowId};
+ghost use Rattle.ua_item_queue.specs.Fates.{waiting, GoesOn, IsInOrder, TellsLosses};
+ghost use Rattle.ua_item_queue.specs.Sendings.{values_of, sampled_by, sent_of};
+ghost use Rattle.ua_monitored_items.specs.Moves.{queue_at};
+ghost use Rattle.ua_state_table.specs.Doing.{enqueues};
+ghost use Rattle.ua_state_table.specs.Events.{fits, is_closed};
+ghost use Rattle.ua_state_table.specs.StateTable.{fires};
+ghost use Rattle.ua_state_table.specs.Steady.{IsSteady};
+ghost use Rattle.ua_state_table.specs.declared.row.RowId.{RowId};
 ghost use Rattle.subscription_laws.specs.Answering.{sends, sends_keep_alive, answering, AreBrought};
 ghost use Rattle.subscription_laws.specs.Apartness.{IsRequestOf, OthersStay};
-ghost use Rattle.subscription.specs.Answers.{number_of, published_of};
-ghost use Rattle.subscription.specs.Calls.{event_of};
+ghost use Rattle.ua_subscriptions.specs.Answers.{number_of, published_of};
+ghost use Rattle.ua_subscriptions.specs.Calls.{event_of};
 ghost use Rattle.subscription_laws.specs.Calm.{IsListed, ListsItsOwn, AreLists, AreSteady};
-ghost use Rattle.subscription.specs.Firing.{fired, before_of, vars_in, row_of};
+ghost use Rattle.ua_subscriptions.specs.Firing.{fired, before_of, vars_in, row_of};
 ghost use Rattle.subscription_laws.specs.Fates.{deeds_at, account_at, AreCaused, HaveTheirCauses, TellsEachLoss};
 ghost use Rattle.subscription_laws.specs.Histories.{counts_at, life_at, AreLawful};
 ghost use Rattle.subscription_laws.specs.ItemCalls.{ItemsComeByTheirCalls, item_calls};
-ghost use Rattle.subscription.specs.Making.{kept_at, republished};
-ghost use Rattle.subscription.specs.Messages.{number_after, keep_alive_message};
+ghost use Rattle.ua_subscriptions.specs.Making.{kept_at, republished};
+ghost use Rattle.ua_subscriptions.specs.Messages.{number_after, keep_alive_message};
 ghost use Rattle.subscription_laws.specs.Messaging.{messages_for, run_made, IsAmong, AreNotes, AreItsMessages};
 ghost use Rattle.subscription_laws.specs.Numbering.{AreNumbered, IsMade, messages_of, begins_or_ends};
-ghost use Rattle.subscription.specs.Ranks.{is_waiting};
+ghost use Rattle.ua_subscriptions.specs.Ranks.{is_waiting};
 ghost use Rattle.subscription_laws.specs.Requests.{Name, such_answers, such_waiting, such_came};
 ghost use Rattle.subscription_laws.specs.Runs.{Move, run, moved, start};
-ghost use Rattle.subscription.specs.Scenes.{Scene, row_done};
-ghost use Rattle.subscription.specs.Subs.{world_of};
+ghost use Rattle.ua_subscriptions.specs.Scenes.{Scene, row_done};
+ghost use Rattle.ua_subscriptions.specs.SubscriptionCalls.{world_of};
 ghost use Rattle.subscription_laws.specs.Standings.{Counts, standing_in, row_counts, IsAsked};
-ghost use Rattle.subscription.specs.Tables.{part_at, subscription_at};
+ghost use Rattle.ua_subscriptions.specs.Tables.{part_at, subscription_at};
 ghost use Rattle.subscription_laws.specs.Tellings.{all_taken, AreTold, entries_told};
-ghost use Rattle.subscription.specs.declared.call.Call.TheVariants.{Publish};
-ghost use Rattle.subscription.specs.declared.publish_call.PublishCall.{PublishCall};
-ghost use Rattle.subscription.specs.declared.subscription.Subscription.{Subscription};
+ghost use Rattle.ua_subscriptions.specs.declared.call.Call.TheVariants.{Publish};
+ghost use Rattle.ua_subscriptions.specs.declared.publish_call.PublishCall.{PublishCall};
+ghost use Rattle.ua_subscriptions.specs.declared.subscription.Subscription.{Subscription};
 ghost use Rattle.ua_types.specs.Configuration.{Configuration};
 ghost use Rattle.ua_types.specs.declared.moment.Moment.{Moment};
 
@@ -130,7 +130,7 @@ pub fn no_keep_alive_is_skipped()
 
 /// Whatever is called, the messages of a subscription are numbered from 1 without a gap, after the last of 32 bits comes 1,
 /// also once it is no more. The last has the number of a live one, and what that one keeps was made. What Republish and
-/// [`subscription::Subs::kept`] give is, byte for byte, a message that was made, under the number that is wanted. The note of a
+/// [`ua_subscriptions::Subscriptions::kept`] give is, byte for byte, a message that was made, under the number that is wanted. The note of a
 /// time-out has the number that would have come next.
 pub fn all_messages_are_numbered()
     ensures numbered { (config : Configuration) (moves : List Move) (number : ℕ) →
@@ -173,7 +173,7 @@ pub fn sessions_stay_apart()
 {}
 
 /// Whatever is called, the items come by their own calls, from no items on: by what clients ask of them, by what the rows of
-/// subscriptions take of them and end, and by the values that they are shown. So what `monitored_items::laws` says of any calls
+/// subscriptions take of them and end, and by the values that they are shown. So what `ua_monitored_items::laws` says of any calls
 /// of the items holds of those of a server.
 #[tactic(auto, using(crate::proofs::ItemsCalled::items_come_by_their_calls))]
 pub fn items_come_by_their_calls()

@@ -9,7 +9,7 @@ ghost use Rattle.ua_binary.specs.Arrays.{array_reading, elements_reading, array_
 
 use crate::cursor::Cursor;
 use crate::fault::TakeFault;
-use crate::texts::NULL;
+use crate::texts::NULL_LENGTH;
 use crate::wire::Wire;
 use crate::written::Written;
 use std::alloc::{AllocError, Global};
@@ -85,7 +85,7 @@ impl<T: Wire> Wire for Array<T> {
 
     fn encode(&self, out: &mut Vec<u8>) -> Result<(), AllocError> {
         match self.as_slice() {
-            None => NULL.encode(out),
+            None => NULL_LENGTH.encode(out),
             Some(items) => write_list(items, out),
         }
     }

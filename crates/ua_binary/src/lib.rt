@@ -42,5 +42,6 @@ pub use cursor::Cursor;
 pub use data_values::BorrowedDataValue;
 pub use enumerations::Enumeration;
 pub use fault::TakeFault;
+pub use texts::NULL_LENGTH;
 pub use wire::Wire;
 pub use written::Written;

@@ -11,8 +11,8 @@ use crate::wire::Wire;
 use std::alloc::{AllocError, Global};
 use ua_types::{ByteString, Text};
 
-/// The length that is written for null: -1 as an Int32.
-pub(crate) const NULL: u32 = 0xffff_ffff;
+/// The length that is written for a null String, ByteString or array: -1 as an Int32 (IEC 62541-6, 5.2.2.4).
+pub const NULL_LENGTH: u32 = 0xffff_ffff;
 
 // Writes bytes behind their length.
 #[tactic(auto, using(crate::proofs::Extending::extends_more, crate::proofs::Again::byte_string_again), unfolding(crate::specs::Texts::byte_string_encoding))]
@@ -35,7 +35,7 @@ fn encode_null(out: &mut Vec<u8>) -> Result<(), AllocError>
     ensures again { OnOk result (IsReadAgain byte_string_reading byte_string_encoding None) }
     ensures some { OnOk result (0 < length (byte_string_encoding None)) }
 {
-    NULL.encode(out)
+    NULL_LENGTH.encode(out)
 }
 
 #[tactic(auto, using(crate::proofs::Again::text_again, crate::proofs::Again::overclaim_is_short), unfolding(crate::specs::Texts::text_reading))]

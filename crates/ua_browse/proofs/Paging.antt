@@ -7,8 +7,8 @@ use Rattle.ua_types.specs.Answers.{Step, step}
 use Rattle.ua_types.specs.declared.refusal.Refusal.{Refusal}
 use Rattle.ua_types.specs.declared.refusal.Refusal.TheVariants.{Service, Memory, Exhausted}
 use Rattle.ua_types.specs.declared.status.Status.{Status}
-use Rattle.service_messages.specs.declared.browsing.BrowseDescription.{BrowseDescription}
-use Rattle.service_messages.specs.declared.browsing.ReferenceDescription.{ReferenceDescription}
+use Rattle.ua_service_messages.specs.declared.browsing.BrowseDescription.{BrowseDescription}
+use Rattle.ua_service_messages.specs.declared.browsing.ReferenceDescription.{ReferenceDescription}
 use Rattle.ua_session.specs.Points.{PointsState, TakesSerial}
 use Rattle.ua_types.specs.NodeIdOrder.{same_id}
 use Rattle.ua_types.specs.declared.node_id.NodeId.{NodeId}

@@ -5,8 +5,8 @@ use Rattle.std.specs.Result.{result_map_both}
 use Rattle.ua_types.specs.Answers.{Step, step}
 use Rattle.ua_types.specs.declared.status.Status.{Status}
 use Rattle.ua_types.specs.declared.status.TheConstants.Status as status
-use Rattle.service_messages.specs.declared.browsing.BrowseDescription.{BrowseDescription}
-use Rattle.service_messages.specs.declared.browsing.ReferenceDescription.{ReferenceDescription}
+use Rattle.ua_service_messages.specs.declared.browsing.BrowseDescription.{BrowseDescription}
+use Rattle.ua_service_messages.specs.declared.browsing.ReferenceDescription.{ReferenceDescription}
 use Rattle.ua_session.specs.Points.{PointsState, hold_of, replace_of, without_point}
 use Rattle.ua_session.specs.declared.points.BrowsePoint.{BrowsePoint}
 use Rattle.ua_session.specs.declared.points.Point.{Point}

@@ -1,6 +1,6 @@
 -- What follows from the definition of browsing: its pages joined are the whole list.
 use Rattle.std.specs.Prelude.{◌≡◌, ◌<◌, ℕ, zero, suc, List, [], ◌++◌, length, drop, map, filter, Option, Some, None}
-use Rattle.service_messages.specs.declared.browsing.BrowseDescription.{BrowseDescription}
+use Rattle.ua_service_messages.specs.declared.browsing.BrowseDescription.{BrowseDescription}
 use Rattle.ua_space.specs.Nodes.{SpaceState}
 use Rattle.ua_space.specs.References.{Directed, references_of}
 use Rattle.ua_browse.specs.Browsing.{shown_of, next_of}

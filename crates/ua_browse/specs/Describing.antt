@@ -6,7 +6,7 @@ use Rattle.ua_types.specs.declared.localized_text.LocalizedText.{LocalizedText}
 use Rattle.ua_types.specs.declared.node_id.ExpandedNodeId.{ExpandedNodeId}
 use Rattle.ua_types.specs.declared.node_id.NodeId.{NodeId}
 use Rattle.ua_types.specs.declared.qualified_name.QualifiedName.{QualifiedName}
-use Rattle.service_messages.specs.declared.browsing.ReferenceDescription.{ReferenceDescription}
+use Rattle.ua_service_messages.specs.declared.browsing.ReferenceDescription.{ReferenceDescription}
 use Rattle.ua_space.specs.NodeClasses.{class_of}
 use Rattle.ua_space.specs.Nodes.{SpaceState, node_at}
 use Rattle.ua_space.specs.References.{Directed, end_of, type_definition_of}

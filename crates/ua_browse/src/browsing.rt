@@ -4,12 +4,12 @@ ghost use Rattle.std.specs.Prelude.{◌≡◌, ◌<◌, ◌^◌, length, Some, I
 ghost use Rattle.std.specs.Result.{result_map_both};
 ghost use Rattle.ua_types.specs.Answers.{step};
 ghost use Rattle.ua_session.specs.Points.{TakesSerial};
-ghost use Rattle.ua_browse.specs.Browsing.{page_size as page_size_lem, page_of, cut_of, part, browse_of, browse_next_of, release_of};
+ghost use Rattle.ua_browse.specs.Browsing.{page_size as page_size_spec, page_of, cut_of, part, browse_of, browse_next_of, release_of};
 
 use crate::pages::{Cut, page_from};
 use crate::wanted::{judged, types_of};
-use service_messages::{BrowseDescription, ReferenceDescription};
 use std::alloc::{AllocError, Global};
+use ua_service_messages::{BrowseDescription, ReferenceDescription};
 use ua_session::{BrowsePoint, Point, Points};
 use ua_space::Space;
 use ua_types::{Array, Copyable, Refusal, Status};
@@ -25,7 +25,7 @@ pub struct Page {
 /// How many references a page has at most: so many as are asked for, where 0 asks for all, and never more than
 /// `most`.
 pub fn page_size(most: u32, requested: u32) -> u32
-    ensures { result ≡ page_size_lem most requested }
+    ensures { result ≡ page_size_spec most requested }
 {
     if requested == 0 || requested > most {
         most

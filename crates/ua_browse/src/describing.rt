@@ -2,17 +2,17 @@
 
 ghost use Rattle.std.specs.Prelude.{◌≡◌, IfOk};
 ghost use Rattle.ua_space.specs.Nodes.{node_at};
-ghost use Rattle.ua_browse.specs.Describing.{expanded as expanded_lem, type_told as type_told_lem, no_name as no_name_lem, no_words as no_words_lem, labels_of, definition_told as definition_told_lem, described as described_lem};
+ghost use Rattle.ua_browse.specs.Describing.{expanded as expanded_spec, type_told as type_told_spec, no_name as no_name_spec, no_words as no_words_spec, labels_of, definition_told as definition_told_spec, described as described_spec};
 
 use crate::wanted::has_bit;
-use service_messages::{BrowseDescription, ReferenceDescription};
 use std::alloc::{AllocError, Global};
+use ua_service_messages::{BrowseDescription, ReferenceDescription};
 use ua_space::{Direction, Reference, Space, Triple};
 use ua_types::{Copyable, ExpandedNodeId, LocalizedText, NodeId, QualifiedName, Text};
 
 // An id of this server.
 fn expanded(node_id: NodeId) -> ExpandedNodeId
-    ensures { result ≡ expanded_lem node_id }
+    ensures { result ≡ expanded_spec node_id }
 {
     ExpandedNodeId {
         node_id,
@@ -22,7 +22,7 @@ fn expanded(node_id: NodeId) -> ExpandedNodeId
 }
 
 fn type_told(alloc: Global, mask: u32, triple: &Triple) -> Result<NodeId, AllocError>
-    ensures { IfOk result (λ id. id ≡ type_told_lem mask triple.now) }
+    ensures { IfOk result (λ id. id ≡ type_told_spec mask triple.now) }
 {
     if has_bit(mask, BrowseDescription::REFERENCE_TYPE) {
         triple.reference_type.copy(alloc)
@@ -40,7 +40,7 @@ pub struct Labels {
 }
 
 fn no_name() -> QualifiedName
-    ensures { result ≡ no_name_lem }
+    ensures { result ≡ no_name_spec }
 {
     QualifiedName {
         namespace: 0,
@@ -49,7 +49,7 @@ fn no_name() -> QualifiedName
 }
 
 fn no_words() -> LocalizedText
-    ensures { result ≡ no_words_lem }
+    ensures { result ≡ no_words_spec }
 {
     LocalizedText {
         locale: Text::null(),
@@ -92,7 +92,7 @@ fn definition_told(
     mask: u32,
     id: &NodeId,
 ) -> Result<NodeId, AllocError>
-    ensures { IfOk result (λ definition. definition ≡ definition_told_lem space.now.triples mask id.now) }
+    ensures { IfOk result (λ definition. definition ≡ definition_told_spec space.now.triples mask id.now) }
 {
     if !has_bit(mask, BrowseDescription::TYPE_DEFINITION) {
         return Ok(NodeId::null());
@@ -110,7 +110,7 @@ pub(crate) fn described(
     mask: u32,
     reference: &Reference<'_>,
 ) -> Result<ReferenceDescription, AllocError>
-    ensures { IfOk result (λ description. description ≡ described_lem space.now mask reference.now) }
+    ensures { IfOk result (λ description. description ≡ described_spec space.now mask reference.now) }
 {
     let end = reference.end();
     let labels = labelled(alloc, space, mask, end)?;

@@ -6,8 +6,8 @@ ghost use Rattle.ua_browse.specs.Browsing.{descriptions_of, shown_of, next_of};
 
 use crate::describing::described;
 use crate::wanted::{Types, is_wanted};
-use service_messages::{BrowseDescription, ReferenceDescription};
 use std::alloc::{AllocError, Global};
+use ua_service_messages::{BrowseDescription, ReferenceDescription};
 use ua_space::Space;
 
 /// The references of a page, and the place at which the next one begins, if any are left.

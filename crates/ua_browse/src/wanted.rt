@@ -1,25 +1,23 @@
 //! Which references of a node are wanted.
 
 ghost use Rattle.std.specs.Prelude.{◌≡◌, ◌<◌, IfOk};
-ghost use Rattle.ua_space.specs.Nodes.{node_at};
-ghost use Rattle.ua_space.specs.Spaces.{is_reference_type as is_reference_type_lem};
-ghost use Rattle.ua_browse.specs.Wanted.{has_bit as has_bit_lem, goes as goes_lem, is_direction as is_direction_lem, allows as allows_lem, AllowsWanted, is_class_in as is_class_in_lem, is_class_wanted as is_class_wanted_lem, is_wanted as is_wanted_lem, judged as judged_lem};
+ghost use Rattle.ua_browse.specs.Wanted.{has_bit as has_bit_spec, goes as goes_spec, is_direction as is_direction_spec, allows as allows_spec, AllowsWanted, is_class_in as is_class_in_spec, is_class_wanted as is_class_wanted_spec, is_wanted as is_wanted_spec, judged as judged_spec};
 
-use service_messages::{BrowseDescription, BrowseDirection};
 use std::alloc::{AllocError, Global};
-use ua_space::{Direction, NodeDetails, Reference, Space, Subtypes};
+use ua_service_messages::{BrowseDescription, BrowseDirection};
+use ua_space::{Direction, Reference, Space, Subtypes};
 use ua_types::{NodeClass, NodeId, Status};
 
 /// Whether a mask has a bit, which is told by its value.
 pub(crate) fn has_bit(mask: u32, bit: u32) -> bool
     requires { 0 < bit }
-    ensures { result ≡ has_bit_lem mask bit }
+    ensures { result ≡ has_bit_spec mask bit }
 {
     mask / bit % 2 == 1
 }
 
 fn is_direction(direction: BrowseDirection) -> bool
-    ensures { result ≡ is_direction_lem direction }
+    ensures { result ≡ is_direction_spec direction }
 {
     direction == BrowseDirection::FORWARD
         || direction == BrowseDirection::INVERSE
@@ -27,7 +25,7 @@ fn is_direction(direction: BrowseDirection) -> bool
 }
 
 fn goes(wanted: BrowseDirection, direction: Direction) -> bool
-    ensures { result ≡ goes_lem wanted direction }
+    ensures { result ≡ goes_spec wanted direction }
 {
     match direction {
         Direction::Forward => {
@@ -67,7 +65,7 @@ pub(crate) fn types_of(
 }
 
 fn allows(types: &Types, named: &NodeId, id: &NodeId) -> bool
-    ensures { result ≡ allows_lem types.now named.now id.now }
+    ensures { result ≡ allows_spec types.now named.now id.now }
 {
     match types {
         Types::All => true,
@@ -77,7 +75,7 @@ fn allows(types: &Types, named: &NodeId, id: &NodeId) -> bool
 }
 
 fn is_class_in(mask: u32, class: NodeClass) -> bool
-    ensures { result ≡ is_class_in_lem mask class }
+    ensures { result ≡ is_class_in_spec mask class }
 {
     match class {
         NodeClass::Object => has_bit(mask, 1),
@@ -90,7 +88,7 @@ fn is_class_in(mask: u32, class: NodeClass) -> bool
 }
 
 fn is_class_wanted(space: &Space, mask: u32, id: &NodeId) -> bool
-    ensures { result ≡ is_class_wanted_lem space.now.nodes mask id.now }
+    ensures { result ≡ is_class_wanted_spec space.now.nodes mask id.now }
 {
     if mask == 0 {
         return true;
@@ -109,7 +107,7 @@ pub(crate) fn is_wanted(
     reference: &Reference<'_>,
 ) -> bool
     requires { AllowsWanted space.now.triples description.now types.now }
-    ensures { result ≡ is_wanted_lem space.now description.now reference.now }
+    ensures { result ≡ is_wanted_spec space.now description.now reference.now }
 {
     goes(description.browse_direction, reference.direction)
         && allows(
@@ -120,25 +118,16 @@ pub(crate) fn is_wanted(
         && is_class_wanted(space, description.node_class_mask, reference.end())
 }
 
-fn is_reference_type(space: &Space, id: &NodeId) -> bool
-    ensures { result ≡ is_reference_type_lem (node_at id.now space.now.nodes) }
-{
-    match space.node(id) {
-        None => false,
-        Some(node) => matches!(&node.details, NodeDetails::ReferenceType { .. }),
-    }
-}
-
 /// Whether a description can be served, or why not.
 #[tactic(auto, unfolding(crate::specs::Wanted::judged))]
 pub(crate) fn judged(space: &Space, description: &BrowseDescription) -> Result<(), Status>
-    ensures { result ≡ judged_lem space.now.nodes description.now }
+    ensures { result ≡ judged_spec space.now.nodes description.now }
 {
     if space.node(&description.node_id).is_none() {
         return Err(Status::BAD_NODE_ID_UNKNOWN);
     }
     let reference_type = &description.reference_type_id;
-    if !reference_type.is_null() && !is_reference_type(space, reference_type) {
+    if !reference_type.is_null() && !space.is_reference_type(reference_type) {
         return Err(Status::BAD_REFERENCE_TYPE_ID_INVALID);
     }
     if !is_direction(description.browse_direction) {

@@ -14,7 +14,7 @@ use Rattle.ua_channel.specs.declared.send_fault.SendFault.TheVariants.{TooLarge}
 use Rattle.ua_channel.specs.Headers.{chunk_header_encoding, opening_header_encoding}
 use Rattle.ua_channel.specs.SequenceNumbers.{sequence_number_after}
 use Rattle.ua_channel.specs.ChannelStates.{ChannelState}
-use Rattle.ua_channel.specs.Openings.{security_policy_none}
+use Rattle.ua_messages.specs.SecurityPolicies.{security_policy_none}
 
 -- a MSG of this type, with a part of the body
 abbrev pub chunk_frame : ChunkHeader → ChunkType → List ℕ → Frame

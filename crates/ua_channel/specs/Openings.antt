@@ -1,19 +1,16 @@
 -- Requests to open a channel or to renew its token (IEC 62541-4, "OpenSecureChannel").
-use Rattle.std.specs.Prelude.{ℕ, pos, ◌==◌, Bool, true, false, not, ◌||◌, List, Option, Some, None, Result, Ok, Err, codes, if◌then◌else◌}
+use Rattle.std.specs.Prelude.{ℕ, pos, ◌==◌, Bool, true, false, not, ◌||◌, List, Option, Some, None, Result, Ok, Err, if◌then◌else◌}
 use Rattle.std.specs.Ordering.{int_eq}
 use Rattle.std.specs.Str.{bytes_eq}
 use Rattle.ua_types.specs.declared.status.Status.{Status}
 use Rattle.ua_types.specs.declared.status.TheConstants.Status as status
 use Rattle.ua_binary.specs.declared.fault.TakeFault.{TakeFault}
 use Rattle.ua_messages.specs.Bodies.{message_id_of, message_of}
+use Rattle.ua_messages.specs.SecurityPolicies.{security_policy_none}
 use Rattle.ua_messages.specs.SecureChannels.{open_secure_channel_request_reading}
 use Rattle.ua_messages.specs.declared.secure_channels.OpenSecureChannelRequest.{OpenSecureChannelRequest}
 use Rattle.ua_channel.specs.declared.openings.OpeningRequest.{OpeningRequest}
 use Rattle.ua_channel.specs.ChannelStates.{is_channel}
-
--- the security policy of a channel whose messages are neither signed nor encrypted
-abbrev pub security_policy_none : List ℕ
-security_policy_none = codes "http://opcfoundation.org/UA/SecurityPolicy#None"
 
 abbrev pub is_policy_none : Option (List ℕ) → Bool
 is_policy_none None = false

@@ -6,7 +6,7 @@ ghost use Rattle.ua_types.specs.Refusals.{GivesOrRefuses, TakesOrRefuses};
 ghost use Rattle.ua_channel.specs.declared.send_fault.SendFault.TheVariants as send_fault;
 ghost use Rattle.ua_channel.specs.Messages.{AreWithinLimits};
 ghost use Rattle.ua_channel.specs.ChannelStates.{new_channel, token_after, granted_of};
-ghost use Rattle.ua_channel.specs.Acceptance.{admission_of, comes_by_channel as comes_by_channel_lem, acceptance_of, take_of, message_taken, close_taken, opening_taken};
+ghost use Rattle.ua_channel.specs.Acceptance.{admission_of, comes_by_channel as comes_by_channel_spec, acceptance_of, take_of, message_taken, close_taken, opening_taken};
 ghost use Rattle.ua_channel.specs.Cutting.{send_of, send_opening_of};
 
 use crate::cutting::{cut, is_opening_too_large, is_too_large, opening_chunk, room};
@@ -320,7 +320,7 @@ impl Channel {
 
 // MSG comes in chunks of any type, OPN and CLO in one, and nothing else but ERR comes by a channel.
 fn comes_by_channel(message_type: MessageType, chunk_type: ChunkType) -> bool
-    ensures { result ≡ comes_by_channel_lem message_type chunk_type }
+    ensures { result ≡ comes_by_channel_spec message_type chunk_type }
 {
     match message_type {
         MessageType::Message => true,

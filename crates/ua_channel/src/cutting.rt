@@ -1,17 +1,16 @@
 //! Answers cut into chunks.
 
 ghost use Rattle.std.specs.Prelude.{◌≡◌, ◌<◌, ◌≤◌, ◌+◌, ◌^◌, ℕ, length, false, IfOk};
-ghost use Rattle.ua_tcp.specs.Encoding.{letter_of, frame_encoding};
-ghost use Rattle.ua_channel.specs.Cutting.{chunk_encoding, cut_of, is_too_large as is_too_large_lem, exceeds as exceeds_lem, opening_frame, opening_header_by, is_opening_too_large as is_opening_too_large_lem};
+ghost use Rattle.ua_tcp.specs.Encoding.{frame_encoding};
+ghost use Rattle.ua_channel.specs.Cutting.{chunk_encoding, cut_of, is_too_large as is_too_large_spec, exceeds as exceeds_spec, opening_frame, opening_header_by, is_opening_too_large as is_opening_too_large_spec};
 
 use crate::headers::{ChunkHeader, FRAME_HEADER_SIZE, OPENING_FRAME_HEADER_SIZE, OpeningHeader};
-use crate::openings::SECURITY_POLICY_NONE;
 use crate::sequence_numbers::sequence_number_after;
 use bytes::Bytes;
 use std::alloc::{AllocError, Global};
 use ua_binary::Wire;
 use ua_tcp::{Agreed, ChunkType};
-use ua_types::{ByteString, Listed, Text};
+use ua_types::Listed;
 
 // How many bytes of a body a chunk holds.
 pub(crate) fn room(agreed: &Agreed) -> usize
@@ -24,7 +23,7 @@ pub(crate) fn room(agreed: &Agreed) -> usize
 
 // Whether the client doesn't take a body of this length.
 pub(crate) fn is_too_large(agreed: &Agreed, len: usize) -> bool
-    ensures { result ≡ is_too_large_lem agreed.now len }
+    ensures { result ≡ is_too_large_spec agreed.now len }
 {
     let chunk_count = len.saturating_sub(1) / room(agreed) + 1;
     exceeds(agreed.max_message_size, len) || exceeds(agreed.max_chunk_count, chunk_count)
@@ -32,7 +31,7 @@ pub(crate) fn is_too_large(agreed: &Agreed, len: usize) -> bool
 
 // A limit of 0 is none.
 pub(crate) fn exceeds(limit: u32, n: usize) -> bool
-    ensures { result ≡ exceeds_lem limit n }
+    ensures { result ≡ exceeds_spec limit n }
 {
     limit != 0 && n > limit as usize
 }
@@ -63,16 +62,6 @@ pub(crate) fn cut(
     Ok((Listed::from_vec(chunks), header.sequence_number))
 }
 
-fn letter(chunk_type: ChunkType) -> u8
-    ensures { result ≡ letter_of chunk_type }
-{
-    match chunk_type {
-        ChunkType::Intermediate => b'C',
-        ChunkType::Final => b'F',
-        ChunkType::Aborted => b'A',
-    }
-}
-
 // A MSG of this type with this part of the body.
 #[tactic(auto, using(crate::proofs::HeaderLemmas::encoding_length))]
 fn chunk(
@@ -87,7 +76,7 @@ fn chunk(
     let size = FRAME_HEADER_SIZE as usize + part.len();
     let mut frame = Vec::with_capacity(alloc, size)?;
     frame.extend_from_slice(b"MSG")?;
-    frame.push(letter(chunk_type))?;
+    frame.push(chunk_type.letter())?;
     frame.extend_from_slice(&(size as u32).to_le_bytes())?;
     header.encode(&mut frame)?;
     frame.extend_from_slice(part)?;
@@ -97,7 +86,7 @@ fn chunk(
 // Whether the client doesn't take this body in one OPN, or the agreed send size doesn't hold it.
 #[tactic(auto, using(crate::proofs::HeaderLemmas::opening_length))]
 pub(crate) fn is_opening_too_large(agreed: &Agreed, body: &[u8]) -> bool
-    ensures large { (channel_id sequence_number request_id : ℕ) → result ≡ is_opening_too_large_lem agreed.now
+    ensures large { (channel_id sequence_number request_id : ℕ) → result ≡ is_opening_too_large_spec agreed.now
         (opening_frame (opening_header_by channel_id sequence_number request_id) body.now) (length body.now) }
     ensures fits { result ≡ false → length body.now + 79 ≤ agreed.now.send_size }
     ensures small { agreed.now.send_size < 2 ^ 32 }
@@ -122,14 +111,7 @@ pub(crate) fn opening_chunk(
     ensures { IfOk result (λ chunk. chunk ≡ frame_encoding
         (opening_frame (opening_header_by channel_id sequence_number request_id) body.now)) }
 {
-    let header = OpeningHeader {
-        channel_id,
-        security_policy_uri: Text::from_str(alloc, SECURITY_POLICY_NONE)?,
-        sender_certificate: ByteString::null(),
-        receiver_certificate_thumbprint: ByteString::null(),
-        sequence_number,
-        request_id,
-    };
+    let header = OpeningHeader::unsecured(alloc, channel_id, sequence_number, request_id)?;
     let size = OPENING_FRAME_HEADER_SIZE as usize + body.len();
     let mut frame = Vec::with_capacity(alloc, size)?;
     frame.extend_from_slice(b"OPNF")?;

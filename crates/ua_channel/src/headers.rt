@@ -1,9 +1,12 @@
 //! What stands before a chunk's part of the message.
 
+ghost use Rattle.std.specs.Prelude.{◌≡◌, IfOk};
+ghost use Rattle.ua_channel.specs.Cutting.{opening_header_by};
 ghost use Rattle.ua_channel.specs.Headers.{chunk_header_reading, chunk_header_encoding, opening_header_reading, opening_header_encoding};
 
 use std::alloc::{AllocError, Global};
 use ua_binary::{Cursor, TakeFault, Wire};
+use ua_messages::SECURITY_POLICY_NONE;
 use ua_types::{ByteString, Text};
 
 /// How many bytes a [`ChunkHeader`] has.
@@ -71,6 +74,27 @@ pub struct OpeningHeader {
     pub sequence_number: u32,
     /// The number of the request, which its answer has too.
     pub request_id: u32,
+}
+
+impl OpeningHeader {
+    /// The header of an OPN whose messages are neither signed nor encrypted.
+    pub fn unsecured(
+        alloc: Global,
+        channel_id: u32,
+        sequence_number: u32,
+        request_id: u32,
+    ) -> Result<OpeningHeader, AllocError>
+        ensures { IfOk result (λ header. header ≡ opening_header_by channel_id sequence_number request_id) }
+    {
+        Ok(OpeningHeader {
+            channel_id,
+            security_policy_uri: Text::from_str(alloc, SECURITY_POLICY_NONE)?,
+            sender_certificate: ByteString::null(),
+            receiver_certificate_thumbprint: ByteString::null(),
+            sequence_number,
+            request_id,
+        })
+    }
 }
 
 #[tactic(auto, using(ua_binary::proofs::Fields::fields6), unfolding(crate::specs::Headers::opening_header_reading, crate::specs::Headers::opening_header_encoding))]

@@ -28,6 +28,5 @@ mod taken;
 
 pub use channel::Channel;
 pub use headers::{ChunkHeader, OpeningHeader};
-pub use openings::SECURITY_POLICY_NONE;
 pub use send_fault::SendFault;
 pub use taken::Taken;

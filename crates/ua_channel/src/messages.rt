@@ -2,7 +2,7 @@
 
 ghost use Rattle.std.specs.Prelude.{◌≡◌, ◌≤◌, ◌<◌, ◌+◌, ◌++◌, ℕ, length, drop, false, Some, None, OnOk, OnErr, IfOk, IfSome};
 ghost use Rattle.ua_types.specs.Refusals.{TakesOrRefuses};
-ghost use Rattle.ua_channel.specs.Messages.{may_join as may_join_lem, extended, exceeds_limits as exceeds_limits_lem, joining_of, AreWithinLimits};
+ghost use Rattle.ua_channel.specs.Messages.{may_join as may_join_spec, extended, exceeds_limits as exceeds_limits_spec, joining_of, AreWithinLimits};
 
 use crate::headers::HEADER_SIZE;
 use crate::taken::Taken;
@@ -69,7 +69,7 @@ impl Unfinished {
 
 // Whether a chunk of this request may come next.
 fn may_join(unfinished: &Option<Unfinished>, request_id: u32) -> bool
-    ensures { result ≡ may_join_lem unfinished.now request_id }
+    ensures { result ≡ may_join_spec unfinished.now request_id }
 {
     match unfinished {
         Some(message) => message.request_id == request_id,
@@ -80,7 +80,7 @@ fn may_join(unfinished: &Option<Unfinished>, request_id: u32) -> bool
 // Whether the message is too large with one more part.
 fn exceeds_limits(limits: &Limits, unfinished: &Option<Unfinished>, part: &[u8]) -> bool
     ensures exceeds { (request_id : ℕ) →
-        result ≡ exceeds_limits_lem limits.now (extended unfinished.now request_id part.now) }
+        result ≡ exceeds_limits_spec limits.now (extended unfinished.now request_id part.now) }
     ensures room { result ≡ false → IfSome unfinished.now (λ message. message.chunk_count < 65535) }
 {
     let (chunk_count, len) = match unfinished {

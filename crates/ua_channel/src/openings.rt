@@ -2,21 +2,18 @@
 
 ghost use Rattle.std.specs.Prelude.{◌≡◌};
 ghost use Rattle.ua_types.specs.Refusals.{GivesOrRefuses};
-ghost use Rattle.ua_channel.specs.Openings.{is_policy_none as is_policy_none_lem, opening_request_of, renewal_of};
+ghost use Rattle.ua_channel.specs.Openings.{is_policy_none as is_policy_none_spec, opening_request_of, renewal_of};
 
 use std::alloc::Global;
 use ua_binary::TakeFault;
 use ua_messages::{
-    MessageSecurityMode, OpenSecureChannelRequest, SecurityTokenRequestType, message, message_id,
-    type_ids,
+    MessageSecurityMode, OpenSecureChannelRequest, SECURITY_POLICY_NONE, SecurityTokenRequestType,
+    message, message_id, type_ids,
 };
 use ua_types::{Refusal, Status, Text};
 
-// The security policy of a channel whose messages are neither signed nor encrypted.
-pub const SECURITY_POLICY_NONE: &str = "http://opcfoundation.org/UA/SecurityPolicy#None";
-
 pub(crate) fn is_policy_none(uri: &Text) -> bool
-    ensures { result ≡ is_policy_none_lem uri.now }
+    ensures { result ≡ is_policy_none_spec uri.now }
 {
     match uri.as_str() {
         Some(uri) => uri == SECURITY_POLICY_NONE,

@@ -1,12 +1,12 @@
 //! The numbers by which chunks are counted.
 
 ghost use Rattle.std.specs.Prelude.{◌≡◌, ◌≤◌};
-ghost use Rattle.ua_channel.specs.SequenceNumbers.{may_follow as may_follow_lem, sequence_number_after as sequence_number_after_lem};
+ghost use Rattle.ua_channel.specs.SequenceNumbers.{may_follow as may_follow_spec, sequence_number_after as sequence_number_after_spec};
 
 // Whether a chunk with this sequence number may come after the last one. The first is free; near the
 // end of the numbers the client may begin again.
 pub(crate) fn may_follow(received: Option<u32>, sequence_number: u32) -> bool
-    ensures { result ≡ may_follow_lem received sequence_number }
+    ensures { result ≡ may_follow_spec received sequence_number }
 {
     match received {
         None => true,
@@ -20,7 +20,7 @@ pub(crate) fn may_follow(received: Option<u32>, sequence_number: u32) -> bool
 // The sequence number of the next chunk that is sent.
 pub(crate) fn sequence_number_after(sent: u32) -> u32
     requires { sent ≤ 4294966272 }
-    ensures value { result ≡ sequence_number_after_lem sent }
+    ensures value { result ≡ sequence_number_after_spec sent }
     ensures small { result ≤ 4294966272 }
 {
     if sent == 4_294_966_272 { 1 } else { sent + 1 }

@@ -9,3 +9,4 @@ pub mod Descriptions
 pub mod GetEndpoints
 pub mod SecureChannels
 pub mod ReadValueIds
+pub mod SecurityPolicies

@@ -4,7 +4,7 @@ ghost use Rattle.std.specs.Prelude.{⊤};
 ghost use Rattle.ua_messages.specs.Diagnostics.{diagnostic_info_reading, diagnostic_info_encoding, diagnostic_infos_reading, diagnostic_infos_encoding};
 
 use std::alloc::{AllocError, Global};
-use ua_binary::{Cursor, TakeFault, Wire};
+use ua_binary::{Cursor, NULL_LENGTH, TakeFault, Wire};
 
 /// The diagnostic info that says nothing (DiagnosticInfo, IEC 62541-6, 5.2.2.12): a byte 0.
 ///
@@ -33,9 +33,6 @@ impl Wire for DiagnosticInfo {
     }
 }
 
-/// The length that is written for null: -1 as an Int32.
-const NULL: u32 = 0xffff_ffff;
-
 /// A list of diagnostic infos that is null.
 ///
 /// An empty list is read as null. One with elements is [`TakeFault::Form`], or
@@ -63,6 +60,6 @@ impl Wire for DiagnosticInfos {
     }
 
     fn encode(&self, out: &mut Vec<u8>) -> Result<(), AllocError> {
-        NULL.encode(out)
+        NULL_LENGTH.encode(out)
     }
 }

@@ -26,6 +26,7 @@ mod headers;
 mod read_value_ids;
 mod results;
 mod secure_channels;
+mod security_policies;
 mod service_faults;
 mod structures;
 pub mod type_ids;
@@ -44,5 +45,6 @@ pub use results::{Results, results_body};
 pub use secure_channels::{
     CloseSecureChannelRequest, OpenSecureChannelRequest, OpenSecureChannelResponse,
 };
+pub use security_policies::SECURITY_POLICY_NONE;
 pub use service_faults::{ServiceFault, fault};
 pub use structures::{StructureFault, extension_object, object_of_bytes, structure};

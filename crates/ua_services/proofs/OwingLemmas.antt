@@ -8,41 +8,41 @@ use Rattle.ua_messages.specs.GetEndpoints.{get_endpoints_request_reading}
 use Rattle.ua_messages.specs.Headers.{request_header_reading}
 use Rattle.ua_messages.specs.declared.headers.RequestHeader.{RequestHeader}
 use Rattle.ua_messages.specs.declared.get_endpoints.GetEndpointsRequest.{GetEndpointsRequest}
-use Rattle.ua_requests.specs.declared.request.Request.{Request}
-use Rattle.ua_requests.specs.declared.setting.Setting.{Setting}
+use Rattle.server_messages.specs.declared.request.Request.{Request}
+use Rattle.server_messages.specs.declared.setting.Setting.{Setting}
 use Rattle.ua_services.specs.ServicesState.{Services}
 use Rattle.ua_messages.specs.declared.type_ids.TheConstants.{SET_PUBLISHING_MODE_RESPONSE, DELETE_SUBSCRIPTIONS_RESPONSE}
 use Rattle.ua_services.specs.Serving.{Act, Serving, reply_of, answered, faulted, served_by}
 use Rattle.ua_services.specs.Services.{call_of, picked_of_subscriptions, picked_of_items, picked, serving_by, serving_of, ticking_of, forgotten}
-use Rattle.service_messages.specs.Sessions.{create_session_request_reading, activate_session_request_reading, close_session_request_reading}
-use Rattle.service_messages.specs.Browsing.{browse_request_reading, browse_next_request_reading}
-use Rattle.service_messages.specs.declared.browsing.BrowseDescription.{BrowseDescription}
-use Rattle.service_messages.specs.declared.browsing.BrowseNextRequest.{BrowseNextRequest}
-use Rattle.service_messages.specs.declared.browsing.BrowseRequest.{BrowseRequest}
-use Rattle.service_messages.specs.History.{history_read_request_reading}
-use Rattle.service_messages.specs.declared.history.HistoryReadRequest.{HistoryReadRequest}
-use Rattle.service_messages.specs.declared.history.HistoryReadValueId.{HistoryReadValueId}
-use Rattle.service_messages.specs.Reading.{read_request_reading}
-use Rattle.service_messages.specs.Writing.{write_request_reading}
-use Rattle.service_messages.specs.declared.reading.ReadRequest.{ReadRequest}
-use Rattle.service_messages.specs.declared.writing.WriteRequest.{WriteRequest}
-use Rattle.service_messages.specs.declared.writing.WriteValue.{WriteValue}
+use Rattle.ua_service_messages.specs.Sessions.{create_session_request_reading, activate_session_request_reading, close_session_request_reading}
+use Rattle.ua_service_messages.specs.Browsing.{browse_request_reading, browse_next_request_reading}
+use Rattle.ua_service_messages.specs.declared.browsing.BrowseDescription.{BrowseDescription}
+use Rattle.ua_service_messages.specs.declared.browsing.BrowseNextRequest.{BrowseNextRequest}
+use Rattle.ua_service_messages.specs.declared.browsing.BrowseRequest.{BrowseRequest}
+use Rattle.ua_service_messages.specs.History.{history_read_request_reading}
+use Rattle.ua_service_messages.specs.declared.history.HistoryReadRequest.{HistoryReadRequest}
+use Rattle.ua_service_messages.specs.declared.history.HistoryReadValueId.{HistoryReadValueId}
+use Rattle.ua_service_messages.specs.Reading.{read_request_reading}
+use Rattle.ua_service_messages.specs.Writing.{write_request_reading}
+use Rattle.ua_service_messages.specs.declared.reading.ReadRequest.{ReadRequest}
+use Rattle.ua_service_messages.specs.declared.writing.WriteRequest.{WriteRequest}
+use Rattle.ua_service_messages.specs.declared.writing.WriteValue.{WriteValue}
 use Rattle.ua_messages.specs.declared.read_value_ids.ReadValueId.{ReadValueId}
-use Rattle.read_write.specs.Timestamps.{timestamps_of}
-use Rattle.read_write.specs.declared.timestamps.Timestamps.{Timestamps}
+use Rattle.ua_read_write.specs.Timestamps.{timestamps_of}
+use Rattle.ua_read_write.specs.declared.timestamps.Timestamps.{Timestamps}
 use Rattle.ua_types.specs.declared.node_id.NodeId.{NodeId}
 use Rattle.ua_types.specs.NodeIds.{is_null_id}
 use Rattle.ua_services.specs.Browse.{browse_listed, browse_meaning}
 use Rattle.ua_services.specs.BrowseNext.{browse_next_listed, browse_next_meaning}
 use Rattle.ua_services.specs.HistoryRead.{some_times, details_judged, history_ranged, history_listed, history_timed, history_read_meaning}
-use Rattle.raw_history.specs.declared.reading.RawRange.{RawRange}
+use Rattle.ua_history.specs.declared.reading.RawRange.{RawRange}
 use Rattle.ua_services.specs.InSession.{if_found, served_in_session}
 use Rattle.ua_services.specs.Operations.{operations_of}
 use Rattle.ua_services.specs.Read.{read_listed, read_timed, read_meaning}
 use Rattle.ua_services.specs.Write.{write_listed, write_meaning}
-use Rattle.service_messages.specs.declared.sessions.ActivateSessionRequest.{ActivateSessionRequest}
-use Rattle.service_messages.specs.declared.sessions.CloseSessionRequest.{CloseSessionRequest}
-use Rattle.service_messages.specs.declared.sessions.CreateSessionRequest.{CreateSessionRequest}
+use Rattle.ua_service_messages.specs.declared.sessions.ActivateSessionRequest.{ActivateSessionRequest}
+use Rattle.ua_service_messages.specs.declared.sessions.CloseSessionRequest.{CloseSessionRequest}
+use Rattle.ua_service_messages.specs.declared.sessions.CreateSessionRequest.{CreateSessionRequest}
 use Rattle.ua_session.specs.Sessions.{SessionsState, create_of, activate_of, find_of, close_of}
 use Rattle.ua_types.specs.declared.moment.Moment.{Moment}
 use Rattle.ua_types.specs.declared.status.Status.{Status}
@@ -51,26 +51,26 @@ use Rattle.ua_services.specs.CloseSession.{close_session_body, close_session_mea
 use Rattle.ua_services.specs.CreateSession.{create_session_body, create_session_meaning}
 use Rattle.ua_services.specs.GetEndpoints.{get_endpoints_meaning}
 use Rattle.ua_services.specs.SessionServing.{spent_by, taken, with_sessions}
-use Rattle.ua_requests.specs.declared.reply.Reply.{Reply}
-use Rattle.sub_table.specs.declared.vars.Vars.{Vars}
-use Rattle.sub_messages.specs.MonitoredItems.{create_monitored_items_request_reading, modify_monitored_items_request_reading, set_monitoring_mode_request_reading, delete_monitored_items_request_reading}
-use Rattle.sub_messages.specs.Publishing.{publish_request_reading, republish_request_reading}
-use Rattle.sub_messages.specs.Subscriptions.{create_subscription_request_reading, modify_subscription_request_reading, set_publishing_mode_request_reading, delete_subscriptions_request_reading}
-use Rattle.sub_messages.specs.declared.publishing.PublishRequest.{PublishRequest}
-use Rattle.sub_messages.specs.declared.publishing.RepublishRequest.{RepublishRequest}
-use Rattle.sub_messages.specs.declared.subscriptions.CreateSubscriptionRequest.{CreateSubscriptionRequest}
-use Rattle.sub_messages.specs.declared.subscriptions.DeleteSubscriptionsRequest.{DeleteSubscriptionsRequest}
-use Rattle.sub_messages.specs.declared.subscriptions.ModifySubscriptionRequest.{ModifySubscriptionRequest}
-use Rattle.sub_messages.specs.declared.subscriptions.SetPublishingModeRequest.{SetPublishingModeRequest}
-use Rattle.subscription.specs.Owing.{RepliedTo, SaysOnly}
-use Rattle.monitored_items.specs.Items.{ItemsState}
-use Rattle.subscription.specs.Making.{modified, republished}
-use Rattle.subscription.specs.Named.{named_all, deleted}
-use Rattle.subscription.specs.declared.call.Call.TheVariants.{SetMode, Items}
-use Rattle.subscription.specs.Subs.{SubsState, Said, said, told, world_of, is_full, created, refused, created_one}
-use Rattle.subscription.specs.declared.settings.Settings.{Settings}
-use Rattle.subscription.specs.Tables.{World, met}
-use Rattle.subscription.proofs.OwingSubs.{create_owes_only, modify_owes_only, set_mode_owes_only, delete_owes_only, republish_owes_only, items_owes_only, publish_owes_only, timers_owe_only, session_end_owes_only, without_conn_queued, queued_more}
+use Rattle.server_messages.specs.declared.reply.Reply.{Reply}
+use Rattle.ua_state_table.specs.declared.vars.Vars.{Vars}
+use Rattle.ua_subscription_messages.specs.MonitoredItems.{create_monitored_items_request_reading, modify_monitored_items_request_reading, set_monitoring_mode_request_reading, delete_monitored_items_request_reading}
+use Rattle.ua_subscription_messages.specs.Publishing.{publish_request_reading, republish_request_reading}
+use Rattle.ua_subscription_messages.specs.Subscriptions.{create_subscription_request_reading, modify_subscription_request_reading, set_publishing_mode_request_reading, delete_subscriptions_request_reading}
+use Rattle.ua_subscription_messages.specs.declared.publishing.PublishRequest.{PublishRequest}
+use Rattle.ua_subscription_messages.specs.declared.publishing.RepublishRequest.{RepublishRequest}
+use Rattle.ua_subscription_messages.specs.declared.subscriptions.CreateSubscriptionRequest.{CreateSubscriptionRequest}
+use Rattle.ua_subscription_messages.specs.declared.subscriptions.DeleteSubscriptionsRequest.{DeleteSubscriptionsRequest}
+use Rattle.ua_subscription_messages.specs.declared.subscriptions.ModifySubscriptionRequest.{ModifySubscriptionRequest}
+use Rattle.ua_subscription_messages.specs.declared.subscriptions.SetPublishingModeRequest.{SetPublishingModeRequest}
+use Rattle.ua_subscriptions.specs.Owing.{RepliedTo, SaysOnly}
+use Rattle.ua_monitored_items.specs.Items.{ItemsState}
+use Rattle.ua_subscriptions.specs.Making.{modified, republished}
+use Rattle.ua_subscriptions.specs.Named.{named_all, deleted}
+use Rattle.ua_subscriptions.specs.declared.call.Call.TheVariants.{SetMode, Items}
+use Rattle.ua_subscriptions.specs.SubscriptionCalls.{SubscriptionsState, Said, said, told, world_of, is_full, created, refused, created_one}
+use Rattle.ua_subscriptions.specs.declared.settings.Settings.{Settings}
+use Rattle.ua_subscriptions.specs.Tables.{World, met}
+use Rattle.ua_subscriptions.proofs.OwingSubs.{create_owes_only, modify_owes_only, set_mode_owes_only, delete_owes_only, republish_owes_only, items_owes_only, publish_owes_only, timers_owe_only, session_end_owes_only, without_conn_queued, queued_more}
 use Rattle.ua_session.specs.Sessions.{ticked, ended_by}
 use Rattle.ua_services.specs.CloseSession.{closed_by}
 use Rattle.ua_services.specs.CreateMonitoredItems.{items_created, create_monitored_items_meaning}
@@ -90,7 +90,7 @@ use Rattle.ua_services.specs.Owing.{OwesOnly, ServesOnly}
 use Rattle.ua_services.specs.declared.call.Call.{Call}
 
 -- making a subscription doesn't halt them
-created_halts : (session : ℕ) (asked : Settings) (enabled : Bool) (subs : SubsState) (items : ItemsState) (clock : Moment) → (created session asked enabled subs items clock).state.halted ≡ subs.halted
+created_halts : (session : ℕ) (asked : Settings) (enabled : Bool) (subs : SubscriptionsState) (items : ItemsState) (clock : Moment) → (created session asked enabled subs items clock).state.halted ≡ subs.halted
 unfolding created refused created_one
 created_halts session asked enabled subs items clock = by (is_full subs session)
   where

@@ -5,6 +5,7 @@ use Rattle.std.specs.Prelude.{◌==◌, nat_lt, is_ok}
 use Rattle.std.specs.FinMap.{get}
 use Rattle.std.proofs.lemmas.Bool.{leb-true, le-leb}
 use Rattle.ua_types.proofs.NumberMaps.{insert_removed}
+use Rattle.ua_types.specs.Given.{is_given}
 use Rattle.ua_types.specs.Answers.{Step}
 use Rattle.ua_types.specs.declared.refusal.Refusal.{Refusal}
 use Rattle.ua_types.specs.declared.refusal.Refusal.TheVariants as refusals
@@ -12,8 +13,8 @@ use Rattle.ua_types.specs.Configuration.{Configuration}
 use Rattle.ua_types.specs.declared.status.Status.{Status}
 use Rattle.ua_types.specs.declared.status.TheConstants.Status as status
 use Rattle.ua_services.specs.Operations.{operations_of}
-use Rattle.service_messages.specs.declared.browsing.BrowseDescription.{BrowseDescription}
-use Rattle.service_messages.specs.declared.browsing.ReferenceDescription.{ReferenceDescription}
+use Rattle.ua_service_messages.specs.declared.browsing.BrowseDescription.{BrowseDescription}
+use Rattle.ua_service_messages.specs.declared.browsing.ReferenceDescription.{ReferenceDescription}
 use Rattle.ua_browse.specs.Browsing.{first_page, browse_judged, browse_of, later_page, gone_on, browse_next_of, released, part, point_at}
 use Rattle.ua_browse.specs.Wanted.{judged}
 use Rattle.ua_session.specs.Points.{PointsState, TakesSerial, hold_of, replace_of, put_of, is_full, is_overspent, serial_of}
@@ -22,12 +23,12 @@ use Rattle.ua_session.specs.declared.points.Point.{Point}
 use Rattle.ua_session.specs.declared.points.Point.TheVariants as points
 use Rattle.ua_session.specs.Sessions.{without_points}
 use Rattle.ua_space.specs.Nodes.{SpaceState}
-use Rattle.service_messages.specs.declared.history.HistoryReadValueId.{HistoryReadValueId}
-use Rattle.raw_history.specs.Histories.{HistoryState, Values, history_of}
-use Rattle.raw_history.specs.Intervals.{interval_of, raw as raw_values}
-use Rattle.raw_history.specs.Pages.{shown_of, last_given}
-use Rattle.raw_history.specs.Reading as raw
-use Rattle.raw_history.specs.declared.reading.RawRange.{RawRange}
+use Rattle.ua_service_messages.specs.declared.history.HistoryReadValueId.{HistoryReadValueId}
+use Rattle.ua_history.specs.Histories.{HistoryState, Values, history_of}
+use Rattle.ua_history.specs.Intervals.{interval_of, raw as raw_values}
+use Rattle.ua_history.specs.Pages.{shown_of, last_given}
+use Rattle.ua_history.specs.Reading as raw
+use Rattle.ua_history.specs.declared.reading.RawRange.{RawRange}
 use Rattle.ua_session.specs.declared.points.HistoryPoint.{HistoryPoint}
 use Rattle.ua_space.specs.Nodes.{Nodes}
 use Rattle.ua_types.specs.declared.moment.Moment.{Moment}
@@ -35,10 +36,10 @@ use Rattle.ua_types.specs.declared.node_id.NodeId.{NodeId}
 use Rattle.ua_services.specs.HistoryRead.{node_read}
 use Rattle.ua_services.specs.HistoryResults.{history_result_of, release_result_of}
 use Rattle.ua_services.specs.declared.history_read.Wanted.{Wanted}
-use Rattle.ua_requests.specs.declared.halt.Halt.{Halt}
-use Rattle.ua_requests.specs.declared.halt.Halt.TheVariants.{Memory, Exhausted}
-use Rattle.ua_requests.specs.declared.served.Served.{Served}
-use Rattle.ua_requests.specs.declared.setting.Setting.{Setting}
+use Rattle.server_messages.specs.declared.halt.Halt.{Halt}
+use Rattle.server_messages.specs.declared.halt.Halt.TheVariants.{Memory, Exhausted}
+use Rattle.server_messages.specs.declared.served.Served.{Served}
+use Rattle.server_messages.specs.declared.setting.Setting.{Setting}
 use Rattle.ua_services.specs.BrowseResults.{browse_told}
 use Rattle.ua_services.specs.BrowseNext.{gone_on_by, go_on_of}
 use Rattle.ua_services.specs.Paging.{Done, AllDone, told_as, with_one, all_done, paged, spent_by_points, Tells, DoesOne, DoesAll}
@@ -142,7 +143,7 @@ either_risen false s x y p q = q
 raw_judged_risen : (h : HistoryState) (s : PointsState) (range : RawRange) (asked : HistoryReadValueId) (verdict : Result (Unit {0}) Status) → s.made ≤ (raw.read_judged h s range asked verdict).state.made
 raw_judged_risen h s range asked (Err code) = omega arith
 raw_judged_risen h s range asked (Ok done) =
-    either_risen (raw.is_given asked.continuation_point) s (raw.at_point h s asked.node_id (serial_of asked.continuation_point)) (raw.begun h s range asked.node_id)
+    either_risen (is_given asked.continuation_point) s (raw.at_point h s asked.node_id (serial_of asked.continuation_point)) (raw.begun h s range asked.node_id)
     (at_point_risen h s asked.node_id (serial_of asked.continuation_point)) (begun_risen h s range asked.node_id)
 
 read_raw_risen : (h : HistoryState) (nodes : Nodes) (range : RawRange) (s : PointsState) (asked : HistoryReadValueId) → s.made ≤ (raw.read_raw_of h nodes range s asked).state.made

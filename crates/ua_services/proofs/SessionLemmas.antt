@@ -8,8 +8,8 @@ use Rattle.ua_types.specs.declared.refusal.Refusal.{Refusal}
 use Rattle.ua_types.specs.declared.refusal.Refusal.TheVariants.{Service, Exhausted}
 use Rattle.ua_types.specs.declared.status.Status.{Status}
 use Rattle.ua_messages.specs.ServiceFaults.{fault_body}
-use Rattle.ua_requests.specs.declared.fired.Fired.{Fired}
-use Rattle.ua_requests.specs.declared.served.Served.{Served}
+use Rattle.server_messages.specs.declared.fired.Fired.{Fired}
+use Rattle.server_messages.specs.declared.served.Served.{Served}
 use Rattle.ua_session.specs.Sessions.{SessionsState, TakesNonce, is_spent}
 use Rattle.ua_services.specs.ServicesState.{Services}
 use Rattle.ua_services.specs.Serving.{Act, is_spent as is_spent_act, given, given_of, replied, reply_of, rows_of}

@@ -5,26 +5,26 @@ use Rattle.std.specs.Option.{is_some}
 use Rattle.std.specs.Prelude.{◌&&◌, not}
 use Rattle.std.proofs.lemmas.Bool.{false≢true}
 use Rattle.ua_types.specs.declared.status.Status.{Status}
-use Rattle.monitored_items.specs.Items.{ItemsState, One, Served as ItemsServed, nothing_served, with_one, all_served}
-use Rattle.subscription.specs.Named.{Outcome, outcome, own_met, named_one, named_all, deleted, is_none}
-use Rattle.subscription.specs.Subs as subs
-use Rattle.subscription.specs.Subs.{SubsState, Said, told, Halts}
-use Rattle.subscription.specs.Ranks.{due_numbers, is_any_due}
-use Rattle.subscription.specs.Tables.{World, all_met}
-use Rattle.subscription.proofs.Dues.{none_due}
+use Rattle.ua_monitored_items.specs.Items.{ItemsState, One, Served as ItemsServed, nothing_served, with_one, all_served}
+use Rattle.ua_subscriptions.specs.Named.{Outcome, outcome, own_met, named_one, named_all, deleted, is_none}
+use Rattle.ua_subscriptions.specs.SubscriptionCalls as subs
+use Rattle.ua_subscriptions.specs.SubscriptionCalls.{SubscriptionsState, Said, told, Halts}
+use Rattle.ua_subscriptions.specs.Ranks.{due_numbers, is_any_due}
+use Rattle.ua_subscriptions.specs.Tables.{World, all_met}
+use Rattle.ua_subscriptions.proofs.Dues.{none_due}
 use Rattle.ua_session.specs.Sessions.{ticked, ended_by}
 use Rattle.ua_services.specs.Services.{is_idle, ticking_of}
 use Rattle.ua_services.specs.SessionServing.{with_sessions}
-use Rattle.subscription.specs.declared.answered.Answered.{Answered}
-use Rattle.subscription.specs.declared.call.Call.{Call as SubCall}
-use Rattle.subscription.specs.declared.call.Call.TheVariants.{Delete, Timer}
-use Rattle.subscription.specs.declared.turn.Turn.{Turn}
-use Rattle.ua_requests.specs.declared.fired.Fired.{Fired}
-use Rattle.ua_requests.specs.declared.halt.Halt.{Halt}
-use Rattle.ua_requests.specs.declared.halt.Halt.TheVariants.{Memory, Exhausted}
-use Rattle.ua_requests.specs.declared.reply.Reply.{Reply}
-use Rattle.ua_requests.specs.declared.served.Served.{Served}
-use Rattle.ua_requests.specs.declared.setting.Setting.{Setting}
+use Rattle.ua_subscriptions.specs.declared.answered.Answered.{Answered}
+use Rattle.ua_subscriptions.specs.declared.call.Call.{Call as SubCall}
+use Rattle.ua_subscriptions.specs.declared.call.Call.TheVariants.{Delete, Timer}
+use Rattle.ua_subscriptions.specs.declared.turn.Turn.{Turn}
+use Rattle.server_messages.specs.declared.fired.Fired.{Fired}
+use Rattle.server_messages.specs.declared.halt.Halt.{Halt}
+use Rattle.server_messages.specs.declared.halt.Halt.TheVariants.{Memory, Exhausted}
+use Rattle.server_messages.specs.declared.reply.Reply.{Reply}
+use Rattle.server_messages.specs.declared.served.Served.{Served}
+use Rattle.server_messages.specs.declared.setting.Setting.{Setting}
 use Rattle.ua_services.specs.ServicesState.{Services}
 use Rattle.ua_services.specs.Serving.{Act, Serving, Serves, is_spent, given, given_of, rows_of, reply_of}
 use Rattle.ua_services.specs.Serving.Act.{Fire, Spent}
@@ -69,17 +69,17 @@ counted_out (Some halt) turn h = refl
 -- ---- one call
 
 module _ {A : Type 0} (state : Services) (own : A → List Reply) (said : Said A) where
-  pub called_gives : (x : Answered A) (new : SubsState) (items : ItemsState) (served : Served) → subs.Serves (Ok x) state.subs new items said → served ≡ record { replies = own x.answer ++ x.replies; rows = x.rows } →
+  pub called_gives : (x : Answered A) (new : SubscriptionsState) (items : ItemsState) (served : Served) → subs.Serves (Ok x) state.subs new items said → served ≡ record { replies = own x.answer ++ x.replies; rows = x.rows } →
       given (with_subs state new items) served ≡ given_of (called state own said)
   called_gives x new items served h e =
       let turn = said.outcome.world.turn in
       ap (given (with_subs state new items)) e
       ∙ ap (λ (y : Answered A). given (with_subs state new items) (record { replies = own y.answer ++ y.replies; rows = y.rows })) h.1
-      ∙ ap (λ (s : SubsState). given (with_subs state s items) (record { replies = own said.outcome.answer ++ turn.replies; rows = turn.rows })) h.2
+      ∙ ap (λ (s : SubscriptionsState). given (with_subs state s items) (record { replies = own said.outcome.answer ++ turn.replies; rows = turn.rows })) h.2
       ∙ ap (λ (i : ItemsState). given (with_subs state said.state i) (record { replies = own said.outcome.answer ++ turn.replies; rows = turn.rows })) h.3
       ∙ ap (λ (rows : List Fired). given (with_subs state said.state said.outcome.world.items) (record { replies = own said.outcome.answer ++ turn.replies; rows = rows })) (sym (rows_of_turn state.subs.halted turn))
 
-  pub called_halts : (halt : Halt) (new : SubsState) (items : ItemsState) → subs.Serves (Err halt) state.subs new items said → Serves (Err halt) (with_subs state new items) (called state own said)
+  pub called_halts : (halt : Halt) (new : SubscriptionsState) (items : ItemsState) → subs.Serves (Err halt) state.subs new items said → Serves (Err halt) (with_subs state new items) (called state own said)
   called_halts Memory new items h = tt
   called_halts Exhausted new items h =
       let turn = said.outcome.world.turn in
@@ -87,17 +87,17 @@ module _ {A : Type 0} (state : Services) (own : A → List Reply) (said : Said A
 
 -- a call that answers Publish requests alone
 module _ (state : Services) (w : World) where
-  pub told_gives : (x : Answered (Unit {0})) (new : SubsState) (items : ItemsState) → subs.Serves (Ok x) state.subs new items (told state.subs w) →
+  pub told_gives : (x : Answered (Unit {0})) (new : SubscriptionsState) (items : ItemsState) → subs.Serves (Ok x) state.subs new items (told state.subs w) →
       given (with_subs state new items) (record { replies = x.replies; rows = x.rows }) ≡ given_of (told_alone state w)
   unfolding told_alone
   told_gives x new items h = called_gives state no_reply (told state.subs w) x new items _ h refl
 
-  pub told_halts : (halt : Halt) (new : SubsState) (items : ItemsState) → subs.Serves (Err halt) state.subs new items (told state.subs w) → Serves (Err halt) (with_subs state new items) (told_alone state w)
+  pub told_halts : (halt : Halt) (new : SubscriptionsState) (items : ItemsState) → subs.Serves (Err halt) state.subs new items (told state.subs w) → Serves (Err halt) (with_subs state new items) (told_alone state w)
   unfolding told_alone
   told_halts halt new items h = called_halts state no_reply (told state.subs w) halt new items h
 
 -- a call whose answer is told first
-pub called_first : {A : Type 0} (state : Services) (call : Call) (body : A → List ℕ) (said : Said A) (x : Answered A) (new : SubsState) (items : ItemsState) (bytes : List ℕ) (served : Served) → subs.Serves (Ok x) state.subs new items said → bytes ≡ body x.answer →
+pub called_first : {A : Type 0} (state : Services) (call : Call) (body : A → List ℕ) (said : Said A) (x : Answered A) (new : SubscriptionsState) (items : ItemsState) (bytes : List ℕ) (served : Served) → subs.Serves (Ok x) state.subs new items said → bytes ≡ body x.answer →
     served ≡ record { replies = reply_of call bytes ∷ x.replies; rows = x.rows } → given (with_subs state new items) served ≡ given_of (called state (λ answer. reply_of call (body answer) ∷ []) said)
 called_first state call body said x new items bytes served h b e =
     called_gives state (λ answer. reply_of call (body answer) ∷ []) said x new items served h

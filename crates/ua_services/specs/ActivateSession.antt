@@ -9,12 +9,12 @@ use Rattle.ua_messages.specs.Headers.{plain_header}
 use Rattle.ua_messages.specs.Structures.{structure_of}
 use Rattle.ua_messages.specs.declared.structures.StructureFault.{StructureFault}
 use Rattle.ua_messages.specs.declared.type_ids.TheConstants.{ACTIVATE_SESSION_RESPONSE, ANONYMOUS_IDENTITY_TOKEN}
-use Rattle.service_messages.specs.Sessions.{activate_session_response_encoding, anonymous_identity_token_reading}
-use Rattle.service_messages.specs.declared.sessions.ActivateSessionRequest.{ActivateSessionRequest}
-use Rattle.service_messages.specs.declared.sessions.ActivateSessionResponse.{ActivateSessionResponse}
-use Rattle.service_messages.specs.declared.sessions.AnonymousIdentityToken.{AnonymousIdentityToken}
+use Rattle.ua_service_messages.specs.Sessions.{activate_session_response_encoding, anonymous_identity_token_reading}
+use Rattle.ua_service_messages.specs.declared.sessions.ActivateSessionRequest.{ActivateSessionRequest}
+use Rattle.ua_service_messages.specs.declared.sessions.ActivateSessionResponse.{ActivateSessionResponse}
+use Rattle.ua_service_messages.specs.declared.sessions.AnonymousIdentityToken.{AnonymousIdentityToken}
 use Rattle.ua_session.specs.Sessions.{activate_of}
-use Rattle.ua_requests.specs.declared.setting.Setting.{Setting}
+use Rattle.server_messages.specs.declared.setting.Setting.{Setting}
 use Rattle.ua_services.specs.ServicesState.{Services}
 use Rattle.ua_services.specs.Serving.{Serving}
 use Rattle.ua_services.specs.SessionServing.{spent_by, stepped}

@@ -4,11 +4,11 @@ use Rattle.ua_types.specs.NodeIds.{is_null_id}
 use Rattle.ua_types.specs.declared.status.Status.{Status}
 use Rattle.ua_types.specs.declared.status.TheConstants.Status as status
 use Rattle.ua_messages.specs.declared.type_ids.TheConstants.{BROWSE_RESPONSE}
-use Rattle.service_messages.specs.declared.browsing.BrowseDescription.{BrowseDescription}
-use Rattle.service_messages.specs.declared.browsing.BrowseRequest.{BrowseRequest}
+use Rattle.ua_service_messages.specs.declared.browsing.BrowseDescription.{BrowseDescription}
+use Rattle.ua_service_messages.specs.declared.browsing.BrowseRequest.{BrowseRequest}
 use Rattle.ua_browse.specs.Browsing.{page_size, browse_of}
 use Rattle.ua_session.specs.Sessions.{points_of}
-use Rattle.ua_requests.specs.declared.setting.Setting.{Setting}
+use Rattle.server_messages.specs.declared.setting.Setting.{Setting}
 use Rattle.ua_services.specs.BrowseResults.{browse_told, browsed}
 use Rattle.ua_services.specs.Operations.{operations_of}
 use Rattle.ua_services.specs.Paging.{all_done}

@@ -5,13 +5,13 @@ use Rattle.ua_types.specs.Answers.{Step, step}
 use Rattle.ua_types.specs.declared.status.Status.{Status}
 use Rattle.ua_types.specs.declared.status.TheConstants.Status as status
 use Rattle.ua_messages.specs.declared.type_ids.TheConstants.{BROWSE_NEXT_RESPONSE}
-use Rattle.service_messages.specs.declared.browsing.BrowseNextRequest.{BrowseNextRequest}
+use Rattle.ua_service_messages.specs.declared.browsing.BrowseNextRequest.{BrowseNextRequest}
 use Rattle.ua_browse.specs.Browsing.{page_of, browse_next_of, release_of}
 use Rattle.ua_browse.specs.declared.browsing.Page.{Page}
 use Rattle.ua_session.specs.Points.{PointsState, serial_of}
 use Rattle.ua_session.specs.Sessions.{points_of}
 use Rattle.ua_space.specs.Nodes.{SpaceState}
-use Rattle.ua_requests.specs.declared.setting.Setting.{Setting}
+use Rattle.server_messages.specs.declared.setting.Setting.{Setting}
 use Rattle.ua_services.specs.BrowseResults.{browse_told, browsed}
 use Rattle.ua_services.specs.Operations.{operations_of}
 use Rattle.ua_services.specs.Paging.{all_done}

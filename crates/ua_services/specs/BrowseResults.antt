@@ -4,11 +4,11 @@ use Rattle.std.specs.Int.{w64, to_le_bytes}
 use Rattle.ua_types.specs.Answers.{Step}
 use Rattle.ua_types.specs.declared.status.Status.{Status}
 use Rattle.ua_types.specs.declared.status.TheConstants.Status as status
-use Rattle.service_messages.specs.Browsing.{browse_result_encoding}
-use Rattle.service_messages.specs.declared.browsing.BrowseResult.{BrowseResult}
+use Rattle.ua_service_messages.specs.Browsing.{browse_result_encoding}
+use Rattle.ua_service_messages.specs.declared.browsing.BrowseResult.{BrowseResult}
 use Rattle.ua_browse.specs.declared.browsing.Page.{Page}
 use Rattle.ua_session.specs.Points.{PointsState}
-use Rattle.ua_requests.specs.declared.setting.Setting.{Setting}
+use Rattle.server_messages.specs.declared.setting.Setting.{Setting}
 use Rattle.ua_services.specs.Paging.{Done, AllDone, told_as, paged}
 use Rattle.ua_services.specs.ServicesState.{Services}
 use Rattle.ua_services.specs.Serving.{Serving}

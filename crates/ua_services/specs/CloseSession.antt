@@ -5,10 +5,10 @@ use Rattle.ua_types.specs.declared.status.Status.{Status}
 use Rattle.ua_messages.specs.Bodies.{body_encoding}
 use Rattle.ua_messages.specs.Headers.{plain_header}
 use Rattle.ua_messages.specs.declared.type_ids.TheConstants.{CLOSE_SESSION_RESPONSE}
-use Rattle.service_messages.specs.Sessions.{close_session_response_encoding}
-use Rattle.service_messages.specs.declared.sessions.CloseSessionRequest.{CloseSessionRequest}
+use Rattle.ua_service_messages.specs.Sessions.{close_session_response_encoding}
+use Rattle.ua_service_messages.specs.declared.sessions.CloseSessionRequest.{CloseSessionRequest}
 use Rattle.ua_session.specs.Sessions.{SessionsState, close_of}
-use Rattle.ua_requests.specs.declared.setting.Setting.{Setting}
+use Rattle.server_messages.specs.declared.setting.Setting.{Setting}
 use Rattle.ua_services.specs.ServicesState.{Services}
 use Rattle.ua_services.specs.Serving.{Serving, answered, faulted}
 use Rattle.ua_services.specs.SessionServing.{with_sessions}

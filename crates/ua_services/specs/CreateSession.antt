@@ -5,13 +5,13 @@ use Rattle.ua_types.specs.declared.moment.Moment.{Moment}
 use Rattle.ua_messages.specs.Bodies.{body_encoding}
 use Rattle.ua_messages.specs.Headers.{plain_header}
 use Rattle.ua_messages.specs.declared.type_ids.TheConstants.{CREATE_SESSION_RESPONSE}
-use Rattle.service_messages.specs.Sessions.{create_session_response_encoding}
-use Rattle.service_messages.specs.declared.sessions.CreateSessionRequest.{CreateSessionRequest}
-use Rattle.service_messages.specs.declared.sessions.CreateSessionResponse.{CreateSessionResponse}
+use Rattle.ua_service_messages.specs.Sessions.{create_session_response_encoding}
+use Rattle.ua_service_messages.specs.declared.sessions.CreateSessionRequest.{CreateSessionRequest}
+use Rattle.ua_service_messages.specs.declared.sessions.CreateSessionResponse.{CreateSessionResponse}
 use Rattle.ua_session.specs.Sessions.{create_of}
 use Rattle.ua_session.specs.Tokens.{session_id_of}
 use Rattle.ua_session.specs.declared.sessions.Created.{Created}
-use Rattle.ua_requests.specs.declared.setting.Setting.{Setting}
+use Rattle.server_messages.specs.declared.setting.Setting.{Setting}
 use Rattle.ua_services.specs.EndpointList.{endpoint_of}
 use Rattle.ua_services.specs.ServicesState.{Services}
 use Rattle.ua_services.specs.Serving.{Serving}

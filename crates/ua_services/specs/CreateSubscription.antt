@@ -5,12 +5,12 @@ use Rattle.ua_messages.specs.Bodies.{body_encoding}
 use Rattle.ua_messages.specs.Headers.{plain_header}
 use Rattle.ua_messages.specs.ServiceFaults.{fault_body}
 use Rattle.ua_messages.specs.declared.type_ids.TheConstants.{CREATE_SUBSCRIPTION_RESPONSE}
-use Rattle.ua_requests.specs.declared.setting.Setting.{Setting}
-use Rattle.sub_messages.specs.Subscriptions.{create_subscription_response_encoding}
-use Rattle.sub_messages.specs.declared.subscriptions.CreateSubscriptionRequest.{CreateSubscriptionRequest}
-use Rattle.subscription.specs.Subs.{created}
-use Rattle.subscription.specs.declared.settings.Settings.{Settings}
-use Rattle.subscription.specs.declared.subs.Created.{Created}
+use Rattle.server_messages.specs.declared.setting.Setting.{Setting}
+use Rattle.ua_subscription_messages.specs.Subscriptions.{create_subscription_response_encoding}
+use Rattle.ua_subscription_messages.specs.declared.subscriptions.CreateSubscriptionRequest.{CreateSubscriptionRequest}
+use Rattle.ua_subscriptions.specs.SubscriptionCalls.{created}
+use Rattle.ua_subscriptions.specs.declared.settings.Settings.{Settings}
+use Rattle.ua_subscriptions.specs.declared.subscriptions.Created.{Created}
 use Rattle.ua_services.specs.ServicesState.{Services}
 use Rattle.ua_services.specs.Serving.{Serving, reply_of}
 use Rattle.ua_services.specs.SubServing.{called}

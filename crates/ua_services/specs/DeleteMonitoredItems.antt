@@ -3,9 +3,9 @@ use Rattle.std.specs.Prelude.{ℕ, List, Result, Ok, Err}
 use Rattle.ua_types.specs.declared.status.Status.{Status}
 use Rattle.ua_binary.specs.Scalars.{status_encoding}
 use Rattle.ua_messages.specs.declared.type_ids.TheConstants.{DELETE_MONITORED_ITEMS_RESPONSE}
-use Rattle.ua_requests.specs.declared.setting.Setting.{Setting}
-use Rattle.monitored_items.specs.Items.{all_served, delete_one}
-use Rattle.sub_messages.specs.declared.monitored_items.DeleteMonitoredItemsRequest.{DeleteMonitoredItemsRequest}
+use Rattle.server_messages.specs.declared.setting.Setting.{Setting}
+use Rattle.ua_monitored_items.specs.Items.{all_served, delete_one}
+use Rattle.ua_subscription_messages.specs.declared.monitored_items.DeleteMonitoredItemsRequest.{DeleteMonitoredItemsRequest}
 use Rattle.ua_services.specs.ItemServing.{Itemed, items_refused, items_answered, items_called}
 use Rattle.ua_services.specs.Operations.{operations_of}
 use Rattle.ua_services.specs.ServicesState.{Services}

@@ -2,10 +2,10 @@
 use Rattle.std.specs.Prelude.{ℕ, List, [], ◌∷◌, Result, Ok, Err}
 use Rattle.ua_types.specs.declared.status.Status.{Status}
 use Rattle.ua_messages.specs.declared.type_ids.TheConstants.{DELETE_SUBSCRIPTIONS_RESPONSE}
-use Rattle.ua_requests.specs.declared.setting.Setting.{Setting}
-use Rattle.sub_messages.specs.declared.subscriptions.DeleteSubscriptionsRequest.{DeleteSubscriptionsRequest}
-use Rattle.subscription.specs.Named.{deleted}
-use Rattle.subscription.specs.Subs.{said}
+use Rattle.server_messages.specs.declared.setting.Setting.{Setting}
+use Rattle.ua_subscription_messages.specs.declared.subscriptions.DeleteSubscriptionsRequest.{DeleteSubscriptionsRequest}
+use Rattle.ua_subscriptions.specs.Named.{deleted}
+use Rattle.ua_subscriptions.specs.SubscriptionCalls.{said}
 use Rattle.ua_services.specs.Operations.{operations_of}
 use Rattle.ua_services.specs.ServicesState.{Services}
 use Rattle.ua_services.specs.Serving.{Serving, reply_of, faulted}

@@ -3,7 +3,7 @@ use Rattle.ua_messages.specs.Bodies.{body_encoding}
 use Rattle.ua_messages.specs.GetEndpoints.{get_endpoints_response_encoding}
 use Rattle.ua_messages.specs.declared.get_endpoints.GetEndpointsRequest.{GetEndpointsRequest}
 use Rattle.ua_messages.specs.declared.type_ids.TheConstants.{GET_ENDPOINTS_RESPONSE}
-use Rattle.ua_requests.specs.declared.setting.Setting.{Setting}
+use Rattle.server_messages.specs.declared.setting.Setting.{Setting}
 use Rattle.ua_services.specs.EndpointList.{endpoints_response}
 use Rattle.ua_services.specs.ServicesState.{Services}
 use Rattle.ua_services.specs.Serving.{Serving, answered}

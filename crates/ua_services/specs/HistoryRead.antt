@@ -10,22 +10,22 @@ use Rattle.ua_messages.specs.Structures.{structure_of}
 use Rattle.ua_messages.specs.declared.structures.StructureFault.{StructureFault}
 use Rattle.ua_messages.specs.declared.structures.StructureFault.TheVariants.{OtherType}
 use Rattle.ua_messages.specs.declared.type_ids.TheConstants.{HISTORY_READ_RESPONSE, READ_RAW_MODIFIED_DETAILS}
-use Rattle.service_messages.specs.History.{history_read_result_encoding, read_raw_modified_details_reading}
-use Rattle.service_messages.specs.declared.history.HistoryReadRequest.{HistoryReadRequest}
-use Rattle.service_messages.specs.declared.history.HistoryReadResult.{HistoryReadResult}
-use Rattle.service_messages.specs.declared.history.HistoryReadValueId.{HistoryReadValueId}
-use Rattle.service_messages.specs.declared.history.ReadRawModifiedDetails.{ReadRawModifiedDetails}
+use Rattle.ua_service_messages.specs.History.{history_read_result_encoding, read_raw_modified_details_reading}
+use Rattle.ua_service_messages.specs.declared.history.HistoryReadRequest.{HistoryReadRequest}
+use Rattle.ua_service_messages.specs.declared.history.HistoryReadResult.{HistoryReadResult}
+use Rattle.ua_service_messages.specs.declared.history.HistoryReadValueId.{HistoryReadValueId}
+use Rattle.ua_service_messages.specs.declared.history.ReadRawModifiedDetails.{ReadRawModifiedDetails}
 use Rattle.ua_browse.specs.Browsing.{page_size}
 use Rattle.ua_session.specs.Points.{PointsState}
 use Rattle.ua_session.specs.Sessions.{points_of}
-use Rattle.read_write.specs.Timestamps.{timestamps_of}
-use Rattle.read_write.specs.declared.timestamps.Timestamps.{Timestamps}
-use Rattle.read_write.specs.declared.timestamps.Timestamps.TheVariants as timestamps
-use Rattle.raw_history.specs.Histories.{HistoryState}
-use Rattle.raw_history.specs.Reading.{read_raw_of, release_of}
-use Rattle.raw_history.specs.declared.reading.RawRange.{RawRange}
+use Rattle.ua_read_write.specs.Timestamps.{timestamps_of}
+use Rattle.ua_read_write.specs.declared.timestamps.Timestamps.{Timestamps}
+use Rattle.ua_read_write.specs.declared.timestamps.Timestamps.TheVariants as timestamps
+use Rattle.ua_history.specs.Histories.{HistoryState}
+use Rattle.ua_history.specs.Reading.{read_raw_of, release_of}
+use Rattle.ua_history.specs.declared.reading.RawRange.{RawRange}
 use Rattle.ua_space.specs.Nodes.{Nodes}
-use Rattle.ua_requests.specs.declared.setting.Setting.{Setting}
+use Rattle.server_messages.specs.declared.setting.Setting.{Setting}
 use Rattle.ua_services.specs.HistoryResults.{history_result_of, release_result_of}
 use Rattle.ua_services.specs.Operations.{operations_of}
 use Rattle.ua_services.specs.Paging.{Done, told_as, all_done, paged}

@@ -10,13 +10,13 @@ use Rattle.ua_types.specs.declared.status.TheConstants.Status as status
 use Rattle.ua_values.specs.declared.data_value.DataValue.{DataValue}
 use Rattle.ua_messages.specs.Structures.{object_around}
 use Rattle.ua_messages.specs.declared.type_ids.TheConstants.{HISTORY_DATA}
-use Rattle.service_messages.specs.History.{history_data_encoding}
-use Rattle.service_messages.specs.declared.history.HistoryReadResult.{HistoryReadResult}
-use Rattle.read_write.specs.Reading.{source_time_of}
-use Rattle.read_write.specs.Timestamps.{has_server}
-use Rattle.read_write.specs.declared.timestamps.Timestamps.{Timestamps}
-use Rattle.raw_history.specs.Histories.{Values}
-use Rattle.raw_history.specs.Reading.{RawPage}
+use Rattle.ua_service_messages.specs.History.{history_data_encoding}
+use Rattle.ua_service_messages.specs.declared.history.HistoryReadResult.{HistoryReadResult}
+use Rattle.ua_read_write.specs.Reading.{source_time_of}
+use Rattle.ua_read_write.specs.Timestamps.{has_server}
+use Rattle.ua_read_write.specs.declared.timestamps.Timestamps.{Timestamps}
+use Rattle.ua_history.specs.Histories.{Values}
+use Rattle.ua_history.specs.Reading.{RawPage}
 
 abbrev pub stored_time_of : Timestamps → DataValue → Option Moment
 stored_time_of timestamps v = if has_server timestamps then v.server_time else None

@@ -6,13 +6,13 @@ use Rattle.ua_messages.specs.Bodies.{body_encoding}
 use Rattle.ua_messages.specs.Headers.{plain_header}
 use Rattle.ua_messages.specs.ResultLists.{results_encoding, results_of}
 use Rattle.ua_messages.specs.ServiceFaults.{fault_body}
-use Rattle.ua_requests.specs.declared.setting.Setting.{Setting}
-use Rattle.monitored_items.specs.Items.{ItemsState, Served}
-use Rattle.sub_table.specs.declared.vars.Vars.{Vars}
-use Rattle.subscription.specs.Named.{is_own}
-use Rattle.subscription.specs.Subs.{told}
-use Rattle.subscription.specs.Tables.{met, vars_found}
-use Rattle.subscription.specs.declared.call.Call.TheVariants.{Items}
+use Rattle.server_messages.specs.declared.setting.Setting.{Setting}
+use Rattle.ua_monitored_items.specs.Items.{ItemsState, Served}
+use Rattle.ua_state_table.specs.declared.vars.Vars.{Vars}
+use Rattle.ua_subscriptions.specs.Named.{is_own}
+use Rattle.ua_subscriptions.specs.SubscriptionCalls.{told}
+use Rattle.ua_subscriptions.specs.Tables.{met, vars_found}
+use Rattle.ua_subscriptions.specs.declared.call.Call.TheVariants.{Items}
 use Rattle.ua_services.specs.ServicesState.{Services}
 use Rattle.ua_services.specs.Serving.{Serving, reply_of, faulted}
 use Rattle.ua_services.specs.SubServing.{called, world_at}

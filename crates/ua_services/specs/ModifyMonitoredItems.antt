@@ -3,13 +3,13 @@ use Rattle.std.specs.Prelude.{ℕ, List, Option, Some, None, Result, Ok, Err}
 use Rattle.ua_types.specs.declared.status.Status.{Status}
 use Rattle.ua_types.specs.declared.status.TheConstants.Status as status
 use Rattle.ua_messages.specs.declared.type_ids.TheConstants.{MODIFY_MONITORED_ITEMS_RESPONSE}
-use Rattle.ua_requests.specs.declared.setting.Setting.{Setting}
-use Rattle.monitored_items.specs.Items.{all_served, modify_one}
-use Rattle.read_write.specs.Timestamps.{timestamps_of}
-use Rattle.read_write.specs.declared.timestamps.Timestamps.{Timestamps}
-use Rattle.sub_messages.specs.MonitoredItems.{monitored_item_modify_result_encoding}
-use Rattle.sub_messages.specs.declared.monitored_items.ModifyMonitoredItemsRequest.{ModifyMonitoredItemsRequest}
-use Rattle.sub_messages.specs.declared.monitored_items.MonitoredItemModifyRequest.{MonitoredItemModifyRequest}
+use Rattle.server_messages.specs.declared.setting.Setting.{Setting}
+use Rattle.ua_monitored_items.specs.Items.{all_served, modify_one}
+use Rattle.ua_read_write.specs.Timestamps.{timestamps_of}
+use Rattle.ua_read_write.specs.declared.timestamps.Timestamps.{Timestamps}
+use Rattle.ua_subscription_messages.specs.MonitoredItems.{monitored_item_modify_result_encoding}
+use Rattle.ua_subscription_messages.specs.declared.monitored_items.ModifyMonitoredItemsRequest.{ModifyMonitoredItemsRequest}
+use Rattle.ua_subscription_messages.specs.declared.monitored_items.MonitoredItemModifyRequest.{MonitoredItemModifyRequest}
 use Rattle.ua_services.specs.ItemServing.{Itemed, items_refused, items_answered, items_called}
 use Rattle.ua_services.specs.Operations.{operations_of}
 use Rattle.ua_services.specs.ServicesState.{Services}

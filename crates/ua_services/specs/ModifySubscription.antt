@@ -5,13 +5,13 @@ use Rattle.ua_messages.specs.Bodies.{body_encoding}
 use Rattle.ua_messages.specs.Headers.{plain_header}
 use Rattle.ua_messages.specs.ServiceFaults.{fault_body}
 use Rattle.ua_messages.specs.declared.type_ids.TheConstants.{MODIFY_SUBSCRIPTION_RESPONSE}
-use Rattle.ua_requests.specs.declared.setting.Setting.{Setting}
-use Rattle.sub_messages.specs.Subscriptions.{modify_subscription_response_encoding}
-use Rattle.sub_messages.specs.declared.subscriptions.ModifySubscriptionRequest.{ModifySubscriptionRequest}
-use Rattle.subscription.specs.Making.{modified}
-use Rattle.subscription.specs.Subs.{said}
-use Rattle.subscription.specs.declared.making.Revised.{Revised}
-use Rattle.subscription.specs.declared.settings.Settings.{Settings}
+use Rattle.server_messages.specs.declared.setting.Setting.{Setting}
+use Rattle.ua_subscription_messages.specs.Subscriptions.{modify_subscription_response_encoding}
+use Rattle.ua_subscription_messages.specs.declared.subscriptions.ModifySubscriptionRequest.{ModifySubscriptionRequest}
+use Rattle.ua_subscriptions.specs.Making.{modified}
+use Rattle.ua_subscriptions.specs.SubscriptionCalls.{said}
+use Rattle.ua_subscriptions.specs.declared.making.Revised.{Revised}
+use Rattle.ua_subscriptions.specs.declared.settings.Settings.{Settings}
 use Rattle.ua_services.specs.ServicesState.{Services}
 use Rattle.ua_services.specs.Serving.{Serving, reply_of}
 use Rattle.ua_services.specs.SubServing.{called, world_at}

@@ -1,6 +1,6 @@
 -- To whom replies go, now and later.
 use Rattle.std.specs.Prelude.{◌≡◌, ℕ, None}
-use Rattle.subscription.specs.Owing.{QueuedBy, RepliedTo}
+use Rattle.ua_subscriptions.specs.Owing.{QueuedBy, RepliedTo}
 use Rattle.ua_services.specs.ServicesState.{Services}
 use Rattle.ua_services.specs.Serving.{Serving}
 

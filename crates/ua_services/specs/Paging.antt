@@ -11,9 +11,9 @@ use Rattle.ua_messages.specs.Headers.{plain_header}
 use Rattle.ua_messages.specs.ResultLists.{results_encoding, results_of}
 use Rattle.ua_session.specs.Points.{PointsState, is_overspent}
 use Rattle.ua_session.specs.Sessions.{with_points}
-use Rattle.ua_requests.specs.declared.halt.Halt.{Halt}
-use Rattle.ua_requests.specs.declared.halt.Halt.TheVariants.{Memory, Exhausted}
-use Rattle.ua_requests.specs.declared.setting.Setting.{Setting}
+use Rattle.server_messages.specs.declared.halt.Halt.{Halt}
+use Rattle.server_messages.specs.declared.halt.Halt.TheVariants.{Memory, Exhausted}
+use Rattle.server_messages.specs.declared.setting.Setting.{Setting}
 use Rattle.ua_services.specs.ServicesState.{Services}
 use Rattle.ua_services.specs.Serving.{Act, Serving, reply_of}
 use Rattle.ua_services.specs.Serving.Act.{Spent}

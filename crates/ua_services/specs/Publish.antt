@@ -1,11 +1,11 @@
 -- The service Publish.
 use Rattle.std.specs.Prelude.{ℕ, List, [], length, nat_lt, Option, Some, None, if◌then◌else◌}
 use Rattle.ua_types.specs.declared.status.TheConstants.Status as status
-use Rattle.ua_requests.specs.declared.setting.Setting.{Setting}
-use Rattle.sub_messages.specs.declared.publishing.PublishRequest.{PublishRequest}
-use Rattle.sub_messages.specs.declared.publishing.SubscriptionAcknowledgement.{SubscriptionAcknowledgement}
-use Rattle.subscription.specs.Publishing.{published}
-use Rattle.subscription.specs.declared.publish_call.PublishCall.{PublishCall}
+use Rattle.server_messages.specs.declared.setting.Setting.{Setting}
+use Rattle.ua_subscription_messages.specs.declared.publishing.PublishRequest.{PublishRequest}
+use Rattle.ua_subscription_messages.specs.declared.publishing.SubscriptionAcknowledgement.{SubscriptionAcknowledgement}
+use Rattle.ua_subscriptions.specs.Publishing.{published}
+use Rattle.ua_subscriptions.specs.declared.publish_call.PublishCall.{PublishCall}
 use Rattle.ua_services.specs.ServicesState.{Services}
 use Rattle.ua_services.specs.Serving.{Serving, faulted}
 use Rattle.ua_services.specs.SubServing.{told_alone, world_at}

@@ -8,11 +8,11 @@ use Rattle.ua_messages.specs.Headers.{plain_header}
 use Rattle.ua_messages.specs.ResultLists.{results_encoding, results_of}
 use Rattle.ua_messages.specs.declared.read_value_ids.ReadValueId.{ReadValueId}
 use Rattle.ua_messages.specs.declared.type_ids.TheConstants.{READ_RESPONSE}
-use Rattle.service_messages.specs.declared.reading.ReadRequest.{ReadRequest}
-use Rattle.read_write.specs.Reading.{all_read}
-use Rattle.read_write.specs.Timestamps.{timestamps_of}
-use Rattle.read_write.specs.declared.timestamps.Timestamps.{Timestamps}
-use Rattle.ua_requests.specs.declared.setting.Setting.{Setting}
+use Rattle.ua_service_messages.specs.declared.reading.ReadRequest.{ReadRequest}
+use Rattle.ua_read_write.specs.Reading.{all_read}
+use Rattle.ua_read_write.specs.Timestamps.{timestamps_of}
+use Rattle.ua_read_write.specs.declared.timestamps.Timestamps.{Timestamps}
+use Rattle.server_messages.specs.declared.setting.Setting.{Setting}
 use Rattle.ua_services.specs.Operations.{operations_of}
 use Rattle.ua_services.specs.ServicesState.{Services}
 use Rattle.ua_services.specs.Serving.{Serving, answered, faulted}

@@ -3,11 +3,11 @@ use Rattle.std.specs.Prelude.{ℕ, List, [], ◌∷◌, Result, Ok, Err}
 use Rattle.ua_types.specs.declared.status.Status.{Status}
 use Rattle.ua_messages.specs.Headers.{plain_header}
 use Rattle.ua_messages.specs.ServiceFaults.{fault_body}
-use Rattle.ua_requests.specs.declared.setting.Setting.{Setting}
-use Rattle.sub_messages.specs.KeptMessages.{republish_body_around}
-use Rattle.sub_messages.specs.declared.publishing.RepublishRequest.{RepublishRequest}
-use Rattle.subscription.specs.Making.{republished}
-use Rattle.subscription.specs.Subs.{said}
+use Rattle.server_messages.specs.declared.setting.Setting.{Setting}
+use Rattle.ua_subscription_messages.specs.KeptMessages.{republish_body_around}
+use Rattle.ua_subscription_messages.specs.declared.publishing.RepublishRequest.{RepublishRequest}
+use Rattle.ua_subscriptions.specs.Making.{republished}
+use Rattle.ua_subscriptions.specs.SubscriptionCalls.{said}
 use Rattle.ua_services.specs.ServicesState.{Services}
 use Rattle.ua_services.specs.Serving.{Serving, reply_of}
 use Rattle.ua_services.specs.SubServing.{called, world_at}

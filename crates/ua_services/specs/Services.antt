@@ -9,20 +9,20 @@ use Rattle.ua_messages.specs.GetEndpoints.{get_endpoints_request_reading}
 use Rattle.ua_messages.specs.Headers.{request_header_reading}
 use Rattle.ua_messages.specs.declared.headers.RequestHeader.{RequestHeader}
 use Rattle.ua_messages.specs.declared.type_ids.TheConstants.{GET_ENDPOINTS_REQUEST, CREATE_SESSION_REQUEST, ACTIVATE_SESSION_REQUEST, CLOSE_SESSION_REQUEST, READ_REQUEST, WRITE_REQUEST, BROWSE_REQUEST, BROWSE_NEXT_REQUEST, HISTORY_READ_REQUEST, CREATE_MONITORED_ITEMS_REQUEST, MODIFY_MONITORED_ITEMS_REQUEST, SET_MONITORING_MODE_REQUEST, DELETE_MONITORED_ITEMS_REQUEST, CREATE_SUBSCRIPTION_REQUEST, MODIFY_SUBSCRIPTION_REQUEST, SET_PUBLISHING_MODE_REQUEST, DELETE_SUBSCRIPTIONS_REQUEST, PUBLISH_REQUEST, REPUBLISH_REQUEST}
-use Rattle.ua_requests.specs.declared.request.Request.{Request}
-use Rattle.ua_requests.specs.declared.setting.Setting.{Setting}
-use Rattle.service_messages.specs.Browsing.{browse_request_reading, browse_next_request_reading}
-use Rattle.service_messages.specs.History.{history_read_request_reading}
-use Rattle.service_messages.specs.Reading.{read_request_reading}
-use Rattle.service_messages.specs.Writing.{write_request_reading}
-use Rattle.service_messages.specs.Sessions.{create_session_request_reading, activate_session_request_reading, close_session_request_reading}
-use Rattle.sub_messages.specs.MonitoredItems.{create_monitored_items_request_reading, modify_monitored_items_request_reading, set_monitoring_mode_request_reading, delete_monitored_items_request_reading}
-use Rattle.sub_messages.specs.Publishing.{publish_request_reading, republish_request_reading}
-use Rattle.sub_messages.specs.Subscriptions.{create_subscription_request_reading, modify_subscription_request_reading, set_publishing_mode_request_reading, delete_subscriptions_request_reading}
-use Rattle.subscription.specs.Ending.{without_conn}
-use Rattle.subscription.specs.Named.{is_none}
-use Rattle.subscription.specs.Ranks.{is_any_due}
-use Rattle.subscription.specs.Subs.{SubsState}
+use Rattle.server_messages.specs.declared.request.Request.{Request}
+use Rattle.server_messages.specs.declared.setting.Setting.{Setting}
+use Rattle.ua_service_messages.specs.Browsing.{browse_request_reading, browse_next_request_reading}
+use Rattle.ua_service_messages.specs.History.{history_read_request_reading}
+use Rattle.ua_service_messages.specs.Reading.{read_request_reading}
+use Rattle.ua_service_messages.specs.Writing.{write_request_reading}
+use Rattle.ua_service_messages.specs.Sessions.{create_session_request_reading, activate_session_request_reading, close_session_request_reading}
+use Rattle.ua_subscription_messages.specs.MonitoredItems.{create_monitored_items_request_reading, modify_monitored_items_request_reading, set_monitoring_mode_request_reading, delete_monitored_items_request_reading}
+use Rattle.ua_subscription_messages.specs.Publishing.{publish_request_reading, republish_request_reading}
+use Rattle.ua_subscription_messages.specs.Subscriptions.{create_subscription_request_reading, modify_subscription_request_reading, set_publishing_mode_request_reading, delete_subscriptions_request_reading}
+use Rattle.ua_subscriptions.specs.Ending.{without_conn}
+use Rattle.ua_subscriptions.specs.Named.{is_none}
+use Rattle.ua_subscriptions.specs.Ranks.{is_any_due}
+use Rattle.ua_subscriptions.specs.SubscriptionCalls.{SubscriptionsState}
 use Rattle.ua_session.specs.Sessions.{ticked, ended_by}
 use Rattle.ua_services.specs.ActivateSession.{activate_session_meaning}
 use Rattle.ua_services.specs.Browse.{browse_meaning}
@@ -108,4 +108,4 @@ is_idle setting state =
 
 -- what is kept once a connection is closed or gone: the Publish requests that came by it wait no more
 abbrev pub forgotten : Services → ℕ → Services
-forgotten state conn = let subs : SubsState = state.subs in record state { subs = record subs { table = without_conn conn subs.table } }
+forgotten state conn = let subs : SubscriptionsState = state.subs in record state { subs = record subs { table = without_conn conn subs.table } }

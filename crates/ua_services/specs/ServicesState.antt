@@ -1,8 +1,8 @@
 -- What the services keep.
 use Rattle.ua_types.specs.Configuration.{Configuration}
-use Rattle.monitored_items.specs.Items.{no_items}
-use Rattle.raw_history.specs.Histories.{no_histories}
-use Rattle.subscription.specs.Subs.{no_subs}
+use Rattle.ua_monitored_items.specs.Items.{no_items}
+use Rattle.ua_history.specs.Histories.{no_histories}
+use Rattle.ua_subscriptions.specs.SubscriptionCalls.{no_subscriptions}
 use Rattle.ua_session.specs.Sessions.{no_sessions}
 use Rattle.ua_space.specs.Nodes.{SpaceState}
 pub use Rattle.ua_services.specs.declared.services.Services.{Services}
@@ -13,5 +13,5 @@ no_services_used config space = record {
   sessions = no_sessions config;
   history = no_histories config;
   items = no_items config;
-  subs = no_subs config;
+  subs = no_subscriptions config;
 }

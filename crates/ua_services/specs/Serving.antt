@@ -6,12 +6,12 @@ use Rattle.ua_types.specs.declared.status.Status.{Status}
 use Rattle.ua_types.specs.declared.status.TheConstants.Status as status
 use Rattle.ua_binary.specs.declared.fault.TakeFault.{TakeFault}
 use Rattle.ua_messages.specs.ServiceFaults.{fault_body}
-use Rattle.ua_requests.specs.declared.fired.Fired.{Fired}
-use Rattle.ua_requests.specs.declared.halt.Halt.{Halt}
-use Rattle.ua_requests.specs.declared.halt.Halt.TheVariants.{Memory, Exhausted}
-use Rattle.ua_requests.specs.declared.reply.Reply.{Reply}
-use Rattle.ua_requests.specs.declared.served.Served.{Served}
-use Rattle.ua_requests.specs.declared.setting.Setting.{Setting}
+use Rattle.server_messages.specs.declared.fired.Fired.{Fired}
+use Rattle.server_messages.specs.declared.halt.Halt.{Halt}
+use Rattle.server_messages.specs.declared.halt.Halt.TheVariants.{Memory, Exhausted}
+use Rattle.server_messages.specs.declared.reply.Reply.{Reply}
+use Rattle.server_messages.specs.declared.served.Served.{Served}
+use Rattle.server_messages.specs.declared.setting.Setting.{Setting}
 use Rattle.ua_services.specs.ServicesState.{Services}
 use Rattle.ua_services.specs.declared.call.Call.{Call}
 

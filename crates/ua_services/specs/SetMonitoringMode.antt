@@ -4,11 +4,11 @@ use Rattle.ua_types.specs.declared.status.Status.{Status}
 use Rattle.ua_types.specs.declared.status.TheConstants.Status as status
 use Rattle.ua_binary.specs.Scalars.{status_encoding}
 use Rattle.ua_messages.specs.declared.type_ids.TheConstants.{SET_MONITORING_MODE_RESPONSE}
-use Rattle.ua_requests.specs.declared.setting.Setting.{Setting}
-use Rattle.monitored_items.specs.Items.{all_served, mode_one}
-use Rattle.monitored_items.specs.Kinds.{mode_numbered}
-use Rattle.monitored_items.specs.declared.kinds.Mode.{Mode}
-use Rattle.sub_messages.specs.declared.monitored_items.SetMonitoringModeRequest.{SetMonitoringModeRequest}
+use Rattle.server_messages.specs.declared.setting.Setting.{Setting}
+use Rattle.ua_monitored_items.specs.Items.{all_served, mode_one}
+use Rattle.ua_monitored_items.specs.Kinds.{mode_numbered}
+use Rattle.ua_monitored_items.specs.declared.kinds.Mode.{Mode}
+use Rattle.ua_subscription_messages.specs.declared.monitored_items.SetMonitoringModeRequest.{SetMonitoringModeRequest}
 use Rattle.ua_services.specs.ItemServing.{Itemed, items_refused, items_answered, items_called}
 use Rattle.ua_services.specs.Operations.{operations_of}
 use Rattle.ua_services.specs.ServicesState.{Services}

@@ -2,11 +2,11 @@
 use Rattle.std.specs.Prelude.{ℕ, Bool, List, [], ◌∷◌, Result, Ok, Err}
 use Rattle.ua_types.specs.declared.status.Status.{Status}
 use Rattle.ua_messages.specs.declared.type_ids.TheConstants.{SET_PUBLISHING_MODE_RESPONSE}
-use Rattle.ua_requests.specs.declared.setting.Setting.{Setting}
-use Rattle.sub_messages.specs.declared.subscriptions.SetPublishingModeRequest.{SetPublishingModeRequest}
-use Rattle.subscription.specs.Named.{named_all}
-use Rattle.subscription.specs.Subs.{said}
-use Rattle.subscription.specs.declared.call.Call.TheVariants.{SetMode}
+use Rattle.server_messages.specs.declared.setting.Setting.{Setting}
+use Rattle.ua_subscription_messages.specs.declared.subscriptions.SetPublishingModeRequest.{SetPublishingModeRequest}
+use Rattle.ua_subscriptions.specs.Named.{named_all}
+use Rattle.ua_subscriptions.specs.SubscriptionCalls.{said}
+use Rattle.ua_subscriptions.specs.declared.call.Call.TheVariants.{SetMode}
 use Rattle.ua_services.specs.Operations.{operations_of}
 use Rattle.ua_services.specs.ServicesState.{Services}
 use Rattle.ua_services.specs.Serving.{Serving, reply_of, faulted}

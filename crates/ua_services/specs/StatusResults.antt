@@ -5,7 +5,7 @@ use Rattle.ua_binary.specs.Scalars.{status_encoding}
 use Rattle.ua_messages.specs.Bodies.{body_encoding}
 use Rattle.ua_messages.specs.Headers.{plain_header}
 use Rattle.ua_messages.specs.ResultLists.{results_encoding, results_of}
-use Rattle.ua_requests.specs.declared.setting.Setting.{Setting}
+use Rattle.server_messages.specs.declared.setting.Setting.{Setting}
 use Rattle.ua_services.specs.declared.call.Call.{Call}
 
 -- what became of each, in the order of the request

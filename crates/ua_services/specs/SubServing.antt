@@ -1,21 +1,21 @@
 -- What the services of subscriptions share.
 use Rattle.std.specs.Prelude.{ℕ, Bool, true, false, List, [], ◌∷◌, ◌++◌, fold, Option, Some, None, if◌then◌else◌}
-use Rattle.monitored_items.specs.Items.{ItemsState}
-use Rattle.subscription.specs.Ending.{session_ended}
-use Rattle.subscription.specs.Making.{timed}
-use Rattle.subscription.specs.Scenes.{is_overspent}
-use Rattle.subscription.specs.Subs.{SubsState, Said, told, world_of}
-use Rattle.subscription.specs.Tables.{World}
-use Rattle.subscription.specs.declared.turn.Turn.{Turn}
-use Rattle.ua_requests.specs.declared.fired.Fired.{Fired}
-use Rattle.ua_requests.specs.declared.halt.Halt.{Halt}
-use Rattle.ua_requests.specs.declared.reply.Reply.{Reply}
-use Rattle.ua_requests.specs.declared.setting.Setting.{Setting}
+use Rattle.ua_monitored_items.specs.Items.{ItemsState}
+use Rattle.ua_subscriptions.specs.Ending.{session_ended}
+use Rattle.ua_subscriptions.specs.Making.{timed}
+use Rattle.ua_subscriptions.specs.Scenes.{is_overspent}
+use Rattle.ua_subscriptions.specs.SubscriptionCalls.{SubscriptionsState, Said, told, world_of}
+use Rattle.ua_subscriptions.specs.Tables.{World}
+use Rattle.ua_subscriptions.specs.declared.turn.Turn.{Turn}
+use Rattle.server_messages.specs.declared.fired.Fired.{Fired}
+use Rattle.server_messages.specs.declared.halt.Halt.{Halt}
+use Rattle.server_messages.specs.declared.reply.Reply.{Reply}
+use Rattle.server_messages.specs.declared.setting.Setting.{Setting}
 use Rattle.ua_services.specs.ServicesState.{Services}
 use Rattle.ua_services.specs.Serving.{Act, Serving}
 use Rattle.ua_services.specs.Serving.Act.{Fire, Spent}
 
-abbrev pub with_subs : Services → SubsState → ItemsState → Services
+abbrev pub with_subs : Services → SubscriptionsState → ItemsState → Services
 with_subs state subs items = record state { items = items; subs = subs }
 
 abbrev pub fires : List Fired → List Act

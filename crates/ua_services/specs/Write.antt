@@ -3,16 +3,16 @@ use Rattle.std.specs.Prelude.{ℕ, Bool, false, List, Option, Some, None, Result
 use Rattle.std.specs.List.{fold}
 use Rattle.ua_types.specs.declared.status.Status.{Status}
 use Rattle.ua_messages.specs.declared.type_ids.TheConstants.{WRITE_RESPONSE}
-use Rattle.service_messages.specs.declared.writing.WriteRequest.{WriteRequest}
-use Rattle.service_messages.specs.declared.writing.WriteValue.{WriteValue}
+use Rattle.ua_service_messages.specs.declared.writing.WriteRequest.{WriteRequest}
+use Rattle.ua_service_messages.specs.declared.writing.WriteValue.{WriteValue}
 use Rattle.ua_space.specs.Nodes.{Nodes}
 use Rattle.ua_space.specs.Values.{variable_at}
 use Rattle.ua_space.specs.Variables.{VariableAttributes}
-use Rattle.monitored_items.specs.Items.{ItemsState, all_visits, sampled_items}
-use Rattle.raw_history.specs.Histories.{HistoryState, kept}
-use Rattle.read_write.specs.Writing.{Writing, write_of}
-use Rattle.read_write.specs.declared.writing.Change.{Change}
-use Rattle.ua_requests.specs.declared.setting.Setting.{Setting}
+use Rattle.ua_monitored_items.specs.Items.{ItemsState, all_visits, sampled_items}
+use Rattle.ua_history.specs.Histories.{HistoryState, kept}
+use Rattle.ua_read_write.specs.Writing.{Writing, write_of}
+use Rattle.ua_read_write.specs.declared.writing.Change.{Change}
+use Rattle.server_messages.specs.declared.setting.Setting.{Setting}
 use Rattle.ua_services.specs.Operations.{operations_of}
 use Rattle.ua_services.specs.ServicesState.{Services}
 use Rattle.ua_services.specs.Serving.{Serving, answered, faulted}

@@ -1,20 +1,22 @@
 //! The service ActivateSession (IEC 62541-4, "ActivateSession").
 
 ghost use Rattle.std.specs.Prelude.{◌≡◌, IfOk};
-ghost use Rattle.ua_services.specs.ActivateSession.{activate_session_meaning, activate_session_response, is_anonymous as is_anonymous_lem};
+ghost use Rattle.ua_services.specs.ActivateSession.{activate_session_meaning, activate_session_response, is_anonymous as is_anonymous_spec};
 
 use crate::call::Call;
 use crate::service::{Service, refuse, reply};
 use crate::services::Services;
-use service_messages::{ActivateSessionRequest, ActivateSessionResponse, AnonymousIdentityToken};
+use server_messages::{Halt, Served, Setting};
 use std::alloc::{AllocError, Global};
 use ua_messages::{DiagnosticInfos, ResponseHeader, StructureFault, body, structure, type_ids};
-use ua_requests::{Halt, Served, Setting};
+use ua_service_messages::{
+    ActivateSessionRequest, ActivateSessionResponse, AnonymousIdentityToken,
+};
 use ua_types::{Array, ByteString, ExtensionObject, ExtensionObjectBody, Refusal, Status};
 
 // Whether the user stays anonymous.
 fn is_anonymous(alloc: Global, identity: &ExtensionObject) -> Result<bool, AllocError>
-    ensures { IfOk result (λ is. is ≡ is_anonymous_lem identity.now) }
+    ensures { IfOk result (λ is. is ≡ is_anonymous_spec identity.now) }
 {
     if matches!(&identity.body, ExtensionObjectBody::Absent) {
         return Ok(true);

@@ -2,7 +2,7 @@
 
 ghost use Rattle.std.specs.Prelude.{◌≡◌, ◌<◌, ◌^◌, length, IfOk};
 ghost use Rattle.std.specs.Result.{result_map_both};
-ghost use Rattle.ua_browse.specs.Browsing.{page_size as page_size_lem, browse_of};
+ghost use Rattle.ua_browse.specs.Browsing.{page_size as page_size_spec, browse_of};
 ghost use Rattle.ua_services.specs.Browse.{browse_meaning};
 ghost use Rattle.ua_messages.specs.declared.type_ids.TheConstants.{BROWSE_RESPONSE};
 ghost use Rattle.ua_session.specs.Sessions.{points_of};
@@ -17,11 +17,11 @@ use crate::paging::paged;
 use crate::service::refuse;
 use crate::services::Services;
 use crate::session_service::SessionService;
-use service_messages::{BrowseDescription, BrowseRequest, BrowseResult};
+use server_messages::{Halt, Served, Setting};
 use std::alloc::Global;
 use ua_browse::{browse, page_size};
 use ua_messages::type_ids;
-use ua_requests::{Halt, Served, Setting};
+use ua_service_messages::{BrowseDescription, BrowseRequest, BrowseResult};
 use ua_session::Points;
 use ua_space::Space;
 use ua_types::{Config, Status};
@@ -61,7 +61,7 @@ fn browse_all(
 
 // How many references a page has at most under this configuration.
 fn size_in(config: &Config, requested: u32) -> u32
-    ensures { result ≡ page_size_lem config.now.references requested }
+    ensures { result ≡ page_size_spec config.now.references requested }
 {
     page_size(config.references, requested)
 }

@@ -3,10 +3,10 @@
 ghost use Rattle.ua_services.specs.BrowseResults.{result_of};
 ghost use Rattle.ua_services.specs.Paging.{Tells};
 
-use service_messages::BrowseResult;
+use server_messages::Halt;
 use std::alloc::Global;
 use ua_browse::Page;
-use ua_requests::Halt;
+use ua_service_messages::BrowseResult;
 use ua_session::point_bytes;
 use ua_types::{Array, ByteString, Refusal, Status};
 

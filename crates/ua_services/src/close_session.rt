@@ -8,10 +8,10 @@ use crate::call::Call;
 use crate::service::{Service, refuse, reply};
 use crate::services::Services;
 use crate::sub_serving::{end_session, joined};
-use service_messages::{CloseSessionRequest, CloseSessionResponse};
+use server_messages::{Halt, Served, Setting};
 use std::alloc::{AllocError, Global};
 use ua_messages::{ResponseHeader, body, type_ids};
-use ua_requests::{Halt, Served, Setting};
+use ua_service_messages::{CloseSessionRequest, CloseSessionResponse};
 use ua_types::Status;
 
 // The answer, once the session is no more.

@@ -10,11 +10,11 @@ use crate::operations::operations;
 use crate::service::refuse;
 use crate::services::Services;
 use crate::session_service::SessionService;
-use read_write::Timestamps;
+use server_messages::{Halt, Served, Setting};
 use std::alloc::{AllocError, Global};
-use sub_messages::CreateMonitoredItemsRequest;
 use ua_messages::{ResponseHeader, fault, results_body, type_ids};
-use ua_requests::{Halt, Served, Setting};
+use ua_read_write::Timestamps;
+use ua_subscription_messages::CreateMonitoredItemsRequest;
 use ua_types::Status;
 
 // Makes the items, and gives the body of the answer.
@@ -49,7 +49,7 @@ fn create_items(
     results_body(alloc, type_id, &header, results.as_slice())
 }
 
-/// Makes monitored items of a subscription of the session, one after the other ([`monitored_items::Items::create`]).
+/// Makes monitored items of a subscription of the session, one after the other ([`ua_monitored_items::Items::create`]).
 ///
 /// The faults, in this order: `BAD_SUBSCRIPTION_ID_INVALID` where the session has no such subscription,
 /// `BAD_TIMESTAMPS_TO_RETURN_INVALID` where the choice of times is none of the four, those of a list that is null, empty or

@@ -7,10 +7,10 @@ use crate::call::Call;
 use crate::endpoint_list::endpoint;
 use crate::service::{Service, refuse, reply};
 use crate::services::Services;
-use service_messages::{CreateSessionRequest, CreateSessionResponse, SignatureData};
+use server_messages::{Halt, Served, Setting};
 use std::alloc::{AllocError, Global};
 use ua_messages::{ResponseHeader, body, type_ids};
-use ua_requests::{Halt, Served, Setting};
+use ua_service_messages::{CreateSessionRequest, CreateSessionResponse, SignatureData};
 use ua_session::{Created, session_id};
 use ua_types::{Array, ByteString, Refusal, Status, Text};
 

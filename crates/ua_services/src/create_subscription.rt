@@ -7,11 +7,11 @@ use crate::call::Call;
 use crate::services::Services;
 use crate::session_service::SessionService;
 use crate::sub_serving::reply_first;
+use server_messages::{Halt, Served, Setting};
 use std::alloc::{AllocError, Global};
-use sub_messages::{CreateSubscriptionRequest, CreateSubscriptionResponse};
-use subscription::{Answered, Created, Settings};
 use ua_messages::{ResponseHeader, body, fault, type_ids};
-use ua_requests::{Halt, Served, Setting};
+use ua_subscription_messages::{CreateSubscriptionRequest, CreateSubscriptionResponse};
+use ua_subscriptions::{Answered, Created, Settings};
 use ua_types::Status;
 
 // What a client is told of its new subscription, or why there is none.
@@ -39,7 +39,7 @@ fn answer_body(
 }
 
 /// Makes a subscription of the session. Its counts and the size of its messages are revised into what the server allows
-/// ([`subscription::Subs::create`]), and its publishing interval is the configuration's, whatever was asked.
+/// ([`ua_subscriptions::Subscriptions::create`]), and its publishing interval is the configuration's, whatever was asked.
 ///
 /// The fault is `BAD_TOO_MANY_SUBSCRIPTIONS` where the session has as many as the configuration allows, or the numbers
 /// are used up.

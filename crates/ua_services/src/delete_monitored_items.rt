@@ -11,10 +11,10 @@ use crate::service::refuse;
 use crate::services::Services;
 use crate::session_service::SessionService;
 use crate::status_results::statuses_body;
+use server_messages::{Halt, Served, Setting};
 use std::alloc::{AllocError, Global};
-use sub_messages::DeleteMonitoredItemsRequest;
 use ua_messages::{fault, type_ids};
-use ua_requests::{Halt, Served, Setting};
+use ua_subscription_messages::DeleteMonitoredItemsRequest;
 use ua_types::Status;
 
 // Deletes the items, and gives the body of the answer.
@@ -40,7 +40,7 @@ fn delete_items(
     statuses_body(alloc, type_id, setting, call, statuses.as_slice())
 }
 
-/// Deletes monitored items of a subscription of the session, one after the other ([`monitored_items::Items::delete`]).
+/// Deletes monitored items of a subscription of the session, one after the other ([`ua_monitored_items::Items::delete`]).
 ///
 /// The faults, in this order: `BAD_SUBSCRIPTION_ID_INVALID` where the session has no such subscription, those of a list
 /// that is null, empty or too long ([`operations`]). All but the first are signs of life of the subscription.

@@ -9,11 +9,11 @@ use crate::services::Services;
 use crate::session_service::SessionService;
 use crate::status_results::statuses_body;
 use crate::sub_serving::reply_first;
+use server_messages::{Halt, Served, Setting};
 use std::alloc::Global;
-use sub_messages::DeleteSubscriptionsRequest;
-use subscription::Answered;
 use ua_messages::type_ids;
-use ua_requests::{Halt, Served, Setting};
+use ua_subscription_messages::DeleteSubscriptionsRequest;
+use ua_subscriptions::Answered;
 
 /// Deletes subscriptions of the session with their items, one after the other. Where the session has none left, its
 /// Publish requests that wait are answered `BAD_NO_SUBSCRIPTION`, behind the answer to this one.

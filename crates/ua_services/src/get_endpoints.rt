@@ -6,9 +6,9 @@ use crate::call::Call;
 use crate::endpoint_list::endpoints_response;
 use crate::service::{Service, reply};
 use crate::services::Services;
+use server_messages::{Halt, Served, Setting};
 use std::alloc::Global;
 use ua_messages::{GetEndpointsRequest, body, type_ids};
-use ua_requests::{Halt, Served, Setting};
 
 /// Says by which endpoints the server is reached.
 pub struct GetEndpoints;

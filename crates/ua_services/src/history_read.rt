@@ -3,9 +3,9 @@
 ghost use Rattle.std.specs.Prelude.{◌≡◌, ◌<◌, ◌^◌, length, IfOk};
 ghost use Rattle.std.specs.Result.{result_map_both};
 ghost use Rattle.ua_types.specs.Refusals.{GivesOrRefuses};
-ghost use Rattle.read_write.specs.Timestamps.{timestamps_of};
-ghost use Rattle.raw_history.specs.Reading.{read_raw_of};
-ghost use Rattle.ua_services.specs.HistoryRead.{some_times as some_times_lem, is_time_given as is_time_given_lem, is_bounded as is_bounded_lem, range_of as range_of_lem, details_judged, node_read, history_read_of, history_read_meaning};
+ghost use Rattle.ua_read_write.specs.Timestamps.{timestamps_of};
+ghost use Rattle.ua_history.specs.Reading.{read_raw_of};
+ghost use Rattle.ua_services.specs.HistoryRead.{some_times as some_times_spec, is_time_given as is_time_given_spec, is_bounded as is_bounded_spec, range_of as range_of_spec, details_judged, node_read, history_read_of, history_read_meaning};
 ghost use Rattle.ua_services.specs.HistoryResults.{history_result_of};
 ghost use Rattle.ua_services.specs.Paging.{DoesOne, DoesAll, told_as, all_done};
 ghost use Rattle.ua_services.specs.Serving.{Serves};
@@ -17,15 +17,15 @@ use crate::paging::paged;
 use crate::service::refuse;
 use crate::services::Services;
 use crate::session_service::SessionService;
-use raw_history::{History, RawRange, read_raw, release};
-use read_write::Timestamps;
-use service_messages::{
-    HistoryReadRequest, HistoryReadResult, HistoryReadValueId, ReadRawModifiedDetails,
-};
+use server_messages::{Halt, Served, Setting};
 use std::alloc::Global;
 use ua_browse::page_size;
+use ua_history::{History, RawRange, read_raw, release};
 use ua_messages::{StructureFault, TimestampsToReturn, structure, type_ids};
-use ua_requests::{Halt, Served, Setting};
+use ua_read_write::Timestamps;
+use ua_service_messages::{
+    HistoryReadRequest, HistoryReadResult, HistoryReadValueId, ReadRawModifiedDetails,
+};
 use ua_session::Points;
 use ua_space::Space;
 use ua_types::{Config, ExtensionObject, Moment, Refusal, Status};
@@ -42,7 +42,7 @@ pub struct Wanted {
 
 // Which times are wanted, of which there is at least one.
 fn some_times(choice: TimestampsToReturn) -> Option<Timestamps>
-    ensures { result ≡ some_times_lem (timestamps_of choice) }
+    ensures { result ≡ some_times_spec (timestamps_of choice) }
 {
     match Timestamps::chosen(choice) {
         None | Some(Timestamps::Neither) => None,
@@ -51,14 +51,14 @@ fn some_times(choice: TimestampsToReturn) -> Option<Timestamps>
 }
 
 fn is_time_given(time: Moment) -> bool
-    ensures { result ≡ is_time_given_lem time }
+    ensures { result ≡ is_time_given_spec time }
 {
     time.0 != 0
 }
 
 // Whether at least two of start, end and count are given.
 fn is_bounded(details: &ReadRawModifiedDetails) -> bool
-    ensures { result ≡ is_bounded_lem details.now }
+    ensures { result ≡ is_bounded_spec details.now }
 {
     let start = is_time_given(details.start_time);
     let end = is_time_given(details.end_time);
@@ -68,7 +68,7 @@ fn is_bounded(details: &ReadRawModifiedDetails) -> bool
 
 // What the details ask for, or why it isn't served.
 fn range_of(config: &Config, details: &ReadRawModifiedDetails) -> Result<RawRange, Status>
-    ensures { result ≡ range_of_lem config.now details.now }
+    ensures { result ≡ range_of_spec config.now details.now }
 {
     if details.is_read_modified || details.return_bounds {
         return Err(Status::BAD_HISTORY_OPERATION_UNSUPPORTED);
@@ -188,7 +188,7 @@ fn serve_nodes(
 /// reading of raw values; `BAD_HISTORY_OPERATION_INVALID` where they can't be read;
 /// `BAD_HISTORY_OPERATION_UNSUPPORTED` where they ask for values that were replaced, or for bounds;
 /// `BAD_HISTORY_OPERATION_INVALID` where fewer than two of start, end and count are given. What is wrong with one node
-/// is told in its result ([`raw_history::read_raw`]); where points are given up, the point of each is judged alone.
+/// is told in its result ([`ua_history::read_raw`]); where points are given up, the point of each is judged alone.
 pub struct HistoryRead;
 
 impl SessionService for HistoryRead {

@@ -2,18 +2,18 @@
 
 ghost use Rattle.std.specs.Prelude.{◌≡◌, map, IfOk};
 ghost use Rattle.std.specs.Result.{result_map_both};
-ghost use Rattle.raw_history.specs.Pages.{seen};
-ghost use Rattle.raw_history.specs.Reading.{page_seen};
-ghost use Rattle.ua_services.specs.HistoryResults.{stored_time_of, shown as shown_lem, history_data_of, status_alone as status_alone_lem, history_result_of, release_result_of};
+ghost use Rattle.ua_history.specs.Pages.{seen};
+ghost use Rattle.ua_history.specs.Reading.{page_seen};
+ghost use Rattle.ua_services.specs.HistoryResults.{stored_time_of, shown as shown_spec, history_data_of, status_alone as status_alone_spec, history_result_of, release_result_of};
 ghost use Rattle.ua_services.specs.Paging.{Tells};
-ghost use Rattle.read_write.specs.Reading.{source_time_of};
+ghost use Rattle.ua_read_write.specs.Reading.{source_time_of};
 
-use raw_history::{Kept, Page};
-use read_write::Timestamps;
-use service_messages::{HistoryReadResult, history_data_object};
+use server_messages::Halt;
 use std::alloc::{AllocError, Global};
 use ua_binary::BorrowedDataValue;
-use ua_requests::Halt;
+use ua_history::{Kept, Page};
+use ua_read_write::Timestamps;
+use ua_service_messages::{HistoryReadResult, history_data_object};
 use ua_session::point_bytes;
 use ua_types::{ByteString, ExtensionObject, ExtensionObjectBody, Moment, NodeId, Refusal, Status};
 use ua_values::DataValue;
@@ -40,7 +40,7 @@ fn server_time(timestamps: Timestamps, value: &DataValue) -> Option<Moment>
 
 // A value with those of its times that are wanted.
 fn shown(timestamps: Timestamps, value: &DataValue) -> BorrowedDataValue<'_>
-    ensures { result ≡ shown_lem timestamps value.now }
+    ensures { result ≡ shown_spec timestamps value.now }
 {
     BorrowedDataValue::new(
         value.value.as_ref(),
@@ -70,7 +70,7 @@ fn history_data(
 
 // A result without data.
 fn status_alone(status_code: Status) -> HistoryReadResult
-    ensures { result ≡ status_alone_lem status_code }
+    ensures { result ≡ status_alone_spec status_code }
 {
     HistoryReadResult {
         status_code,
@@ -94,7 +94,7 @@ pub(crate) fn history_told(
         Ok(page) => Ok(HistoryReadResult {
             status_code: page.status,
             continuation_point: point_bytes(alloc, page.point)?,
-            history_data: history_data(alloc, timestamps, &page.values)?,
+            history_data: history_data(alloc, timestamps, page.values.as_slice())?,
         }),
         Err(Refusal::Service(status_code)) => Ok(status_alone(status_code)),
         Err(Refusal::Memory) => Err(Halt::Memory),

@@ -1,20 +1,20 @@
 //! What the services of monitored items share: each names a subscription of its session.
 
 ghost use Rattle.std.specs.Prelude.{◌≡◌};
-ghost use Rattle.ua_services.specs.ItemServing.{own_vars as own_vars_lem, fired_after};
+ghost use Rattle.ua_services.specs.ItemServing.{own_vars as own_vars_spec, fired_after};
 ghost use Rattle.ua_services.specs.Serving.{Serves};
 
 use crate::call::Call;
 use crate::services::Services;
 use crate::sub_serving::reply_first;
+use server_messages::{Halt, Served, Setting};
 use std::alloc::Global;
-use sub_table::Vars;
-use subscription::Answered;
-use ua_requests::{Halt, Served, Setting};
+use ua_state_table::Vars;
+use ua_subscriptions::Answered;
 
 /// The variables of a subscription, if it is one of the session's.
 pub(crate) fn own_vars(services: &Services, session: u32, number: u32) -> Option<Vars>
-    ensures { result ≡ own_vars_lem session number services.now }
+    ensures { result ≡ own_vars_spec session number services.now }
 {
     if services.subs.is_own(session, number) {
         services.subs.vars(number, &services.items)

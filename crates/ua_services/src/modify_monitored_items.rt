@@ -10,11 +10,11 @@ use crate::operations::operations;
 use crate::service::refuse;
 use crate::services::Services;
 use crate::session_service::SessionService;
-use read_write::Timestamps;
+use server_messages::{Halt, Served, Setting};
 use std::alloc::{AllocError, Global};
-use sub_messages::ModifyMonitoredItemsRequest;
 use ua_messages::{ResponseHeader, fault, results_body, type_ids};
-use ua_requests::{Halt, Served, Setting};
+use ua_read_write::Timestamps;
+use ua_subscription_messages::ModifyMonitoredItemsRequest;
 use ua_types::Status;
 
 // Changes the items, and gives the body of the answer.
@@ -45,7 +45,7 @@ fn modify_items(
 }
 
 /// Gives monitored items of a subscription of the session other parameters, one after the other
-/// ([`monitored_items::Items::modify`]).
+/// ([`ua_monitored_items::Items::modify`]).
 ///
 /// The faults are those of [`crate::create_monitored_items::CreateMonitoredItems`], in the same order.
 pub struct ModifyMonitoredItems;

@@ -7,11 +7,11 @@ use crate::call::Call;
 use crate::services::Services;
 use crate::session_service::SessionService;
 use crate::sub_serving::reply_first;
+use server_messages::{Halt, Served, Setting};
 use std::alloc::{AllocError, Global};
-use sub_messages::{ModifySubscriptionRequest, ModifySubscriptionResponse};
-use subscription::{Answered, Revised, Settings};
 use ua_messages::{ResponseHeader, body, fault, type_ids};
-use ua_requests::{Halt, Served, Setting};
+use ua_subscription_messages::{ModifySubscriptionRequest, ModifySubscriptionResponse};
+use ua_subscriptions::{Answered, Revised, Settings};
 use ua_types::Status;
 
 // What a client is told of its subscription, or why nothing changed.

@@ -1,7 +1,7 @@
 //! The service Publish (IEC 62541-4, "Publish").
 
 ghost use Rattle.std.specs.Prelude.{◌≡◌};
-ghost use Rattle.subscription.specs.Publishing.{published};
+ghost use Rattle.ua_subscriptions.specs.Publishing.{published};
 ghost use Rattle.ua_services.specs.Publish.{acknowledged_in, publish_call, publish_meaning};
 ghost use Rattle.ua_services.specs.Serving.{Serves};
 ghost use Rattle.ua_services.specs.SubServing.{told_alone, world_at};
@@ -10,10 +10,10 @@ use crate::call::Call;
 use crate::service::refuse;
 use crate::services::Services;
 use crate::session_service::SessionService;
+use server_messages::{Halt, Served, Setting};
 use std::alloc::Global;
-use sub_messages::{PublishRequest, SubscriptionAcknowledgement};
-use subscription::{Answered, PublishCall};
-use ua_requests::{Halt, Served, Setting};
+use ua_subscription_messages::{PublishRequest, SubscriptionAcknowledgement};
+use ua_subscriptions::{Answered, PublishCall};
 use ua_types::{Array, Listed, Status};
 
 // The messages that the client has; none where the list is null.
@@ -66,7 +66,7 @@ fn taken(
     }
 }
 
-/// Acknowledges messages, and waits for the next one of any subscription of the session ([`subscription::Subs::publish`]).
+/// Acknowledges messages, and waits for the next one of any subscription of the session ([`ua_subscriptions::Subscriptions::publish`]).
 /// The answer goes by the connection that the request came by, now or at a later event.
 ///
 /// The faults, in this order: `BAD_TOO_MANY_OPERATIONS` for more acknowledgements than the configuration's `operations`;

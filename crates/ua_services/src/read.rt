@@ -7,11 +7,11 @@ use crate::operations::operations;
 use crate::service::{refuse, reply};
 use crate::services::Services;
 use crate::session_service::SessionService;
-use read_write::{Timestamps, read_body};
-use service_messages::ReadRequest;
+use server_messages::{Halt, Served, Setting};
 use std::alloc::Global;
 use ua_messages::ResponseHeader;
-use ua_requests::{Halt, Served, Setting};
+use ua_read_write::{Timestamps, read_body};
+use ua_service_messages::ReadRequest;
 use ua_types::Status;
 
 /// Reads attributes of nodes.
@@ -19,7 +19,7 @@ use ua_types::Status;
 /// The faults, in this order: `BAD_TIMESTAMPS_TO_RETURN_INVALID` where the choice of times is none of the
 /// four, `BAD_NOTHING_TO_DO` for a list that is null or empty, `BAD_TOO_MANY_OPERATIONS` for one with
 /// more entries than the configuration's `operations`. What is wrong with one attribute is told in its
-/// result ([`read_write::read`]).
+/// result ([`ua_read_write::read`]).
 pub struct Read;
 
 impl SessionService for Read {

@@ -8,11 +8,11 @@ use crate::services::Services;
 use crate::session_service::SessionService;
 use crate::sub_serving::reply_first;
 use bytes::Bytes;
+use server_messages::{Halt, Served, Setting};
 use std::alloc::{AllocError, Global};
-use sub_messages::{RepublishRequest, republish_body};
-use subscription::Answered;
 use ua_messages::{ResponseHeader, fault};
-use ua_requests::{Halt, Served, Setting};
+use ua_subscription_messages::{RepublishRequest, republish_body};
+use ua_subscriptions::Answered;
 use ua_types::Status;
 
 // The response with a message's bytes as they were made, or why there is none.

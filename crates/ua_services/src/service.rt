@@ -3,7 +3,7 @@
 ghost use Rattle.std.specs.Prelude.{◌≡◌, ℕ, List, IfOk, ◌∷◌, []};
 ghost use Rattle.ua_messages.specs.Bodies.{message_of};
 ghost use Rattle.ua_messages.specs.ServiceFaults.{fault_body};
-ghost use Rattle.ua_requests.specs.declared.setting.Setting.{Setting};
+ghost use Rattle.server_messages.specs.declared.setting.Setting.{Setting};
 ghost use Rattle.ua_services.specs.ServicesState.{Services};
 ghost use Rattle.ua_services.specs.Serving.{Serving, Serves, served_by, reply_of, replied};
 ghost use Rattle.ua_services.specs.declared.call.Call.{Call};
@@ -11,10 +11,10 @@ ghost use Rattle.ua_services.specs.declared.call.Call.{Call};
 use crate::call::Call;
 use crate::services::Services;
 use bytes::Bytes;
+use server_messages::{Halt, Reply, Served, Setting};
 use std::alloc::{AllocError, Global};
 use ua_binary::{TakeFault, Wire};
 use ua_messages::{fault, message};
-use ua_requests::{Halt, Reply, Served, Setting};
 use ua_types::{Listed, Moment, Status};
 
 /// The reply to a call, with this body.

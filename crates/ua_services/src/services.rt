@@ -26,17 +26,17 @@ use crate::service::{Service, refuse};
 use crate::session_service::SessionService;
 use crate::set_monitoring_mode::SetMonitoringMode;
 use crate::set_publishing_mode::SetPublishingMode;
-use crate::sub_serving::{end_sessions, joined, meet_timers};
+use crate::sub_serving::{end_sessions, fire_timers, joined};
 use crate::write::Write;
-use monitored_items::Items;
-use raw_history::History;
+use server_messages::{Halt, Request, Served, Setting};
 use std::alloc::Global;
-use subscription::Subs;
 use ua_binary::TakeFault;
+use ua_history::History;
 use ua_messages::{RequestHeader, message, message_id, type_ids};
-use ua_requests::{Halt, Request, Served, Setting};
+use ua_monitored_items::Items;
 use ua_session::Sessions;
 use ua_space::Space;
+use ua_subscriptions::Subscriptions;
 use ua_types::{Config, Status};
 
 /// The services, and what they keep.
@@ -57,7 +57,7 @@ pub struct Services {
     /// What is watched of its nodes.
     pub items: Items,
     /// The subscriptions of its clients, and the Publish requests that wait.
-    pub subs: Subs,
+    pub subs: Subscriptions,
 }
 
 impl Services {
@@ -70,7 +70,7 @@ impl Services {
             sessions: Sessions::new(alloc, config),
             history: History::new(alloc, config),
             items: Items::new(alloc, config),
-            subs: Subs::new(alloc, config),
+            subs: Subscriptions::new(alloc, config),
         }
     }
 
@@ -169,10 +169,10 @@ impl Services {
     {
         let ended = self.sessions.tick(alloc, setting.clock)?;
         if ended.is_empty() {
-            return meet_timers(alloc, setting, self);
+            return fire_timers(alloc, setting, self);
         }
         match end_sessions(alloc, setting, ended.as_slice(), self) {
-            Ok(served) => match meet_timers(alloc, setting, self) {
+            Ok(served) => match fire_timers(alloc, setting, self) {
                 Ok(more) => Ok(joined(served, more)?),
                 Err(halt) => Err(halt),
             },

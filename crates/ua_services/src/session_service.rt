@@ -2,7 +2,7 @@
 
 ghost use Rattle.std.specs.Prelude.{ℕ};
 ghost use Rattle.ua_messages.specs.Bodies.{message_of};
-ghost use Rattle.ua_requests.specs.declared.setting.Setting.{Setting};
+ghost use Rattle.server_messages.specs.declared.setting.Setting.{Setting};
 ghost use Rattle.ua_services.specs.InSession.{served_in_session};
 ghost use Rattle.ua_services.specs.ServicesState.{Services};
 ghost use Rattle.ua_services.specs.Serving.{Serving, Serves};
@@ -11,10 +11,10 @@ ghost use Rattle.ua_services.specs.declared.call.Call.{Call};
 use crate::call::Call;
 use crate::service::refuse;
 use crate::services::Services;
+use server_messages::{Halt, Served, Setting};
 use std::alloc::Global;
 use ua_binary::{TakeFault, Wire};
 use ua_messages::message;
-use ua_requests::{Halt, Served, Setting};
 use ua_types::{NodeId, Status};
 
 /// A service of a session: a type of request, and what is done about it once its session is found.

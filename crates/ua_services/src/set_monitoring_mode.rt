@@ -11,11 +11,11 @@ use crate::service::refuse;
 use crate::services::Services;
 use crate::session_service::SessionService;
 use crate::status_results::statuses_body;
-use monitored_items::Mode;
+use server_messages::{Halt, Served, Setting};
 use std::alloc::{AllocError, Global};
-use sub_messages::SetMonitoringModeRequest;
 use ua_messages::{fault, type_ids};
-use ua_requests::{Halt, Served, Setting};
+use ua_monitored_items::Mode;
+use ua_subscription_messages::SetMonitoringModeRequest;
 use ua_types::Status;
 
 // Gives the items their mode, and gives the body of the answer.
@@ -47,7 +47,7 @@ fn mode_items(
     statuses_body(alloc, type_id, setting, call, statuses.as_slice())
 }
 
-/// Gives monitored items of a subscription of the session a mode, one after the other ([`monitored_items::Items::set_mode`]).
+/// Gives monitored items of a subscription of the session a mode, one after the other ([`ua_monitored_items::Items::set_mode`]).
 ///
 /// The faults, in this order: `BAD_SUBSCRIPTION_ID_INVALID` where the session has no such subscription, those of a list
 /// that is null, empty or too long ([`operations`]), `BAD_MONITORING_MODE_INVALID` where the mode is none of the three. All

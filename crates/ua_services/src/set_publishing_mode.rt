@@ -9,11 +9,11 @@ use crate::services::Services;
 use crate::session_service::SessionService;
 use crate::status_results::statuses_body;
 use crate::sub_serving::reply_first;
+use server_messages::{Halt, Served, Setting};
 use std::alloc::Global;
-use sub_messages::SetPublishingModeRequest;
-use subscription::Answered;
 use ua_messages::type_ids;
-use ua_requests::{Halt, Served, Setting};
+use ua_subscription_messages::SetPublishingModeRequest;
+use ua_subscriptions::Answered;
 
 /// Switches the notifications of subscriptions of the session on or off, one after the other.
 ///

@@ -1,12 +1,12 @@
 //! Responses that have one status for each thing that their request names.
 
 ghost use Rattle.std.specs.Prelude.{◌≡◌, ◌<◌, ◌^◌, length, IfOk};
-ghost use Rattle.ua_services.specs.StatusResults.{statuses_body as statuses_body_lem};
+ghost use Rattle.ua_services.specs.StatusResults.{statuses_body as statuses_body_spec};
 
 use crate::call::Call;
+use server_messages::Setting;
 use std::alloc::{AllocError, Global};
 use ua_messages::{ResponseHeader, results_body};
-use ua_requests::Setting;
 use ua_types::Status;
 
 /// The response with what became of each thing, in the order of the request.
@@ -18,7 +18,7 @@ pub(crate) fn statuses_body(
     statuses: &[Status],
 ) -> Result<Vec<u8>, AllocError>
     requires { length statuses.now < 2 ^ 31 }
-    ensures { IfOk result (λ body. body.items ≡ statuses_body_lem type_id setting.now call.now statuses.now) }
+    ensures { IfOk result (λ body. body.items ≡ statuses_body_spec type_id setting.now call.now statuses.now) }
 {
     let header = ResponseHeader::new(call.handle, Status(0), setting.clock);
     results_body(alloc, type_id, &header, statuses)

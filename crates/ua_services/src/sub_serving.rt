@@ -2,16 +2,16 @@
 
 ghost use Rattle.std.specs.Prelude.{◌≡◌, ◌∷◌, ◌++◌, false, not, IfOk, IsOk, OnOk};
 ghost use Rattle.std.specs.Option.{is_some};
-ghost use Rattle.subscription.specs.Ranks.{is_any_due};
+ghost use Rattle.ua_subscriptions.specs.Ranks.{is_any_due};
 ghost use Rattle.ua_services.specs.Serving.{Serves, reply_of};
 ghost use Rattle.ua_services.specs.SubServing.{session_over, all_timed_out, timers_met};
 
 use crate::call::Call;
 use crate::services::Services;
 use bytes::Bytes;
+use server_messages::{Fired, Halt, Reply, Served, Setting};
 use std::alloc::{AllocError, Global};
-use subscription::Answered;
-use ua_requests::{Fired, Halt, Reply, Served, Setting};
+use ua_subscriptions::Answered;
 use ua_types::Listed;
 
 /// The reply to a call with this body, then replies to Publish requests, and the rows that fired.
@@ -96,7 +96,7 @@ pub(crate) fn end_sessions(
 }
 
 /// The timers of the subscriptions that are due. Takes no memory where none is.
-pub(crate) fn meet_timers(
+pub(crate) fn fire_timers(
     alloc: Global,
     setting: &Setting,
     services: &mut Services,

@@ -2,7 +2,7 @@
 
 ghost use Rattle.std.specs.Prelude.{◌≡◌, OnOk};
 ghost use Rattle.ua_space.specs.Values.{variable_at};
-ghost use Rattle.ua_services.specs.Write.{is_historizing as is_historizing_lem, all_kept, write_meaning};
+ghost use Rattle.ua_services.specs.Write.{is_historizing as is_historizing_spec, all_kept, write_meaning};
 
 use crate::call::Call;
 use crate::operations::operations;
@@ -10,18 +10,18 @@ use crate::service::{refuse, reply};
 use crate::services::Services;
 use crate::session_service::SessionService;
 use crate::status_results::statuses_body;
-use raw_history::History;
-use read_write::{Change, Written, write};
-use service_messages::WriteRequest;
+use server_messages::{Halt, Served, Setting};
 use std::alloc::{AllocError, Global};
+use ua_history::History;
 use ua_messages::type_ids;
-use ua_requests::{Halt, Served, Setting};
+use ua_read_write::{Change, Written, write};
+use ua_service_messages::WriteRequest;
 use ua_space::Space;
-use ua_types::{NodeId, Status};
+use ua_types::{Listed, NodeId, Status};
 
 // Whether the values of this node are kept.
 fn is_historizing(space: &Space, node: &NodeId) -> bool
-    ensures { result ≡ is_historizing_lem (variable_at node.now space.now.nodes) }
+    ensures { result ≡ is_historizing_spec (variable_at node.now space.now.nodes) }
 {
     match space.variable(node) {
         None => false,
@@ -34,11 +34,11 @@ fn keep_all(
     alloc: Global,
     space: &Space,
     history: &mut History,
-    changes: Vec<Change>,
+    changes: Listed<Change>,
 ) -> Result<(), AllocError>
-    ensures { OnOk result (history.new ≡ all_kept space.now.nodes history.old changes.items) }
+    ensures { OnOk result (history.new ≡ all_kept space.now.nodes history.old changes) }
 {
-    for change in changes {
+    for change in changes.into_vec() {
         let Change { node_id, value } = change;
         if is_historizing(space, &node_id) {
             history.keep(alloc, &node_id, value)?;
@@ -52,7 +52,7 @@ fn keep_all(
 ///
 /// The faults, in this order: `BAD_NOTHING_TO_DO` for a list that is null or empty,
 /// `BAD_TOO_MANY_OPERATIONS` for one with more entries than the configuration's `operations`; then nothing is written. What is
-/// wrong with one value is told in its result ([`read_write::write`]). Where memory runs out, some of the
+/// wrong with one value is told in its result ([`ua_read_write::write`]). Where memory runs out, some of the
 /// values were written, from the first on, and the server halts.
 pub struct Write;
 

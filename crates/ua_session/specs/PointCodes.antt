@@ -8,7 +8,7 @@ use Rattle.ua_types.specs.declared.guid.Guid.{Guid}
 use Rattle.ua_types.specs.declared.node_id.Identifier.{Identifier}
 use Rattle.ua_types.specs.declared.node_id.Identifier.TheVariants as identifiers
 use Rattle.ua_types.specs.declared.node_id.NodeId.{NodeId}
-use Rattle.service_messages.specs.declared.browsing.BrowseDescription.{BrowseDescription}
+use Rattle.ua_service_messages.specs.declared.browsing.BrowseDescription.{BrowseDescription}
 use Rattle.ua_session.specs.Points.{PointsState}
 use Rattle.ua_session.specs.declared.points.BrowsePoint.{BrowsePoint}
 use Rattle.ua_session.specs.declared.points.HistoryPoint.{HistoryPoint}

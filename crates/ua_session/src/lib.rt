@@ -12,7 +12,7 @@
 //! let ended = sessions.tick(alloc, now)?;                        // their numbers
 //! ```
 //!
-//! What a contract sees: a record of the sessions by their numbers (`specs/Sessions`). docs/SESSIONS.md
+//! What a contract sees: a record of the sessions by their numbers (`specs/Sessions`). docs/SERVICES.md
 //! has a session's life as a picture. Read [`Sessions`] first, then [`Points`].
 #![tactic(auto)]
 

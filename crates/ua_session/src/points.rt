@@ -6,10 +6,10 @@ ghost use Rattle.std.specs.Int.{w64, to_le_bytes};
 ghost use Rattle.std.specs.Option.{option_copied};
 ghost use Rattle.ua_session.specs.Points.{TakesSerial, no_points, hold_of, put_of, replace_of, without_point, serial_of};
 
-use service_messages::BrowseDescription;
 use std::alloc::{AllocError, Global};
 use std::collections::BTreeMap;
 use std::marker::Model;
+use ua_service_messages::BrowseDescription;
 use ua_types::{ByteString, Moment, NodeId, Refusal, Status};
 
 /// Where the references of a node go on.

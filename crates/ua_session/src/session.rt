@@ -1,7 +1,7 @@
 //! A session.
 
 ghost use Rattle.std.specs.Prelude.{◌≡◌};
-ghost use Rattle.ua_session.specs.SessionTables.{is_due as is_due_lem};
+ghost use Rattle.ua_session.specs.SessionTables.{is_due as is_due_spec};
 
 use ua_types::Moment;
 
@@ -25,7 +25,7 @@ pub struct Session {
 impl Session {
     /// Whether it ends, the clock showing this moment.
     pub fn is_due(&self, clock: Moment) -> bool
-        ensures { result ≡ is_due_lem clock self.now }
+        ensures { result ≡ is_due_spec clock self.now }
     {
         self.deadline.0 <= clock.0
     }

@@ -3,7 +3,7 @@
 ghost use Rattle.std.specs.Prelude.{◌≡◌, ◌≤ℤ◌, ◌+◌, ◌-◌, ◌^◌, ◌<◌, int_lt, true, false, [], option_map, is_some, IsOk, IfOk, OnOk, OnErr};
 ghost use Rattle.std.specs.FinMap as map;
 ghost use Rattle.ua_types.specs.Answers.{step};
-ghost use Rattle.ua_session.specs.Sessions.{TakesNonce, no_sessions, named as named_lem, with_session, with_new_session, with_nonce, next_nonce as next_nonce_lem, deadline_of, is_spent, create_of, find_of, activate_of, close_of, without, ticked, ended_by, points_of, with_points, without_points};
+ghost use Rattle.ua_session.specs.Sessions.{TakesNonce, no_sessions, named as named_spec, with_session, with_new_session, with_nonce, next_nonce as next_nonce_spec, deadline_of, is_spent, create_of, find_of, activate_of, close_of, without, ticked, ended_by, points_of, with_points, without_points};
 
 use crate::nonces::nonce;
 use crate::points::Points;
@@ -109,7 +109,7 @@ impl Sessions {
 
     // The session whose token this is, with its number.
     fn named(&self, token: &NodeId) -> Option<(u32, Session)>
-        ensures { option_map (λ n. record { number = n.0; session = n.1 }) result ≡ named_lem self.now token.now }
+        ensures { option_map (λ n. record { number = n.0; session = n.1 }) result ≡ named_spec self.now token.now }
     {
         let (secret, number) = token_parts(token)?;
         let session = self.table.get(number)?;
@@ -163,7 +163,7 @@ impl Sessions {
     // The next nonce, for who came by a connection with this key.
     fn next_nonce(&mut self, key: &[u8; 32]) -> [u8; 32]
         requires { is_spent self.old ≡ false }
-        ensures nonce { result ≡ next_nonce_lem self.old key.now }
+        ensures nonce { result ≡ next_nonce_spec self.old key.now }
         ensures counted { self.new ≡ with_nonce self.old }
     {
         self.nonces += 1;

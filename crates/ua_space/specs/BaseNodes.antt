@@ -8,6 +8,7 @@ use Rattle.ua_values.specs.declared.content.Content.TheVariants as content
 use Rattle.ua_values.specs.declared.data_value.DataValue.{DataValue}
 use Rattle.ua_values.specs.declared.variant.Variant.{Variant}
 use Rattle.ua_values.specs.declared.variant.Variant.TheVariants as variants
+use Rattle.ua_values.specs.DataValues.{value_since}
 use Rattle.ua_space.specs.declared.base.Kind.{Kind}
 use Rattle.ua_space.specs.declared.base.Kind.TheVariants as kinds
 use Rattle.ua_space.specs.declared.node.Node.{Node}
@@ -29,11 +30,6 @@ standard_node number name details = record {
   description = record { locale = None; text = None };
   details = details;
 }
-
--- a value that is good since the start
-abbrev pub value_since : Moment → Variant → DataValue
-value_since start value =
-    record { value = Some value; status = record { 0 = 0 }; source_time = Some start; server_time = Some start }
 
 -- a variable that may be read, and whose history isn't kept
 abbrev pub readable : ℕ → ValueRank → DataValue → NodeDetails

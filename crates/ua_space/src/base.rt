@@ -2,8 +2,9 @@
 
 ghost use Rattle.std.specs.Prelude.{◌≡◌, ◌≤◌, ◌<◌, ◌^◌, ◌++◌, ◌∷◌, [], length, map, IfOk, OnOk, true, vec_len};
 ghost use Rattle.std.specs.List.{All};
-ghost use Rattle.ua_space.specs.BaseNodes.{standard_node, value_since, readable, details_of, server_array, namespaces, namespace_array, state, base_nodes, base_triple, base_triples, base_objects, base_variables, base_object_types, base_variable_types, base_reference_types};
+ghost use Rattle.ua_space.specs.BaseNodes.{standard_node, readable, details_of, server_array, namespaces, namespace_array, state, base_nodes, base_triple, base_triples, base_objects, base_variables, base_object_types, base_variable_types, base_reference_types};
 ghost use Rattle.ua_space.specs.Variables.{is_of};
+ghost use Rattle.ua_values.specs.DataValues.{value_since};
 ghost use Rattle.ua_values.specs.declared.content.Content.TheVariants as content;
 ghost use Rattle.ua_values.specs.declared.variant.Variant.TheVariants as variants;
 
@@ -103,12 +104,7 @@ fn readable(data_type: u8, value_rank: ValueRank, start: Moment, value: Variant)
     NodeDetails::Variable(Variable {
         data_type,
         value_rank,
-        value: DataValue {
-            value: Some(value),
-            status: Status(0),
-            source_time: Some(start),
-            server_time: Some(start),
-        },
+        value: DataValue::since(start, value),
         access: 1,
         historizing: false,
     })

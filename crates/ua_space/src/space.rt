@@ -75,7 +75,7 @@ impl Space {
     ghost use Rattle.ua_space.specs.Nodes.{node_at};
     ghost use Rattle.ua_space.specs.Values.{variable_at, value_at, takes_at, with_value};
     ghost use Rattle.ua_space.specs.References.{references_of, type_definition_of};
-    ghost use Rattle.ua_space.specs.Spaces.{IsSpace};
+    ghost use Rattle.ua_space.specs.Spaces.{IsSpace, is_reference_type};
     ghost use Rattle.ua_space.specs.Subtypes.{IsSubtype, is_subtype};
     ghost use Rattle.ua_space.specs.Indexed.{AreIndexes};
     ghost use Rattle.ua_space.specs.Numbers.{AreNumbered};
@@ -112,6 +112,16 @@ impl Space {
         ensures { option_copied result ≡ node_at id.now self.now.nodes }
     {
         self.nodes.get(id)
+    }
+
+    /// Whether the node with this id is a ReferenceType node.
+    pub fn is_reference_type(&self, id: &NodeId) -> bool
+        ensures { result ≡ is_reference_type (node_at id.now self.now.nodes) }
+    {
+        match self.nodes.get(id) {
+            None => false,
+            Some(node) => matches!(&node.details, NodeDetails::ReferenceType { .. }),
+        }
     }
 
     /// The variable with this id; None where that is no Variable node.

@@ -2,5 +2,4 @@ pub mod FramesLemmas
 pub mod FeedingLemmas
 pub mod PiecesLemmas
 pub mod EncodedLemmas
-pub mod TapLemmas
 pub mod DecodedLemmas

@@ -3,6 +3,5 @@ pub mod Frames
 pub mod Feeding
 pub mod Encoding
 pub mod Pieces
-pub mod Tapped
 pub mod Hellos
 pub mod Agreements

@@ -1,5 +1,6 @@
 //! One frame, and what its first eight bytes say.
 
+ghost use Rattle.ua_tcp.specs.Encoding.{letter_of};
 ghost use Rattle.std.specs.Prelude.{◌≡◌, ◌<◌, ◌≤◌, length, take, slice_index};
 ghost use Rattle.ua_tcp.specs.Header.{message_type_of, chunk_type_of, may_come_in, header_of, judgement_of};
 
@@ -34,6 +35,19 @@ pub enum ChunkType {
     Final,
     /// `A`: the sender gives the message up.
     Aborted,
+}
+
+impl ChunkType {
+    /// Its letter.
+    pub fn letter(self) -> u8
+        ensures { result ≡ letter_of self }
+    {
+        match self {
+            ChunkType::Intermediate => b'C',
+            ChunkType::Final => b'F',
+            ChunkType::Aborted => b'A',
+        }
+    }
 }
 
 /// Why a stream has no further frames.

@@ -2,7 +2,7 @@
 
 ghost use Rattle.std.specs.Prelude.{◌≡◌, ◌<◌, ◌≤◌, length, IfOk};
 ghost use Rattle.ua_types.specs.Refusals.{GivesOrRefuses};
-ghost use Rattle.ua_tcp.specs.Agreements.{is_too_small as is_too_small_lem, outcome_of_frame, acknowledge_encoding, error_encoding};
+ghost use Rattle.ua_tcp.specs.Agreements.{is_too_small as is_too_small_spec, outcome_of_frame, acknowledge_encoding, error_encoding};
 
 use crate::frame::{Frame, MessageType};
 use crate::hello_message::Hello;
@@ -76,7 +76,7 @@ impl Model for Agreed {
 }
 
 fn is_too_small(hello: &Hello) -> bool
-    ensures { result ≡ is_too_small_lem hello.now }
+    ensures { result ≡ is_too_small_spec hello.now }
 {
     hello.receive_size < MIN_SIZE
         || hello.send_size < MIN_SIZE

@@ -5,7 +5,7 @@
 //! [`Frame`]s that are whole by then, and at the first bad header a [`FrameFault`]. Where
 //! the stream is cut makes no difference: [`laws::any_cut`] states it. The first frame is a Hello:
 //! [`hello`] takes or refuses it, [`ack`] and [`err`] make the answers, and what was settled is
-//! [`Agreed`]. Streams are read and written through a [`Tap`], which counts the calls that failed.
+//! [`Agreed`].
 //!
 //! Here is no clock, no socket and no connection: bytes come in as slices and go out as values. What
 //! stands in the body of an OPN, MSG or CLO frame is not looked at.
@@ -21,11 +21,9 @@ mod handshake;
 mod hello_message;
 pub mod laws;
 mod limits;
-mod tap;
 
 pub use frame::{ChunkType, Frame, FrameFault, MessageType};
 pub use framer::{Fed, Framer};
 pub use handshake::{Agreed, ack, err, hello};
 pub use hello_message::Hello;
 pub use limits::Limits;
-pub use tap::{Tap, put_bytes};

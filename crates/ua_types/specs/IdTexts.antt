@@ -1,6 +1,6 @@
 -- The texts of node ids: what a text says, and the one text that is written for an id.
-use Rattle.std.specs.Prelude.{◌≡◌, ◌<◌, ℕ, ◌^◌, List, [], ◌∷◌, ◌++◌, ◌==◌, ◌&&◌, nat_lt, length, take, drop, codes, Option, Some, None, Result, Ok, Err, if◌then◌else◌}
-use Rattle.std.specs.Int.{w16, w32, to_be_bytes, from_be_bytes}
+use Rattle.std.specs.Prelude.{◌≡◌, ◌<◌, ℕ, ◌^◌, List, [], ◌∷◌, ◌++◌, ◌==◌, ◌&&◌, nat_lt, length, codes, Option, Some, None, Result, Ok, Err, if◌then◌else◌}
+use Rattle.std.specs.Option.{ok_or}
 use Rattle.std.specs.List.{before_first, after_first, list_all}
 use Rattle.std.specs.Char.{is_ascii_digit}
 use Rattle.std.specs.Str.Parse.{digits_value}
@@ -9,16 +9,12 @@ use Rattle.uuid.specs.Text.{parsed, hyphenated_text, lower}
 use Rattle.hex.specs.Hex.{decode_of, encode_lower, IsBytes}
 use Rattle.hex.specs.declared.error.FromHexError.{FromHexError}
 use Rattle.ua_types.specs.Answers.{◌>>=◌}
-use Rattle.ua_types.specs.declared.guid.Guid.{Guid}
+use Rattle.ua_types.specs.Guids.{guid_of, guid_bytes, guid_said}
 use Rattle.ua_types.specs.declared.node_id.NodeId.{NodeId}
 use Rattle.ua_types.specs.declared.node_id.Identifier.{Identifier}
 use Rattle.ua_types.specs.declared.node_id.Identifier.TheVariants as identifier
 use Rattle.ua_types.specs.declared.id_texts.IdFault.{IdFault}
 use Rattle.ua_types.specs.declared.id_texts.IdFault.TheVariants as fault
-
-abbrev pub or_fault : {A : Type 0} → IdFault → Option A → Result A IdFault
-or_fault f None = Err f
-or_fault f (Some x) = Ok x
 
 -- what follows a front, where the text has it
 abbrev pub behind : List ℕ → List ℕ → Option (List ℕ)
@@ -36,32 +32,19 @@ abbrev pub number_of : ℕ → List ℕ → Option ℕ
 number_of limit ds =
     if (list_all is_ascii_digit ds && nat_lt 0 (length ds)) && nat_lt (digits_value 10 ds) limit then Some (digits_value 10 ds) else None
 
--- the bytes of a Guid's text: the numbers with the high byte first, and then the eight bytes
-abbrev pub guid_bytes : Guid → List ℕ
-guid_bytes g = to_be_bytes w32 g.data1 ++ to_be_bytes w16 g.data2 ++ to_be_bytes w16 g.data3 ++ g.data4
-
--- the Guid of sixteen such bytes
-abbrev pub guid_of : List ℕ → Guid
-guid_of bytes = record {
-  data1 = from_be_bytes w32 (take 4 bytes);
-  data2 = from_be_bytes w16 (take 2 (drop 4 bytes));
-  data3 = from_be_bytes w16 (take 2 (drop 6 bytes));
-  data4 = drop 8 bytes;
-}
-
 -- a text or a byte string holds fewer than 2^31 bytes
 abbrev pub held : (Option (List ℕ) → Identifier) → List ℕ → Result Identifier IdFault
 held kind bytes = if nat_lt (length bytes) (2 ^ 31) then Ok (kind (Some bytes)) else Err fault.Bytes
 
 abbrev pub numeric_of : List ℕ → Result Identifier IdFault
 numeric_of t = do
-  number ← or_fault fault.Number (number_of (2 ^ 32) t)
+  number ← ok_or (number_of (2 ^ 32) t) fault.Number
   Ok (identifier.Numeric number)
 
 abbrev pub guid_text_of : List ℕ → Result Identifier IdFault
 guid_text_of t = do
-  bytes ← or_fault fault.Guid (parsed t)
-  Ok (identifier.Guid (guid_of bytes))
+  guid ← ok_or (guid_said t) fault.Guid
+  Ok (identifier.Guid guid)
 
 abbrev pub opaque_of : Result (List ℕ) FromHexError → Result Identifier IdFault
 opaque_of (Ok bytes) = held identifier.Opaque bytes
@@ -79,7 +62,7 @@ identifier_of t =
 -- an id with its namespace: the number up to the first semicolon, and the identifier after it
 unfoldable pub spaced : List ℕ → Result NodeId IdFault
 spaced t = do
-  namespace ← or_fault fault.Number (number_of (2 ^ 16) (before_first (λ b. b == 59) t))
+  namespace ← ok_or (number_of (2 ^ 16) (before_first (λ b. b == 59) t)) fault.Number
   identifier ← identifier_of (after_first (λ b. b == 59) t)
   Ok (record { namespace = namespace; identifier = identifier })
 

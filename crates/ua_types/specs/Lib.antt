@@ -3,6 +3,8 @@ pub mod NodeIds
 pub mod NodeIdOrder
 pub mod Configuration
 pub mod Answers
+pub mod Given
+pub mod Guids
 pub mod IdTexts
 pub mod Refusals
 pub mod Moments

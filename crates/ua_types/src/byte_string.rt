@@ -8,6 +8,7 @@ ghost use Rattle.std.specs.Cmp.Lexicographic.{pointwise, slice_cmp};
 ghost use Rattle.std.specs.Cmp.Rules.{comparing};
 ghost use Rattle.std.specs.Ordering.{nat_cmp, as_partial_cmp};
 ghost use Rattle.std.proofs.Common.{rules};
+ghost use Rattle.ua_types.specs.Given.{is_given};
 ghost use Rattle.ua_types.specs.NullableOrder.{ties};
 
 use crate::copyable::Copyable;
@@ -63,6 +64,16 @@ impl ByteString {
         ensures { result ≡ is_none self.now }
     {
         self.inside.is_none()
+    }
+
+    /// Whether it is neither null nor empty, as a continuation point has to be where one is given.
+    pub fn is_given(&self) -> bool
+        ensures { result ≡ is_given self.now }
+    {
+        match self.as_slice() {
+            None => false,
+            Some(bytes) => !bytes.is_empty(),
+        }
     }
 
     /// The bytes, unless it is null.

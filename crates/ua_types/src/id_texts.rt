@@ -1,17 +1,15 @@
 //! The texts of node ids: `i=85`, `ns=2;s=Line`, `ns=1;b=0aff`.
 
-ghost use Rattle.std.specs.Prelude.{◌≡◌, ◌^◌, ◌<◌, ◌≤◌, IfOk, ◌++◌, codes, OnOk, IfSome, string_bytes, Ok};
-ghost use Rattle.std.specs.Char.{is_ascii_digit};
-ghost use Rattle.std.specs.List.{list_all};
-ghost use Rattle.std.specs.Option.{option_copied};
+ghost use Rattle.std.specs.Prelude.{◌≡◌, ◌^◌, ◌<◌, ◌≤◌, IfOk, ◌++◌, codes, OnOk, string_bytes, Ok};
 ghost use Rattle.hex.specs.Hex.{decode_of, encode_lower, IsBytes};
 ghost use Rattle.ua_types.specs.Answers.{Gives};
 ghost use Rattle.ua_types.specs.declared.id_texts.IdFault.TheVariants.{Memory};
-ghost use Rattle.ua_types.specs.IdTexts.{behind, number_of, opaque_of, identifier_of, id_of, guid_bytes, guid_of, namespace_text, identifier_text, id_text, IsNamed, IsReadable};
+ghost use Rattle.ua_types.specs.IdTexts.{opaque_of, identifier_of, id_of, namespace_text, identifier_text, id_text, IsNamed, IsReadable};
 
 use crate::byte_string::ByteString;
 use crate::guid::Guid;
 use crate::node_id::{Identifier, NodeId};
+use crate::parsing::{behind, decimal_up_to};
 use crate::text::Text;
 use std::alloc::{AllocError, Global};
 use thiserror::Error;
@@ -50,33 +48,6 @@ impl From<AllocError> for IdFault {
     }
 }
 
-// What follows a front, where the text has it.
-fn behind<'a>(text: &'a str, front: &str) -> Option<&'a str>
-    ensures { option_copied result ≡ behind front.now text.entry.now }
-{
-    text.strip_prefix(front)
-}
-
-// One or more decimal digits of a number below the limit.
-fn number(digits: &str, limit: u64) -> Option<u64>
-    ensures value { result ≡ number_of limit digits.now }
-    ensures below { IfSome result (λ n. n < limit) }
-{
-    if !all_digits(digits) {
-        return None;
-    }
-    let Ok(number) = digits.parse::<u64>() else {
-        return None;
-    };
-    if number < limit { Some(number) } else { None }
-}
-
-fn all_digits(text: &str) -> bool
-    ensures { result ≡ list_all is_ascii_digit text.now }
-{
-    text.as_bytes().iter().all(|b| b.is_ascii_digit())
-}
-
 // The bytes that hex digits stand for.
 fn opaque(alloc: Global, text: &str) -> Result<Identifier, IdFault>
     ensures { Gives Memory result (opaque_of (decode_of text.now)) }
@@ -94,32 +65,12 @@ fn opaque(alloc: Global, text: &str) -> Result<Identifier, IdFault>
     }
 }
 
-// The Guid whose text has these bytes, and the other way round.
-fn guid_of(uuid: &Uuid) -> Guid
-    ensures { result ≡ guid_of uuid.now }
-{
-    let (data1, data2, data3, data4) = uuid.as_fields();
-    Guid {
-        data1,
-        data2,
-        data3,
-        data4,
-    }
-}
-
-fn uuid_of(guid: &Guid) -> Uuid
-    ensures bytes { result ≡ guid_bytes guid.now }
-    ensures again { guid_of result ≡ guid.now }
-{
-    Uuid::from_fields(guid.data1, guid.data2, guid.data3, &guid.data4)
-}
-
 #[tactic(auto, unfolding(crate::specs::IdTexts::identifier_of))]
 fn identifier(alloc: Global, text: &str) -> Result<Identifier, IdFault>
     ensures { Gives Memory result (identifier_of text.now) }
 {
     if let Some(digits) = behind(text, "i=") {
-        return match number(digits, 1 << 32) {
+        return match decimal_up_to(0xffff_ffff, digits) {
             Some(number) => Ok(Identifier::Numeric(number as u32)),
             None => Err(IdFault::Number),
         };
@@ -131,9 +82,9 @@ fn identifier(alloc: Global, text: &str) -> Result<Identifier, IdFault>
         return Ok(Identifier::String(Text::from_str(alloc, rest)?));
     }
     if let Some(rest) = behind(text, "g=") {
-        return match Uuid::try_parse(rest) {
-            Ok(uuid) => Ok(Identifier::Guid(guid_of(&uuid))),
-            Err(_) => Err(IdFault::Guid),
+        return match Guid::parse(rest) {
+            Some(guid) => Ok(Identifier::Guid(guid)),
+            None => Err(IdFault::Guid),
         };
     }
     if let Some(rest) = behind(text, "b=") {
@@ -162,7 +113,7 @@ impl NodeId {
             Some(parts) => parts,
             None => (rest, ""),
         };
-        let Some(namespace) = number(digits, 1 << 16) else {
+        let Some(namespace) = decimal_up_to(0xffff, digits) else {
             return Err(IdFault::Number);
         };
         let identifier = identifier(alloc, rest)?;
@@ -208,7 +159,7 @@ fn identifier_text(alloc: Global, identifier: &Identifier) -> Result<String, All
         },
         Identifier::Guid(guid) => {
             let mut buffer = Uuid::encode_buffer();
-            let text: &str = uuid_of(guid).hyphenated().encode_lower(&mut buffer);
+            let text: &str = guid.uuid().hyphenated().encode_lower(&mut buffer);
             format!(in alloc; "g={text}")
         }
         Identifier::Opaque(bytes) => match bytes.as_slice() {

@@ -1,5 +1,5 @@
 //! The values of OPC UA (IEC 62541-3 and -6): status codes, moments (DateTime), ids of nodes, texts
-//! (String) and byte strings that may be null, and the server's configuration. docs/GLOSSARY.md has the
+//! (String) and byte strings that may be null, and the server's configuration. docs/CONTRIBUTING.md has the
 //! standard's word for each.
 //!
 //! Everything here is plain data. Nothing reads bytes of the wire (`ua_binary` does), a clock or a
@@ -8,7 +8,8 @@
 //! - `Text`, `ByteString` and `Array` are optional lists, where null is `None` and differs from empty;
 //! - `NodeId`, `ExtensionObject` and the other structures are the records of their fields;
 //! - the text of a node id is read by a grammar and written in one way ([`NodeId::parse`], [`write_id`]);
-//! - `Listed` is a list, whatever room it has, and `Boxed` the value in its block;
+//! - `Listed` is a list, whatever room it has, `Boxed` the value in its block, and `Numbered` a finite
+//!   map from numbers;
 //! - `Config` is a record whose numbers always lie in their ranges (`IsConfigured`).
 //!
 //! Memory is always taken from an allocator that is passed in, and a refusal is answered as
@@ -31,6 +32,8 @@ mod localized_text;
 mod moment;
 mod node_class;
 mod node_id;
+mod numbered;
+mod parsing;
 mod qualified_name;
 mod refusal;
 mod status;
@@ -50,6 +53,8 @@ pub use localized_text::LocalizedText;
 pub use moment::Moment;
 pub use node_class::NodeClass;
 pub use node_id::{ExpandedNodeId, Identifier, NodeId};
+pub use numbered::Numbered;
+pub use parsing::{behind, decimal_up_to};
 pub use qualified_name::QualifiedName;
 pub use refusal::Refusal;
 pub use status::Status;

@@ -2,3 +2,5 @@ pub mod Matrices
 pub mod Variants
 pub mod Shapes
 pub mod Contents
+pub mod ValueTypes
+pub mod DataValues

@@ -1,6 +1,7 @@
 //! Values with their status and times.
 
 ghost use Rattle.std.specs.Prelude.{◌≡◌};
+ghost use Rattle.ua_values.specs.DataValues.{value_since};
 
 use crate::variant::Variant;
 use std::alloc::{AllocError, Global};
@@ -22,6 +23,18 @@ pub struct DataValue {
 }
 
 impl DataValue {
+    /// A value that is good since a moment, to the source and to the server.
+    pub fn since(moment: Moment, value: Variant) -> DataValue
+        ensures { result ≡ value_since moment value }
+    {
+        DataValue {
+            value: Some(value),
+            status: Status::GOOD,
+            source_time: Some(moment),
+            server_time: Some(moment),
+        }
+    }
+
     /// The value itself, where there is one.
     pub fn into_value(self) -> Option<Variant>
         ensures { result ≡ self.value }

@@ -2,7 +2,7 @@
 //!
 //! [`Variant`] has a case for each of the 22 built-in types that the server carries, each with a
 //! [`Content`]: one value, a list, or a list with dimensions ([`Matrix`]). [`DataValue`] is a variant
-//! with its status and times. As in `ua_types`, everything is plain data: `ua_binary` reads and
+//! with its status and times. [`ValueType`] names those that a node file or a scenario can write. As in `ua_types`, everything is plain data: `ua_binary` reads and
 //! writes the bytes, and services give the values their meaning.
 //!
 //! What a contract sees: the cases and fields themselves; of a `Matrix` its elements and its
@@ -16,6 +16,7 @@ mod data_value;
 mod float;
 mod matrix;
 mod shape;
+mod value_type;
 mod variant;
 
 pub use content::Content;
@@ -23,4 +24,5 @@ pub use data_value::DataValue;
 pub use float::{Double, Float};
 pub use matrix::{Matrix, has_shape};
 pub use shape::Shape;
+pub use value_type::ValueType;
 pub use variant::Variant;

@@ -11,7 +11,7 @@
 use std::alloc::Global;
 use std::env;
 use std::process::ExitCode;
-use ua_tcp::Tap;
+use stream_taps::Tap;
 
 // The words after the program's name. None is want of memory.
 fn words_after_name(alloc: Global, args: &[String]) -> Option<Vec<&str>> {

@@ -5,7 +5,7 @@ use std::alloc::Global;
 use std::io::Write;
 use std::rt::Files;
 use std::{fs, io};
-use ua_tcp::Tap;
+use stream_taps::Tap;
 
 /// The scenario and the line that are named there.
 pub(crate) fn named(line: &str) -> Option<(&str, &str)> {

@@ -1,15 +1,15 @@
 //! Lines that tell the encoding of OPC UA: what bytes mean, how it is written again, how values are ordered, and what a
 //! text says of a node id.
 
-use service_messages::*;
 use std::alloc::Global;
 use std::fmt::Debug;
 use std::io;
 use std::io::Write;
-use sub_messages::*;
 use ua_binary::{Cursor, Wire};
 use ua_messages::type_ids::*;
 use ua_messages::*;
+use ua_service_messages::*;
+use ua_subscription_messages::*;
 use ua_types::{
     Array, ByteString, Copyable, Duration, ExpandedNodeId, ExtensionObject, Guid, LocalizedText,
     Moment, NodeId, QualifiedName, Status, Text, write_id,

@@ -55,7 +55,7 @@ use std::rt::Files;
 use std::sync::Wait;
 use std::time::Clock;
 use std::{env, io};
-use ua_tcp::Tap;
+use stream_taps::Tap;
 
 // The files of lines, in the order in which they are printed.
 const FILES: [&str; 4] = ["examples", "encoding", "conversations", "plant_cases"];

@@ -3,7 +3,7 @@
 use std::alloc::Global;
 use std::io;
 use std::io::Write;
-use ua_tcp::Tap;
+use stream_taps::Tap;
 
 /// Writes what `check` says of the text that stands behind the first word of a line.
 pub(crate) fn write_nodes(alloc: Global, line: &str, output: &mut Vec<u8>) -> io::Result<()> {

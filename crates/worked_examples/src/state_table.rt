@@ -2,7 +2,7 @@
 
 use std::io;
 use std::io::Write;
-use sub_table::{Row, RowId, TABLE, actions_of};
+use ua_state_table::{Row, RowId, TABLE, actions_of};
 
 fn write_conditions(row: &Row, output: &mut Vec<u8>) -> io::Result<()> {
     for condition in &row.conditions {

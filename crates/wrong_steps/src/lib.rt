@@ -1,4 +1,4 @@
-//! Calls of public functions of `ua_channel` and `ua_core`, each under the clauses that its callers rely on. That the crate
+//! Calls of public functions of `ua_channel` and `server_core`, each under the clauses that its callers rely on. That the crate
 //! is proved says that the contracts below give these clauses; each edit in `must-fail` puts a wrong body in the place of a
 //! call, which the clauses have to refuse. Nothing calls these functions.
 #![tactic(auto)]
@@ -6,13 +6,13 @@
 ghost use Rattle.std.specs.Prelude.{◌≡◌, Err, false};
 ghost use Rattle.ua_types.specs.Refusals.{TakesOrRefuses};
 ghost use Rattle.ua_channel.specs.Acceptance.{take_of};
-ghost use Rattle.ua_core.specs.World.{world_of};
-ghost use Rattle.ua_core.specs.Stepping.{step_on, StepsTo, takes_no_memory_on};
-ghost use Rattle.ua_core.specs.declared.out.StepFault.TheVariants as step_fault;
+ghost use Rattle.server_core.specs.World.{world_of};
+ghost use Rattle.server_core.specs.Stepping.{step_on, StepsTo, takes_no_memory_on};
+ghost use Rattle.server_core.specs.declared.out.StepFault.TheVariants as step_fault;
 
+use server_core::{Event, Server, Step, StepFault};
 use std::alloc::Global;
 use ua_channel::{Channel, Taken};
-use ua_core::{Event, Server, Step, StepFault};
 use ua_tcp::Frame;
 use ua_types::Refusal;
 

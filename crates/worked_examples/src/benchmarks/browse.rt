@@ -2,10 +2,10 @@
 
 use super::elapsed;
 use super::requests::{TOKEN, failed, greet, hand_in, joined, request};
+use server_core::Server;
 use std::alloc::{AllocError, Global};
 use std::io::{self, Write};
 use std::time::Instant;
-use ua_core::Server;
 use ua_space::{Node, NodeDetails, Part, Space, Triple};
 use ua_types::{Config, LocalizedText, NodeId, QualifiedName, Text};
 

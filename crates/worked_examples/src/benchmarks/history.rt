@@ -2,10 +2,10 @@
 
 use super::elapsed;
 use super::requests::{TOKEN, greet, hand_in, plant, request};
+use server_core::Server;
 use std::alloc::{AllocError, Global};
 use std::io::{self, Write};
 use std::time::Instant;
-use ua_core::Server;
 
 /// How many values are written, all of which are kept, and how many of them each request writes or reads.
 const MANY: u32 = 100_000;

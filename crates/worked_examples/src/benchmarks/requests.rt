@@ -3,10 +3,10 @@
 use super::elapsed;
 use bytes::Bytes;
 use node_loader::load;
+use server_core::{Event, Out, Server};
 use std::alloc::{AllocError, Global};
 use std::io::{self, ErrorKind, Write};
 use std::time::Instant;
-use ua_core::{Event, Out, Server};
 use ua_space::Space;
 use ua_types::Config;
 

@@ -1,8 +1,8 @@
-use Rattle.std.proofs.Common.{◌∙◌, Option, Some, ap, ap₂, sym, codes, option_map}
+use Rattle.std.proofs.Common.{◌∙◌, Option, Some, IfSome, ap, ap₂, refl, sym, subst, codes, option_map}
 use Rattle.std.proofs.lemmas.Option.{none-some}
 use Rattle.std.specs.Borrow.{Bor}
 use Rattle.clap.specs.Words.{Text}
-use Rattle.command_line.specs.Words.{port_of, turns_of}
+use Rattle.command_line.specs.Words.{IsAddressIn, port_of, turns_of}
 use Rattle.command_line.proofs.ProgramLemmas.{asked_met, no_asm, no_nodes, no_run, no_serve, no_trace, option_met}
 use Rattle.command_line.proofs.parsing.command_of.Goals as goal
 
@@ -24,30 +24,43 @@ returns-in_err-nodes-in-check-clause-none c = λ is_none.
 pub returns-in_err-nodes-in-serve-clause-none : goal.returns-in_err-nodes-in-serve-clause-none
 returns-in_err-nodes-in-serve-clause-none c = λ is_none.
     let met = asked_met c.args.matches.now c.in_ok-name.name c.in_ok-name.given c.get_str-nodes.result c.in_ok-name.ensures.name c.in_ok-name.ensures.rows c.get_str-nodes.ensures in
-    no_serve _ _ (met ∙ ap₂ (λ n m. Some (n, option_map (λ n. n.now) m)) c.in-serve.is c.in_err-nodes-in-serve.was) (λ n port turns is p t. none-some n is)
+    no_serve _ _ (met ∙ ap₂ (λ n m. Some (n, option_map (λ n. n.now) m)) c.in-serve.is c.in_err-nodes-in-serve.was) (λ n port turns address is p t a. none-some n is)
 
 pub returns-in_err-port_of-in-serve-clause-none : goal.returns-in_err-port_of-in-serve-clause-none
 returns-in_err-port_of-in-serve-clause-none c = λ is_none.
     let met = asked_met c.args.matches.now c.in_ok-name.name c.in_ok-name.given c.get_str-nodes.result c.in_ok-name.ensures.name c.in_ok-name.ensures.rows c.get_str-nodes.ensures in
     let there = option_met c.args.matches.now c.in_ok-name.given (codes "port") c.get_str.result c.in_ok-name.name c.in_ok-name.ensures.name c.in_ok-name.ensures.rows c.get_str.ensures in
     no_serve _ _ (met ∙ ap (λ n. Some (n, option_map (λ n. n.now) c.get_str-nodes.result)) c.in-serve.is)
-    (λ n port turns is p t. none-some port (sym c.in_err-port_of-in-serve.was ∙ c.port_of.ensures ∙ ap port_of (sym there) ∙ p))
+    (λ n port turns address is p t a. none-some port (sym c.in_err-port_of-in-serve.was ∙ c.port_of.ensures ∙ ap port_of (sym there) ∙ p))
 
 pub returns-in_err-turns_of-in-serve-clause-none : goal.returns-in_err-turns_of-in-serve-clause-none
 returns-in_err-turns_of-in-serve-clause-none c = λ is_none.
     let met = asked_met c.args.matches.now c.in_ok-name.name c.in_ok-name.given c.get_str-nodes.result c.in_ok-name.ensures.name c.in_ok-name.ensures.rows c.get_str-nodes.ensures in
     let there = option_met c.args.matches.now c.in_ok-name.given (codes "turns") c.get_str-in-serve.result c.in_ok-name.name c.in_ok-name.ensures.name c.in_ok-name.ensures.rows c.get_str-in-serve.ensures in
     no_serve _ _ (met ∙ ap (λ n. Some (n, option_map (λ n. n.now) c.get_str-nodes.result)) c.in-serve.is)
-    (λ n port turns is p t. none-some turns (sym c.in_err-turns_of-in-serve.was ∙ c.turns_of.ensures ∙ ap turns_of (sym there) ∙ t))
+    (λ n port turns address is p t a. none-some turns (sym c.in_err-turns_of-in-serve.was ∙ c.turns_of.ensures ∙ ap turns_of (sym there) ∙ t))
 
-pub returns-in_ok-turns_of-in-serve-clause-some : goal.returns-in_ok-turns_of-in-serve-clause-some
-returns-in_ok-turns_of-in-serve-clause-some c =
+pub returns-in_ok-address_of-in-serve-clause-some : goal.returns-in_ok-address_of-in-serve-clause-some
+returns-in_ok-address_of-in-serve-clause-some c =
     let met = asked_met c.args.matches.now c.in_ok-name.name c.in_ok-name.given c.get_str-nodes.result c.in_ok-name.ensures.name c.in_ok-name.ensures.rows c.get_str-nodes.ensures in
     let port_there = option_met c.args.matches.now c.in_ok-name.given (codes "port") c.get_str.result c.in_ok-name.name c.in_ok-name.ensures.name c.in_ok-name.ensures.rows c.get_str.ensures in
-    let turns_there = option_met c.args.matches.now c.in_ok-name.given (codes "turns") c.get_str-in-serve.result c.in_ok-name.name c.in_ok-name.ensures.name c.in_ok-name.ensures.rows c.get_str-in-serve.ensures in (
+    let turns_there = option_met c.args.matches.now c.in_ok-name.given (codes "turns") c.get_str-in-serve.result c.in_ok-name.name c.in_ok-name.ensures.name c.in_ok-name.ensures.rows c.get_str-in-serve.ensures in
+    let address_there = option_met c.args.matches.now c.in_ok-name.given (codes "address") c.get_str-in-serve-2.result c.in_ok-name.name c.in_ok-name.ensures.name c.in_ok-name.ensures.rows c.get_str-in-serve-2.ensures in (
       met ∙ ap₂ (λ n m. Some (n, option_map (λ n. n.now) m)) c.in-serve.is c.in_ok-nodes-in-serve.was,
-      (ap port_of port_there ∙ sym c.port_of.ensures ∙ c.in_ok-port_of-in-serve.was, ap turns_of turns_there ∙ sym c.turns_of.ensures ∙ c.in_ok-turns_of-in-serve.was),
+      (
+        ap port_of port_there ∙ sym c.port_of.ensures ∙ c.in_ok-port_of-in-serve.was,
+        ap turns_of turns_there ∙ sym c.turns_of.ensures ∙ c.in_ok-turns_of-in-serve.was,
+        subst (λ t. IsAddressIn t c.in_ok-address_of-in-serve.field-0) (sym address_there)
+            (subst (λ r. IfSome r (IsAddressIn (option_map (λ t. t.now) c.get_str-in-serve-2.result))) c.in_ok-address_of-in-serve.was c.address_of.ensures.some),
+      ),
     )
+
+pub returns-in_err-address_of-in-serve-clause-none : goal.returns-in_err-address_of-in-serve-clause-none
+returns-in_err-address_of-in-serve-clause-none c = λ is_none.
+    let met = asked_met c.args.matches.now c.in_ok-name.name c.in_ok-name.given c.get_str-nodes.result c.in_ok-name.ensures.name c.in_ok-name.ensures.rows c.get_str-nodes.ensures in
+    let there = option_met c.args.matches.now c.in_ok-name.given (codes "address") c.get_str-in-serve-2.result c.in_ok-name.name c.in_ok-name.ensures.name c.in_ok-name.ensures.rows c.get_str-in-serve-2.ensures in
+    no_serve _ _ (met ∙ ap (λ n. Some (n, option_map (λ n. n.now) c.get_str-nodes.result)) c.in-serve.is)
+    (λ n port turns address is p t a. c.address_of.ensures.none (rw c.in_err-address_of-in-serve.was refl) address (subst (λ t. IsAddressIn t address) there a))
 
 -- `asm`, `run` and `trace`
 abbrev texts : Option (Bor Text) → Option Text

@@ -1,9 +1,9 @@
 use Rattle.std.proofs.Common.{◌∙◌, ap, [], ◌∷◌}
 use Rattle.std.specs.Prelude.{replicate}
-use Rattle.ua_core.specs.Running.{run_of}
-use Rattle.ua_core.specs.World.{world_of}
-use Rattle.ua_core.specs.declared.event.Event.TheVariants.{Opened}
-use Rattle.pump.specs.Pumped.{State}
+use Rattle.server_core.specs.Running.{run_of}
+use Rattle.server_core.specs.World.{world_of}
+use Rattle.server_core.specs.declared.event.Event.TheVariants.{Opened}
+use Rattle.stream_server.specs.Pumped.{State}
 use Rattle.commands.specs.Commands.{opened}
 use Rattle.commands.proofs.PipeLemmas.{stepped}
 use Rattle.commands.proofs.program.opened_server.Goals as goal

@@ -1,7 +1,7 @@
 use Rattle.std.proofs.Common.{subst, sym, MatchResult}
-use Rattle.ua_core.specs.World.{world_of}
-use Rattle.pump.specs.Pumped as pump
-use Rattle.pump.specs.Pumped.{State, scene}
+use Rattle.server_core.specs.World.{world_of}
+use Rattle.stream_server.specs.Pumped as pump
+use Rattle.stream_server.specs.Pumped.{State, scene}
 use Rattle.commands.specs.Commands.{Pipes}
 use Rattle.commands.specs.NodeFiles.{Made}
 use Rattle.commands.specs.declared.status.Status.{Status}

@@ -1,7 +1,7 @@
 use Rattle.std.proofs.Common.{◌≡◌, ◌<◌, ◌≤◌, true, false, length, subst, sym, rules}
 use Rattle.std.specs.Prelude.{is_err}
 use Rattle.std.proofs.KnownBytes.{Appends-kept}
-use Rattle.ua_tcp.proofs.TapLemmas.{counted-le, counted-Rose}
+use Rattle.stream_taps.proofs.TapLemmas.{counted-le, counted-Rose}
 use Rattle.scenario_lines.specs.Held.{place}
 use Rattle.scenario_lines.proofs.HeldLemmas.{all_out, cut_at}
 use Rattle.commands.specs.Commands.{Says}

@@ -1,6 +1,6 @@
 use Rattle.std.proofs.Common.{subst}
 use Rattle.scenario_lines.specs.Held.{place}
-use Rattle.pump.specs.Pumped.{State}
+use Rattle.stream_server.specs.Pumped.{State}
 use Rattle.commands.specs.Commands.{ServesOn}
 use Rattle.commands.proofs.program.serve.Goals as goal
 

@@ -1,5 +1,5 @@
 use Rattle.std.proofs.Common.{◌≡◌, Some, refl, subst}
-use Rattle.ua_core.specs.World.{opening}
+use Rattle.server_core.specs.World.{opening}
 use Rattle.socket_server.specs.declared.serve_fault.ServeFault.TheVariants as serve_fault
 use Rattle.scenario_lines.specs.Held.{place}
 use Rattle.commands.specs.Commands.{MadeBy, ServesBy}

@@ -1,5 +1,5 @@
 use Rattle.std.proofs.Common.{◌∙◌, List, ℕ, refl, subst, sym}
-use Rattle.ua_core.specs.World.{world_of}
+use Rattle.server_core.specs.World.{world_of}
 use Rattle.socket_server.proofs.ServingLemmas.{ran}
 use Rattle.scenario_lines.specs.Held.{place}
 use Rattle.commands.specs.Commands.{Says, ServesOn, listening_line}
@@ -26,5 +26,5 @@ returns-in-Done g c =
     in
     subst (ServesOn old new c.args.port c.args.turns first) (sym c.served-in-Done.ensures)
     (ended old new c.args.port c.args.turns first c.run-ran.result said
-    (ran first first (world_of c.run-ran.new.server) c.in-Ok-bind.serve c.run-ran.new.self c.args.turns c.run-ran.result
-    refl c.in-Ok-bind.ensures.ok c.run-ran.ensures))
+    (ran first first (world_of c.run-ran.new.server) c.in-Ok-listen.serve c.run-ran.new.self c.args.turns c.run-ran.result
+    refl c.in-Ok-listen.ensures.ok c.run-ran.ensures))

@@ -1,8 +1,8 @@
 use Rattle.std.proofs.Common.{rules, ◌≡◌, Option, Ok, MatchResult, inl, subst}
-use Rattle.ua_core.specs.World.{world_of}
-use Rattle.ua_core.specs.declared.world.World.{World}
+use Rattle.server_core.specs.World.{world_of}
+use Rattle.server_core.specs.declared.world.World.{World}
 use Rattle.row_tracer.specs.Tracing as tracing
-use Rattle.scenario_asm.specs.Assembly.{events_of}
+use Rattle.scenario_events.specs.Assembly.{events_of}
 use Rattle.scenario_lines.specs.Held.{place}
 use Rattle.commands.specs.Scenarios.{beside}
 use Rattle.commands.proofs.scenarios.trace.Goals as goal

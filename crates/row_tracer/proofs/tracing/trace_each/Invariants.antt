@@ -1,5 +1,5 @@
 use Rattle.std.proofs.Common.{◌≡◌, take}
-use Rattle.ua_core.specs.World.{world_of}
+use Rattle.server_core.specs.World.{world_of}
 use Rattle.row_tracer.specs.Tracing.{scene, Done}
 use Rattle.row_tracer.proofs.tracing.trace_each.Given as goal
 

@@ -1,7 +1,7 @@
 use Rattle.std.proofs.Common.{◌≡◌, ◌∙◌, ◌<◌, true, refl, length, rules}
 use Rattle.std.specs.Prelude.{is_err, string_bytes}
 use Rattle.std.proofs.KnownBytes.{Appends-kept}
-use Rattle.ua_tcp.proofs.TapLemmas.{counted-le, counted-Rose}
+use Rattle.stream_taps.proofs.TapLemmas.{counted-le, counted-Rose}
 use Rattle.scenario_lines.proofs.HeldLemmas.{cut_at}
 use Rattle.scenario_lines.proofs.held.put_held.Goals as goal
 

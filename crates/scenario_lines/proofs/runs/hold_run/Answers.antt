@@ -1,6 +1,6 @@
 use Rattle.std.proofs.Common.{◌+◌, Err, drop, subst, sym}
 use Rattle.std.specs.Prelude.{string_bytes}
-use Rattle.ua_core.specs.World.{world_of}
+use Rattle.server_core.specs.World.{world_of}
 use Rattle.scenario_lines.specs.Held.{place}
 use Rattle.scenario_lines.specs.Runs.{RunPrinted}
 use Rattle.scenario_lines.specs.declared.runs.RunFault.{RunFault}

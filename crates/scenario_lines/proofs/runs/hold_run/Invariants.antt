@@ -1,5 +1,5 @@
 use Rattle.std.proofs.Common.{drop, string_bytes}
-use Rattle.ua_core.specs.World.{world_of}
+use Rattle.server_core.specs.World.{world_of}
 use Rattle.scenario_lines.specs.Held.{place}
 use Rattle.scenario_lines.proofs.RunLemmas.{Going}
 use Rattle.scenario_lines.proofs.runs.hold_run.Given as goal

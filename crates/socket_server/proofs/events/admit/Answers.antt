@@ -1,6 +1,6 @@
 use Rattle.std.proofs.Common.{rules, ◌≡◌}
 use Rattle.socket_server.specs.declared.serve_fault.ServeFault.TheVariants as serve_fault
-use Rattle.ua_core.specs.World.{world_of}
+use Rattle.server_core.specs.World.{world_of}
 use Rattle.socket_peers.specs.Peers.{with_joined}
 use Rattle.socket_server.specs.Serving.{scene}
 use Rattle.socket_server.proofs.ServingLemmas.{connect_serves, stops_here}

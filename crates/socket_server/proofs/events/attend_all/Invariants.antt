@@ -1,4 +1,4 @@
-use Rattle.ua_core.specs.World.{world_of}
+use Rattle.server_core.specs.World.{world_of}
 use Rattle.socket_server.specs.Serving.{scene, Goes}
 use Rattle.socket_server.proofs.events.attend_all.Given as goal
 

@@ -1,6 +1,6 @@
 use Rattle.std.proofs.Common.{rules, ◌≡◌, refl, subst}
-use Rattle.ua_core.specs.World.{world_of}
-use Rattle.ua_core.specs.declared.event.Event.TheVariants as happening
+use Rattle.server_core.specs.World.{world_of}
+use Rattle.server_core.specs.declared.event.Event.TheVariants as happening
 use Rattle.socket_server.specs.Serving.{scene, HandsIn}
 use Rattle.socket_server.proofs.events.hand_in_piece.Goals as goal
 

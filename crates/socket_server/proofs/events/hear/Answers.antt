@@ -1,6 +1,6 @@
 use Rattle.std.proofs.Common.{rules, ◌≡◌, length, ap, subst, refl}
 use Rattle.socket_server.specs.declared.serve_fault.ServeFault.TheVariants as serve_fault
-use Rattle.ua_core.specs.World.{world_of}
+use Rattle.server_core.specs.World.{world_of}
 use Rattle.socket_peers.specs.Peers.{ReadsAt}
 use Rattle.socket_server.specs.Serving.{scene, is_piece}
 use Rattle.socket_server.proofs.ServingLemmas.{piece_serves, stops_here, waits}

@@ -1,6 +1,6 @@
 use Rattle.std.proofs.Common.{◌∙◌, ◌≤◌, ◌+◌, ◌++◌, ◌∷◌, [], List, length, length-append, subst, ap, sym, arith}
 use Rattle.std.specs.Prelude.{slice_get}
-use Rattle.service_messages.specs.declared.browsing.ReferenceDescription.{ReferenceDescription}
+use Rattle.ua_service_messages.specs.declared.browsing.ReferenceDescription.{ReferenceDescription}
 use Rattle.ua_space.specs.References.{references_of}
 use Rattle.ua_browse.specs.Describing.{described}
 use Rattle.ua_browse.specs.Wanted.{Placed, is_wanted, wanted_from}

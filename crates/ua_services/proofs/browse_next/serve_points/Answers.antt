@@ -2,7 +2,7 @@ use Rattle.std.proofs.Common.{◌∙◌, length, arith, ap}
 use Rattle.ua_messages.specs.declared.type_ids.TheConstants.{BROWSE_NEXT_RESPONSE}
 use Rattle.ua_services.specs.BrowseNext.{go_on_of}
 use Rattle.ua_session.specs.Sessions.{points_of}
-use Rattle.service_messages.specs.Browsing.{browse_result_encoding}
+use Rattle.ua_service_messages.specs.Browsing.{browse_result_encoding}
 use Rattle.ua_services.specs.BrowseResults.{browse_told}
 use Rattle.ua_services.specs.Paging.{all_done}
 use Rattle.ua_services.specs.SessionServing.{with_sessions}

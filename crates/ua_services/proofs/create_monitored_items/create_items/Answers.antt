@@ -1,5 +1,5 @@
 use Rattle.std.proofs.Common.{◌∙◌, ap, arith, length}
-use Rattle.monitored_items.specs.Items.{create_one}
+use Rattle.ua_monitored_items.specs.Items.{create_one}
 use Rattle.ua_services.proofs.SubLemmas.{served_length}
 use Rattle.ua_services.proofs.create_monitored_items.create_items.Goals as goal
 

@@ -1,5 +1,5 @@
 use Rattle.std.proofs.Common.{◌∙◌, ap, arith, length}
-use Rattle.monitored_items.specs.Items.{delete_one}
+use Rattle.ua_monitored_items.specs.Items.{delete_one}
 use Rattle.ua_services.proofs.SubLemmas.{served_length}
 use Rattle.ua_services.proofs.delete_monitored_items.delete_items.Goals as goal
 

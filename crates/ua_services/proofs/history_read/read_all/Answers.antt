@@ -1,5 +1,5 @@
 use Rattle.std.proofs.Common.{Err, take, drop, suc, ap, subst}
-use Rattle.service_messages.specs.declared.history.HistoryReadValueId.{HistoryReadValueId}
+use Rattle.ua_service_messages.specs.declared.history.HistoryReadValueId.{HistoryReadValueId}
 use Rattle.ua_session.specs.Points.{PointsState}
 use Rattle.ua_services.specs.HistoryRead.{node_read}
 use Rattle.ua_services.specs.Paging.{DoesOne}

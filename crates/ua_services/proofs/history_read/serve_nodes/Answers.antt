@@ -1,6 +1,6 @@
 use Rattle.std.proofs.Common.{◌∙◌, length, arith, ap}
 use Rattle.ua_messages.specs.declared.type_ids.TheConstants.{HISTORY_READ_RESPONSE}
-use Rattle.service_messages.specs.History.{history_read_result_encoding}
+use Rattle.ua_service_messages.specs.History.{history_read_result_encoding}
 use Rattle.ua_session.specs.Sessions.{points_of}
 use Rattle.ua_services.specs.HistoryRead.{node_read}
 use Rattle.ua_services.specs.Paging.{all_done}

@@ -1,5 +1,5 @@
 use Rattle.std.proofs.Common.{◌≡◌, map, take}
-use Rattle.raw_history.specs.Pages.{seen}
+use Rattle.ua_history.specs.Pages.{seen}
 use Rattle.ua_services.specs.HistoryResults.{shown}
 use Rattle.ua_services.proofs.history_results.history_data.Given as goal
 

@@ -1,8 +1,8 @@
 use Rattle.std.proofs.Common.{[], ◌∷◌, List}
-use Rattle.subscription.specs.Subs.{told}
-use Rattle.subscription.specs.Tables.{met}
-use Rattle.subscription.specs.declared.call.Call.TheVariants.{Items}
-use Rattle.ua_requests.specs.declared.reply.Reply.{Reply}
+use Rattle.ua_subscriptions.specs.SubscriptionCalls.{told}
+use Rattle.ua_subscriptions.specs.Tables.{met}
+use Rattle.ua_subscriptions.specs.declared.call.Call.TheVariants.{Items}
+use Rattle.server_messages.specs.declared.reply.Reply.{Reply}
 use Rattle.ua_services.specs.Serving.{reply_of}
 use Rattle.ua_services.specs.SubServing.{world_at}
 use Rattle.ua_services.proofs.SubLemmas.{called_gives}

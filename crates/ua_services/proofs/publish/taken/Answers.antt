@@ -1,4 +1,4 @@
-use Rattle.subscription.specs.Publishing.{published}
+use Rattle.ua_subscriptions.specs.Publishing.{published}
 use Rattle.ua_services.specs.Publish.{publish_call}
 use Rattle.ua_services.specs.SubServing.{world_at}
 use Rattle.ua_services.proofs.SubLemmas.{told_gives, told_halts}

@@ -1,5 +1,5 @@
 use Rattle.std.proofs.Common.{◌∙◌, ap, arith, length}
-use Rattle.monitored_items.specs.Items.{mode_one}
+use Rattle.ua_monitored_items.specs.Items.{mode_one}
 use Rattle.ua_services.proofs.SubLemmas.{served_length}
 use Rattle.ua_services.proofs.set_monitoring_mode.mode_items.Goals as goal
 

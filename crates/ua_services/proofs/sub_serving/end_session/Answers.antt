@@ -1,4 +1,4 @@
-use Rattle.subscription.specs.Ending.{session_ended}
+use Rattle.ua_subscriptions.specs.Ending.{session_ended}
 use Rattle.ua_services.specs.SubServing.{world_at}
 use Rattle.ua_services.proofs.SubLemmas.{told_gives, told_halts}
 use Rattle.ua_services.proofs.sub_serving.end_session.Goals as goal

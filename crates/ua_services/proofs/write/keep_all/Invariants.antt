@@ -7,5 +7,5 @@ use Rattle.ua_services.proofs.write.keep_all.Given as goal
 abbrev pub invariant-loop-change : goal.invariant-loop-change
 invariant-loop-change l = record {
   kept : l.history ≡ all_kept l.space.nodes l.fn.history l.yielded;
-  left : l.yielded ++ into_iter_items l.change-iterator ≡ l.fn.changes.items;
+  left : l.yielded ++ into_iter_items l.change-iterator ≡ l.fn.changes;
 }

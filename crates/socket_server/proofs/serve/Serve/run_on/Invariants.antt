@@ -1,4 +1,4 @@
-use Rattle.ua_core.specs.World.{world_of}
+use Rattle.server_core.specs.World.{world_of}
 use Rattle.socket_server.specs.Serving.{scene, unknown, Goes}
 use Rattle.std.proofs.Common.{ℕ}
 use Rattle.socket_server.proofs.serve.Serve.run_on.Given as goal

@@ -1,4 +1,4 @@
-use Rattle.ua_core.specs.World.{world_of}
+use Rattle.server_core.specs.World.{world_of}
 use Rattle.socket_server.specs.declared.serve_fault.ServeFault.TheVariants as serve_fault
 use Rattle.socket_server.specs.Serving.{scene, unknown}
 use Rattle.socket_server.proofs.ServingLemmas.{stops_here, tick_serves}

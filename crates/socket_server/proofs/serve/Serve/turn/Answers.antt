@@ -1,4 +1,4 @@
-use Rattle.ua_core.specs.World.{world_of}
+use Rattle.server_core.specs.World.{world_of}
 use Rattle.socket_server.specs.Serving.{scene, unknown}
 use Rattle.socket_server.proofs.ServingLemmas.{goes_same, goes_trans, serves_after, stops_after, stops_here}
 use Rattle.socket_server.proofs.serve.Serve.turn.Goals as goal

@@ -1,4 +1,4 @@
-use Rattle.subscription.specs.Subs.{created}
+use Rattle.ua_subscriptions.specs.SubscriptionCalls.{created}
 use Rattle.ua_services.specs.CreateSubscription.{settings_asked, create_subscription_body}
 use Rattle.ua_services.proofs.SubLemmas.{called_first}
 use Rattle.ua_services.proofs.create_subscription.CreateSubscriptionSessionService.serve.Goals as goal

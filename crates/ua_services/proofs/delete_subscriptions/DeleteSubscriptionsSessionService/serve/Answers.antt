@@ -1,10 +1,10 @@
 use Rattle.std.proofs.Common.{◌≡◌, ◌∙◌, ap, arith, length, subst}
-use Rattle.subscription.specs.Subs.{said}
+use Rattle.ua_subscriptions.specs.SubscriptionCalls.{said}
 use Rattle.ua_services.specs.Serving.{given, given_of}
 use Rattle.ua_services.specs.StatusResults.{statuses_body}
 use Rattle.ua_services.specs.SubServing.{with_subs, world_at}
 use Rattle.ua_services.proofs.SubLemmas.{deleted_length}
-use Rattle.subscription.specs.Named.{deleted}
+use Rattle.ua_subscriptions.specs.Named.{deleted}
 use Rattle.ua_services.specs.DeleteSubscriptions.{delete_subscriptions_listed}
 use Rattle.ua_messages.specs.declared.type_ids.TheConstants.{DELETE_SUBSCRIPTIONS_RESPONSE}
 use Rattle.ua_services.proofs.SubLemmas.{called_first}

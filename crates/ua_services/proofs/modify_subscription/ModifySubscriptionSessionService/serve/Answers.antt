@@ -1,5 +1,5 @@
-use Rattle.subscription.specs.Making.{modified}
-use Rattle.subscription.specs.Subs.{said}
+use Rattle.ua_subscriptions.specs.Making.{modified}
+use Rattle.ua_subscriptions.specs.SubscriptionCalls.{said}
 use Rattle.ua_services.specs.ModifySubscription.{settings_wanted, modify_subscription_body}
 use Rattle.ua_services.specs.SubServing.{world_at}
 use Rattle.ua_services.proofs.SubLemmas.{called_first}

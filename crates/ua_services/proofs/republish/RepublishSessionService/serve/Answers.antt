@@ -1,5 +1,5 @@
-use Rattle.subscription.specs.Making.{republished}
-use Rattle.subscription.specs.Subs.{said}
+use Rattle.ua_subscriptions.specs.Making.{republished}
+use Rattle.ua_subscriptions.specs.SubscriptionCalls.{said}
 use Rattle.ua_services.specs.Republish.{republish_answer}
 use Rattle.ua_services.specs.SubServing.{world_at}
 use Rattle.ua_services.proofs.SubLemmas.{called_first}

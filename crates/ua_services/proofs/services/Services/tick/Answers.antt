@@ -6,8 +6,8 @@ use Rattle.ua_services.specs.SubServing.{all_timed_out, timers_met}
 use Rattle.ua_services.proofs.SubLemmas.{then_gives}
 use Rattle.ua_services.proofs.services.Services.tick.Goals as goal
 
-pub returns-in-Ok-meet_timers-clause-ticks : goal.returns-in-Ok-meet_timers-clause-ticks
-returns-in-Ok-meet_timers-clause-ticks c =
+pub returns-in-Ok-fire_timers-clause-ticks : goal.returns-in-Ok-fire_timers-clause-ticks
+returns-in-Ok-fire_timers-clause-ticks c =
     let state = c.args.self.now in
     let setting = c.args.setting.now in
     let after = with_sessions state (ticked state.sessions setting.clock) in
@@ -17,5 +17,5 @@ returns-in-Ok-meet_timers-clause-ticks c =
     ∙ ap (λ s. given_of (all_timed_out setting (with_sessions state s) c.as_slice.result.now)) c.in_ok-ended.ensures.ok
     ∙ ap (λ numbers. given_of (all_timed_out setting after numbers)) (c.as_slice.ensures.value ∙ c.in_ok-ended.ensures.ended)
     in
-    then_gives (all_timed_out setting after ended) (timers_met setting) c.end_sessions.new.services c.meet_timers-in-Ok.new.services c.in-Ok.served c.in-Ok-meet_timers.more c.in_ok-joined-in-Ok-meet_timers.field-0
-    first c.in-Ok-meet_timers.ensures.serves c.in_ok-joined-in-Ok-meet_timers.ensures
+    then_gives (all_timed_out setting after ended) (timers_met setting) c.end_sessions.new.services c.fire_timers-in-Ok.new.services c.in-Ok.served c.in-Ok-fire_timers.more c.in_ok-joined-in-Ok-fire_timers.field-0
+    first c.in-Ok-fire_timers.ensures.serves c.in_ok-joined-in-Ok-fire_timers.ensures

@@ -1,11 +1,11 @@
 use Rattle.std.proofs.Common.{◌≡◌, ◌∙◌, ap, arith, length, subst}
-use Rattle.subscription.specs.Subs.{said}
+use Rattle.ua_subscriptions.specs.SubscriptionCalls.{said}
 use Rattle.ua_services.specs.Serving.{given, given_of}
 use Rattle.ua_services.specs.StatusResults.{statuses_body}
 use Rattle.ua_services.specs.SubServing.{with_subs, world_at}
 use Rattle.ua_services.proofs.SubLemmas.{named_length}
-use Rattle.subscription.specs.Named.{named_all}
-use Rattle.subscription.specs.declared.call.Call.TheVariants.{SetMode}
+use Rattle.ua_subscriptions.specs.Named.{named_all}
+use Rattle.ua_subscriptions.specs.declared.call.Call.TheVariants.{SetMode}
 use Rattle.ua_services.specs.SetPublishingMode.{set_publishing_listed}
 use Rattle.ua_messages.specs.declared.type_ids.TheConstants.{SET_PUBLISHING_MODE_RESPONSE}
 use Rattle.ua_services.proofs.SubLemmas.{called_first}

@@ -1,5 +1,0 @@
-use Rattle.monitored_items.proofs.Apart.{subscriptions_stay_apart}
-use Rattle.monitored_items.proofs.laws.subscriptions_stay_apart.Goals as goal
-
-pub returns : goal.returns
-returns c = subscriptions_stay_apart

@@ -1,9 +1,0 @@
-use Rattle.std.proofs.Common.{◌≡◌, take}
-use Rattle.std.specs.Prelude.{flat_map}
-use Rattle.monitored_items.specs.Items.{sampled_items}
-use Rattle.monitored_items.specs.Sampling.{index_visits}
-use Rattle.monitored_items.proofs.sampling.sample_all.Given as goal
-
--- what was written so far was seen
-abbrev pub invariant-loop-change : goal.invariant-loop-change
-invariant-loop-change l = l.items.entries ≡ sampled_items l.fn.items.entries (flat_map (index_visits l.on_node) (take l.change-index l.changed))

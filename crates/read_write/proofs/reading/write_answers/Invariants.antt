@@ -1,9 +1,0 @@
-use Rattle.std.proofs.Common.{◌≡◌, ◌++◌, take}
-use Rattle.std.specs.List.{flat_map}
-use Rattle.ua_binary.specs.DataValues.{data_value_encoding}
-use Rattle.read_write.specs.Reading.{all_read}
-use Rattle.read_write.proofs.reading.write_answers.Given as goal
-
--- the answers so far are written
-abbrev pub invariant-loop-request : goal.invariant-loop-request
-invariant-loop-request l = l.out.items ≡ l.initial.out.items ++ flat_map data_value_encoding (all_read l.space.nodes l.clock l.timestamps (take l.request-index l.requests))

@@ -1,0 +1,166 @@
+-- Every header can be written, whatever lines come.
+use Rattle.std.proofs.Common.{◌≡◌, ℕ, ◌+◌, ◌<◌, ◌≤◌, ◌^◌, Bool, true, false, cond, List, [], ◌∷◌, ◌++◌, Option, Some, None, Result, Ok, Err, refl, sym, ap, arith, subst}
+use Rattle.std.specs.Prelude.{nat_lt, unwrap_or}
+use Rattle.std.specs.Ordering.{nat_cmp, eq_by_cmp}
+use Rattle.std.specs.Cmp.{nat_cmp_total}
+use Rattle.std.specs.FinMap.{FinMap, get, insert, remove, get-insert, get-remove, get-empty}
+use Rattle.std.proofs.lemmas.Bool.Decides.{nat_tests}
+use Rattle.ua_types.specs.Answers.{◌>>=◌}
+use Rattle.ua_tcp.specs.declared.frame.ChunkType.{ChunkType}
+use Rattle.ua_tcp.specs.declared.frame.ChunkType.TheVariants.{Final, Aborted}
+use Rattle.ua_channel.specs.declared.headers.ChunkHeader.{ChunkHeader}
+use Rattle.scenario_text.specs.declared.choices.ChannelRequest.{ChannelRequest}
+use Rattle.scenario_text.specs.declared.choices.ChannelRequest.TheVariants.{Issue, Renew}
+use Rattle.scenario_text.specs.declared.fault.Cause.{Cause}
+use Rattle.scenario_text.specs.declared.statement.Statement.{Statement}
+use Rattle.scenario_text.specs.declared.statement.Statement.TheVariants as statements
+use Rattle.scenario_events.specs.Runs.{number_after, header_after, run_of, request_run, no_reason}
+use Rattle.scenario_events.specs.Pieces.{pieces_of}
+use Rattle.scenario_events.proofs.Pieces.{some_piece}
+use Rattle.scenario_events.specs.Sendings.{Sending, room_of, no_client, new_client, header_of, after_request, opened, hello_of, opening_of, closing_of, service_of}
+use Rattle.scenario_events.specs.Members.{client_of, sending, opening_turn, service_turn, channels_after, with_session, turn_of, nothing_sent}
+use Rattle.scenario_events.specs.Reading.{IsCounted, AllCounted, AfterCounted}
+use Rattle.scenario_events.specs.declared.assembler.Assembler.{Assembler}
+use Rattle.scenario_events.specs.declared.clients.Client.{Client}
+
+small_after : (b : Bool) (n : ℕ) → nat_lt n 4294966272 ≡ b → cond b (n + 1) 1 ≤ 4294966272
+small_after true n e = let small : n < 4294966272 = grind (arith, nat_tests) in omega arith
+small_after false n e = omega arith
+
+small : (n : ℕ) → number_after n ≤ 4294966272
+small n = small_after (nat_lt n 4294966272) n refl
+
+none_counted : IsCounted no_client
+none_counted = record { channel_id = omega arith; token_id = omega arith; sequence_number = omega arith; request_id = omega arith }
+
+new_counted : (key : List ℕ) → IsCounted (new_client key)
+new_counted key = record { channel_id = omega arith; token_id = omega arith; sequence_number = omega arith; request_id = omega arith }
+
+-- the clients of a map
+by_put : (b : Bool) (client : Client) (o : Option Client) → IsCounted client → IsCounted (unwrap_or o no_client) → IsCounted (unwrap_or (cond b (Some client) o) no_client)
+by_put true client o here there = here
+by_put false client o here there = there
+
+by_taken : (b : Bool) (o : Option Client) → IsCounted (unwrap_or o no_client) → IsCounted (unwrap_or (cond b None o) no_client)
+by_taken true o there = none_counted
+by_taken false o there = there
+
+put_counted : (m : FinMap nat_cmp Client) (connection : ℕ) (client : Client) → IsCounted client → ((c : ℕ) → IsCounted (unwrap_or (get m c) no_client))
+    → (c : ℕ) → IsCounted (unwrap_or (get (insert m connection client) c) no_client)
+put_counted m connection client here there c =
+    subst (λ (o : Option Client). IsCounted (unwrap_or o no_client)) (sym (get-insert nat_cmp_total m connection client c)) (by_put (eq_by_cmp nat_cmp c connection) client (get m c) here (there c))
+
+taken_counted : (m : FinMap nat_cmp Client) (connection : ℕ) → ((c : ℕ) → IsCounted (unwrap_or (get m c) no_client))
+    → (c : ℕ) → IsCounted (unwrap_or (get (remove m connection) c) no_client)
+taken_counted m connection there c =
+    subst (λ (o : Option Client). IsCounted (unwrap_or o no_client)) (sym (get-remove nat_cmp_total m connection c)) (by_taken (eq_by_cmp nat_cmp c connection) (get m c) (there c))
+
+-- what a client sends leaves it counted
+abbrev LeavesCounted : Result Sending Cause → Type 0
+LeavesCounted (Ok s) = IsCounted s.1
+LeavesCounted (Err cause) = Unit {0}
+
+then_counted : (r : Result (List ℕ) Cause) (f : List ℕ → Sending) → ((b : List ℕ) → IsCounted (f b).1) → LeavesCounted (r >>= λ b. Ok (f b))
+then_counted (Ok b) f h = h b
+then_counted (Err e) f h = tt
+
+after_counted : (client : Client) (sequence_number : ℕ) → sequence_number ≤ 4294966272 → IsCounted client → IsCounted (after_request client sequence_number)
+after_counted client n l w = record {
+  channel_id = w.channel_id;
+  token_id = w.token_id;
+  sequence_number = l;
+  request_id = (let s = small client.request_id in omega arith);
+}
+
+opened_counted : (number : ℕ) (request : ChannelRequest) (client : Client) → number < 2 ^ 32 → IsCounted client → IsCounted (opened number request client)
+opened_counted number Issue client l w = record {
+  channel_id = l;
+  token_id = (let s = small client.token_id in omega arith);
+  sequence_number = w.sequence_number;
+  request_id = w.request_id;
+}
+opened_counted number Renew client l w = record {
+  channel_id = w.channel_id;
+  token_id = (let s = small client.token_id in omega arith);
+  sequence_number = w.sequence_number;
+  request_id = w.request_id;
+}
+
+hello_counted : (client : Client) (url : Option (List ℕ)) → IsCounted client → LeavesCounted (hello_of client url)
+unfolding hello_of
+hello_counted client url w = then_counted _ _ (λ b. w)
+
+opening_counted : (client : Client) (number : ℕ) (request : ChannelRequest) → number < 2 ^ 32 → IsCounted client → LeavesCounted (opening_of client number request)
+unfolding opening_of
+opening_counted client number request l w =
+    then_counted _ _ (λ b. opened_counted number request (after_request client (number_after client.sequence_number)) l (after_counted client (number_after client.sequence_number) (small client.sequence_number) w))
+
+closing_counted : (client : Client) → IsCounted client → LeavesCounted (closing_of client)
+unfolding closing_of
+closing_counted client w = then_counted _ _ (λ b. after_counted client (number_after client.sequence_number) (small client.sequence_number) w)
+
+-- the chunk behind a run has a number again
+run_next : (last : ChunkType) (header : ChunkHeader) (p : List ℕ) (ps : List (List ℕ)) → (run_of last header (p ∷ ps)).next.sequence_number ≤ 4294966272
+unfolding run_of
+run_next last header p [] = small header.sequence_number
+run_next last header p (q ∷ qs) = run_next last (header_after header) q qs
+
+parts_next : (last : ChunkType) (header : ChunkHeader) (parts : List (List ℕ)) (p : List ℕ) (ps : List (List ℕ)) → parts ≡ p ∷ ps → (run_of last header parts).next.sequence_number ≤ 4294966272
+parts_next last header parts p ps is = subst (λ (qs : List (List ℕ)). (run_of last header qs).next.sequence_number ≤ 4294966272) (sym is) (run_next last header p ps)
+
+request_next : (aborted : Bool) (header : ChunkHeader) (room : ℕ) (body : List ℕ) → (request_run aborted header room body).next.sequence_number ≤ 4294966272
+unfolding request_run
+request_next false header room body = let some = some_piece room body in parts_next Final header (pieces_of room body) some.0 some.1 some.2
+request_next true header room body =
+    let some = some_piece room body in
+    parts_next Aborted header (pieces_of room body ++ no_reason ∷ []) some.0 (some.1 ++ no_reason ∷ []) (ap (λ (ps : List (List ℕ)). ps ++ no_reason ∷ []) some.2)
+
+service_counted : (aborted : Bool) (chunk : ℕ) (client : Client) (body : List ℕ) → IsCounted client → LeavesCounted (service_of aborted chunk client body)
+unfolding service_of
+service_counted aborted chunk client body w =
+    then_counted _ _ (λ b. after_counted client (request_run aborted (header_of client) (room_of chunk) b).next.sequence_number (request_next aborted (header_of client) (room_of chunk) b) w)
+
+sent_counted : (a : Assembler) (connection : ℕ) (r : Result Sending Cause) → AllCounted a → LeavesCounted r → AfterCounted (sending a connection r)
+unfolding sending
+sent_counted a connection (Ok s) w h = record { clients = put_counted a.clients connection s.1 h w.clients; channels = w.channels }
+sent_counted a connection (Err e) w h = tt
+
+channels_counted : (a : Assembler) (request : ChannelRequest) → AllCounted a → channels_after a request < 2 ^ 32
+channels_counted a Issue w = let s = small a.channels in omega arith
+channels_counted a Renew w = w.channels
+
+opening_turn_counted : (a : Assembler) (connection : ℕ) (request : ChannelRequest) → AllCounted a → AfterCounted (opening_turn a connection request)
+unfolding opening_turn
+opening_turn_counted a connection request w =
+    let number = channels_after a request in
+    let l = channels_counted a request w in
+    sent_counted (record a { channels = number }) connection (opening_of (client_of a connection) number request) (record { clients = w.clients; channels = l })
+    (opening_counted (client_of a connection) number request l (w.clients connection))
+
+service_turn_counted : (a : Assembler) (connection : ℕ) (body : List ℕ) → AllCounted a → AfterCounted (service_turn a connection body)
+unfolding service_turn
+service_turn_counted a connection body w =
+    sent_counted (record a { is_aborting = false }) connection (service_of a.is_aborting a.chunk (client_of a connection) body) (record { clients = w.clients; channels = w.channels })
+    (service_counted a.is_aborting a.chunk (client_of a connection) body (w.clients connection))
+
+pub turn_counted : (a : Assembler) (statement : Statement) → AllCounted a → AfterCounted (turn_of a statement)
+unfolding turn_of
+turn_counted a (statements.Open connection key) w = record { clients = put_counted a.clients connection (new_client key) (new_counted key) w.clients; channels = w.channels }
+turn_counted a (statements.Hello connection url) w = sent_counted a connection (hello_of (client_of a connection) url) w (hello_counted (client_of a connection) url (w.clients connection))
+turn_counted a (statements.OpenChannel connection request) w = opening_turn_counted a connection request w
+turn_counted a (statements.CloseChannel connection) w = sent_counted a connection (closing_of (client_of a connection)) w (closing_counted (client_of a connection) (w.clients connection))
+turn_counted a (statements.Gone connection) w = record { clients = taken_counted a.clients connection w.clients; channels = w.channels }
+turn_counted a (statements.Tick now) w = w
+turn_counted a (statements.Raw connection bytes) w = w
+turn_counted a (statements.Cut size) w = record { clients = w.clients; channels = w.channels }
+turn_counted a (statements.Chunk size) w = record { clients = w.clients; channels = w.channels }
+turn_counted a statements.Abort w = record { clients = w.clients; channels = w.channels }
+turn_counted a (statements.GetEndpoints connection) w = service_turn_counted a connection _ w
+turn_counted a (statements.CreateSession connection) w = service_turn_counted (with_session a connection) connection _ (record { clients = w.clients; channels = w.channels })
+turn_counted a (statements.Ask connection session request) w = service_turn_counted a connection _ w
+
+pub nothing_counted : AllCounted nothing_sent
+nothing_counted = record {
+  clients = λ c. subst (λ (o : Option Client). IsCounted (unwrap_or o no_client)) (sym (get-empty nat_cmp c)) none_counted;
+  channels = omega arith;
+}

@@ -1,0 +1,138 @@
+-- A request's run is read again.
+use Rattle.std.specs.Prelude.{◌&&◌}
+use Rattle.std.proofs.Common.{◌≡◌, Bool, true, false, cond, Some, None, eq-eqb, ℕ, ◌+◌, ◌<◌, ◌≤◌, ◌^◌, List, [], ◌∷◌, ◌++◌, length, Result, refl, sym, ◌∙◌, ap, arith, append_assoc, append-nil, subst}
+use Rattle.std.specs.Prelude.{nat_lt}
+use Rattle.std.proofs.lemmas.Bool.Decides.{nat_tests}
+use Rattle.std.specs.List.{concat, flat_map, AllByRecursion}
+use Rattle.std.proofs.lemmas.List.{length-append}
+use Rattle.ua_binary.specs.declared.fault.TakeFault.{TakeFault}
+use Rattle.ua_tcp.specs.Encoding.{frame_encoding, IsFrame}
+use Rattle.ua_tcp.specs.Header.{judgement_of}
+use Rattle.ua_tcp.specs.Frames.{Framed, Rest, frames}
+use Rattle.ua_tcp.specs.declared.frame.Frame.{Frame}
+use Rattle.ua_tcp.specs.declared.frame.Judgement.TheVariants.{Incomplete}
+use Rattle.ua_tcp.specs.declared.frame.MessageType.TheVariants as message
+use Rattle.ua_tcp.specs.declared.frame.ChunkType.{ChunkType}
+use Rattle.ua_tcp.specs.declared.frame.ChunkType.TheVariants.{Intermediate, Final, Aborted}
+use Rattle.ua_tcp.proofs.EncodedLemmas.{split_read}
+use Rattle.ua_channel.specs.declared.headers.ChunkHeader.{ChunkHeader}
+use Rattle.ua_channel.specs.Headers.{chunk_header_reading, chunk_header_encoding, IsWritable}
+use Rattle.ua_channel.specs.Chunks.{Begun, Messages, parts_of, is_of, joined_on, joined_to, joined_by, joins}
+use Rattle.ua_channel.specs.Cutting.{chunk_frame, chunk_encoding}
+use Rattle.ua_channel.proofs.HeaderLemmas.{header_again, encoding_length, part_again}
+use Rattle.scenario_events.specs.Pieces.{pieces_of}
+use Rattle.scenario_events.specs.Runs.{header_after, run_of, request_run, no_reason}
+use Rattle.scenario_events.specs.Reading.{IsReadAgain}
+use Rattle.scenario_events.proofs.Pieces.{some_piece, short_pieces, whole_pieces}
+
+none_yet : (limit : ℕ) → judgement_of limit [] ≡ Incomplete
+unfolding judgement_of
+none_yet limit = refl
+
+-- what comes of a run that ends so
+abbrev outcome : ChunkType → ℕ → List ℕ → Messages
+outcome last id body = joined_on last id body (λ b. joins b [])
+
+-- the frames of these bytes: they are let through, and join to what comes of the run
+record Reads (limit id : ℕ) (last : ChunkType) (body bytes : List ℕ) : Type 0 where
+  fs : List Frame
+  text : bytes ≡ flat_map frame_encoding fs
+  each : AllByRecursion (IsFrame limit) fs
+  message : (begun : Begun) → is_of begun id ≡ true → joins begun fs ≡ outcome last id (parts_of begun ++ body)
+
+is_frame : (limit : ℕ) (header : ChunkHeader) (chunk_type : ChunkType) (part : List ℕ) → 24 + length part ≤ limit → IsFrame limit (chunk_frame header chunk_type part)
+is_frame limit header chunk_type part l =
+    record { chunk_type = refl; size = omega (arith, encoding_length header, length-append (chunk_header_encoding header) part) }
+
+-- a chunk is read as its header and its part, and joins what has begun of its request
+read_chunk : (header : ChunkHeader) (chunk_type : ChunkType) (part : List ℕ) (begun : Begun) (more : Begun → Messages) → IsWritable header → is_of begun header.request_id ≡ true →
+    (let f = chunk_frame header chunk_type part in joined_by begun f (chunk_header_reading f.body) more)
+    ≡ joined_on chunk_type header.request_id (parts_of begun ++ part) more
+read_chunk header chunk_type part begun more w e =
+    let f = chunk_frame header chunk_type part in
+    let whole : Messages = joined_on chunk_type header.request_id (parts_of begun ++ part) more in
+    ap (λ (r : Result (ChunkHeader × List ℕ) TakeFault). joined_by begun f r more) (header_again header part w)
+    ∙ ap (λ (p : List ℕ). joined_to begun message.Message chunk_type header.request_id p more) (part_again header part)
+    ∙ ap (λ (b : Bool). cond (true && b) whole None) e
+
+last_read : (limit : ℕ) (header : ChunkHeader) (last : ChunkType) (part : List ℕ) → 24 + length part ≤ limit → IsWritable header → Reads limit header.request_id last part (chunk_encoding header last part ++ [])
+last_read limit header last part m w =
+    record {
+      fs = chunk_frame header last part ∷ [];
+      text = refl;
+      each = (is_frame limit header last part m, tt);
+      message = λ begun e. read_chunk header last part begun (λ b. joins b []) w e;
+    }
+
+more_read : (limit : ℕ) (header : ChunkHeader) (last : ChunkType) (part rest bytes : List ℕ) → 24 + length part ≤ limit → IsWritable header → Reads limit header.request_id last rest bytes →
+    Reads limit header.request_id last (part ++ rest) (chunk_encoding header Intermediate part ++ bytes)
+more_read limit header last part rest bytes m w rs =
+    let f = chunk_frame header Intermediate part in
+    record {
+      fs = f ∷ rs.fs;
+      text = ap (λ (t : List ℕ). frame_encoding f ++ t) rs.text;
+      each = (is_frame limit header Intermediate part m, rs.each);
+      message = λ begun e.
+          read_chunk header Intermediate part begun (λ b. joins b rs.fs) w e
+          ∙ rs.message (Some (header.request_id, parts_of begun ++ part)) (eq-eqb header.request_id header.request_id refl)
+          ∙ ap (λ (b : List ℕ). outcome last header.request_id b) (append_assoc (parts_of begun) part rest);
+    }
+
+number_small : (b : Bool) (n : ℕ) → nat_lt n 4294966272 ≡ b → cond b (n + 1) 1 ≤ 4294966272
+number_small true n e = let small : n < 4294966272 = grind (arith, nat_tests) in omega arith
+number_small false n e = omega arith
+
+next_writable : (header : ChunkHeader) → IsWritable header → IsWritable (header_after header)
+next_writable header w = record {
+  channel_id = w.channel_id;
+  token_id = w.token_id;
+  sequence_number = number_small (nat_lt header.sequence_number 4294966272) header.sequence_number refl;
+  request_id = w.request_id;
+}
+
+run_read : (limit : ℕ) (header : ChunkHeader) (last : ChunkType) (p : List ℕ) (ps : List (List ℕ)) → AllByRecursion (λ part. 24 + length part ≤ limit) (p ∷ ps) → IsWritable header
+    → Reads limit header.request_id last (concat (p ∷ ps)) (run_of last header (p ∷ ps)).bytes
+unfolding run_of
+run_read limit header last p [] few w = subst (λ (b : List ℕ). Reads limit header.request_id last b (chunk_encoding header last p ++ [])) (sym (append-nil p)) (last_read limit header last p few.0 w)
+run_read limit header last p (q ∷ qs) few w =
+    more_read limit header last p (concat (q ∷ qs)) (run_of last (header_after header) (q ∷ qs)).bytes few.0 w (run_read limit (header_after header) last q qs few.1 (next_writable header w))
+
+-- the stream is read as its frames
+stream_read : (limit id : ℕ) (last : ChunkType) (body bytes : List ℕ) → limit < 2 ^ 32 → Reads limit id last body bytes
+    → (let read = frames limit bytes in (read.end ≡ Rest []) × (joins None read.frames ≡ outcome last id body))
+stream_read limit id last body bytes l rs =
+    let text : bytes ≡ flat_map frame_encoding rs.fs ++ [] = rs.text ∙ sym (append-nil (flat_map frame_encoding rs.fs)) in
+    let read : frames limit bytes ≡ record { frames = rs.fs; end = Rest [] } =
+    split_read limit bytes rs.fs [] (Rest []) l (record { whole = text; each = rs.each; ends = (refl, none_yet limit) }) in
+    (ap (λ (x : Framed). x.end) read, ap (λ (x : Framed). joins None x.frames) read ∙ rs.message None refl)
+
+abbrev Fits : ℕ → List ℕ → Type 0
+Fits limit part = 24 + length part ≤ limit
+
+parts_read : (limit : ℕ) (header : ChunkHeader) (last : ChunkType) (parts : List (List ℕ)) (p : List ℕ) (ps : List (List ℕ)) → parts ≡ p ∷ ps → AllByRecursion (Fits limit) parts → IsWritable header
+    → Reads limit header.request_id last (concat parts) (run_of last header parts).bytes
+parts_read limit header last parts p ps is few w =
+    let few' : AllByRecursion (Fits limit) (p ∷ ps) = subst (AllByRecursion (Fits limit)) is few in
+    subst (λ (qs : List (List ℕ)). Reads limit header.request_id last (concat qs) (run_of last header qs).bytes) (sym is) (run_read limit header last p ps few' w)
+
+one_more : (limit : ℕ) (parts : List (List ℕ)) (q : List ℕ) → AllByRecursion (Fits limit) parts → Fits limit q → AllByRecursion (Fits limit) (parts ++ q ∷ [])
+one_more limit [] q few fits = (fits, tt)
+one_more limit (p ∷ ps) q few fits = (few.0, one_more limit ps q few.1 fits)
+
+pub request_read : (aborted : Bool) (limit : ℕ) (header : ChunkHeader) (room : ℕ) (body : List ℕ) → 0 < room → room + 24 ≤ limit → 32 ≤ limit → limit < 2 ^ 32 → IsWritable header
+    → IsReadAgain aborted limit header room body
+unfolding request_run
+request_read false limit header room body r m n l w =
+    let some = some_piece room body in
+    let few = short_pieces limit room body r m in
+    let rs = parts_read limit header Final (pieces_of room body) some.0 some.1 some.2 few w in
+    let whole : Reads limit header.request_id Final body (run_of Final header (pieces_of room body)).bytes =
+    subst (λ (b : List ℕ). Reads limit header.request_id Final b (run_of Final header (pieces_of room body)).bytes) (whole_pieces room body) rs in
+    stream_read limit header.request_id Final body (run_of Final header (pieces_of room body)).bytes l whole
+request_read true limit header room body r m n l w =
+    let some = some_piece room body in
+    let few = one_more limit (pieces_of room body) no_reason (short_pieces limit room body r m) (omega arith) in
+    let parts = pieces_of room body ++ no_reason ∷ [] in
+    let is : parts ≡ some.0 ∷ (some.1 ++ no_reason ∷ []) = ap (λ (ps : List (List ℕ)). ps ++ no_reason ∷ []) some.2 in
+    let rs = parts_read limit header Aborted parts some.0 (some.1 ++ no_reason ∷ []) is few w in
+    stream_read limit header.request_id Aborted (concat parts) (run_of Aborted header parts).bytes l rs

@@ -1,0 +1,12 @@
+use Rattle.std.proofs.Common.{◌≡◌, ◌≤◌, length}
+use Rattle.scenario_events.specs.Assembly.{event_limit, groups_from, joined}
+use Rattle.scenario_events.specs.Members.{nothing_sent}
+use Rattle.scenario_events.proofs.AssemblyLemmas.{behind_events}
+use Rattle.scenario_events.proofs.assembly.events_of.Given as goal
+
+-- the events so far, and those of the lines that are left
+abbrev pub invariant-loop-line : goal.invariant-loop-line
+invariant-loop-line l = record {
+  whole : behind_events l.events.items (groups_from l.fault l.assembler (length l.events.items) l.line-iterator.rest.items) ≡ joined (groups_from l.fn.fault nothing_sent 0 l.fn.lines.items);
+  few : length l.events.items ≤ event_limit;
+}

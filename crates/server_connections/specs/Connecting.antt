@@ -1,0 +1,93 @@
+-- What frames and closings do to the connections.
+use Rattle.std.specs.Prelude.{ℕ, Bool, true, nat_lt, List, [], ◌++◌, Option, Some, None, is_some}
+use Rattle.std.specs.FinMap.{get, insert, remove, empty}
+use Rattle.ua_types.specs.declared.status.TheConstants.Status as status
+use Rattle.ua_tcp.specs.declared.frame.Frame.{Frame}
+use Rattle.ua_tcp.specs.declared.frame.FrameFault.{FrameFault}
+use Rattle.server_messages.specs.declared.setting.Setting.{Setting}
+use Rattle.server_connections.specs.declared.frame_outcome.FrameOutcome.{FrameOutcome}
+use Rattle.server_connections.specs.declared.frame_outcome.FrameOutcome.TheVariants as outcome
+use Rattle.server_connections.specs.declared.connection.Connection.{Connection}
+use Rattle.server_connections.specs.declared.connection.Phase.{Phase}
+use Rattle.server_connections.specs.declared.connection.Phase.TheVariants.{Greeting, Closed}
+use Rattle.server_messages.specs.declared.out.Out.{Out}
+use Rattle.server_connections.specs.Turns.{Counted, counted, refusal, turn_of, fault_turn}
+pub use Rattle.server_connections.specs.declared.connections.Connections.{Connections}
+
+abbrev pub no_connections : Connections
+no_connections = record { known = empty; greatest = None; channels = 0 }
+
+-- a connection is known from when it is opened until it is gone, closed or not
+abbrev pub is_known : Connections → ℕ → Bool
+is_known connections conn = is_some (get connections.known conn)
+
+-- whether the number is above those of all connections before
+abbrev pub is_above_all : ℕ → Option ℕ → Bool
+is_above_all conn None = true
+is_above_all conn (Some greatest) = nat_lt greatest conn
+
+abbrev pub is_new : Connections → ℕ → Bool
+is_new connections conn = is_above_all conn connections.greatest
+
+abbrev pub with_phase : Connections → ℕ → Connection → Phase → Connections
+with_phase connections conn connection phase =
+    record connections { known = insert connections.known conn (record connection { phase = phase }) }
+
+-- ---- openings and ends
+
+abbrev pub known_as : Connections → ℕ → List ℕ → Phase → Connections
+known_as connections conn key phase =
+    record connections { known = insert connections.known conn (record { key = key; phase = phase }); greatest = Some conn }
+
+abbrev pub welcomed : Connections → ℕ → List ℕ → Connections
+welcomed connections conn key = known_as connections conn key Greeting
+
+-- what goes out, and the connections after it
+pub record Refusing : Type 0 where
+  pub connections : Connections
+  pub outs : List Out
+
+abbrev pub refusing : Connections → List Out → Refusing
+refusing connections outs = record { connections = connections; outs = outs }
+
+abbrev pub turned_away : Connections → ℕ → List ℕ → Refusing
+turned_away connections conn key =
+    refusing (known_as connections conn key Closed) (refusal conn status.BAD_TCP_NOT_ENOUGH_RESOURCES)
+
+abbrev pub gone : Connections → ℕ → Connections
+gone connections conn = record connections { known = remove connections.known conn }
+
+-- ---- frames
+
+-- what a frame comes to: the connections after it, what goes out, and what is left to do
+pub record Taking : Type 0 where
+  pub connections : Connections
+  pub outs : List Out
+  pub asked : FrameOutcome
+
+abbrev pub taking : Connections → List Out → FrameOutcome → Taking
+taking connections outs asked = record { connections = connections; outs = outs; asked = asked }
+
+abbrev pub taking_after : List Out → Taking → Taking
+taking_after outs t = taking t.connections (outs ++ t.outs) t.asked
+
+abbrev pub turned : Connections → ℕ → Connection → Counted → Taking
+turned connections conn connection c =
+    taking (with_phase (record connections { channels = c.channels }) conn connection c.turn.phase) c.turn.outs c.turn.asked
+
+abbrev pub taking_by : Setting → ℕ → Connections → Frame → Option Connection → Taking
+taking_by setting conn connections frame None = taking connections [] outcome.Closed
+taking_by setting conn connections frame (Some connection) =
+    turned connections conn connection (turn_of setting connections.channels conn connection.key frame connection.phase)
+
+-- what a frame does on a connection
+unfoldable pub taking_of : Setting → ℕ → Connections → Frame → Taking
+taking_of setting conn connections frame = taking_by setting conn connections frame (get connections.known conn)
+
+abbrev pub break_by : ℕ → Connections → FrameFault → Option Connection → Taking
+break_by conn connections fault None = taking connections [] outcome.Closed
+break_by conn connections fault (Some connection) = turned connections conn connection (counted connections.channels (fault_turn conn fault))
+
+-- what is no frame ends the connection
+unfoldable pub break_of : ℕ → Connections → FrameFault → Taking
+break_of conn connections fault = break_by conn connections fault (get connections.known conn)

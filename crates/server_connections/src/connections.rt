@@ -1,0 +1,187 @@
+//! Who is connected.
+
+ghost use Rattle.std.specs.Prelude.{◌≡◌, ◌++◌, [], IfOk, OnOk, IsOk};
+ghost use Rattle.server_connections.specs.Connecting.{no_connections, is_known as is_known_spec, is_new as is_new_spec, welcomed, refusing, turned_away, gone, taking, taking_after, taking_of, break_of};
+ghost use Rattle.server_connections.specs.Connecting as connecting;
+ghost use Rattle.server_connections.specs.Delivering.{sending, sending_after, delivered, delivery_of};
+
+use crate::connection::{Connection, Phase};
+use crate::frame_outcome::FrameOutcome;
+use crate::sending::say;
+use crate::turns::{Sender, break_off, frame_turn, put_refusal};
+use server_messages::{Out, Reply, Setting};
+use std::alloc::{AllocError, Global};
+use std::mem;
+use ua_tcp::{Frame, FrameFault};
+use ua_types::{Listed, Numbered, Status};
+
+/// Who is connected, and what was agreed with each.
+///
+/// Give each frame to [`Connections::take`], have the request served that it asks for, and send the
+/// replies by [`Connections::deliver`]. At an `Err`, which is want of memory, nothing is known of
+/// what is left.
+#[derive(Debug, Drop)]
+pub struct Connections {
+    /// The connections that aren't gone.
+    pub known: Numbered<Connection>,
+    /// The greatest number of a connection that was opened so far.
+    pub greatest: Option<u64>,
+    /// The number of the secure channel that was opened last, 0 before the first.
+    pub channels: u32,
+}
+
+impl Connections {
+    /// No connection was opened yet.
+    pub fn new(alloc: Global) -> Connections
+        ensures { result ≡ no_connections }
+    {
+        Connections {
+            known: Numbered::new(alloc),
+            greatest: None,
+            channels: 0,
+        }
+    }
+
+    /// Whether the connection was opened and isn't gone.
+    pub fn is_known(&self, conn: u64) -> bool
+        ensures { result ≡ is_known_spec self.now conn }
+    {
+        self.known.contains(conn)
+    }
+
+    /// Whether the number is above those of all connections before.
+    pub fn is_new(&self, conn: u64) -> bool
+        ensures { result ≡ is_new_spec self.now conn }
+    {
+        match self.greatest {
+            Some(greatest) => greatest < conn,
+            None => true,
+        }
+    }
+
+    fn know(&mut self, conn: u64, key: &[u8; 32], phase: Phase) -> Result<(), AllocError>
+        ensures { OnOk result (self.new ≡ connecting.known_as self.old conn key.now phase) }
+    {
+        self.greatest = Some(conn);
+        self.known.insert(conn, Connection { key: *key, phase })
+    }
+
+    /// Knows a connection whose first frame is awaited.
+    pub fn await_first_frame(&mut self, conn: u64, key: &[u8; 32]) -> Result<(), AllocError>
+        ensures { OnOk result (self.new ≡ welcomed self.old conn key.now) }
+    {
+        self.know(conn, key, Phase::Greeting)
+    }
+
+    /// Knows a connection that is closed at once, since there are too many.
+    pub fn turn_away(
+        &mut self,
+        alloc: Global,
+        conn: u64,
+        key: &[u8; 32],
+        outs: &mut Listed<Out>,
+    ) -> Result<(), AllocError>
+        ensures connections { OnOk result (self.new ≡ (turned_away self.old conn key.now).connections) }
+        ensures outs { OnOk result (outs.new ≡ outs.old ++ (turned_away self.old conn key.now).outs) }
+    {
+        put_refusal(alloc, conn, Status::BAD_TCP_NOT_ENOUGH_RESOURCES, outs)?;
+        self.know(conn, key, Phase::Closed)
+    }
+
+    /// Forgets a connection that is no more. Takes no memory.
+    pub fn forget(&mut self, conn: u64)
+        ensures { self.new ≡ gone self.old conn }
+    {
+        self.known.remove(conn);
+    }
+
+    /// Does what a frame asks for, up to a request, and says what is left to do.
+    #[tactic(auto, using(ua_types::proofs::NumberMaps::insert_removed), unfolding(crate::specs::Connecting::taking_of))]
+    pub fn take(
+        &mut self,
+        alloc: Global,
+        setting: &Setting,
+        conn: u64,
+        frame: &Frame,
+        outs: &mut Listed<Out>,
+    ) -> Result<FrameOutcome, AllocError>
+        ensures { IfOk result (λ asked. taking self.new outs.new asked
+            ≡ taking_after outs.old (taking_of setting.now conn self.old frame.now)) }
+    {
+        let Some(mut connection) = self.known.remove(conn) else {
+            return Ok(FrameOutcome::Closed);
+        };
+        let phase = mem::replace(&mut connection.phase, Phase::Closed);
+        let key = connection.key;
+        let turned = frame_turn(
+            alloc,
+            setting,
+            &mut self.channels,
+            Sender { conn, key },
+            phase,
+            frame,
+            outs,
+        )?;
+        connection.phase = turned.phase;
+        self.known.insert(conn, connection)?;
+        Ok(turned.asked)
+    }
+
+    /// Closes a connection on which comes what can be no frame.
+    #[tactic(auto, using(ua_types::proofs::NumberMaps::insert_removed), unfolding(crate::specs::Connecting::break_of))]
+    pub fn break_off(
+        &mut self,
+        alloc: Global,
+        conn: u64,
+        fault: FrameFault,
+        outs: &mut Listed<Out>,
+    ) -> Result<(), AllocError>
+        ensures connections { OnOk result (self.new ≡ (break_of conn self.old fault).connections) }
+        ensures outs { OnOk result (outs.new ≡ outs.old ++ (break_of conn self.old fault).outs) }
+    {
+        let Some(mut connection) = self.known.remove(conn) else {
+            return Ok(());
+        };
+        let turned = break_off(alloc, conn, fault, outs)?;
+        connection.phase = turned.phase;
+        self.known.insert(conn, connection)
+    }
+
+    // Sends one reply.
+    #[tactic(auto, using(ua_types::proofs::NumberMaps::insert_removed), unfolding(crate::specs::Delivering::delivered))]
+    fn deliver_one(
+        &mut self,
+        alloc: Global,
+        setting: &Setting,
+        reply: &Reply,
+        outs: &mut Listed<Out>,
+    ) -> Result<(), AllocError>
+        ensures { OnOk result (sending self.new outs.new
+            ≡ sending_after outs.old (delivered setting.now self.old reply.now)) }
+    {
+        let Some(mut connection) = self.known.remove(reply.conn) else {
+            return Ok(());
+        };
+        let phase = mem::replace(&mut connection.phase, Phase::Closed);
+        connection.phase = say(alloc, setting, phase, reply, outs)?;
+        self.known.insert(reply.conn, connection)
+    }
+
+    /// Sends replies, each on the connection that its request came by.
+    pub fn deliver(
+        &mut self,
+        alloc: Global,
+        setting: &Setting,
+        replies: &[Reply],
+        outs: &mut Listed<Out>,
+    ) -> Result<(), AllocError>
+        ensures sent { OnOk result (sending self.new outs.new
+            ≡ sending_after outs.old (delivery_of setting.now self.old replies.now)) }
+        ensures none { replies.now ≡ [] → IsOk result }
+    {
+        for reply in replies {
+            self.deliver_one(alloc, setting, reply, outs)?;
+        }
+        Ok(())
+    }
+}

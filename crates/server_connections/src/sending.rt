@@ -1,0 +1,71 @@
+//! How a reply is sent.
+
+ghost use Rattle.std.specs.Prelude.{◌≡◌, ◌++◌, IfOk};
+ghost use Rattle.server_connections.specs.Delivering.{too_large_sent, reply_sent, said_by, said, said_after};
+
+use crate::connection::Phase;
+use crate::turns::send_all;
+use bytes::Bytes;
+use server_messages::{Out, Reply, Setting};
+use std::alloc::{AllocError, Global};
+use ua_channel::{Channel, SendFault};
+use ua_messages::fault;
+use ua_types::{Listed, Moment, Status};
+
+// The fault that is sent in the place of a reply that is too large for the client.
+#[tactic(auto, unfolding(crate::specs::Delivering::too_large_sent))]
+fn too_large(
+    alloc: Global,
+    channel: &mut Channel,
+    id: u32,
+    handle: u32,
+    clock: Moment,
+) -> Result<Listed<Bytes>, AllocError>
+    ensures { IfOk result (λ chunks. record { frames = chunks; channel = channel.new } ≡ too_large_sent channel.old id handle clock) }
+{
+    let body = fault(alloc, handle, Status::BAD_RESPONSE_TOO_LARGE, clock)?;
+    match channel.send(alloc, id, body.as_slice()) {
+        Ok(chunks) => Ok(chunks),
+        Err(SendFault::TooLarge) => Ok(Listed::new(alloc)),
+        Err(SendFault::Memory) => Err(AllocError),
+    }
+}
+
+// The chunks of a reply.
+#[tactic(auto, unfolding(crate::specs::Delivering::reply_sent))]
+fn reply_chunks(
+    alloc: Global,
+    channel: &mut Channel,
+    reply: &Reply,
+    clock: Moment,
+) -> Result<Listed<Bytes>, AllocError>
+    ensures { IfOk result (λ chunks. record { frames = chunks; channel = channel.new }
+        ≡ reply_sent channel.old reply.now clock) }
+{
+    match channel.send(alloc, reply.id, reply.body.as_slice()) {
+        Ok(chunks) => Ok(chunks),
+        Err(SendFault::TooLarge) => too_large(alloc, channel, reply.id, reply.handle, clock),
+        Err(SendFault::Memory) => Err(AllocError),
+    }
+}
+
+/// Sends a reply on its connection, in this phase. Only one that talks has a channel to send it by.
+pub(crate) fn say(
+    alloc: Global,
+    setting: &Setting,
+    phase: Phase,
+    reply: &Reply,
+    outs: &mut Listed<Out>,
+) -> Result<Phase, AllocError>
+    ensures { IfOk result (λ after. said after outs.new ≡ said_after outs.old (said_by setting.now reply.now phase)) }
+{
+    match phase {
+        Phase::Greeting => Ok(Phase::Greeting),
+        Phase::Talking(mut channel) => {
+            let chunks = reply_chunks(alloc, &mut channel, reply, setting.clock)?;
+            send_all(reply.conn, chunks, outs)?;
+            Ok(Phase::Talking(channel))
+        }
+        Phase::Closed => Ok(Phase::Closed),
+    }
+}

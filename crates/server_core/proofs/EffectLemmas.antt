@@ -1,0 +1,189 @@
+-- What of the effects the code gives.
+use Rattle.std.proofs.Common.{◌≡◌, Bool, true, false, Err, List, [], ◌∷◌, ◌++◌, refl, sym, ◌∙◌, ap, append-nil, append_assoc}
+use Rattle.std.specs.Prelude.{◌||◌}
+use Rattle.std.proofs.lemmas.Bool.{false≢true}
+use Rattle.std.specs.List.{list_any}
+use Rattle.server_messages.specs.declared.fired.Fired.{Fired}
+use Rattle.server_messages.specs.declared.reply.Reply.{Reply}
+use Rattle.server_messages.specs.declared.out.Out.{Out}
+use Rattle.server_connections.specs.Delivering.{Delivery}
+use Rattle.ua_services.specs.Serving.{Act, Fire, Spent, rows_of, is_spent}
+use Rattle.ua_tcp.specs.Pieces.{Done, after_outs, and_then}
+use Rattle.server_core.specs.declared.out.Step.{Step}
+use Rattle.server_core.specs.Effects.{Effect, Do, Acted, Lost, doing, acting, losing, effects_of, outs_of, fired_of, is_spending, are_spent, step, shown, after_step}
+use Rattle.server_messages.specs.declared.halt.Halt.{Halt}
+use Rattle.server_messages.specs.declared.halt.Halt.TheVariants.{Memory, Exhausted}
+use Rattle.server_core.specs.Handling.{Doing, doing_so, doing_after, Shows, Handles}
+use Rattle.server_core.specs.World.{Core}
+
+-- ---- the outs
+
+pub outs_of-append : (xs ys : List Effect) → outs_of (xs ++ ys) ≡ outs_of xs ++ outs_of ys
+outs_of-append [] ys = refl
+outs_of-append (Do out ∷ xs) ys = ap (λ (os : List Out). out ∷ os) (outs_of-append xs ys)
+outs_of-append (Acted act ∷ xs) ys = outs_of-append xs ys
+outs_of-append (Lost reply ∷ xs) ys = outs_of-append xs ys
+
+outs_of_doing : (outs : List Out) → outs_of (doing outs) ≡ outs
+outs_of_doing [] = refl
+outs_of_doing (out ∷ outs) = ap (λ (os : List Out). out ∷ os) (outs_of_doing outs)
+
+outs_of_acting : (acts : List Act) → outs_of (acting acts) ≡ []
+outs_of_acting [] = refl
+outs_of_acting (act ∷ acts) = outs_of_acting acts
+
+outs_of_losing : (replies : List Reply) → outs_of (losing replies) ≡ []
+outs_of_losing [] = refl
+outs_of_losing (reply ∷ replies) = outs_of_losing replies
+
+outs_of_effects : (acts : List Act) (d : Delivery) → outs_of (effects_of acts d) ≡ d.outs
+outs_of_effects acts d =
+    outs_of-append (acting acts) (doing d.outs ++ losing d.lost)
+    ∙ ap (λ (os : List Out). os ++ outs_of (doing d.outs ++ losing d.lost)) (outs_of_acting acts)
+    ∙ outs_of-append (doing d.outs) (losing d.lost)
+    ∙ ap (λ (os : List Out). os ++ outs_of (losing d.lost)) (outs_of_doing d.outs)
+    ∙ ap (λ (os : List Out). d.outs ++ os) (outs_of_losing d.lost)
+    ∙ append-nil d.outs
+
+-- ---- the rows
+
+pub fired_of-append : (xs ys : List Effect) → fired_of (xs ++ ys) ≡ fired_of xs ++ fired_of ys
+fired_of-append [] ys = refl
+fired_of-append (Do out ∷ xs) ys = fired_of-append xs ys
+fired_of-append (Acted (Fire fired) ∷ xs) ys = ap (λ (fs : List Fired). fired ∷ fs) (fired_of-append xs ys)
+fired_of-append (Acted Spent ∷ xs) ys = fired_of-append xs ys
+fired_of-append (Lost reply ∷ xs) ys = fired_of-append xs ys
+
+pub fired_of_doing : (outs : List Out) → fired_of (doing outs) ≡ []
+fired_of_doing [] = refl
+fired_of_doing (out ∷ outs) = fired_of_doing outs
+
+fired_of_acting : (acts : List Act) → fired_of (acting acts) ≡ rows_of acts
+fired_of_acting [] = refl
+fired_of_acting (Fire fired ∷ acts) = ap (λ (fs : List Fired). fired ∷ fs) (fired_of_acting acts)
+fired_of_acting (Spent ∷ acts) = fired_of_acting acts
+
+fired_of_losing : (replies : List Reply) → fired_of (losing replies) ≡ []
+fired_of_losing [] = refl
+fired_of_losing (reply ∷ replies) = fired_of_losing replies
+
+pub fired_of_effects : (acts : List Act) (d : Delivery) → fired_of (effects_of acts d) ≡ rows_of acts
+fired_of_effects acts d =
+    fired_of-append (acting acts) (doing d.outs ++ losing d.lost)
+    ∙ ap (λ (fs : List Fired). fs ++ fired_of (doing d.outs ++ losing d.lost)) (fired_of_acting acts)
+    ∙ ap (λ (fs : List Fired). rows_of acts ++ fs)
+    (fired_of-append (doing d.outs) (losing d.lost)
+    ∙ ap (λ (fs : List Fired). fs ++ fired_of (losing d.lost)) (fired_of_doing d.outs) ∙ fired_of_losing d.lost)
+    ∙ append-nil (rows_of acts)
+
+-- ---- both
+
+two : {os ps : List Out} {rs qs : List Fired} → os ≡ ps → rs ≡ qs → step os rs ≡ step ps qs
+two {os} {ps} {rs} {qs} e f = ap (λ (x : List Out). step x rs) e ∙ ap (λ (x : List Fired). step ps x) f
+
+pub shown_doing : (outs : List Out) → shown (doing outs) ≡ step outs []
+shown_doing outs = two (outs_of_doing outs) (fired_of_doing outs)
+
+pub shown_effects : (acts : List Act) (d : Delivery) → shown (effects_of acts d) ≡ step d.outs (rows_of acts)
+shown_effects acts d = two (outs_of_effects acts d) (fired_of_effects acts d)
+
+pub after_doing : (before : Step) (outs : List Out) → after_step before (doing outs) ≡ step (before.outs ++ outs) before.rows
+after_doing before outs =
+    two (ap (λ (os : List Out). before.outs ++ os) (outs_of_doing outs)) (ap (λ (fs : List Fired). before.rows ++ fs) (fired_of_doing outs) ∙ append-nil before.rows)
+
+pub after_both : (before : Step) (xs ys : List Effect) → after_step before (xs ++ ys) ≡ after_step (after_step before xs) ys
+after_both before xs ys =
+    two (ap (λ (os : List Out). before.outs ++ os) (outs_of-append xs ys) ∙ sym (append_assoc before.outs (outs_of xs) (outs_of ys)))
+    (ap (λ (fs : List Fired). before.rows ++ fs) (fired_of-append xs ys) ∙ sym (append_assoc before.rows (fired_of xs) (fired_of ys)))
+
+-- what was served, and sent after these outs
+pub after_answered : (before : Step) (outs : List Out) (acts : List Act) (d : Delivery) →
+    after_step before (doing outs ++ effects_of acts d) ≡ step (before.outs ++ outs ++ d.outs) (before.rows ++ rows_of acts)
+after_answered before outs acts d =
+    after_both before (doing outs) (effects_of acts d)
+    ∙ ap (λ (s : Step). after_step s (effects_of acts d)) (after_doing before outs)
+    ∙ two (ap (λ (os : List Out). before.outs ++ outs ++ os) (outs_of_effects acts d)) (ap (λ (fs : List Fired). before.rows ++ fs) (fired_of_effects acts d))
+
+-- ---- spent serials
+
+or_true : (a b : Bool) → b ≡ true → (a || b) ≡ true
+or_true true b e = refl
+or_true false b e = e
+
+or_first : (a b c : Bool) → (b ≡ true → c ≡ true) → (a || b) ≡ true → (a || c) ≡ true
+or_first true b c f e = refl
+or_first false b c f e = f e
+
+pub spent_before : (xs ys : List Effect) → are_spent xs ≡ true → are_spent (xs ++ ys) ≡ true
+spent_before [] ys e = absurd (false≢true e)
+spent_before (x ∷ xs) ys e = or_first (is_spending x) (are_spent xs) (are_spent (xs ++ ys)) (spent_before xs ys) e
+
+pub spent_behind : (xs ys : List Effect) → are_spent ys ≡ true → are_spent (xs ++ ys) ≡ true
+spent_behind [] ys e = e
+spent_behind (x ∷ xs) ys e = or_true (is_spending x) _ (spent_behind xs ys e)
+
+spent_acting : (acts : List Act) → are_spent (acting acts) ≡ list_any is_spent acts
+spent_acting [] = refl
+spent_acting (act ∷ acts) = ap (λ b. is_spent act || b) (spent_acting acts)
+
+pub spent_effects : (acts : List Act) (d : Delivery) → list_any is_spent acts ≡ true → are_spent (effects_of acts d) ≡ true
+spent_effects acts d e = spent_before (acting acts) (doing d.outs ++ losing d.lost) (spent_acting acts ∙ e)
+
+pub spent_answered : (outs : List Out) (acts : List Act) (d : Delivery) → list_any is_spent acts ≡ true → are_spent (doing outs ++ effects_of acts d) ≡ true
+spent_answered outs acts d e = spent_behind (doing outs) (effects_of acts d) (spent_effects acts d e)
+
+-- ---- one thing done after another, as the code has it
+
+module _ (more : Core → Done Core Effect) where
+  behind : (before : Step) (state : Core) (effects : List Effect) →
+      doing_after before (after_outs effects (more state)) ≡ doing_after (after_step before effects) (more state)
+  behind before state effects =
+      ap (λ (s : Step). doing_so (more state).state s (more state).goes_on) (after_both before effects (more state).outs)
+
+  next_by : (before : Step) (state : Core) (effects : List Effect) (b : Bool) → b ≡ true →
+      doing_after before (and_then (record { state = state; outs = effects; goes_on = b }) more) ≡ doing_after (after_step before effects) (more state)
+  next_by before state effects true e = behind before state effects
+  next_by before state effects false e = absurd (false≢true e)
+
+  -- where the first goes on, what comes next comes behind it
+  pub shows_next : (new : Core) (before after : Step) (d : Done Core Effect) → Shows new before after true d →
+      doing_after before (and_then d more) ≡ doing_after after (more new)
+  shows_next new before after d e =
+      next_by before d.state d.outs d.goes_on (sym (ap (λ (x : Doing). x.goes_on) e))
+      ∙ ap (λ (x : Doing). doing_after x.step (more x.core)) (sym e)
+
+  end_by : (before : Step) (state : Core) (effects : List Effect) (b : Bool) → b ≡ false →
+      doing_after before (and_then (record { state = state; outs = effects; goes_on = b }) more) ≡ doing_so state (after_step before effects) b
+  end_by before state effects true e = absurd (false≢true (sym e))
+  end_by before state effects false e = refl
+
+  -- where it doesn't, that is all
+  pub shows_end : (new : Core) (before after : Step) (d : Done Core Effect) → Shows new before after false d →
+      Shows new before after false (and_then d more)
+  shows_end new before after d e =
+      e ∙ sym (end_by before d.state d.outs d.goes_on (sym (ap (λ (x : Doing). x.goes_on) e)))
+
+  first_by : (state : Core) (effects : List Effect) (b : Bool) → are_spent effects ≡ true →
+      are_spent (and_then (record { state = state; outs = effects; goes_on = b }) more).outs ≡ true
+  first_by state effects true e = spent_before effects (more state).outs e
+  first_by state effects false e = e
+
+  pub spent_at_first : (d : Done Core Effect) → are_spent d.outs ≡ true → are_spent (and_then d more).outs ≡ true
+  spent_at_first d e = first_by d.state d.outs d.goes_on e
+
+  later_by : (state : Core) (effects : List Effect) (b : Bool) → b ≡ true → are_spent (more state).outs ≡ true →
+      are_spent (and_then (record { state = state; outs = effects; goes_on = b }) more).outs ≡ true
+  later_by state effects true e s = spent_behind effects (more state).outs s
+  later_by state effects false e s = absurd (false≢true e)
+
+  pub spent_next : (new : Core) (before after : Step) (d : Done Core Effect) → Shows new before after true d → are_spent (more new).outs ≡ true →
+      are_spent (and_then d more).outs ≡ true
+  spent_next new before after d e s =
+      later_by d.state d.outs d.goes_on (sym (ap (λ (x : Doing). x.goes_on) e))
+      (ap (λ (x : Doing). are_spent (more x.core).outs) (sym e) ∙ s)
+
+-- a call that halts inside of a larger one
+pub halts : (halt : Halt) (s s' : Core) (b b' a a' : Step) (d whole : Done Core Effect) → (are_spent d.outs ≡ true → are_spent whole.outs ≡ true) →
+    Handles (Err halt) s b a d → Handles (Err halt) s' b' a' whole
+halts Memory s s' b b' a a' d whole f h = tt
+halts Exhausted s s' b b' a a' d whole f h = f h

@@ -1,0 +1,118 @@
+-- What the code does about a frame and a piece is what is said of it.
+use Rattle.std.proofs.Common.{◌≡◌, ℕ, Bool, true, false, cond, List, [], ◌++◌, Option, Some, None, refl, sym, ◌∙◌, ap}
+use Rattle.std.proofs.lemmas.Bool.{false≢true}
+use Rattle.std.specs.Ordering.{nat_cmp}
+use Rattle.std.specs.FinMap.{FinMap, get, remove}
+use Rattle.ua_tcp.specs.Feeding.{Framing, framed_of}
+use Rattle.ua_tcp.specs.Frames.{End, Rest, Broken, held_at, fault_at}
+use Rattle.ua_tcp.specs.Pieces.{Done, Stepped, and_then, all_handled, refused_if, at_end}
+use Rattle.ua_tcp.specs.declared.frame.Frame.{Frame}
+use Rattle.ua_tcp.specs.declared.frame.FrameFault.{FrameFault}
+use Rattle.ua_tcp.proofs.PiecesLemmas.{at_end_by_fault}
+use Rattle.server_messages.specs.declared.reply.Reply.{Reply}
+use Rattle.server_messages.specs.declared.fired.Fired.{Fired}
+use Rattle.server_messages.specs.declared.request.Request.{Request}
+use Rattle.server_messages.specs.declared.served.Served.{Served}
+use Rattle.server_connections.specs.Connecting.{Taking, taking, taking_after, taking_of}
+use Rattle.server_connections.specs.Delivering.{sending, sending_after, Sending, delivery_of}
+use Rattle.server_connections.specs.declared.frame_outcome.FrameOutcome.{FrameOutcome}
+use Rattle.server_connections.specs.declared.frame_outcome.FrameOutcome.TheVariants as outcome
+use Rattle.server_connections.specs.declared.connections.Connections.{Connections}
+use Rattle.server_messages.specs.declared.out.Out.{Out}
+use Rattle.ua_services.specs.declared.services.Services.{Services}
+use Rattle.ua_services.specs.Serving.{Serving, Given, given, given_of}
+use Rattle.ua_services.specs.Services.{serving_of}
+use Rattle.server_core.specs.declared.out.Step.{Step}
+use Rattle.server_core.specs.Effects.{Effect, step, shown}
+use Rattle.server_core.specs.Handling.{Doing, doing_so, doing_after, Shows, asked_for, answered, handled, broken}
+use Rattle.server_core.specs.Stepping.{with_held, framers_kept, fed_to, fed}
+use Rattle.server_core.specs.World.{Core, World}
+use Rattle.server_core.proofs.EffectLemmas.{after_answered}
+
+-- ---- a request
+
+shape : Core → Connections → Services → Step → Doing
+shape core connections state given = doing_so (record core { connections = connections; services = state }) given true
+
+-- replies that were sent after these outs
+pub sent_shows : (core : Core) (before : Step) (between : List Out) (s : Serving) (state : Services) (served : Served) (replies : List Reply) (connections : Connections) (outs : List Out) (rows : List Fired) →
+    given state served ≡ given_of s → replies ≡ served.replies →
+    sending connections outs ≡ sending_after (before.outs ++ between) (delivery_of core.setting core.connections replies) →
+    rows ≡ before.rows ++ served.rows →
+    Shows (record core { connections = connections; services = state }) before (step outs rows) true (answered core between s)
+unfolding shape
+sent_shows core before between s state served replies connections outs rows e g f h =
+    let replies_are : replies ≡ s.replies = g ∙ ap (λ (x : Given). x.served.replies) e in
+    let d = delivery_of core.setting core.connections s.replies in
+    let f' : sending connections outs ≡ sending_after (before.outs ++ between) d = f ∙ ap (λ (rs : List Reply). sending_after (before.outs ++ between) (delivery_of core.setting core.connections rs)) replies_are in
+    ap (λ (x : Sending). shape core x.connections state (step x.outs rows)) f'
+    ∙ ap (λ (fs : List Fired). shape core d.connections state (step (before.outs ++ between ++ d.outs) fs)) h
+    ∙ ap (λ (x : Given). shape core d.connections x.state (step (before.outs ++ between ++ d.outs) (before.rows ++ x.served.rows))) e
+    ∙ ap (shape core d.connections s.state) (sym (after_answered before between s.acts d))
+
+pub request_shows : (conn : ℕ) (core : Core) (frame : Frame) (before : Step) (after outs : List Out) (rows : List Fired) (found : FrameOutcome) (request : Request) (connections connections' : Connections) (state : Services) (served : Served) (replies : List Reply) →
+    taking connections after found ≡ taking_after before.outs (taking_of core.setting conn core.connections frame) → found ≡ outcome.Request request →
+    given state served ≡ given_of (serving_of core.setting request core.services) → replies ≡ served.replies →
+    sending connections' outs ≡ sending_after after (delivery_of core.setting connections replies) →
+    rows ≡ before.rows ++ served.rows →
+    Shows (record core { connections = connections'; services = state }) before (step outs rows) true (handled conn core frame)
+unfolding handled
+request_shows conn core frame before after outs rows found request connections connections' state served replies e r s g f h =
+    let t = taking_of core.setting conn core.connections frame in
+    let c : Connections → Core = λ cs. record core { connections = cs } in
+    let after_is : after ≡ before.outs ++ t.outs = ap (λ (x : Taking). x.outs) e in
+    let f' : sending connections' outs ≡ sending_after (before.outs ++ t.outs) (delivery_of core.setting connections replies) =
+    f ∙ ap (λ (os : List Out). sending_after os (delivery_of core.setting connections replies)) after_is in
+    sent_shows (c connections) before t.outs (serving_of core.setting request core.services) state served replies connections' outs rows s g f' h
+    ∙ ap (λ (a : FrameOutcome). doing_after before (asked_for conn (c connections) t.outs a)) (sym r ∙ ap (λ (x : Taking). x.asked) e)
+    ∙ ap (λ (x : Taking). doing_after before (asked_for conn (c x.connections) t.outs t.asked)) e
+
+-- ---- a piece
+
+broken_ends : (conn : ℕ) (core : Core) (fault : FrameFault) → (broken conn core fault).goes_on ≡ false
+unfolding broken
+broken_ends conn core fault = refl
+
+ends_by : (conn : ℕ) (core : Core) (effects : List Effect) (b : Bool) (fault : FrameFault) →
+    (and_then (record { state = core; outs = effects; goes_on = b }) (λ s. broken conn s fault)).goes_on ≡ false
+ends_by conn core effects true fault = broken_ends conn core fault
+ends_by conn core effects false fault = refl
+
+-- a connection that goes on has bytes to hold
+held_if : (conn limit : ℕ) (framers : FinMap nat_cmp Framing) (end : End) (d : Done Core Effect) (b : Bool) → b ≡ (and_then d (refused_if (broken conn) (fault_at end))).goes_on →
+    with_held conn limit (cond b (held_at end) None) framers ≡ framers_kept b conn (record { limit = limit; held = held_at end }) framers
+held_if conn limit framers (Rest bytes) d true e = refl
+held_if conn limit framers (Broken fault) d true e = absurd (false≢true (sym (ends_by conn d.state d.outs d.goes_on fault) ∙ sym e))
+held_if conn limit framers end d false e = refl
+
+pub piece_shows : (world : World) (conn : ℕ) (piece : List ℕ) (framing : Framing) (core : Core) (done : Step) (b : Bool) → get world.framers conn ≡ Some framing →
+    (let framed = framed_of framing.limit framing.held piece in
+    Shows core (step [] []) done b (and_then (all_handled (handled conn) world.core framed.frames) (refused_if (broken conn) (fault_at framed.end))) →
+    ((fed world conn piece).world ≡ record { framers = framers_kept b conn (record { limit = framing.limit; held = held_at framed.end }) (remove world.framers conn); core = core })
+    × (shown (fed world conn piece).effects ≡ done))
+unfolding fed
+piece_shows world conn piece framing core done b found e =
+    let framed = framed_of framing.limit framing.held piece in
+    let d = all_handled (handled conn) world.core framed.frames in
+    let last = and_then d (refused_if (broken conn) (fault_at framed.end)) in
+    let by_last : at_end (broken conn) framed.end d ≡ record { stream = record { state = last.state; held = cond last.goes_on (held_at framed.end) None }; outs = last.outs } =
+    at_end_by_fault (handled conn) (broken conn) framed.end d in
+    let at : FinMap nat_cmp Framing → Core → World = λ ls s. record { framers = ls; core = s } in
+    let framers = remove world.framers conn in (
+      ap (λ (f : Option Framing). (fed_to world conn piece f).world) found
+          ∙ ap (λ (x : Stepped Core Effect). at (with_held conn framing.limit x.stream.held framers) x.stream.state) by_last
+          ∙ ap (λ (x : Doing). at (with_held conn framing.limit (cond x.goes_on (held_at framed.end) None) framers) x.core) (sym e)
+          ∙ ap (λ (ls : FinMap nat_cmp Framing). at ls core) (held_if conn framing.limit framers framed.end d b (ap (λ (x : Doing). x.goes_on) e)),
+      ap (λ (f : Option Framing). shown (fed_to world conn piece f).effects) found
+          ∙ ap (λ (x : Stepped Core Effect). shown x.outs) by_last
+          ∙ ap (λ (x : Doing). x.step) (sym e),
+    )
+
+pub piece_spends : (world : World) (conn : ℕ) (piece : List ℕ) (framing : Framing) → get world.framers conn ≡ Some framing →
+    (let framed = framed_of framing.limit framing.held piece in
+    (fed world conn piece).effects ≡ (and_then (all_handled (handled conn) world.core framed.frames) (refused_if (broken conn) (fault_at framed.end))).outs)
+unfolding fed
+piece_spends world conn piece framing found =
+    let framed = framed_of framing.limit framing.held piece in
+    ap (λ (f : Option Framing). (fed_to world conn piece f).effects) found
+    ∙ ap (λ (x : Stepped Core Effect). x.outs) (at_end_by_fault (handled conn) (broken conn) framed.end (all_handled (handled conn) world.core framed.frames))

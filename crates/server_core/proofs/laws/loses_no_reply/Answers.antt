@@ -1,0 +1,5 @@
+use Rattle.server_core.proofs.CoherentLemmas.{reached_right}
+use Rattle.server_core.proofs.laws.loses_no_reply.Goals as goal
+
+pub returns : goal.returns
+returns c = λ config space events configured. (reached_right config space events configured).1

@@ -1,0 +1,163 @@
+-- One event.
+use Rattle.std.specs.Prelude.{◌≡◌, ⊤, ℕ, Bool, true, not, nat_lt, List, [], ◌++◌, Option, Some, None, Result, Ok, Err, is_some, if◌then◌else◌}
+use Rattle.std.specs.Ordering.{nat_cmp}
+use Rattle.std.specs.FinMap.{FinMap, get, insert, remove, len}
+use Rattle.ua_types.specs.Answers as answers
+use Rattle.ua_types.specs.Moments.{later}
+use Rattle.ua_types.specs.declared.moment.Moment.{Moment}
+use Rattle.ua_tcp.specs.Feeding.{Framing, unfed, framed_of}
+use Rattle.ua_tcp.specs.Pieces.{Stepped, at_end, all_handled}
+use Rattle.server_messages.specs.declared.halt.Halt.{Halt}
+use Rattle.server_messages.specs.declared.halt.Halt.TheVariants as halt
+use Rattle.server_connections.specs.Connecting.{is_known, is_new, welcomed, turned_away}
+use Rattle.ua_services.specs.Services.{is_idle}
+use Rattle.server_core.specs.declared.event.Event.{Event}
+use Rattle.server_core.specs.declared.event.Event.TheVariants.{Opened, Bytes, Gone, Tick}
+use Rattle.server_core.specs.declared.out.Step.{Step}
+use Rattle.server_core.specs.declared.out.StepFault.{StepFault}
+use Rattle.server_core.specs.declared.out.StepFault.TheVariants.{KnownConnection, UnknownConnection, Memory, Halted, Exhausted}
+use Rattle.server_core.specs.Effects.{Effect, doing, are_spent, shown}
+use Rattle.server_core.specs.Handling.{setting_at, handled, broken, gone_from, ticked_core}
+use Rattle.server_core.specs.World.{World, Core}
+
+-- the world after an event, and its effects
+pub record Served : Type 0 where
+  pub world : World
+  pub effects : List Effect
+
+abbrev pub served : World → List Effect → Served
+served world effects = record { world = world; effects = effects }
+
+-- ---- Opened
+
+-- so many connections are open at once
+abbrev pub has_room : World → Bool
+has_room world = nat_lt (len world.framers) world.core.setting.config.connections
+
+-- a new connection's first frame is awaited
+abbrev pub greeted : World → ℕ → List ℕ → World
+greeted world conn key = record {
+  framers = insert world.framers conn (unfed world.core.setting.config.receive_size);
+  core = record world.core { connections = welcomed world.core.connections conn key };
+}
+
+-- one too many is closed at once
+abbrev pub refused : World → ℕ → List ℕ → Served
+refused world conn key =
+    let r = turned_away world.core.connections conn key in
+    served (record world { core = record world.core { connections = r.connections } }) (doing r.outs)
+
+abbrev pub opened : World → ℕ → List ℕ → Result Served StepFault
+opened world conn key =
+    if not (is_new world.core.connections conn) then Err KnownConnection
+    else if has_room world then Ok (served (greeted world conn key) [])
+    else Ok (refused world conn key)
+
+-- ---- Bytes
+
+-- a connection that goes on holds these bytes; another one has no framer
+abbrev pub with_held : ℕ → ℕ → Option (List ℕ) → FinMap nat_cmp Framing → FinMap nat_cmp Framing
+with_held conn limit None framers = framers
+with_held conn limit (Some held) framers = insert framers conn (record { limit = limit; held = Some held })
+
+abbrev pub placed : World → ℕ → ℕ → Stepped Core Effect → Served
+placed world conn limit step =
+    served (record { framers = with_held conn limit step.stream.held (remove world.framers conn); core = step.stream.state }) step.outs
+
+-- Nothing is done for a connection that is closed. For another the frames of the bytes held and the
+-- piece are handled in order, up to one that closes it, and then what is no frame
+abbrev pub fed_to : World → ℕ → List ℕ → Option Framing → Served
+fed_to world conn piece None = served world []
+fed_to world conn piece (Some framing) =
+    let framed = framed_of framing.limit framing.held piece in
+    placed world conn framing.limit (at_end (broken conn) framed.end (all_handled (handled conn) world.core framed.frames))
+
+unfoldable pub fed : World → ℕ → List ℕ → Served
+fed world conn piece = fed_to world conn piece (get world.framers conn)
+
+-- one piece after the other
+abbrev pub fed_twice : World → ℕ → List ℕ → List ℕ → Served
+fed_twice world conn a b =
+    let first = fed world conn a in
+    let second = fed first.world conn b in
+    served second.world (first.effects ++ second.effects)
+
+-- ---- Gone and Tick
+
+abbrev pub forgotten : World → ℕ → World
+forgotten world conn = record { framers = remove world.framers conn; core = gone_from world.core conn }
+
+abbrev pub ticked : World → Moment → Served
+ticked world now =
+    let d = ticked_core world.core (later world.core.setting.clock now) in
+    served (record world { core = d.state }) d.outs
+
+-- ---- any event
+
+-- only of a connection that is known
+abbrev pub if_known : World → ℕ → Served → Result Served StepFault
+if_known world conn then_served = if is_known world.core.connections conn then Ok then_served else Err UnknownConnection
+
+-- what an event does, or why it has no answer, while the server isn't halted
+abbrev pub step_of : World → Event → Result Served StepFault
+step_of world (Opened conn key) = opened world conn key
+step_of world (Bytes conn bytes) = if_known world conn (fed world conn bytes)
+step_of world (Gone conn) = if_known world conn (served (forgotten world conn) [])
+step_of world (Tick now) = Ok (ticked world now)
+
+-- whether an event is answered without memory: it is refused, or it sends nothing and stores nothing
+abbrev pub takes_no_memory : World → Event → Bool
+takes_no_memory world (Opened conn key) = not (is_new world.core.connections conn)
+takes_no_memory world (Bytes conn bytes) = not (is_some (get world.framers conn))
+takes_no_memory world (Gone conn) = true
+takes_no_memory world (Tick now) = is_idle (setting_at world.core (later world.core.setting.clock now)) world.core.services
+
+-- ---- what the code gives of it
+
+abbrev pub framers_kept : Bool → ℕ → Framing → FinMap nat_cmp Framing → FinMap nat_cmp Framing
+framers_kept goes_on conn framing framers = if goes_on then insert framers conn framing else framers
+
+abbrev pub Feeds : Result Step Halt → World → Served → Type 0
+Feeds (Ok given) new said = (said.world ≡ new) × (shown said.effects ≡ given)
+Feeds (Err halt.Memory) new said = ⊤
+Feeds (Err halt.Exhausted) new said = are_spent said.effects ≡ true
+
+abbrev pub IsSpent : Result Served StepFault → Type 0
+IsSpent (Ok s) = are_spent s.effects ≡ true
+IsSpent (Err fault) = ⊥
+
+-- a server is its world, or none once it is halted; a refused event changes nothing
+abbrev pub shown_by : World → Result Served StepFault → answers.Step Step StepFault World
+shown_by world (Ok s) = answers.step (Ok (shown s.effects)) s.world
+shown_by world (Err fault) = answers.step (Err fault) world
+
+-- a call does what is said of it, unless memory ran out, or a serial that is said to be spent
+abbrev pub Matches : Result Step StepFault → World → World → Result Served StepFault → Type 0
+Matches (Err Memory) old new said = ⊤
+Matches (Err Exhausted) old new said = IsSpent said
+Matches answer old new said = shown_by old said ≡ answers.step answer new
+
+-- ---- a server, which is its world, or none once it is halted
+
+abbrev pub step_on : Option World → Event → Result Served StepFault
+step_on None event = Err Halted
+step_on (Some world) event = step_of world event
+
+abbrev pub server_by : Option World → Result Served StepFault → Option World
+server_by server (Ok s) = Some s.world
+server_by server (Err fault) = server
+
+abbrev pub answer_by : Result Served StepFault → Result Step StepFault
+answer_by (Ok s) = Ok (shown s.effects)
+answer_by (Err fault) = Err fault
+
+-- A call takes the step that is said of it. Where memory ran out, or a serial that is said to be spent, the server is halted
+abbrev pub StepsTo : Result Step StepFault → Option World → Option World → Result Served StepFault → Type 0
+StepsTo (Err Memory) old new said = new ≡ None
+StepsTo (Err Exhausted) old new said = (new ≡ None) × IsSpent said
+StepsTo answer old new said = answers.step answer new ≡ answers.step (answer_by said) (server_by old said)
+
+-- a halted server takes no memory to say so
+abbrev pub takes_no_memory_on : Option World → Event → Bool
+takes_no_memory_on None event = true
+takes_no_memory_on (Some world) event = takes_no_memory world event

@@ -1,0 +1,146 @@
+//! All that the server is but the framers.
+
+ghost use Rattle.std.specs.Prelude.{◌≡◌, true, false, OnOk, IsOk};
+ghost use Rattle.ua_services.specs.Services.{is_idle};
+ghost use Rattle.ua_tcp.specs.Pieces.{all_handled, and_then, refused_if};
+ghost use Rattle.server_core.specs.Handling.{setting_at, Handles, Shows, TicksTo, handled, broken, gone_from, ticked_core};
+
+use crate::out::Step;
+use server_connections::{Connections, FrameOutcome};
+use server_messages::{Halt, Setting};
+use std::alloc::{AllocError, Global};
+use ua_services::Services;
+use ua_tcp::{Fed, Frame, FrameFault};
+use ua_types::Moment;
+
+/// All but the framers.
+#[derive(Drop)]
+pub struct Core {
+    /// What every part may read.
+    pub setting: Setting,
+    /// Who is connected.
+    pub connections: Connections,
+    /// What is served.
+    pub services: Services,
+}
+
+impl Core {
+    // Does what a frame asks for, and says whether the connection goes on.
+    #[tactic(auto, using(crate::proofs::EffectLemmas::after_doing, crate::proofs::EffectLemmas::spent_answered), unfolding(crate::specs::Handling::handled))]
+    fn handle(
+        &mut self,
+        alloc: Global,
+        conn: u64,
+        frame: &Frame,
+        step: &mut Step,
+    ) -> Result<bool, Halt>
+        ensures { Handles result self.new step.old step.new (handled conn self.old frame.now) }
+    {
+        match self
+            .connections
+            .take(alloc, &self.setting, conn, frame, &mut step.outs)?
+        {
+            FrameOutcome::Nothing => Ok(true),
+            FrameOutcome::Closed => {
+                self.services.forget(conn);
+                Ok(false)
+            }
+            FrameOutcome::Request(request) => {
+                let served = self.services.serve(alloc, &self.setting, &request)?;
+                self.connections.deliver(
+                    alloc,
+                    &self.setting,
+                    served.replies.as_slice(),
+                    &mut step.outs,
+                )?;
+                step.rows.append(served.rows)?;
+                Ok(true)
+            }
+        }
+    }
+
+    // Closes a connection on which comes what can be no frame.
+    #[tactic(auto, using(crate::proofs::EffectLemmas::after_doing), unfolding(crate::specs::Handling::broken))]
+    fn break_off(
+        &mut self,
+        alloc: Global,
+        conn: u64,
+        fault: FrameFault,
+        step: &mut Step,
+    ) -> Result<(), AllocError>
+        ensures { OnOk result (Shows self.new step.old step.new false (broken conn self.old fault)) }
+    {
+        self.connections
+            .break_off(alloc, conn, fault, &mut step.outs)?;
+        self.services.forget(conn);
+        Ok(())
+    }
+
+    // Handles frames up to one that closes the connection, and says whether it goes on.
+    fn handle_all(
+        &mut self,
+        alloc: Global,
+        conn: u64,
+        frames: &[Frame],
+        step: &mut Step,
+    ) -> Result<bool, Halt>
+        ensures { Handles result self.new step.old step.new (all_handled (handled conn) self.old frames.now) }
+    {
+        for frame in frames {
+            match self.handle(alloc, conn, frame, step) {
+                Ok(true) => {}
+                Ok(false) => return Ok(false),
+                Err(halt) => return Err(halt),
+            }
+        }
+        Ok(true)
+    }
+
+    /// Handles what a piece brought, and says whether the connection goes on.
+    pub fn finish(
+        &mut self,
+        alloc: Global,
+        conn: u64,
+        fed: &Fed,
+        step: &mut Step,
+    ) -> Result<bool, Halt>
+        ensures { Handles result self.new step.old step.new
+            (and_then (all_handled (handled conn) self.old fed.now.frames) (refused_if (broken conn) fed.now.fault)) }
+    {
+        if !self.handle_all(alloc, conn, fed.frames.as_slice(), step)? {
+            return Ok(false);
+        }
+        let Some(fault) = fed.fault else {
+            return Ok(true);
+        };
+        self.break_off(alloc, conn, fault, step)?;
+        Ok(false)
+    }
+
+    /// Forgets a connection that is no more. Takes no memory.
+    pub fn forget(&mut self, conn: u64)
+        ensures { self.new ≡ gone_from self.old conn }
+    {
+        self.connections.forget(conn);
+        self.services.forget(conn);
+    }
+
+    /// Does what is due as time has passed.
+    #[tactic(auto, using(crate::proofs::EffectLemmas::shown_effects, crate::proofs::EffectLemmas::spent_effects))]
+    pub fn tick(&mut self, alloc: Global, clock: Moment) -> Result<Step, Halt>
+        ensures ticks { TicksTo result self.new (ticked_core self.old clock) }
+        ensures idle { is_idle (setting_at self.old clock) self.old.services ≡ true → IsOk result }
+    {
+        self.setting.clock = clock;
+        let served = self.services.tick(alloc, &self.setting)?;
+        let mut step = Step::new(alloc);
+        self.connections.deliver(
+            alloc,
+            &self.setting,
+            served.replies.as_slice(),
+            &mut step.outs,
+        )?;
+        step.rows = served.rows;
+        Ok(step)
+    }
+}

@@ -1,0 +1,150 @@
+//! The server.
+
+ghost use Rattle.std.specs.Prelude.{◌≡◌, option_map, Some, None, Err, false, IfOk};
+ghost use Rattle.server_core.specs.World.{opening, world_of};
+ghost use Rattle.server_core.specs.Stepping.{step_on, StepsTo, takes_no_memory_on};
+ghost use Rattle.server_core.specs.Subscriptions.{vars_on, kept_numbers_on, kept_on};
+ghost use Rattle.server_core.specs.Running.{Runs};
+ghost use Rattle.server_core.specs.declared.out.StepFault.TheVariants as step_fault;
+
+use crate::event::Event;
+use crate::out::{Ran, Step, StepFault};
+use crate::parts::Core;
+use crate::world::World;
+use server_connections::Connections;
+use server_messages::Setting;
+use std::alloc::{AllocError, Global};
+use ua_services::Services;
+use ua_space::Space;
+use ua_state_table::Vars;
+use ua_types::{Config, Listed, Numbered};
+
+/// An OPC UA server without a socket, a clock and a source of random numbers.
+///
+/// Tell it what happens, one [`Event`] after the other, and do what each [`Step`] says. Contracts see
+/// `world_of` it: what the server knows, its world, or none once it is halted.
+#[derive(Drop)]
+pub struct Server {
+    // None for good once it is halted.
+    world: Option<World>,
+}
+
+impl Server {
+    /// A server of this configuration and address space, whose clock shows the configured start. It
+    /// knows no connection. Takes no memory.
+    pub fn new(alloc: Global, config: Config, space: Space) -> Server
+        ensures { world_of result ≡ Some (opening config space) }
+    {
+        let clock = config.start;
+        let services = Services::new(alloc, &config, space);
+        Server {
+            world: Some(World {
+                framers: Numbered::new(alloc),
+                core: Core {
+                    setting: Setting { config, clock },
+                    connections: Connections::new(alloc),
+                    services,
+                },
+            }),
+        }
+    }
+
+    /// Takes an event, and says what is to be done about it. `specs/Stepping` defines both the answer
+    /// and the world after it.
+    ///
+    /// `KnownConnection` and `UnknownConnection` refuse the event, and nothing has changed. `Memory`
+    /// comes only where an allocation failed, and never for an event that is refused, is of a
+    /// connection that is closed, is `Gone`, or is a `Tick` at which nothing is due. `Exhausted` comes
+    /// only where the event spends the last serial of 64 bits. Both halt the server, which answers
+    /// `Halted` from then on, and at no other time.
+    pub fn step(&mut self, alloc: Global, event: &Event) -> Result<Step, StepFault>
+        ensures step { StepsTo result (world_of self.old) (world_of self.new) (step_on (world_of self.old) event.now) }
+        ensures memory { result ≡ Err step_fault.Memory → takes_no_memory_on (world_of self.old) event.now ≡ false }
+    {
+        let Some(world) = &mut self.world else {
+            return Err(StepFault::Halted);
+        };
+        let answer = world.step(alloc, event);
+        if matches!(&answer, Err(StepFault::Memory | StepFault::Exhausted)) {
+            self.world = None;
+        }
+        answer
+    }
+
+    /// Takes events in order, up to the first that has no answer.
+    ///
+    /// Room for an answer is taken before its event is. Where that growth is refused, the fault is
+    /// `Memory` too, and the server is halted.
+    pub fn run(&mut self, alloc: Global, events: &[Event]) -> Ran
+        ensures { Runs result.fault result.steps (world_of self.old) events.now (world_of self.new) }
+    {
+        let mut steps = Listed::new(alloc);
+        for event in events {
+            if steps.reserve_one().is_err() {
+                return self.halt(steps);
+            }
+            match self.step(alloc, event) {
+                Ok(step) => {
+                    if steps.push(step).is_err() {
+                        return self.halt(steps);
+                    }
+                }
+                Err(fault) => {
+                    return Ran {
+                        steps,
+                        fault: Some(fault),
+                    };
+                }
+            }
+        }
+        Ran { steps, fault: None }
+    }
+
+    /// The variables of the subscription with this number that the state table looks at ([`ua_state_table`]), or None where there
+    /// is none, or the server is halted. Takes no memory.
+    pub fn vars(&self, number: u32) -> Option<Vars>
+        ensures { result ≡ vars_on (world_of self.now) number }
+    {
+        match &self.world {
+            None => None,
+            Some(world) => {
+                let services = &world.core.services;
+                services.subs.vars(number, &services.items)
+            }
+        }
+    }
+
+    /// The numbers of the messages that a subscription keeps until they are acknowledged, in the order in which they were
+    /// sent; none where there is no such subscription, or the server is halted.
+    pub fn kept_numbers(&self, alloc: Global, number: u32) -> Result<Vec<u32>, AllocError>
+        ensures { IfOk result (λ numbers. numbers.items ≡ kept_numbers_on (world_of self.now) number) }
+    {
+        match &self.world {
+            None => Ok(Vec::new(alloc)),
+            Some(world) => world.core.services.subs.kept_numbers(alloc, number),
+        }
+    }
+
+    /// The message of a subscription with this number, as it was first sent, if it is kept. Takes no memory.
+    pub fn kept(&self, number: u32, wanted: u32) -> Option<&[u8]>
+        ensures { option_map (λ bytes. bytes.now) result ≡ kept_on (world_of self.now) number wanted }
+    {
+        match &self.world {
+            None => None,
+            Some(world) => world.core.services.subs.kept(number, wanted),
+        }
+    }
+
+    // Breaks a run off for want of memory.
+    fn halt(&mut self, steps: Listed<Step>) -> Ran
+        ensures steps { result.steps ≡ steps }
+        ensures fault { result.fault ≡ Some step_fault.Memory }
+        ensures halted { world_of self.new ≡ None }
+    {
+        self.world = None;
+        Ran {
+            steps,
+            fault: Some(StepFault::Memory),
+        }
+    }
+}

@@ -1,0 +1,115 @@
+//! All that the server is, and what an event does to it.
+
+ghost use Rattle.std.specs.Prelude.{◌≡◌, [], true, false, None, Err, IsOk, OnOk};
+ghost use Rattle.std.specs.FinMap.{get};
+ghost use Rattle.server_connections.specs.Connecting.{is_new, is_known};
+ghost use Rattle.server_core.specs.Stepping.{Feeds, fed, framers_kept, greeted, has_room as has_room_spec, opened, step_of, Matches, takes_no_memory};
+ghost use Rattle.server_core.specs.declared.out.StepFault.TheVariants as step_fault;
+
+use crate::event::Event;
+use crate::out::{Step, StepFault};
+use crate::parts::Core;
+use server_messages::Halt;
+use std::alloc::{AllocError, Global};
+use ua_tcp::Framer;
+use ua_types::Numbered;
+
+/// The framers of the open connections, and the rest. So nothing but a framer touches the bytes that
+/// are held of a frame.
+#[derive(Drop)]
+pub struct World {
+    /// The framer of each open connection. A closed one has none, so its bytes go nowhere.
+    pub framers: Numbered<Framer>,
+    /// Everything else.
+    pub core: Core,
+}
+
+impl World {
+    // A connection that goes on keeps its framer.
+    fn keep(&mut self, conn: u64, framer: Framer, goes_on: bool) -> Result<(), AllocError>
+        ensures { OnOk result (self.new ≡ record self.old { framers = framers_kept goes_on conn framer self.old.framers }) }
+    {
+        if goes_on {
+            self.framers.insert(conn, framer)?;
+        }
+        Ok(())
+    }
+
+    // Takes a piece of a connection's stream. One that is closed takes nothing, and no memory.
+    #[tactic(auto, unfolding(crate::specs::Stepping::fed))]
+    fn feed(&mut self, alloc: Global, conn: u64, piece: &[u8]) -> Result<Step, Halt>
+        ensures fed { Feeds result self.new (fed self.old conn piece.now) }
+        ensures closed { get self.old.framers conn ≡ None → IsOk result }
+    {
+        let mut step = Step::new(alloc);
+        let Some(mut framer) = self.framers.remove(conn) else {
+            return Ok(step);
+        };
+        let fed = framer.feed(alloc, piece)?;
+        let goes_on = self.core.finish(alloc, conn, &fed, &mut step)?;
+        self.keep(conn, framer, goes_on)?;
+        Ok(step)
+    }
+
+    // Awaits the first frame of a new connection.
+    fn await_first_frame(&mut self, conn: u64, key: &[u8; 32]) -> Result<(), AllocError>
+        ensures { OnOk result (self.new ≡ greeted self.old conn key.now) }
+    {
+        self.core.connections.await_first_frame(conn, key)?;
+        self.framers
+            .insert(conn, Framer::new(self.core.setting.config.receive_size))
+    }
+
+    fn has_room(&self) -> bool
+        ensures { result ≡ has_room_spec self.now }
+    {
+        self.framers.len() < self.core.setting.config.connections as usize
+    }
+
+    #[tactic(auto, using(crate::proofs::EffectLemmas::shown_doing))]
+    fn open(&mut self, alloc: Global, conn: u64, key: &[u8; 32]) -> Result<Step, StepFault>
+        ensures opened { Matches result self.old self.new (opened self.old conn key.now) }
+        ensures memory { result ≡ Err step_fault.Memory → is_new self.old.core.connections conn ≡ true }
+    {
+        if !self.core.connections.is_new(conn) {
+            return Err(StepFault::KnownConnection);
+        }
+        if self.has_room() {
+            self.await_first_frame(conn, key)?;
+            return Ok(Step::new(alloc));
+        }
+        let mut step = Step::new(alloc);
+        self.core
+            .connections
+            .turn_away(alloc, conn, key, &mut step.outs)?;
+        Ok(step)
+    }
+
+    /// Does what an event asks for. The world is as it was at a fault that refuses the event.
+    pub fn step(&mut self, alloc: Global, event: &Event) -> Result<Step, StepFault>
+        ensures step { Matches result self.old self.new (step_of self.old event.now) }
+        ensures memory { result ≡ Err step_fault.Memory → takes_no_memory self.old event.now ≡ false }
+    {
+        match event {
+            Event::Opened { conn, key } => self.open(alloc, *conn, key),
+            Event::Bytes { conn, bytes } => {
+                if !self.core.connections.is_known(*conn) {
+                    return Err(StepFault::UnknownConnection);
+                }
+                Ok(self.feed(alloc, *conn, bytes.as_slice())?)
+            }
+            Event::Gone { conn } => {
+                if !self.core.connections.is_known(*conn) {
+                    return Err(StepFault::UnknownConnection);
+                }
+                self.framers.remove(*conn);
+                self.core.forget(*conn);
+                Ok(Step::new(alloc))
+            }
+            Event::Tick { now } => {
+                let clock = self.core.setting.clock.later(*now);
+                Ok(self.core.tick(alloc, clock)?)
+            }
+        }
+    }
+}

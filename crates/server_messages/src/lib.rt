@@ -1,0 +1,25 @@
+//! What the parts of the server say to each other: requests one way, replies (responses and
+//! ServiceFaults) the other.
+//!
+//! `server_connections` makes a [`Request`] of what comes by a secure channel, `ua_services` answers it
+//! with what was [`Served`], now or at a later event, and `server_connections` sends each [`Reply`]: what
+//! is then to be done on connections is a list of [`Out`].
+//! Neither part knows the other. Both may read the [`Setting`], and both end by a [`Halt`] where they
+//! can't go on.
+#![tactic(auto)]
+
+mod fired;
+mod halt;
+mod out;
+mod reply;
+mod request;
+mod served;
+mod setting;
+
+pub use fired::Fired;
+pub use halt::Halt;
+pub use out::Out;
+pub use reply::Reply;
+pub use request::Request;
+pub use served::Served;
+pub use setting::Setting;

@@ -1,7 +1,0 @@
-use Rattle.std.proofs.Common.{◌≡◌, take}
-use Rattle.subscription.specs.Tables.{world, all_met}
-use Rattle.subscription.proofs.table.SubscriptionTable.meet_all.Given as goal
-
--- those so far have met it
-abbrev pub invariant-loop-number : goal.invariant-loop-number
-invariant-loop-number l = world l.turn l.self l.items ≡ all_met l.call (world l.fn.turn l.fn.self l.fn.items) (take l.number-index l.numbers)

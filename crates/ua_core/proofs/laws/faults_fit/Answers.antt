@@ -1,5 +1,0 @@
-use Rattle.ua_core.proofs.CoherentLemmas.{reached_fits}
-use Rattle.ua_core.proofs.laws.faults_fit.Goals as goal
-
-pub returns : goal.returns
-returns c = reached_fits

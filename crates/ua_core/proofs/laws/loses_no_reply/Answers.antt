@@ -1,5 +1,0 @@
-use Rattle.ua_core.proofs.CoherentLemmas.{reached_right}
-use Rattle.ua_core.proofs.laws.loses_no_reply.Goals as goal
-
-pub returns : goal.returns
-returns c = λ config space events configured. (reached_right config space events configured).1

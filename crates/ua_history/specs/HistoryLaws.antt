@@ -1,0 +1,54 @@
+-- What follows from the definitions of keeping and of reading.
+use Rattle.std.specs.Prelude.{◌≡◌, ◌<◌, ◌≤◌, ℕ, zero, suc, ℤ, int_lt, Bool, true, [], ◌++◌, length, drop, Option, Some, None, if◌then◌else◌}
+use Rattle.std.specs.List.{AllByRecursion}
+use Rattle.std.specs.List.Sorted.{IsStrictlySortedBy}
+use Rattle.std.specs.Map.{keys_of}
+use Rattle.std.specs.Ordering.{int_cmp}
+use Rattle.ua_types.specs.declared.moment.Moment.{Moment}
+use Rattle.ua_values.specs.declared.data_value.DataValue.{DataValue}
+use Rattle.ua_history.specs.Histories.{Values, kept_in}
+use Rattle.ua_history.specs.Intervals.{past, raw}
+use Rattle.ua_history.specs.Pages.{shown_of, last_given}
+use Rattle.ua_history.specs.declared.intervals.Interval.{Interval}
+
+-- No more values are kept than may be
+abbrev pub KeepsWithinBounds : Type 0
+KeepsWithinBounds = (most : ℕ) (time : ℤ) (value : DataValue) (values : Values) → length values ≤ most → length (kept_in most time value values) ≤ most
+
+-- The times of a history rise, so none is there twice
+abbrev pub IsByTime : Values → Type 0
+IsByTime values = IsStrictlySortedBy int_cmp (keys_of values)
+
+-- one time lies past another, as an interval is read
+abbrev pub is_past : Bool → ℤ → ℤ → Bool
+is_past is_falling last time = if is_falling then int_lt time last else int_lt last time
+
+-- The times of a page that goes on lie past the last one that was given
+abbrev pub GoesPastTheLast : Type 0
+GoesPastTheLast = (values : Values) (i : Interval) (last : Moment) → AllByRecursion (λ e. is_past i.is_falling last.0 e.0 ≡ true) (raw values (past i last))
+
+-- what is left of an interval, past a time that was given last, if one was
+abbrev pub left_past : Values → Interval → Option Moment → Values
+left_past values i None = raw values i
+left_past values i (Some last) = raw values (past i last)
+
+-- In an unchanged history the next page begins with what follows this one
+abbrev pub NextIsWhatFollows : Type 0
+NextIsWhatFollows = (values : Values) (i : Interval) (size : ℕ) (given : Option Moment) (last : Moment) → IsByTime values →
+    last_given size (left_past values i given) ≡ Some last → raw values (past i last) ≡ drop size (left_past values i given)
+
+abbrev pub joined_past : (Option Moment → Values) → Option Moment → Values
+joined_past further None = []
+joined_past further (Some last) = further (Some last)
+
+-- at most so many pages of an unchanged history, each past the last time of the one before it
+abbrev pub joined : Values → Interval → ℕ → ℕ → Option Moment → Values
+joined values i size zero given = []
+joined values i size (suc pages) given =
+    let left = left_past values i given in
+    shown_of size left ++ joined_past (joined values i size pages) (last_given size left)
+
+-- All pages of an unchanged history joined are its values in the interval, none of them repeated and none skipped, whatever their size
+abbrev pub PagesJoinToAll : Type 0
+PagesJoinToAll = (values : Values) (i : Interval) (size pages : ℕ) (given : Option Moment) → IsByTime values →
+    0 < size → length (left_past values i given) < pages → joined values i size pages given ≡ left_past values i given

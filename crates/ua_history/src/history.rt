@@ -1,0 +1,168 @@
+//! The histories of nodes.
+
+ghost use Rattle.std.specs.Prelude.{◌≡◌, [], length, IfOk, OnOk, OnErr};
+ghost use Rattle.std.specs.Option.{option_copied};
+ghost use Rattle.ua_history.specs.HistoryLaws.{IsByTime};
+ghost use Rattle.ua_history.specs.Intervals.{raw};
+ghost use Rattle.ua_history.specs.Pages.{IsCut};
+ghost use Rattle.ua_history.specs.Histories.{no_histories, kept, kept_in, history_of, value_at as value_at_spec};
+
+use crate::intervals::Interval;
+use crate::pages::{Cut, page};
+use std::alloc::{AllocError, Global};
+use std::collections::BTreeMap;
+use std::marker::Model;
+use ua_types::{Config, Copyable, Listed, Moment, NodeId};
+use ua_values::DataValue;
+
+/// The values of one node, by the times of their source. Contracts see a list, by rising time.
+#[derive(Drop)]
+pub struct NodeHistory {
+    values: BTreeMap<i64, DataValue>,
+}
+
+impl Model for NodeHistory {
+    ghost use Rattle.ua_history.specs.Histories.{Values};
+    ghost use Rattle.std.specs.BTreeMap.{keys};
+    ghost use Rattle.std.specs.List.Sorted.{IsStrictlySortedBy};
+    ghost use Rattle.std.specs.Ordering.{int_cmp};
+
+    ghost Value = { Values };
+
+    ghost view = { λ h. h.values.entries };
+
+    ghost invariant = { λ h. IsStrictlySortedBy int_cmp (keys h.values) };
+}
+
+impl NodeHistory {
+    fn new(alloc: Global) -> NodeHistory
+        ensures { result ≡ [] }
+    {
+        NodeHistory {
+            values: BTreeMap::new(alloc),
+        }
+    }
+
+    fn soundness(&self)
+        ensures { IsByTime self.now }
+    {
+        let _ = &self.values;
+    }
+
+    // One more value, in the place of one that was there at that time. Where it is one too many, the one with the
+    // least time goes.
+    fn keep(&mut self, most: u32, time: i64, value: DataValue) -> Result<(), AllocError>
+        ensures ok { OnOk result (self.new ≡ kept_in most time value self.old) }
+        ensures err { OnErr result (self.new ≡ self.old) }
+    {
+        self.values.insert(time, value)?;
+        if self.values.len() > most as usize {
+            self.values.pop_first();
+        }
+        Ok(())
+    }
+}
+
+/// The values that variables had, by the times of their sources.
+///
+/// Contracts see a record: the most values of a node, and under each id that node's values by rising time.
+#[derive(Drop)]
+pub struct History {
+    // How many values of a node are kept at most.
+    most: u32,
+    nodes: BTreeMap<NodeId, NodeHistory>,
+}
+
+impl Model for History {
+    ghost use Rattle.ua_history.specs.Histories.{HistoryState};
+
+    ghost Value = { HistoryState };
+
+    ghost view = { λ h. record { most = h.most; nodes = h.nodes.entries } };
+}
+
+impl History {
+    /// Nothing was kept yet, under this configuration. Takes no memory.
+    pub fn new(alloc: Global, config: &Config) -> History
+        ensures { result ≡ no_histories config.now }
+    {
+        History {
+            most: config.history,
+            nodes: BTreeMap::new(alloc),
+        }
+    }
+
+    /// Keeps a value of a node by its source's time. One that has none isn't kept.
+    ///
+    /// A value that was kept for that time is replaced. Where the node has more values than may be kept, the one
+    /// with the least time is dropped, be it the new one. A value that is later than all others, as usual, shifts
+    /// none of them. At an `Err` nothing changed.
+    pub fn keep(&mut self, alloc: Global, node: &NodeId, value: DataValue) -> Result<(), AllocError>
+        ensures ok { OnOk result (self.new ≡ kept self.old node.now value) }
+        ensures err { OnErr result (self.new ≡ self.old) }
+    {
+        let Some(time) = value.source_time else {
+            return Ok(());
+        };
+        if let Some(values) = self.nodes.get_mut(node) {
+            return values.keep(self.most, time.0, value);
+        }
+        let mut values = NodeHistory::new(alloc);
+        values.keep(self.most, time.0, value)?;
+        self.nodes.insert(node.copy(alloc)?, values)?;
+        Ok(())
+    }
+
+    /// Says that the times of a node's history rise. It does nothing.
+    #[tactic(auto, using(crate::proofs::Keeping::none_by_time))]
+    pub fn soundness(&self, node: &NodeId)
+        ensures { IsByTime (history_of node.now self.now) }
+    {
+        match self.nodes.get(node) {
+            None => {}
+            Some(values) => values.soundness(),
+        }
+    }
+
+    /// How many values of a node are kept.
+    pub fn len(&self, node: &NodeId) -> usize
+        ensures { result ≡ length (history_of node.now self.now) }
+    {
+        match self.nodes.get(node) {
+            None => 0,
+            Some(values) => values.values.len(),
+        }
+    }
+
+    /// The value of a node that is kept for this time, found in logarithmic time.
+    pub fn value_at(&self, node: &NodeId, time: Moment) -> Option<&DataValue>
+        ensures { option_copied result ≡ value_at_spec time.0 (history_of node.now self.now) }
+    {
+        match self.nodes.get(node) {
+            None => None,
+            Some(values) => values.values.get(&time.0),
+        }
+    }
+
+    /// The first values of a node in an interval, in its order, each where it stands. They are found in logarithmic
+    /// time, and no more than one of the others is looked at. Where more are left, [`Interval::past`] the last one's
+    /// time has them.
+    #[tactic(auto, using(crate::proofs::Between::none_raw))]
+    pub fn read<'a>(
+        &'a self,
+        alloc: Global,
+        node: &NodeId,
+        interval: Interval,
+        count: u32,
+    ) -> Result<Cut<'a>, AllocError>
+        ensures { IfOk result (λ cut. IsCut cut count (raw (history_of node.now self.now) interval)) }
+    {
+        match self.nodes.get(node) {
+            None => Ok(Cut {
+                values: Listed::new(alloc),
+                is_more: false,
+            }),
+            Some(values) => page(alloc, &values.values, interval, count),
+        }
+    }
+}

@@ -1,0 +1,27 @@
+//! What follows from the definitions of keeping and of reading. The laws have no code: their contracts state them.
+
+ghost use Rattle.ua_history.specs.HistoryLaws.{KeepsWithinBounds, GoesPastTheLast, NextIsWhatFollows, PagesJoinToAll};
+
+/// No more values of a node are kept than may be.
+#[tactic(auto, using(crate::proofs::Keeping::keeps_within_bounds))]
+pub fn keeps_within_bounds()
+    ensures { KeepsWithinBounds }
+{}
+
+/// The times of a page lie past the last one that was given before it.
+#[tactic(auto, using(crate::proofs::PagingLemmas::goes_past_the_last))]
+pub fn goes_past_the_last()
+    ensures { GoesPastTheLast }
+{}
+
+/// In an unchanged history the next page begins with what follows this one.
+#[tactic(auto, using(crate::proofs::PagingLemmas::next_is_what_follows))]
+pub fn next_is_what_follows()
+    ensures { NextIsWhatFollows }
+{}
+
+/// All pages of an unchanged history joined are its values in the interval: none is repeated, and none is skipped.
+#[tactic(auto, using(crate::proofs::PagingLemmas::pages_join_to_all))]
+pub fn pages_join_to_all()
+    ensures { PagesJoinToAll }
+{}

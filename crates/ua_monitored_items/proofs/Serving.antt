@@ -1,0 +1,141 @@
+-- Entries that are served one after the other.
+use Rattle.std.proofs.Common.{◌≡◌, List, [], ◌∷◌, ◌++◌, Result, Ok, Err, append_assoc, refl, sym, ap, ◌∙◌, ℕ, zero, suc, ◌<◌, ◌-◌, arith, map, take, drop, length, get_or, Option, Some, None, append-nil, Bool, true, false, cond, leb}
+use Rattle.std.proofs.lemmas.Bool.{leb-false}
+use Rattle.std.proofs.lemmas.List.Sums.{fold-append}
+use Rattle.std.proofs.lemmas.List.Concat.{flat_map-cons}
+use Rattle.std.specs.Prelude.{flat_map, fold}
+use Rattle.ua_values.specs.declared.data_value.DataValue.{DataValue}
+use Rattle.ua_monitored_items.specs.Item.{seen, gave, notes_of, waiting_in}
+use Rattle.ua_monitored_items.specs.Sampling.{visits_by}
+use Rattle.std.specs.Result.{OnErr}
+use Rattle.ua_monitored_items.specs.ItemTables.{Numbered, item_at, with_item}
+use Rattle.ua_monitored_items.specs.Items.{ItemsState, One, Served, nothing_served, with_one, all_served, Visit, visited, sampled_items, VisitedSome, Taking, nat_least, taken_from, with_taken, nothing_taken, taken_of}
+use Rattle.ua_monitored_items.specs.declared.item.Item.{Item}
+use Rattle.ua_monitored_items.proofs.Edits.{set_same}
+use Rattle.std.specs.BTreeMap.{is_at}
+use Rattle.std.specs.Ordering.{nat_cmp}
+
+pub on_any : {T E P : Type 0} (r : Result T E) → P → OnErr r P
+on_any (Ok x) p = tt
+on_any (Err e) p = p
+
+module _ {A R : Type 0} (serve : ItemsState → A → One R) (s : ItemsState) (xs : List A) (x : A) where
+  whole : all_served serve s (xs ++ x ∷ []) ≡ with_one serve (all_served serve s xs) x
+  whole = fold-append (with_one serve) (nothing_served s) xs (x ∷ [])
+
+  pub results_more : (all_served serve s (xs ++ x ∷ [])).results ≡ (all_served serve s xs).results ++ (serve (all_served serve s xs).state x).result ∷ []
+  results_more = ap (λ (w : Served R). w.results) whole
+
+  pub state_more : (all_served serve s (xs ++ x ∷ [])).state ≡ (serve (all_served serve s xs).state x).state
+  state_more = ap (λ (w : Served R). w.state) whole
+
+-- one more entry is served, from the state that the others left
+module _ {A R : Type 0} (serve : ItemsState → A → One R) (old mid : ItemsState) (front : List A) (x : A) where
+  pub results_then : (results : List R) (result : R) → results ≡ (all_served serve old front).results → mid ≡ (all_served serve old front).state → result ≡ (serve mid x).result
+      → results ++ result ∷ [] ≡ (all_served serve old (front ++ x ∷ [])).results
+  results_then results result are left is =
+      ap (λ (rs : List R). rs ++ result ∷ []) are
+      ∙ ap (λ (r : R). (all_served serve old front).results ++ r ∷ []) (is ∙ ap (λ (s : ItemsState). (serve s x).result) left)
+      ∙ sym (results_more serve old front x)
+
+  pub state_then : (new : ItemsState) → mid ≡ (all_served serve old front).state → new ≡ (serve mid x).state → new ≡ (all_served serve old (front ++ x ∷ [])).state
+  state_then new left is = is ∙ ap (λ (s : ItemsState). (serve s x).state) left ∙ sym (state_more serve old front x)
+
+-- ---- visits
+
+pub sampled_more : (items : Numbered) (front : List Visit) (back : List Visit) → sampled_items items (front ++ back) ≡ sampled_items (sampled_items items front) back
+sampled_more items front back = fold-append visited items front back
+
+-- some of the visits that come after others
+pub visited_after : (old mid new : Numbered) (front some all : List Visit) (rest : List Visit) → mid ≡ sampled_items old front → front ++ (some ++ rest) ≡ all → VisitedSome mid new some → VisitedSome old new all
+visited_after old mid new front some all rest is split (made, left, joined, then) =
+    let inner : made ++ (left ++ rest) ≡ some ++ rest = sym (append_assoc made left rest) ∙ ap (λ (vs : List Visit). vs ++ rest) joined in (
+      front ++ made,
+      left ++ rest,
+      append_assoc front made (left ++ rest) ∙ ap (λ (vs : List Visit). front ++ vs) inner ∙ split,
+      then ∙ ap (λ (m : Numbered). sampled_items m made) is ∙ sym (sampled_more old front made),
+    )
+
+fold_map_more : {A B S : Type 0} (f : S → B → S) (h : A → B) (s : S) (xs : List A) (x : A) → fold f s (map h (xs ++ x ∷ [])) ≡ f (fold f s (map h xs)) (h x)
+fold_map_more f h s [] x = refl
+fold_map_more f h s (y ∷ ys) x = fold_map_more f h (f s (h y)) ys x
+
+map_split : {A B : Type 0} (h : A → B) (xs ys : List A) → map h xs ++ map h ys ≡ map h (xs ++ ys)
+map_split h [] ys = refl
+map_split h (x ∷ xs) ys = ap (λ zs. h x ∷ zs) (map_split h xs ys)
+
+module _ (items : Numbered) (value : DataValue) (front : List ℕ) (number : ℕ) where
+  pub visits_more : sampled_items items (visits_by value (front ++ number ∷ [])) ≡ with_item number (seen value) (sampled_items items (visits_by value front))
+  visits_more = fold_map_more visited (λ n. record { number = n; value = value }) items front number
+
+  pub visits_before : (rest all : List ℕ) (new mid : Numbered) → front ++ number ∷ rest ≡ all → mid ≡ sampled_items items (visits_by value front) → new ≡ mid → VisitedSome items new (visits_by value all)
+  visits_before rest all new mid split is same =
+      (visits_by value front, visits_by value (number ∷ rest), map_split (λ n. record { number = n; value = value }) front (number ∷ rest) ∙ ap (visits_by value) split, same ∙ is)
+
+flat_split : {A B : Type 0} (f : A → List B) (xs ys : List A) (x : A) → flat_map f xs ++ (f x ++ flat_map f ys) ≡ flat_map f (xs ++ x ∷ ys)
+flat_split f [] ys x = sym (flat_map-cons f x ys)
+flat_split f (z ∷ zs) ys x =
+    ap (λ bs. bs ++ (f x ++ flat_map f ys)) (flat_map-cons f z zs) ∙ append_assoc (f z) (flat_map f zs) (f x ++ flat_map f ys)
+    ∙ ap (λ bs. f z ++ bs) (flat_split f zs ys x) ∙ sym (flat_map-cons f z (zs ++ x ∷ ys))
+
+-- ---- what a message takes
+
+pub taken_more : (items : Numbered) (n : ℕ) (front : List ℕ) (number : ℕ) → taken_of items n (front ++ number ∷ []) ≡ with_taken (taken_of items n front) number
+taken_more items n front number = fold-append with_taken (nothing_taken items n) front (number ∷ [])
+
+-- ---- entries of a slice
+
+split_at : {A : Type 0} (xs : List A) (i : ℕ) (x : A) → i < length xs → x ≡ get_or xs i x → take i xs ++ x ∷ drop (suc i) xs ≡ xs
+split_at [] i x less is = absurd (omega (arith, less))
+split_at (y ∷ ys) zero x less is = ap (λ z. z ∷ ys) is
+split_at (y ∷ ys) (suc i) x less is = ap (λ zs. y ∷ zs) (split_at ys i x (omega (arith, less)) is)
+
+pub flat_at : {A B : Type 0} (f : A → List B) (xs : List A) (i : ℕ) (x : A) → i < length xs → x ≡ get_or xs i x → flat_map f (take i xs) ++ (f x ++ flat_map f (drop (suc i) xs)) ≡ flat_map f xs
+flat_at f xs i x less here = flat_split f (take i xs) (drop (suc i) xs) x ∙ ap (flat_map f) (split_at xs i x less here)
+
+-- ---- what a message takes, item after item
+
+taking_is : (t u : Taking) → u.notes ≡ t.notes → u.items ≡ t.items → u.left ≡ t.left → u ≡ t
+taking_is t u notes items left = rw (notes, items, left) refl
+
+pub took_more : (items : Numbered) (n : ℕ) (front : List ℕ) (number : ℕ) (before after : Taking) → before ≡ taken_of items n front
+    → after.notes ≡ (with_taken before number).notes → after.items ≡ (with_taken before number).items → after.left ≡ (with_taken before number).left → after ≡ taken_of items n (front ++ number ∷ [])
+took_more items n front number before after is notes its left =
+    taking_is (with_taken before number) after notes its left ∙ ap (λ (t : Taking). with_taken t number) is ∙ sym (taken_more items n front number)
+
+-- nothing is wanted any more
+least_zero : (w : ℕ) → nat_least 0 w ≡ 0
+least_zero w = by (leb 0 w) refl
+  where
+    by : (b : Bool) → leb 0 w ≡ b → cond b 0 w ≡ 0
+    by true e = refl
+    by false e = omega (arith, leb-false 0 w e)
+
+gave_nothing : (t : Taking) (number k : ℕ) (item : Item) → item_at number t.items ≡ Some item → k ≡ 0
+    → record { notes = t.notes ++ take k (notes_of item); items = with_item number (gave k) t.items; left = t.left - k } ≡ t
+gave_nothing t number k item found none =
+    let notes : t.notes ++ take k (notes_of item) ≡ t.notes = rw none (append-nil t.notes) in
+    let items : with_item number (gave k) t.items ≡ t.items = rw (none, found) (set_same (is_at (nat_cmp number)) t.items item found) in
+    let left : t.left - k ≡ t.left = omega (arith, none) in
+    taking_is t _ notes items left
+
+one_full : (t : Taking) (number : ℕ) → t.left ≡ 0 → with_taken t number ≡ t
+one_full t number none = by (item_at number t.items) refl
+  where
+    by : (found : Option Item) → item_at number t.items ≡ found → taken_from t number found ≡ t
+    by None e = refl
+    by (Some item) e = gave_nothing t number (nat_least t.left (waiting_in item)) item e (ap (λ (l : ℕ). nat_least l (waiting_in item)) none ∙ least_zero (waiting_in item))
+
+all_full : (t : Taking) (numbers : List ℕ) → t.left ≡ 0 → fold with_taken t numbers ≡ t
+all_full t [] none = refl
+all_full t (n ∷ ns) none = ap (λ (u : Taking). fold with_taken u ns) (one_full t n none) ∙ all_full t ns none
+
+pub taken_full : (items : Numbered) (n : ℕ) (front rest all : List ℕ) (before : Taking) → front ++ rest ≡ all → before ≡ taken_of items n front → before.left ≡ 0 → taken_of items n all ≡ before
+taken_full items n front rest all before split is none =
+    ap (taken_of items n) (sym split) ∙ fold-append with_taken (nothing_taken items n) front rest
+    ∙ ap (λ (t : Taking). fold with_taken t rest) (sym is) ∙ all_full before rest none
+
+pub taken_end : (items : Numbered) (n : ℕ) (front rest all : List ℕ) (before : Taking) → front ++ rest ≡ all → before ≡ taken_of items n front → rest ≡ [] → taken_of items n all ≡ before
+taken_end items n front rest all before split is none =
+    let same : all ≡ front = sym split ∙ ap (λ (ns : List ℕ). front ++ ns) none ∙ append-nil front in
+    ap (taken_of items n) same ∙ sym is

@@ -1,0 +1,12 @@
+use Rattle.std.proofs.Common.{◌≡◌, ◌≤◌, ◌+◌, length, take}
+use Rattle.std.specs.Vec.{vec_len, vec_capacity}
+use Rattle.ua_monitored_items.specs.Items.{modify_one, all_served}
+use Rattle.ua_monitored_items.proofs.items.Items.modify.Given as goal
+
+-- what was taken so far is served, and there is room for the results of the rest
+abbrev pub invariant-loop-index : goal.invariant-loop-index
+invariant-loop-index l = record {
+  results : l.results.items ≡ (all_served (modify_one l.subscription l.timestamps) l.fn.self (take l.index l.requests)).results;
+  state : l.self ≡ (all_served (modify_one l.subscription l.timestamps) l.fn.self (take l.index l.requests)).state;
+  room : vec_len l.results + length l.requests ≤ vec_capacity l.results + l.index;
+}

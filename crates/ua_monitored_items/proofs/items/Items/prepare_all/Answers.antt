@@ -1,0 +1,28 @@
+use Rattle.std.proofs.Common.{◌∷◌, [], ◌++◌, List, ℕ, map, take, ap, sym, subst, ◌∙◌}
+use Rattle.std.proofs.lemmas.List.{map-append, take_more}
+use Rattle.ua_monitored_items.specs.Items.{own_item}
+use Rattle.ua_monitored_items.specs.Preparing.{IsReady, AreReady}
+use Rattle.ua_monitored_items.specs.declared.preparing.Prepared.{Prepared}
+use Rattle.ua_monitored_items.proofs.Readiness.{ready_more}
+use Rattle.ua_monitored_items.proofs.items.Items.prepare_all.Goals as goal
+
+pub loop-number-preserved : goal.loop-number-preserved
+loop-number-preserved c =
+    let es = c.loop-number.entries.items in
+    let e = c.in_ok-prepared.prepared in
+    let xs = c.args.numbers.now in
+    let i = c.loop-number.number-index in
+    let nodes = c.args.space.now.nodes in
+    let number = λ (p : Prepared). p.number in
+    record {
+      numbers =
+          ap (map number) c.in_ok-push.ensures.items
+          ∙ map-append number es (e ∷ [])
+          ∙ ap (λ (ns : List ℕ). ns ++ e.number ∷ []) c.loop-number.invariant.numbers
+          ∙ ap (λ (n : ℕ). take i xs ++ n ∷ []) c.in_ok-prepared.ensures.number
+          ∙ sym (take_more xs i 0 c.loop-number-test.true);
+      ready =
+          subst (AreReady nodes c.args.clock c.args.subscription c.args.mode c.args.self.now) (sym c.in_ok-push.ensures.items)
+          (ready_more nodes c.args.clock c.args.mode c.args.subscription c.args.self.now es e c.loop-number.invariant.ready
+          (subst (λ (n : ℕ). IsReady nodes c.args.clock c.args.mode (own_item c.args.self.now c.args.subscription n) e.first) (sym c.in_ok-prepared.ensures.number) c.in_ok-prepared.ensures.ready));
+    }

@@ -1,0 +1,11 @@
+use Rattle.std.proofs.Common.{◌≡◌, map, take}
+use Rattle.ua_monitored_items.specs.Preparing.{AreReady}
+use Rattle.ua_monitored_items.specs.declared.preparing.Prepared.{Prepared}
+use Rattle.ua_monitored_items.proofs.items.Items.prepare_all.Given as goal
+
+-- the entries so far are prepared
+abbrev pub invariant-loop-number : goal.invariant-loop-number
+invariant-loop-number l = record {
+  numbers : map (λ (e : Prepared). e.number) l.entries.items ≡ take l.number-index l.numbers;
+  ready : AreReady l.space.nodes l.clock l.subscription l.mode l.self l.entries.items;
+}

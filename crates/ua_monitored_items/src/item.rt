@@ -1,0 +1,281 @@
+//! A monitored item.
+
+ghost use Rattle.std.specs.Vec.{vec_len, vec_capacity};
+ghost use Rattle.std.specs.Prelude.{◌≡◌, ◌≤◌, ◌<◌, ◌+◌, ◌++◌, take, length, OnOk, OnErr, IfOk};
+ghost use Rattle.std.specs.Option.{option_copied};
+ghost use Rattle.ua_monitored_items.specs.Item.{is_change_since as is_change_since_spec, takes as takes_spec, queued, seen, reading, modified, revised_size as revised_size_spec, gave, notes_of, waiting_in, time_if, marked_status, shown, note_of};
+ghost use Rattle.ua_monitored_items.specs.Preparing.{IsFirstSample, Fits, moded_from};
+
+use crate::kinds::{Mode, Trigger};
+use crate::preparing::FirstSample;
+use std::alloc::{AllocError, Global};
+use ua_item_queue::{Entry, ItemQueue};
+use ua_read_write::{Timestamps, sample};
+use ua_space::Space;
+use ua_subscription_messages::{MonitoredItemNotification, MonitoringParameters};
+use ua_types::{Copyable, Moment, NodeId, Status};
+use ua_values::DataValue;
+
+/// The Overflow bit, and that the information bits of a status are those of a data value
+/// (IEC 62541-4, section 7, "StatusCode").
+const OVERFLOW: u32 = 0x480;
+
+/// A monitored item: whose it is, what it watches, how, and the values that wait.
+pub struct Item {
+    /// The number of its subscription.
+    pub subscription: u32,
+
+    /// The node that it watches.
+    pub node_id: NodeId,
+
+    /// The number of the attribute that it watches, as 13 for the value.
+    pub attribute_id: u32,
+
+    /// The client's number of the item. It and `timestamps` are those of the last call that set them, and
+    /// are applied when a message is made.
+    pub client_handle: u32,
+
+    /// Which times are sent.
+    pub timestamps: Timestamps,
+
+    pub mode: Mode,
+
+    /// Which changes are queued.
+    pub trigger: Trigger,
+
+    /// The values that wait, with both times as they were read.
+    pub queue: ItemQueue<DataValue>,
+
+    /// The last value that was queued, without a mark. None until the item is enabled first.
+    pub last: Option<DataValue>,
+}
+
+// Written out, so that a proof sees a drop as one call and not as its cases.
+impl Drop for Item {
+    fn drop(self) {
+        let Item {
+            subscription: _,
+            node_id: _,
+            attribute_id: _,
+            client_handle: _,
+            timestamps: _,
+            mode: _,
+            trigger: _,
+            queue: _,
+            last: _,
+        } = self;
+    }
+}
+
+/// How many values a queue may hold, where so many were asked for.
+pub(crate) fn revised_size(longest: u32, asked: u32) -> u32
+    requires { 1 ≤ longest }
+    ensures size { result ≡ revised_size_spec longest asked }
+    ensures some { 1 ≤ result }
+{
+    if asked == 0 {
+        1
+    } else if asked <= longest {
+        asked
+    } else {
+        longest
+    }
+}
+
+fn time_if(wanted: bool, time: Option<Moment>) -> Option<Moment>
+    ensures { result ≡ time_if wanted time }
+{
+    if wanted { time } else { None }
+}
+
+fn marked_status(marked: bool, status: Status) -> Status
+    ensures { result ≡ marked_status marked status }
+{
+    if marked {
+        Status(status.0 | OVERFLOW)
+    } else {
+        status
+    }
+}
+
+// A value as a client is told it.
+fn note(
+    client_handle: u32,
+    timestamps: Timestamps,
+    entry: Entry<DataValue>,
+) -> MonitoredItemNotification
+    ensures { result ≡ note_of client_handle timestamps entry }
+{
+    let Entry { value, marked } = entry;
+    let status = marked_status(marked, value.status);
+    let source_time = time_if(timestamps.has_source(), value.source_time);
+    let server_time = time_if(timestamps.has_server(), value.server_time);
+    MonitoredItemNotification {
+        client_handle,
+        value: DataValue {
+            value: value.into_value(),
+            status,
+            source_time,
+            server_time,
+        },
+    }
+}
+
+// Whether a trigger sees a change since the last value that was queued.
+fn is_change_since(trigger: Trigger, last: Option<&DataValue>, value: &DataValue) -> bool
+    ensures { result ≡ is_change_since_spec trigger (option_copied last.entry) value.now }
+{
+    match last {
+        None => true,
+        Some(last) => trigger.is_change(last, value),
+    }
+}
+
+impl Item {
+    // Whether it queues a value that was written.
+    fn takes(&self, value: &DataValue) -> bool
+        ensures { result ≡ takes_spec self.now value.now }
+    {
+        self.mode.is_enabled() && is_change_since(self.trigger, self.last.as_ref(), value)
+    }
+
+    // Queues a value. At an `Err` nothing changed.
+    pub(crate) fn queue_value(&mut self, alloc: Global, value: DataValue) -> Result<(), AllocError>
+        ensures ok { OnOk result (self.new ≡ queued value self.old) }
+        ensures err { OnErr result (self.new ≡ self.old) }
+    {
+        let last = value.copy(alloc)?;
+        self.queue.sample(value)?;
+        self.last = Some(last);
+        Ok(())
+    }
+
+    // Queues what stands. At an `Err` nothing changed.
+    pub(crate) fn queue_reading(
+        &mut self,
+        alloc: Global,
+        space: &Space,
+        clock: Moment,
+    ) -> Result<(), AllocError>
+        ensures ok { OnOk result (self.new ≡ queued (reading space.now.nodes clock self.old) self.old) }
+        ensures err { OnErr result (self.new ≡ self.old) }
+    {
+        let value = sample(alloc, space, clock, &self.node_id, self.attribute_id)?;
+        self.queue_value(alloc, value)
+    }
+
+    // Sees a value that was written. At an `Err` nothing changed.
+    pub(crate) fn see(&mut self, alloc: Global, value: &DataValue) -> Result<(), AllocError>
+        ensures ok { OnOk result (self.new ≡ seen value.now self.old) }
+        ensures err { OnErr result (self.new ≡ self.old) }
+    {
+        if self.takes(value) {
+            let value = value.copy(alloc)?;
+            self.queue_value(alloc, value)?;
+        }
+        Ok(())
+    }
+
+    // Gets other parameters. Takes no memory.
+    pub(crate) fn modify(
+        &mut self,
+        longest: u32,
+        timestamps: Timestamps,
+        trigger: Trigger,
+        parameters: &MonitoringParameters,
+    )
+        requires { 1 ≤ longest }
+        ensures { self.new ≡ modified longest timestamps trigger parameters.now self.old }
+    {
+        let size = revised_size(longest, parameters.queue_size);
+        self.client_handle = parameters.client_handle;
+        self.timestamps = timestamps;
+        self.trigger = trigger;
+        self.queue.resize(size as usize, parameters.discard_oldest);
+    }
+
+    // What it queues if it is enabled now.
+    pub(crate) fn first_sample(
+        &self,
+        alloc: Global,
+        space: &Space,
+        clock: Moment,
+    ) -> Result<FirstSample, AllocError>
+        ensures { IfOk result (λ first. IsFirstSample space.now.nodes clock self.now first) }
+    {
+        let value = sample(alloc, space, clock, &self.node_id, self.attribute_id)?;
+        let room = self.queue.room(alloc)?;
+        Ok(FirstSample {
+            last: value.copy(alloc)?,
+            value,
+            room,
+        })
+    }
+
+    // Queues what was sampled for it. Takes no memory.
+    fn begin(&mut self, first: FirstSample)
+        requires same { first.last ≡ first.value }
+        requires room { length self.old.queue.entries < first.room }
+        ensures { self.new ≡ queued first.value self.old }
+    {
+        let FirstSample { value, last, room } = first;
+        self.queue.sample_within(value, room);
+        self.last = Some(last);
+    }
+
+    // Gets a mode, and queues what was sampled for it where that enables it. Takes no memory.
+    pub(crate) fn set_mode(&mut self, mode: Mode, first: Option<FirstSample>)
+        requires { Fits mode self.old first }
+        ensures { self.new ≡ moded_from mode first self.old }
+    {
+        if !mode.is_enabled() {
+            self.queue.clear();
+            self.mode = Mode::Disabled;
+            return;
+        }
+        if let Some(first) = first {
+            if !self.mode.is_enabled() {
+                self.begin(first);
+            }
+        }
+        self.mode = mode;
+    }
+
+    // How many of its values wait to be sent.
+    pub(crate) fn waiting(&self) -> usize
+        ensures { result ≡ waiting_in self.now }
+    {
+        if self.mode.is_reporting() {
+            self.queue.len()
+        } else {
+            0
+        }
+    }
+
+    // Gives its oldest value, if there is one.
+    #[tactic(auto, using(crate::proofs::Firsts::first_taken))]
+    fn give_one(&mut self, notes: &mut Vec<MonitoredItemNotification>)
+        requires { vec_len notes.old < vec_capacity notes.old }
+        ensures gave { self.new ≡ gave 1 self.old }
+        ensures notes { notes.new.items ≡ notes.old.items ++ take 1 (notes_of self.old) }
+        ensures len { vec_len notes.new ≤ vec_len notes.old + 1 }
+        ensures room { vec_capacity notes.new ≡ vec_capacity notes.old }
+    {
+        if let Some(entry) = self.queue.take_oldest() {
+            notes.push_reserved(note(self.client_handle, self.timestamps, entry));
+        }
+    }
+
+    // Gives its oldest values, so many. Takes no memory, since there is room for them.
+    pub(crate) fn give(&mut self, count: usize, notes: &mut Vec<MonitoredItemNotification>)
+        requires { vec_len notes.old + count ≤ vec_capacity notes.old }
+        ensures gave { self.new ≡ gave count self.old }
+        ensures notes { notes.new.items ≡ notes.old.items ++ take count (notes_of self.old) }
+        ensures len { vec_len notes.new ≤ vec_len notes.old + count }
+        ensures room { vec_capacity notes.new ≡ vec_capacity notes.old }
+    {
+        for _ in 0..count {
+            self.give_one(notes);
+        }
+    }
+}

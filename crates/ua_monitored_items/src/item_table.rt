@@ -1,0 +1,335 @@
+//! Items under their numbers, with an index of the subscriptions and one of the nodes.
+
+ghost use Rattle.std.specs.Prelude.{◌≡◌, ◌<◌, ◌-◌, ◌+◌, ◌^◌, ◌≤◌, [], ◌∷◌, ◌++◌, length, flat_map, if◌then◌else◌, OnOk, OnErr, IfOk, IfErr, IfSome};
+ghost use Rattle.std.specs.BTreeMap.{is_at, insert_entry};
+ghost use Rattle.std.specs.Map.{remove_entry};
+ghost use Rattle.std.specs.Option.{option_copied, option_map};
+ghost use Rattle.std.specs.Ordering.{nat_cmp};
+ghost use Rattle.ua_types.specs.NodeIdOrder.{id_cmp};
+ghost use Rattle.ua_monitored_items.specs.Item.{modified};
+ghost use Rattle.ua_monitored_items.specs.ItemTables.{TableState, item_at, numbers_of, is_of, is_on, with_item, IsPut, IsTakenOut, IsPutBack, IsKept, IsOwn};
+ghost use Rattle.ua_monitored_items.specs.Items.{without_all, all_visits, sampled_items, VisitedSome, any_waits, taken_of, first_number};
+ghost use Rattle.ua_monitored_items.specs.Preparing.{FitsAt, moded_from};
+
+use crate::index::{Index, put_in, take_out};
+use crate::item::Item;
+use crate::kinds::{Mode, Trigger};
+use crate::preparing::FirstSample;
+use crate::sampling::sample_all;
+use crate::taking::{any_waits, take_all};
+use std::alloc::{AllocError, AllocFailed, Global};
+use std::collections::BTreeMap;
+use std::marker::Model;
+use ua_read_write::{Change, Timestamps};
+use ua_space::Space;
+use ua_subscription_messages::{MonitoredItemNotification, MonitoringParameters};
+use ua_types::{Copyable, Moment, NodeId};
+
+/// The number of the attribute Value.
+const VALUE: u32 = 13;
+
+/// The items of a server under their numbers, and the number of the last one that was made.
+///
+/// An item is found by its number in logarithmic time; so are the numbers of a subscription's items, and
+/// those of the items of a node's value, each as an ordered set.
+#[derive(Drop)]
+pub struct ItemTable {
+    made: u32,
+    items: BTreeMap<u32, Item>,
+    of_subscription: Index<u32>,
+    on_node: Index<NodeId>,
+}
+
+impl Model for ItemTable {
+    ghost use Rattle.ua_monitored_items.specs.ItemTables.{TableState, IsTable};
+
+    ghost Value = { TableState };
+
+    ghost view = { λ t. record { made = t.made; items = t.items.entries } };
+
+    ghost invariant = { λ t. IsTable t.made t.items.entries t.of_subscription t.on_node };
+}
+
+fn put_node(
+    alloc: Global,
+    on_node: &mut Index<NodeId>,
+    id: &NodeId,
+    number: u32,
+) -> Result<(), AllocError>
+    ensures ok { OnOk result (IsPut id_cmp on_node.old on_node.new (is_at (id_cmp id.now)) number) }
+    ensures err { OnErr result (IsKept id_cmp on_node.old on_node.new) }
+{
+    let key = id.copy(alloc)?;
+    put_in(alloc, on_node, key, number)
+}
+
+// The indexes lead to an item with this number. At an `Err` they lead where they led.
+fn index_item(
+    alloc: Global,
+    of_subscription: &mut Index<u32>,
+    on_node: &mut Index<NodeId>,
+    number: u32,
+    item: &Item,
+) -> Result<(), AllocError>
+    ensures subscriptions { OnOk result (IsPut nat_cmp of_subscription.old of_subscription.new (λ q. is_of q item.now) number) }
+    ensures nodes { OnOk result (IsPut id_cmp on_node.old on_node.new (λ id. is_on id item.now) number) }
+    ensures err_subscriptions { OnErr result (IsPutBack nat_cmp of_subscription.old of_subscription.new number) }
+    ensures err_nodes { OnErr result (IsPutBack id_cmp on_node.old on_node.new number) }
+{
+    put_in(alloc, of_subscription, item.subscription, number)?;
+    if item.attribute_id != VALUE {
+        return Ok(());
+    }
+    match put_node(alloc, on_node, &item.node_id, number) {
+        Ok(()) => Ok(()),
+        Err(error) => {
+            take_out(of_subscription, &item.subscription, number);
+            Err(error)
+        }
+    }
+}
+
+// The indexes lead to the item with this number no more.
+fn unindex_item(
+    of_subscription: &mut Index<u32>,
+    on_node: &mut Index<NodeId>,
+    number: u32,
+    item: &Item,
+)
+    ensures subscriptions { IsTakenOut nat_cmp of_subscription.old of_subscription.new (λ q. is_of q item.now) number }
+    ensures nodes { IsTakenOut id_cmp on_node.old on_node.new (λ id. is_on id item.now) number }
+{
+    take_out(of_subscription, &item.subscription, number);
+    if item.attribute_id == VALUE {
+        take_out(on_node, &item.node_id, number);
+    }
+}
+
+// Puts an item under its number. At an `Err` nothing changed, and the item comes back.
+fn insert_item(items: &mut BTreeMap<u32, Item>, number: u32, item: Item) -> Result<(), Item>
+    ensures ok { OnOk result (items.new.entries ≡ insert_entry nat_cmp items.old.entries number item) }
+    ensures back { IfErr result (λ back. back ≡ item) }
+    ensures err { OnErr result (items.new.entries ≡ items.old.entries) }
+{
+    match items.insert(number, item) {
+        Ok(_) => Ok(()),
+        Err(AllocFailed { value: (_, item) }) => Err(item),
+    }
+}
+
+fn modify_at(
+    items: &mut BTreeMap<u32, Item>,
+    number: u32,
+    longest: u32,
+    timestamps: Timestamps,
+    trigger: Trigger,
+    parameters: &MonitoringParameters,
+)
+    requires { 1 ≤ longest }
+    ensures { items.new.entries ≡ with_item number (modified longest timestamps trigger parameters.now) items.old.entries }
+{
+    if let Some(item) = items.get_mut(&number) {
+        item.modify(longest, timestamps, trigger, parameters);
+    }
+}
+
+fn set_mode_at(items: &mut BTreeMap<u32, Item>, number: u32, mode: Mode, first: Option<FirstSample>)
+    requires { FitsAt mode (item_at number items.old.entries) first }
+    ensures { items.new.entries ≡ with_item number (moded_from mode first) items.old.entries }
+{
+    if let Some(item) = items.get_mut(&number) {
+        item.set_mode(mode, first);
+    }
+}
+
+impl ItemTable {
+    /// No item. Takes no memory.
+    pub fn new(alloc: Global) -> ItemTable
+        ensures { result ≡ record { made = 0; items = [] } }
+    {
+        ItemTable {
+            made: 0,
+            items: BTreeMap::new(alloc),
+            of_subscription: BTreeMap::new(alloc),
+            on_node: BTreeMap::new(alloc),
+        }
+    }
+
+    /// The number of the last item that was made, 0 before the first.
+    pub fn made(&self) -> u32
+        ensures { result ≡ self.now.made }
+    {
+        self.made
+    }
+
+    /// The item with this number.
+    pub fn get(&self, number: u32) -> Option<&Item>
+        ensures { option_copied result ≡ item_at number self.now.items }
+    {
+        self.items.get(&number)
+    }
+
+    /// How many items a subscription has.
+    pub fn count_of(&self, subscription: u32) -> usize
+        ensures { result ≡ length (numbers_of subscription self.now.items) }
+    {
+        match self.of_subscription.get(&subscription) {
+            None => 0,
+            Some(numbers) => numbers.len(),
+        }
+    }
+
+    // The least number of a subscription's items.
+    fn first_of(&self, subscription: u32) -> Option<u32>
+        ensures first { result ≡ first_number (numbers_of subscription self.now.items) }
+        ensures own { IfSome result (λ number. IsOwn subscription number self.now.items) }
+    {
+        let numbers = self.of_subscription.get(&subscription)?;
+        numbers.first().copied()
+    }
+
+    /// One more item, under the next number. At an `Err` nothing changed.
+    pub fn add(&mut self, alloc: Global, item: Item) -> Result<(), AllocError>
+        requires { self.old.made < 2 ^ 32 - 1 }
+        ensures ok { OnOk result (self.new ≡ record { made = self.old.made + 1; items = insert_entry nat_cmp self.old.items (self.old.made + 1) item }) }
+        ensures back { OnOk result (remove_entry (is_at (nat_cmp (self.old.made + 1))) self.new.items ≡ self.old.items) }
+        ensures err { OnErr result (self.new ≡ self.old) }
+    {
+        let number = self.made + 1;
+        index_item(
+            alloc,
+            &mut self.of_subscription,
+            &mut self.on_node,
+            number,
+            &item,
+        )?;
+        match insert_item(&mut self.items, number, item) {
+            Ok(()) => {
+                self.made = number;
+                Ok(())
+            }
+            Err(item) => {
+                unindex_item(&mut self.of_subscription, &mut self.on_node, number, &item);
+                Err(AllocError)
+            }
+        }
+    }
+
+    /// Takes the item with this number out, if there is one. Takes no memory.
+    pub fn remove(&mut self, number: u32)
+        ensures { self.new ≡ record { made = self.old.made; items = remove_entry (is_at (nat_cmp number)) self.old.items } }
+    {
+        if let Some(item) = self.items.remove(&number) {
+            unindex_item(&mut self.of_subscription, &mut self.on_node, number, &item);
+        }
+    }
+
+    /// Takes the item with the last number back, as if no item had had it. Takes no memory.
+    pub fn take_back(&mut self)
+        requires { 0 < self.old.made }
+        ensures { self.new ≡ record { made = self.old.made - 1; items = remove_entry (is_at (nat_cmp self.old.made)) self.old.items } }
+    {
+        let number = self.made;
+        self.remove(number);
+        self.made = number - 1;
+    }
+
+    /// Takes all items of a subscription out. Takes no memory.
+    pub fn remove_all(&mut self, subscription: u32)
+        ensures { self.new ≡ record { made = self.old.made; items = without_all subscription self.old.items } }
+    {
+        let count = self.count_of(subscription);
+        for _ in 0..count {
+            self.remove_first(subscription);
+        }
+        self.forget(subscription);
+    }
+
+    // Takes the first item of a subscription out, if there is one.
+    fn remove_first(&mut self, subscription: u32)
+        ensures made { self.new.made ≡ self.old.made }
+        ensures others { without_all subscription self.new.items ≡ without_all subscription self.old.items }
+        ensures left { length (numbers_of subscription self.new.items) ≡ length (numbers_of subscription self.old.items) - 1 }
+    {
+        if let Some(number) = self.first_of(subscription) {
+            self.remove(number);
+        }
+    }
+
+    // The index has no place any more for a subscription without items.
+    fn forget(&mut self, subscription: u32)
+        requires { numbers_of subscription self.old.items ≡ [] }
+        ensures { self.new ≡ self.old }
+    {
+        let _ = self.of_subscription.remove(&subscription);
+    }
+
+    /// The item with this number gets other parameters. Takes no memory.
+    pub fn modify(
+        &mut self,
+        number: u32,
+        longest: u32,
+        timestamps: Timestamps,
+        trigger: Trigger,
+        parameters: &MonitoringParameters,
+    )
+        requires { 1 ≤ longest }
+        ensures { self.new ≡ record { made = self.old.made; items = with_item number (modified longest timestamps trigger parameters.now) self.old.items } }
+    {
+        modify_at(
+            &mut self.items,
+            number,
+            longest,
+            timestamps,
+            trigger,
+            parameters,
+        );
+    }
+
+    /// The item with this number gets a mode, and queues what was sampled for it where that enables it.
+    /// Takes no memory.
+    pub fn set_mode(&mut self, number: u32, mode: Mode, first: Option<FirstSample>)
+        requires { FitsAt mode (item_at number self.old.items) first }
+        ensures { self.new ≡ record { made = self.old.made; items = with_item number (moded_from mode first) self.old.items } }
+    {
+        set_mode_at(&mut self.items, number, mode, first);
+    }
+
+    /// The items of the nodes that were written see the values, in their order. At an `Err` some have
+    /// seen theirs, from the first on.
+    pub fn sample(&mut self, alloc: Global, changed: &[Change]) -> Result<(), AllocError>
+        ensures made { self.new.made ≡ self.old.made }
+        ensures ok { OnOk result (self.new.items ≡ sampled_items self.old.items (all_visits self.old.items changed.now)) }
+        ensures err { OnErr result (VisitedSome self.old.items self.new.items (all_visits self.old.items changed.now)) }
+    {
+        sample_all(alloc, &mut self.items, &self.on_node, changed)
+    }
+
+    /// Whether a reporting item of a subscription has a value. Takes no memory.
+    pub fn available(&self, subscription: u32) -> bool
+        ensures { result ≡ any_waits self.now.items (numbers_of subscription self.now.items) }
+    {
+        match self.of_subscription.get(&subscription) {
+            None => false,
+            Some(numbers) => any_waits(&self.items, numbers),
+        }
+    }
+
+    /// The first values of a subscription's reporting items, at most so many. At an `Err` nothing changed.
+    pub fn take(
+        &mut self,
+        alloc: Global,
+        subscription: u32,
+        count: usize,
+    ) -> Result<Vec<MonitoredItemNotification>, AllocError>
+        ensures made { self.new.made ≡ self.old.made }
+        ensures notes { IfOk result (λ notes. notes.items ≡ (taken_of self.old.items count (numbers_of subscription self.old.items)).notes) }
+        ensures items { OnOk result (self.new.items ≡ (taken_of self.old.items count (numbers_of subscription self.old.items)).items) }
+        ensures err { OnErr result (self.new ≡ self.old) }
+    {
+        match self.of_subscription.get(&subscription) {
+            None => Ok(Vec::new(alloc)),
+            Some(numbers) => take_all(alloc, &mut self.items, numbers, count),
+        }
+    }
+}

@@ -1,0 +1,540 @@
+//! The monitored items of a server.
+
+ghost use Rattle.std.specs.Prelude.{◌≡◌, ◌++◌, ◌-◌, ◌^◌, ◌<◌, ◌≤◌, false, true, length, map, OnOk, OnErr, IfOk};
+ghost use Rattle.std.specs.Option.{option_copied};
+ghost use Rattle.ua_monitored_items.specs.Item.{modified, moded, revised_size as revised_size_spec};
+ghost use Rattle.ua_monitored_items.specs.ItemTables.{numbers_of};
+ghost use Rattle.ua_monitored_items.specs.Items.{no_items, is_full as is_full_spec, null_object, zero_duration, create_judged, create_one, create_result, create_refused, new_item, begun, with_new_item, own_item, with_change, modify_one, modify_result, modify_refused, mode_one, delete_one, without, ended as ended_spec, all_served, all_visits, sampled_items, VisitedSome, is_available, taken_of};
+ghost use Rattle.ua_monitored_items.specs.Kinds.{trigger_of as trigger_of_spec};
+ghost use Rattle.ua_monitored_items.specs.Preparing.{FitsAt, IsReady, AreReady, mode_status, moded_own};
+ghost use Rattle.ua_monitored_items.specs.Undoing.{last_undone, undone, CanBeUndone};
+
+use crate::item::{Item, revised_size};
+use crate::item_table::ItemTable;
+use crate::kinds::{Kind, Mode, Trigger, trigger_of};
+use crate::preparing::Prepared;
+use std::alloc::{AllocError, Global};
+use std::marker::Model;
+use ua_item_queue::ItemQueue;
+use ua_messages::ReadValueId;
+use ua_read_write::{Change, Timestamps, refusal};
+use ua_space::Space;
+use ua_subscription_messages::{
+    MonitoredItemCreateRequest, MonitoredItemCreateResult, MonitoredItemModifyRequest,
+    MonitoredItemModifyResult, MonitoredItemNotification,
+};
+use ua_types::{Config, Duration, ExtensionObject, ExtensionObjectBody, Moment, NodeId, Status};
+
+/// The monitored items of a server, of all subscriptions. Each has a number, counted from 1 over the
+/// server and never used again.
+///
+/// An item watches one attribute of a node, and queues what it samples: what stands there when it is
+/// enabled, and each value that is written there later and is a change by its filter, if it is the
+/// attribute Value. What is queued waits until a message takes it, or the client clears it. Contracts see
+/// the items under their numbers, with the values that wait.
+///
+/// At want of memory nothing changed, but for [`Items::sample`]: the calls that serve a request take what
+/// memory it wants before they change an item, or take back the items that they made.
+#[derive(Drop)]
+pub struct Items {
+    // How many items a subscription may have.
+    most: u32,
+    // How many values an item may keep.
+    longest: u32,
+    // The sampling interval that clients are told.
+    interval: Duration,
+    table: ItemTable,
+}
+
+impl Model for Items {
+    ghost use Rattle.std.specs.Prelude.{◌≤◌};
+    ghost use Rattle.ua_monitored_items.specs.Items.{ItemsState};
+
+    ghost Value = { ItemsState };
+
+    ghost view = { λ s. record { most = s.most; longest = s.longest; interval = s.interval; made = s.table.made; items = s.table.items } };
+
+    ghost invariant = { λ s. 1 ≤ s.longest };
+}
+
+fn null_object() -> ExtensionObject
+    ensures { result ≡ null_object }
+{
+    ExtensionObject {
+        type_id: NodeId::null(),
+        body: ExtensionObjectBody::Absent,
+    }
+}
+
+fn create_refused(status: Status) -> MonitoredItemCreateResult
+    ensures { result ≡ create_refused status }
+{
+    MonitoredItemCreateResult {
+        status_code: status,
+        monitored_item_id: 0,
+        revised_sampling_interval: Duration([0; 8]),
+        revised_queue_size: 0,
+        filter_result: null_object(),
+    }
+}
+
+fn modify_refused(status: Status) -> MonitoredItemModifyResult
+    ensures { result ≡ modify_refused status }
+{
+    MonitoredItemModifyResult {
+        status_code: status,
+        revised_sampling_interval: Duration([0; 8]),
+        revised_queue_size: 0,
+        filter_result: null_object(),
+    }
+}
+
+// Which changes the filter of each entry lets through.
+fn triggers_of(
+    alloc: Global,
+    requests: &[MonitoredItemModifyRequest],
+) -> Result<Vec<Option<Trigger>>, AllocError>
+    ensures { IfOk result (λ triggers. triggers.items ≡ map (λ r. trigger_of_spec r.requested_parameters.filter) requests.now) }
+{
+    let mut triggers = Vec::with_capacity(alloc, requests.len())?;
+    for request in requests {
+        let trigger = trigger_of(alloc, &request.requested_parameters.filter)?;
+        triggers.push(trigger)?;
+    }
+    Ok(triggers)
+}
+
+impl Items {
+    /// No item yet, under this configuration. Takes no memory.
+    pub fn new(alloc: Global, config: &Config) -> Items
+        ensures { result ≡ no_items config.now }
+    {
+        Items {
+            most: config.items,
+            longest: config.queue,
+            interval: config.sampling_duration,
+            table: ItemTable::new(alloc),
+        }
+    }
+
+    // As many items as a subscription may have are held, or no number is left.
+    fn is_full(&self, subscription: u32) -> bool
+        ensures full { result ≡ is_full_spec self.now subscription }
+        ensures room { result ≡ false → self.now.made < 2 ^ 32 - 1 }
+    {
+        self.table.count_of(subscription) >= self.most as usize || self.table.made() == u32::MAX
+    }
+
+    // Whether an item may be made, or why not.
+    #[tactic(auto, unfolding(crate::specs::Items::create_judged))]
+    fn create_judged(
+        &self,
+        alloc: Global,
+        space: &Space,
+        subscription: u32,
+        request: &MonitoredItemCreateRequest,
+    ) -> Result<Result<Kind, Status>, AllocError>
+        ensures verdict { IfOk result (λ verdict. verdict ≡ create_judged self.now space.now.nodes subscription request.now) }
+        ensures room { IfOk result (λ verdict. OnOk verdict (self.now.made < 2 ^ 32 - 1)) }
+    {
+        if let Some(status) = refusal(space, &request.item_to_monitor) {
+            return Ok(Err(status));
+        }
+        let Some(mode) = Mode::numbered(request.monitoring_mode) else {
+            return Ok(Err(Status::BAD_MONITORING_MODE_INVALID));
+        };
+        let Some(trigger) = trigger_of(alloc, &request.requested_parameters.filter)? else {
+            return Ok(Err(Status::BAD_MONITORED_ITEM_FILTER_UNSUPPORTED));
+        };
+        if self.is_full(subscription) {
+            return Ok(Err(Status::BAD_TOO_MANY_MONITORED_ITEMS));
+        }
+        Ok(Ok(Kind { mode, trigger }))
+    }
+
+    // An item as it is made, before anything is sampled.
+    fn new_item(
+        &self,
+        alloc: Global,
+        subscription: u32,
+        timestamps: Timestamps,
+        request: MonitoredItemCreateRequest,
+        kind: Kind,
+    ) -> Item
+        ensures { result ≡ new_item self.now subscription timestamps request kind }
+    {
+        let MonitoredItemCreateRequest {
+            item_to_monitor,
+            monitoring_mode: _,
+            requested_parameters: parameters,
+        } = request;
+        let ReadValueId {
+            node_id,
+            attribute_id,
+            index_range: _,
+            data_encoding: _,
+        } = item_to_monitor;
+        let size = revised_size(self.longest, parameters.queue_size);
+        let queue = ItemQueue::new(alloc, size as usize, parameters.discard_oldest);
+        Item {
+            subscription,
+            node_id,
+            attribute_id,
+            client_handle: parameters.client_handle,
+            timestamps,
+            mode: kind.mode,
+            trigger: kind.trigger,
+            queue,
+            last: None,
+        }
+    }
+
+    // Makes one item, if it isn't refused. At an `Err` nothing changed.
+    #[tactic(auto, unfolding(crate::specs::Items::create_one))]
+    fn create_one(
+        &mut self,
+        alloc: Global,
+        space: &Space,
+        clock: Moment,
+        subscription: u32,
+        timestamps: Timestamps,
+        request: MonitoredItemCreateRequest,
+    ) -> Result<MonitoredItemCreateResult, AllocError>
+        ensures result { IfOk result (λ made. made ≡ (create_one space.now.nodes clock subscription timestamps self.old request).result) }
+        ensures ok { OnOk result (self.new ≡ (create_one space.now.nodes clock subscription timestamps self.old request).state) }
+        ensures back { OnOk result (CanBeUndone self.old self.new) }
+        ensures err { OnErr result (self.new ≡ self.old) }
+    {
+        let kind = match self.create_judged(alloc, space, subscription, &request)? {
+            Ok(kind) => kind,
+            Err(status) => return Ok(create_refused(status)),
+        };
+        let size = revised_size(self.longest, request.requested_parameters.queue_size);
+        let mut item = self.new_item(alloc, subscription, timestamps, request, kind);
+        if item.mode.is_enabled() {
+            item.queue_reading(alloc, space, clock)?;
+        }
+        self.table.add(alloc, item)?;
+        Ok(MonitoredItemCreateResult {
+            status_code: Status::GOOD,
+            monitored_item_id: self.table.made(),
+            revised_sampling_interval: self.interval,
+            revised_queue_size: size,
+            filter_result: null_object(),
+        })
+    }
+
+    // Makes the items of a request. At an `Err` some were made.
+    fn create_all(
+        &mut self,
+        alloc: Global,
+        space: &Space,
+        clock: Moment,
+        subscription: u32,
+        timestamps: Timestamps,
+        requests: Vec<MonitoredItemCreateRequest>,
+    ) -> Result<Vec<MonitoredItemCreateResult>, AllocError>
+        ensures results { IfOk result (λ results. results.items ≡ (all_served (create_one space.now.nodes clock subscription timestamps) self.old requests.items).results) }
+        ensures ok { OnOk result (self.new ≡ (all_served (create_one space.now.nodes clock subscription timestamps) self.old requests.items).state) }
+        ensures err { OnErr result (CanBeUndone self.old self.new) }
+    {
+        let mut results = Vec::with_capacity(alloc, requests.len())?;
+        for request in requests {
+            let made = self.create_one(alloc, space, clock, subscription, timestamps, request)?;
+            results.push_reserved(made);
+        }
+        Ok(results)
+    }
+
+    // Takes the last item back. Takes no memory.
+    fn take_back_one(&mut self)
+        requires { 0 < self.old.made }
+        ensures { self.new ≡ last_undone self.old }
+    {
+        self.table.take_back();
+    }
+
+    // Takes the last items back, so many. Takes no memory.
+    fn take_back(&mut self, count: u32)
+        requires { count ≤ self.old.made }
+        ensures { self.new ≡ undone count self.old }
+    {
+        for _ in 0..count {
+            self.take_back_one();
+        }
+    }
+
+    /// Makes items of a subscription, one for each entry, in their order, and answers what became of each
+    /// (IEC 62541-4, "CreateMonitoredItems"). An item that is made enabled queues what it reads at this
+    /// clock.
+    ///
+    /// An entry is refused in this order: as Read refuses its attribute
+    /// (`BAD_NODE_ID_UNKNOWN`, `BAD_ATTRIBUTE_ID_INVALID`, `BAD_INDEX_RANGE_INVALID`, `BAD_NOT_READABLE`);
+    /// `BAD_MONITORING_MODE_INVALID`; a filter other than null and a DataChangeFilter with a trigger from 0
+    /// to 2 and no deadband, `BAD_MONITORED_ITEM_FILTER_UNSUPPORTED`; where the subscription has as many
+    /// items as the configuration allows, or the numbers are used up, `BAD_TOO_MANY_MONITORED_ITEMS`.
+    pub fn create(
+        &mut self,
+        alloc: Global,
+        space: &Space,
+        clock: Moment,
+        subscription: u32,
+        timestamps: Timestamps,
+        requests: Vec<MonitoredItemCreateRequest>,
+    ) -> Result<Vec<MonitoredItemCreateResult>, AllocError>
+        ensures results { IfOk result (λ results. results.items ≡ (all_served (create_one space.now.nodes clock subscription timestamps) self.old requests.items).results) }
+        ensures ok { OnOk result (self.new ≡ (all_served (create_one space.now.nodes clock subscription timestamps) self.old requests.items).state) }
+        ensures err { OnErr result (self.new ≡ self.old) }
+    {
+        let made = self.table.made();
+        match self.create_all(alloc, space, clock, subscription, timestamps, requests) {
+            Ok(results) => Ok(results),
+            Err(error) => {
+                let last = self.table.made();
+                self.take_back(last - made);
+                Err(error)
+            }
+        }
+    }
+
+    // The item with this number, if it is of this subscription.
+    fn own_item(&self, subscription: u32, number: u32) -> Option<&Item>
+        ensures { option_copied result ≡ own_item self.now subscription number }
+    {
+        match self.table.get(number) {
+            None => None,
+            Some(item) => {
+                if item.subscription == subscription {
+                    Some(item)
+                } else {
+                    None
+                }
+            }
+        }
+    }
+
+    // Changes one item, if it isn't refused, whose filter was judged so. Takes no memory.
+    #[tactic(auto, unfolding(crate::specs::Items::modify_one))]
+    fn modify_one(
+        &mut self,
+        subscription: u32,
+        timestamps: Timestamps,
+        request: &MonitoredItemModifyRequest,
+        trigger: Option<Trigger>,
+    ) -> MonitoredItemModifyResult
+        requires { trigger ≡ trigger_of_spec request.now.requested_parameters.filter }
+        ensures result { result ≡ (modify_one subscription timestamps self.old request.now).result }
+        ensures state { self.new ≡ (modify_one subscription timestamps self.old request.now).state }
+    {
+        let number = request.monitored_item_id;
+        if self.own_item(subscription, number).is_none() {
+            return modify_refused(Status::BAD_MONITORED_ITEM_ID_INVALID);
+        }
+        let Some(trigger) = trigger else {
+            return modify_refused(Status::BAD_MONITORED_ITEM_FILTER_UNSUPPORTED);
+        };
+        let parameters = &request.requested_parameters;
+        self.table
+            .modify(number, self.longest, timestamps, trigger, parameters);
+        MonitoredItemModifyResult {
+            status_code: Status::GOOD,
+            revised_sampling_interval: self.interval,
+            revised_queue_size: revised_size(self.longest, parameters.queue_size),
+            filter_result: null_object(),
+        }
+    }
+
+    /// Gives items of a subscription other parameters, entry by entry, and answers what became of each
+    /// (IEC 62541-4, "ModifyMonitoredItems"). Where more values wait than the new size allows, the oldest
+    /// of them are cleared under the new discardOldest, else the newest, and nothing is marked.
+    ///
+    /// An entry is refused in this order: the subscription has no such item,
+    /// `BAD_MONITORED_ITEM_ID_INVALID`; the filter, as in [`Items::create`].
+    pub fn modify(
+        &mut self,
+        alloc: Global,
+        subscription: u32,
+        timestamps: Timestamps,
+        requests: &[MonitoredItemModifyRequest],
+    ) -> Result<Vec<MonitoredItemModifyResult>, AllocError>
+        ensures results { IfOk result (λ results. results.items ≡ (all_served (modify_one subscription timestamps) self.old requests.now).results) }
+        ensures ok { OnOk result (self.new ≡ (all_served (modify_one subscription timestamps) self.old requests.now).state) }
+        ensures err { OnErr result (self.new ≡ self.old) }
+    {
+        let triggers = triggers_of(alloc, requests)?;
+        let mut results = Vec::with_capacity(alloc, requests.len())?;
+        for (index, request) in requests.iter().enumerate() {
+            let made = self.modify_one(subscription, timestamps, request, triggers[index]);
+            results.push_reserved(made);
+        }
+        Ok(results)
+    }
+
+    // An entry of SetMonitoringMode, with what the item queues if this enables it.
+    fn prepared(
+        &self,
+        alloc: Global,
+        space: &Space,
+        clock: Moment,
+        subscription: u32,
+        mode: Mode,
+        number: u32,
+    ) -> Result<Prepared, AllocError>
+        ensures number { IfOk result (λ prepared. prepared.number ≡ number) }
+        ensures ready { IfOk result (λ prepared. IsReady space.now.nodes clock mode (own_item self.now subscription number) prepared.first) }
+    {
+        let first = match self.own_item(subscription, number) {
+            None => None,
+            Some(item) => {
+                if mode.is_enabled() && !item.mode.is_enabled() {
+                    Some(item.first_sample(alloc, space, clock)?)
+                } else {
+                    None
+                }
+            }
+        };
+        Ok(Prepared { number, first })
+    }
+
+    // The entries of SetMonitoringMode, each with what its item wants.
+    fn prepare_all(
+        &self,
+        alloc: Global,
+        space: &Space,
+        clock: Moment,
+        subscription: u32,
+        mode: Mode,
+        numbers: &[u32],
+    ) -> Result<Vec<Prepared>, AllocError>
+        ensures numbers { IfOk result (λ entries. map (λ e. e.number) entries.items ≡ numbers.now) }
+        ensures ready { IfOk result (λ entries. AreReady space.now.nodes clock subscription mode self.now entries.items) }
+    {
+        let mut entries = Vec::with_capacity(alloc, numbers.len())?;
+        for number in numbers {
+            let prepared = self.prepared(alloc, space, clock, subscription, mode, *number)?;
+            entries.push(prepared)?;
+        }
+        Ok(entries)
+    }
+
+    // Gives one item a mode, if it is known. Takes no memory.
+    fn mode_one(&mut self, subscription: u32, mode: Mode, prepared: Prepared) -> Status
+        requires { FitsAt mode (own_item self.old subscription prepared.number) prepared.first }
+        ensures result { result ≡ mode_status (own_item self.old subscription prepared.number) }
+        ensures state { self.new ≡ moded_own mode self.old prepared (own_item self.old subscription prepared.number) }
+    {
+        let Prepared { number, first } = prepared;
+        if self.own_item(subscription, number).is_none() {
+            return Status::BAD_MONITORED_ITEM_ID_INVALID;
+        }
+        self.table.set_mode(number, mode, first);
+        Status::GOOD
+    }
+
+    /// Gives items of a subscription a mode, one after the other, and answers what became of each
+    /// (IEC 62541-4, "SetMonitoringMode"). An item that leaves the mode disabled queues what it reads at
+    /// this clock, whatever its filter; one that is disabled loses what waits.
+    ///
+    /// `BAD_MONITORED_ITEM_ID_INVALID` where the subscription has no such item.
+    pub fn set_mode(
+        &mut self,
+        alloc: Global,
+        space: &Space,
+        clock: Moment,
+        subscription: u32,
+        mode: Mode,
+        numbers: &[u32],
+    ) -> Result<Vec<Status>, AllocError>
+        ensures results { IfOk result (λ results. results.items ≡ (all_served (mode_one space.now.nodes clock subscription mode) self.old numbers.now).results) }
+        ensures ok { OnOk result (self.new ≡ (all_served (mode_one space.now.nodes clock subscription mode) self.old numbers.now).state) }
+        ensures err { OnErr result (self.new ≡ self.old) }
+    {
+        let entries = self.prepare_all(alloc, space, clock, subscription, mode, numbers)?;
+        let mut results = Vec::with_capacity(alloc, numbers.len())?;
+        for prepared in entries {
+            results.push_reserved(self.mode_one(subscription, mode, prepared));
+        }
+        Ok(results)
+    }
+
+    // Deletes one item, if it is known.
+    #[tactic(auto, unfolding(crate::specs::Items::delete_one))]
+    fn delete_one(&mut self, subscription: u32, number: u32) -> Status
+        ensures result { result ≡ (delete_one subscription self.old number).result }
+        ensures ok { self.new ≡ (delete_one subscription self.old number).state }
+    {
+        if self.own_item(subscription, number).is_none() {
+            return Status::BAD_MONITORED_ITEM_ID_INVALID;
+        }
+        self.table.remove(number);
+        Status::GOOD
+    }
+
+    /// Deletes items of a subscription, one after the other, with what waits, and answers what became of
+    /// each (IEC 62541-4, "DeleteMonitoredItems").
+    ///
+    /// `BAD_MONITORED_ITEM_ID_INVALID` where the subscription has no such item.
+    pub fn delete(
+        &mut self,
+        alloc: Global,
+        subscription: u32,
+        numbers: &[u32],
+    ) -> Result<Vec<Status>, AllocError>
+        ensures results { IfOk result (λ results. results.items ≡ (all_served (delete_one subscription) self.old numbers.now).results) }
+        ensures ok { OnOk result (self.new ≡ (all_served (delete_one subscription) self.old numbers.now).state) }
+        ensures err { OnErr result (self.new ≡ self.old) }
+    {
+        let mut statuses = Vec::with_capacity(alloc, numbers.len())?;
+        for number in numbers {
+            statuses.push_reserved(self.delete_one(subscription, *number));
+        }
+        Ok(statuses)
+    }
+
+    /// Deletes all items of a subscription, with what waits: the subscription's end. Takes no memory.
+    pub fn end(&mut self, subscription: u32)
+        ensures { self.new ≡ ended_spec self.old subscription }
+    {
+        self.table.remove_all(subscription);
+    }
+
+    /// Shows the items what was written, as [`ua_read_write::write`] tells it: each enabled item of a written
+    /// node's value queues the value where its filter sees a change since the last one that it queued. The
+    /// items of one node see a value by rising numbers.
+    ///
+    /// At want of memory some have seen theirs, from the first on, and nothing else was done.
+    pub fn sample(&mut self, alloc: Global, changed: &[Change]) -> Result<(), AllocError>
+        ensures ok { OnOk result (self.new.items ≡ sampled_items self.old.items (all_visits self.old.items changed.now)) }
+        ensures others { self.new ≡ record self.old { items = self.new.items } }
+        ensures err { OnErr result (VisitedSome self.old.items self.new.items (all_visits self.old.items changed.now)) }
+    {
+        self.table.sample(alloc, changed)
+    }
+
+    /// Whether a reporting item of a subscription has a value. Takes no memory, and looks at this
+    /// subscription's items alone.
+    pub fn available(&self, subscription: u32) -> bool
+        ensures { result ≡ is_available self.now subscription }
+    {
+        self.table.available(subscription)
+    }
+
+    /// Takes the first values of a subscription's reporting items, at most so many: the items by rising
+    /// number, and the values of each oldest first. Each goes with the client's number of the item, the
+    /// times that are wanted now, and the Overflow bit where it is marked.
+    ///
+    /// At want of memory nothing changed: there is room for all of them before the first is taken.
+    pub fn take_notes(
+        &mut self,
+        alloc: Global,
+        subscription: u32,
+        count: usize,
+    ) -> Result<Vec<MonitoredItemNotification>, AllocError>
+        ensures notes { IfOk result (λ notes. notes.items ≡ (taken_of self.old.items count (numbers_of subscription self.old.items)).notes) }
+        ensures ok { OnOk result (self.new.items ≡ (taken_of self.old.items count (numbers_of subscription self.old.items)).items) }
+        ensures others { self.new ≡ record self.old { items = self.new.items } }
+        ensures err { OnErr result (self.new ≡ self.old) }
+    {
+        self.table.take(alloc, subscription, count)
+    }
+}

@@ -1,0 +1,38 @@
+//! The monitored items of a server (IEC 62541-4, "MonitoredItem Service Set"): which values are taken of
+//! which nodes, what becomes of them in each item's queue, and what of them goes into a message.
+//!
+//! [`Items`] has all items of the server. Its calls `create`, `modify`, `set_mode` and `delete` serve
+//! the whole list of a request, entry by entry, `sample` shows it what was written, and `available` and
+//! `take_notes` are for who makes the messages. It knows no session, no subscription but by its
+//! number, no clock and no message: whose request it is, and when a message is due, is the business of
+//! the crates above.
+//!
+//! ```text
+//! let results = items.create(alloc, &space, clock, subscription, timestamps, requests)?;
+//! items.sample(alloc, &written.changed)?;                       // after each Write
+//! if items.available(subscription) {
+//!     let notes = items.take_notes(alloc, subscription, 100)?;  // at most so many
+//! }
+//! items.end(subscription);                                      // the subscription is gone
+//! ```
+//!
+//! What a contract sees: the items under their numbers, each with its queue (`specs/Items`). Each call is
+//! one definition over them, which also lists the deeds by which queues changed; the code keeps no such
+//! record. How a call changes nothing at want of memory is told by `specs/Preparing`, `specs/Taking` and
+//! `specs/Undoing`. `specs/Moves`, `Causes` and `Givings` have what [`laws`] speak of: any calls, which of
+//! them gives a value which fate, and what items give to messages. docs/SUBSCRIPTIONS.md has the tables.
+#![tactic(auto)]
+
+mod index;
+mod item;
+mod item_table;
+mod items;
+mod kinds;
+pub mod laws;
+mod preparing;
+mod sampling;
+mod taking;
+
+pub use item::Item;
+pub use items::Items;
+pub use kinds::{Mode, Trigger};

@@ -1,0 +1,28 @@
+//! Reading and writing the attributes of nodes (IEC 62541-4, 5.10), over the address
+//! space and without the services round them: no session, no request's header and no limit is known
+//! here.
+//!
+//! [`read`] answers one read by an [`Answer`], which borrows what it shows and takes no memory; it is
+//! written straight into the response ([`read_body`]), or copied ([`Answer::copy`], [`sample`]).
+//! [`write`] gives variables new values in the order of the request, and tells what became of each
+//! ([`Written`]).
+//!
+//! What a contract sees: the nodes of the space. `specs/Attributes` says which attributes a node has and
+//! what they are, `Reading` what is answered, and `Writing` what is stored; each as one definition,
+//! refusal by refusal.
+//!
+//! Read [`AttributeId`] first, and docs/SERVICES.md for the tables.
+#![tactic(auto)]
+
+mod answer;
+mod attributes;
+pub mod laws;
+mod reading;
+mod timestamps;
+mod writing;
+
+pub use answer::Answer;
+pub use attributes::AttributeId;
+pub use reading::{read, read_body, refusal, sample};
+pub use timestamps::Timestamps;
+pub use writing::{Change, Written, write};

@@ -1,0 +1,152 @@
+//! The service Read.
+
+ghost use Rattle.std.specs.Prelude.{◌≡◌, ◌<◌, ◌^◌, ◌++◌, Some, None, length, IfOk, OnOk};
+ghost use Rattle.std.specs.Result.{result_map_both};
+ghost use Rattle.ua_binary.specs.Arrays.{array_encoding};
+ghost use Rattle.ua_binary.specs.DataValues.{data_value_encoding};
+ghost use Rattle.ua_messages.specs.Bodies.{body_encoding};
+ghost use Rattle.ua_messages.specs.declared.type_ids.TheConstants.{READ_RESPONSE};
+ghost use Rattle.ua_messages.specs.ResultLists.{results_encoding, results_of};
+ghost use Rattle.ua_read_write.specs.Attributes.{seen};
+ghost use Rattle.ua_read_write.specs.Reading.{is_readable, readable, refusal_in, attribute_read, read_of, all_read};
+ghost use Rattle.ua_read_write.specs.declared.timestamps.Timestamps.TheVariants as timestamp_choices;
+
+use crate::answer::Answer;
+use crate::attributes::{Attribute, attribute_at};
+use crate::timestamps::Timestamps;
+use std::alloc::{AllocError, Global};
+use ua_binary::{Wire, Written};
+use ua_messages::{DiagnosticInfos, ReadValueId, ResponseHeader, type_ids};
+use ua_space::Space;
+use ua_types::{Moment, NodeId, Status, Text};
+use ua_values::DataValue;
+
+// Whether AccessLevel lets it be read, which speaks of the value alone.
+fn is_readable(attribute: Attribute<'_>) -> bool
+    ensures { result ≡ is_readable (seen attribute.entry) }
+{
+    match attribute {
+        Attribute::Value(variable) => variable.access % 2 == 1,
+        _ => true,
+    }
+}
+
+// An attribute of a node, or why it can't be read.
+#[tactic(auto, unfolding(crate::specs::Reading::readable))]
+fn readable<'a>(
+    space: &'a Space,
+    id: &NodeId,
+    number: u32,
+    index_range: &Text,
+) -> Result<Attribute<'a>, Status>
+    ensures { result_map_both seen (λ code. code) result ≡ readable space.now.nodes id.now number index_range.now }
+{
+    let Some(node) = space.node(id) else {
+        return Err(Status::BAD_NODE_ID_UNKNOWN);
+    };
+    let Some(attribute) = attribute_at(node, number) else {
+        return Err(Status::BAD_ATTRIBUTE_ID_INVALID);
+    };
+    if index_range.is_given() {
+        return Err(Status::BAD_INDEX_RANGE_INVALID);
+    }
+    if !is_readable(attribute) {
+        return Err(Status::BAD_NOT_READABLE);
+    }
+    Ok(attribute)
+}
+
+/// What the service Read answers to one of its requests at this clock (IEC 62541-4, "Read"). Takes no
+/// memory.
+///
+/// It refuses in this order: no node has the id, `BAD_NODE_ID_UNKNOWN`; the node's class doesn't have the
+/// attribute, `BAD_ATTRIBUTE_ID_INVALID`; an index range is given, `BAD_INDEX_RANGE_INVALID`; it is the
+/// value, and AccessLevel doesn't let it be read, `BAD_NOT_READABLE`.
+pub fn read<'a>(
+    space: &'a Space,
+    clock: Moment,
+    timestamps: Timestamps,
+    request: &ReadValueId,
+) -> Answer<'a>
+    ensures { result ≡ read_of space.now.nodes clock timestamps request.now }
+{
+    let attribute = readable(
+        space,
+        &request.node_id,
+        request.attribute_id,
+        &request.index_range,
+    );
+    Answer::new(attribute, clock, timestamps)
+}
+
+/// Why [`read`] refuses one of its requests, if it does. Takes no memory.
+pub fn refusal(space: &Space, request: &ReadValueId) -> Option<Status>
+    ensures { result ≡ refusal_in (readable space.now.nodes request.now.node_id request.now.attribute_id request.now.index_range) }
+{
+    let attribute = readable(
+        space,
+        &request.node_id,
+        request.attribute_id,
+        &request.index_range,
+    );
+    match attribute {
+        Ok(_) => None,
+        Err(status) => Some(status),
+    }
+}
+
+/// What [`read`] answers for a whole attribute with both times, as a data value of its own.
+pub fn sample(
+    alloc: Global,
+    space: &Space,
+    clock: Moment,
+    node_id: &NodeId,
+    attribute_id: u32,
+) -> Result<DataValue, AllocError>
+    ensures { IfOk result (λ value. value ≡ attribute_read space.now.nodes clock timestamp_choices.Both node_id.now attribute_id None) }
+{
+    let attribute = readable(space, node_id, attribute_id, &Text::null());
+    Answer::new(attribute, clock, Timestamps::Both).copy(alloc)
+}
+
+// Writes the list of all answers.
+#[tactic(auto, unfolding(ua_binary::specs::Arrays::array_encoding))]
+fn write_answers(
+    space: &Space,
+    clock: Moment,
+    timestamps: Timestamps,
+    requests: &[ReadValueId],
+    out: &mut Vec<u8>,
+) -> Result<(), AllocError>
+    requires { length requests.now < 2 ^ 31 }
+    ensures { OnOk result (out.new.items ≡ out.old.items ++ array_encoding data_value_encoding (Some (all_read space.now.nodes clock timestamps requests.now))) }
+{
+    (requests.len() as u32).encode(out)?;
+    for request in requests {
+        read(space, clock, timestamps, request).write(out)?;
+    }
+    Ok(())
+}
+
+/// The whole body of the response to these requests, with this header: what [`read`] answers to each, in
+/// their order. Each answer is written where it stands, by one look-up.
+#[tactic(auto, using(ua_messages::proofs::ResultLemmas::results_joined), unfolding(ua_messages::specs::ResultLists::results_encoding))]
+pub fn read_body(
+    alloc: Global,
+    space: &Space,
+    clock: Moment,
+    timestamps: Timestamps,
+    response_header: &ResponseHeader,
+    requests: &[ReadValueId],
+) -> Result<Vec<u8>, AllocError>
+    requires { length requests.now < 2 ^ 31 }
+    ensures { IfOk result (λ bytes. bytes.items ≡ body_encoding (results_encoding data_value_encoding) READ_RESPONSE
+        (results_of response_header.now (all_read space.now.nodes clock timestamps requests.now))) }
+{
+    let mut out = Vec::new(alloc);
+    NodeId::numeric(0, type_ids::READ_RESPONSE).encode(&mut out)?;
+    response_header.encode(&mut out)?;
+    write_answers(space, clock, timestamps, requests, &mut out)?;
+    DiagnosticInfos.encode(&mut out)?;
+    Ok(out)
+}

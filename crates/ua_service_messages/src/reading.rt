@@ -1,0 +1,46 @@
+//! The service Read.
+
+ghost use Rattle.ua_service_messages.specs.Reading.{read_request_reading, read_request_encoding};
+
+use std::alloc::{AllocError, Global};
+use ua_binary::{Cursor, TakeFault, Wire};
+use ua_messages::{ReadValueId, RequestHeader, Results, TimestampsToReturn};
+use ua_types::{Array, Duration};
+use ua_values::DataValue;
+
+/// Asks for attributes of nodes (Read, IEC 62541-4, section 5, Attribute Service Set).
+#[derive(Debug, Drop)]
+pub struct ReadRequest {
+    pub request_header: RequestHeader,
+    /// How old a value may be, in milliseconds.
+    pub max_age: Duration,
+    pub timestamps_to_return: TimestampsToReturn,
+    pub nodes_to_read: Array<ReadValueId>,
+}
+
+#[tactic(auto, using(ua_binary::proofs::Fields::fields4), unfolding(crate::specs::Reading::read_request_reading, crate::specs::Reading::read_request_encoding))]
+impl Wire for ReadRequest {
+    ghost reading = { read_request_reading };
+
+    ghost encoding = { read_request_encoding };
+
+    fn decode(alloc: Global, cursor: &mut Cursor<'_>) -> Result<ReadRequest, TakeFault> {
+        Ok(ReadRequest {
+            request_header: RequestHeader::decode(alloc, cursor)?,
+            max_age: Duration::decode(alloc, cursor)?,
+            timestamps_to_return: TimestampsToReturn::decode(alloc, cursor)?,
+            nodes_to_read: Array::<ReadValueId>::decode(alloc, cursor)?,
+        })
+    }
+
+    fn encode(&self, out: &mut Vec<u8>) -> Result<(), AllocError> {
+        self.request_header.encode(out)?;
+        self.max_age.encode(out)?;
+        self.timestamps_to_return.encode(out)?;
+        self.nodes_to_read.encode(out)?;
+        Ok(())
+    }
+}
+
+/// The response to [`ReadRequest`], with one result for each attribute.
+pub type ReadResponse = Results<DataValue>;

@@ -1,0 +1,77 @@
+//! The service Write.
+
+ghost use Rattle.ua_binary.specs.Backing.{IsBackedOrBoxed};
+ghost use Rattle.ua_service_messages.specs.Writing.{write_value_reading, write_value_encoding, write_request_reading, write_request_encoding};
+
+use std::alloc::{AllocError, Global};
+use ua_binary::{Cursor, TakeFault, Wire};
+use ua_messages::{RequestHeader, Results};
+use ua_types::{Array, NodeId, Status, Text};
+use ua_values::DataValue;
+
+/// A new value for an attribute of a node (WriteValue, IEC 62541-4, section 5, Write).
+#[derive(Debug, Drop)]
+pub struct WriteValue {
+    pub node_id: NodeId,
+    /// The number of the attribute, as 13 for the value.
+    pub attribute_id: u32,
+    /// Which elements of a list are meant, all where it is null or empty.
+    pub index_range: Text,
+    pub value: DataValue,
+}
+
+#[tactic(auto, using(ua_binary::proofs::Fields::fields4, ua_binary::proofs::Backing::length_is_backed), unfolding(crate::specs::Writing::write_value_reading, crate::specs::Writing::write_value_encoding))]
+impl Wire for WriteValue {
+    ghost reading = { write_value_reading };
+
+    ghost encoding = { write_value_encoding };
+
+    ghost wants_memory = { IsBackedOrBoxed };
+
+    fn decode(alloc: Global, cursor: &mut Cursor<'_>) -> Result<WriteValue, TakeFault> {
+        Ok(WriteValue {
+            node_id: NodeId::decode(alloc, cursor)?,
+            attribute_id: u32::decode(alloc, cursor)?,
+            index_range: Text::decode(alloc, cursor)?,
+            value: DataValue::decode(alloc, cursor)?,
+        })
+    }
+
+    fn encode(&self, out: &mut Vec<u8>) -> Result<(), AllocError> {
+        self.node_id.encode(out)?;
+        self.attribute_id.encode(out)?;
+        self.index_range.encode(out)?;
+        self.value.encode(out)?;
+        Ok(())
+    }
+}
+
+/// Asks to write attributes of nodes (Write, IEC 62541-4, section 5, Attribute Service Set).
+#[derive(Debug, Drop)]
+pub struct WriteRequest {
+    pub request_header: RequestHeader,
+    pub nodes_to_write: Array<WriteValue>,
+}
+
+#[tactic(auto, using(ua_binary::proofs::Fields::fields2), unfolding(crate::specs::Writing::write_request_reading, crate::specs::Writing::write_request_encoding))]
+impl Wire for WriteRequest {
+    ghost reading = { write_request_reading };
+
+    ghost encoding = { write_request_encoding };
+
+    fn decode(alloc: Global, cursor: &mut Cursor<'_>) -> Result<WriteRequest, TakeFault> {
+        Ok(WriteRequest {
+            request_header: RequestHeader::decode(alloc, cursor)?,
+            nodes_to_write: Array::<WriteValue>::decode(alloc, cursor)?,
+        })
+    }
+
+    fn encode(&self, out: &mut Vec<u8>) -> Result<(), AllocError> {
+        self.request_header.encode(out)?;
+        self.nodes_to_write.encode(out)?;
+        Ok(())
+    }
+}
+
+/// The response to [`WriteRequest`], with one outcome for each value.
+pub type WriteResponse = Results<Status>;

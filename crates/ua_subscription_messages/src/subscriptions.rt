@@ -1,0 +1,258 @@
+//! The services that make, change and delete subscriptions.
+
+ghost use Rattle.ua_subscription_messages.specs.Subscriptions.{create_subscription_request_reading, create_subscription_request_encoding, create_subscription_response_reading, create_subscription_response_encoding, modify_subscription_request_reading, modify_subscription_request_encoding, modify_subscription_response_reading, modify_subscription_response_encoding, set_publishing_mode_request_reading, set_publishing_mode_request_encoding, delete_subscriptions_request_reading, delete_subscriptions_request_encoding};
+
+use std::alloc::{AllocError, Global};
+use ua_binary::{Cursor, TakeFault, Wire};
+use ua_messages::{RequestHeader, ResponseHeader, Results};
+use ua_types::{Array, Duration, Status};
+
+/// Asks for a subscription (CreateSubscription, IEC 62541-4, section 5, Subscription Service Set).
+#[derive(Debug, Drop)]
+pub struct CreateSubscriptionRequest {
+    pub request_header: RequestHeader,
+    /// How often a publishing cycle is to begin, as a double of milliseconds.
+    pub requested_publishing_interval: Duration,
+    /// How many cycles in a row may find no Publish request before the subscription ends.
+    pub requested_lifetime_count: u32,
+    /// How many cycles in a row may have nothing to tell before a keep-alive message is sent.
+    pub requested_max_keep_alive_count: u32,
+    /// The most notifications in one message; 0 is no limit.
+    pub max_notifications_per_publish: u32,
+    /// Whether its notifications are sent.
+    pub publishing_enabled: bool,
+    /// Which of the subscriptions that are due is answered first: the one with the highest number.
+    pub priority: u8,
+}
+
+#[tactic(auto, using(ua_binary::proofs::Fields::fields7), unfolding(crate::specs::Subscriptions::create_subscription_request_reading, crate::specs::Subscriptions::create_subscription_request_encoding))]
+impl Wire for CreateSubscriptionRequest {
+    ghost reading = { create_subscription_request_reading };
+
+    ghost encoding = { create_subscription_request_encoding };
+
+    fn decode(
+        alloc: Global,
+        cursor: &mut Cursor<'_>,
+    ) -> Result<CreateSubscriptionRequest, TakeFault> {
+        Ok(CreateSubscriptionRequest {
+            request_header: RequestHeader::decode(alloc, cursor)?,
+            requested_publishing_interval: Duration::decode(alloc, cursor)?,
+            requested_lifetime_count: u32::decode(alloc, cursor)?,
+            requested_max_keep_alive_count: u32::decode(alloc, cursor)?,
+            max_notifications_per_publish: u32::decode(alloc, cursor)?,
+            publishing_enabled: bool::decode(alloc, cursor)?,
+            priority: u8::decode(alloc, cursor)?,
+        })
+    }
+
+    fn encode(&self, out: &mut Vec<u8>) -> Result<(), AllocError> {
+        self.request_header.encode(out)?;
+        self.requested_publishing_interval.encode(out)?;
+        self.requested_lifetime_count.encode(out)?;
+        self.requested_max_keep_alive_count.encode(out)?;
+        self.max_notifications_per_publish.encode(out)?;
+        self.publishing_enabled.encode(out)?;
+        self.priority.encode(out)?;
+        Ok(())
+    }
+}
+
+/// A subscription and the server's choices: the response to [`CreateSubscriptionRequest`].
+#[derive(Debug, Drop)]
+pub struct CreateSubscriptionResponse {
+    pub response_header: ResponseHeader,
+    pub subscription_id: u32,
+    /// How often a publishing cycle begins, as a double of milliseconds.
+    pub revised_publishing_interval: Duration,
+    pub revised_lifetime_count: u32,
+    pub revised_max_keep_alive_count: u32,
+}
+
+#[tactic(auto, using(ua_binary::proofs::Fields::fields5), unfolding(crate::specs::Subscriptions::create_subscription_response_reading, crate::specs::Subscriptions::create_subscription_response_encoding))]
+impl Wire for CreateSubscriptionResponse {
+    ghost reading = { create_subscription_response_reading };
+
+    ghost encoding = { create_subscription_response_encoding };
+
+    fn decode(
+        alloc: Global,
+        cursor: &mut Cursor<'_>,
+    ) -> Result<CreateSubscriptionResponse, TakeFault> {
+        Ok(CreateSubscriptionResponse {
+            response_header: ResponseHeader::decode(alloc, cursor)?,
+            subscription_id: u32::decode(alloc, cursor)?,
+            revised_publishing_interval: Duration::decode(alloc, cursor)?,
+            revised_lifetime_count: u32::decode(alloc, cursor)?,
+            revised_max_keep_alive_count: u32::decode(alloc, cursor)?,
+        })
+    }
+
+    fn encode(&self, out: &mut Vec<u8>) -> Result<(), AllocError> {
+        self.response_header.encode(out)?;
+        self.subscription_id.encode(out)?;
+        self.revised_publishing_interval.encode(out)?;
+        self.revised_lifetime_count.encode(out)?;
+        self.revised_max_keep_alive_count.encode(out)?;
+        Ok(())
+    }
+}
+
+/// Changes a subscription (ModifySubscription, IEC 62541-4, section 5, Subscription Service Set).
+#[derive(Debug, Drop)]
+pub struct ModifySubscriptionRequest {
+    pub request_header: RequestHeader,
+    pub subscription_id: u32,
+    /// How often a publishing cycle is to begin, as a double of milliseconds.
+    pub requested_publishing_interval: Duration,
+    /// How many cycles in a row may find no Publish request before the subscription ends.
+    pub requested_lifetime_count: u32,
+    /// How many cycles in a row may have nothing to tell before a keep-alive message is sent.
+    pub requested_max_keep_alive_count: u32,
+    /// The most notifications in one message; 0 is no limit.
+    pub max_notifications_per_publish: u32,
+    /// Which of the subscriptions that are due is answered first: the one with the highest number.
+    pub priority: u8,
+}
+
+#[tactic(auto, using(ua_binary::proofs::Fields::fields7), unfolding(crate::specs::Subscriptions::modify_subscription_request_reading, crate::specs::Subscriptions::modify_subscription_request_encoding))]
+impl Wire for ModifySubscriptionRequest {
+    ghost reading = { modify_subscription_request_reading };
+
+    ghost encoding = { modify_subscription_request_encoding };
+
+    fn decode(
+        alloc: Global,
+        cursor: &mut Cursor<'_>,
+    ) -> Result<ModifySubscriptionRequest, TakeFault> {
+        Ok(ModifySubscriptionRequest {
+            request_header: RequestHeader::decode(alloc, cursor)?,
+            subscription_id: u32::decode(alloc, cursor)?,
+            requested_publishing_interval: Duration::decode(alloc, cursor)?,
+            requested_lifetime_count: u32::decode(alloc, cursor)?,
+            requested_max_keep_alive_count: u32::decode(alloc, cursor)?,
+            max_notifications_per_publish: u32::decode(alloc, cursor)?,
+            priority: u8::decode(alloc, cursor)?,
+        })
+    }
+
+    fn encode(&self, out: &mut Vec<u8>) -> Result<(), AllocError> {
+        self.request_header.encode(out)?;
+        self.subscription_id.encode(out)?;
+        self.requested_publishing_interval.encode(out)?;
+        self.requested_lifetime_count.encode(out)?;
+        self.requested_max_keep_alive_count.encode(out)?;
+        self.max_notifications_per_publish.encode(out)?;
+        self.priority.encode(out)?;
+        Ok(())
+    }
+}
+
+/// The server's choices: the response to [`ModifySubscriptionRequest`].
+#[derive(Debug, Drop)]
+pub struct ModifySubscriptionResponse {
+    pub response_header: ResponseHeader,
+    /// How often a publishing cycle begins, as a double of milliseconds.
+    pub revised_publishing_interval: Duration,
+    pub revised_lifetime_count: u32,
+    pub revised_max_keep_alive_count: u32,
+}
+
+#[tactic(auto, using(ua_binary::proofs::Fields::fields4), unfolding(crate::specs::Subscriptions::modify_subscription_response_reading, crate::specs::Subscriptions::modify_subscription_response_encoding))]
+impl Wire for ModifySubscriptionResponse {
+    ghost reading = { modify_subscription_response_reading };
+
+    ghost encoding = { modify_subscription_response_encoding };
+
+    fn decode(
+        alloc: Global,
+        cursor: &mut Cursor<'_>,
+    ) -> Result<ModifySubscriptionResponse, TakeFault> {
+        Ok(ModifySubscriptionResponse {
+            response_header: ResponseHeader::decode(alloc, cursor)?,
+            revised_publishing_interval: Duration::decode(alloc, cursor)?,
+            revised_lifetime_count: u32::decode(alloc, cursor)?,
+            revised_max_keep_alive_count: u32::decode(alloc, cursor)?,
+        })
+    }
+
+    fn encode(&self, out: &mut Vec<u8>) -> Result<(), AllocError> {
+        self.response_header.encode(out)?;
+        self.revised_publishing_interval.encode(out)?;
+        self.revised_lifetime_count.encode(out)?;
+        self.revised_max_keep_alive_count.encode(out)?;
+        Ok(())
+    }
+}
+
+/// Says whether the notifications of subscriptions are sent (SetPublishingMode, IEC 62541-4,
+/// section 5, Subscription Service Set).
+#[derive(Debug, Drop)]
+pub struct SetPublishingModeRequest {
+    pub request_header: RequestHeader,
+    pub publishing_enabled: bool,
+    pub subscription_ids: Array<u32>,
+}
+
+#[tactic(auto, using(ua_binary::proofs::Fields::fields3), unfolding(crate::specs::Subscriptions::set_publishing_mode_request_reading, crate::specs::Subscriptions::set_publishing_mode_request_encoding))]
+impl Wire for SetPublishingModeRequest {
+    ghost reading = { set_publishing_mode_request_reading };
+
+    ghost encoding = { set_publishing_mode_request_encoding };
+
+    fn decode(
+        alloc: Global,
+        cursor: &mut Cursor<'_>,
+    ) -> Result<SetPublishingModeRequest, TakeFault> {
+        Ok(SetPublishingModeRequest {
+            request_header: RequestHeader::decode(alloc, cursor)?,
+            publishing_enabled: bool::decode(alloc, cursor)?,
+            subscription_ids: Array::<u32>::decode(alloc, cursor)?,
+        })
+    }
+
+    fn encode(&self, out: &mut Vec<u8>) -> Result<(), AllocError> {
+        self.request_header.encode(out)?;
+        self.publishing_enabled.encode(out)?;
+        self.subscription_ids.encode(out)?;
+        Ok(())
+    }
+}
+
+/// What became of each subscription, in the order of the request: the response to
+/// [`SetPublishingModeRequest`].
+pub type SetPublishingModeResponse = Results<Status>;
+
+/// Deletes subscriptions (DeleteSubscriptions, IEC 62541-4, section 5, Subscription Service Set).
+#[derive(Debug, Drop)]
+pub struct DeleteSubscriptionsRequest {
+    pub request_header: RequestHeader,
+    pub subscription_ids: Array<u32>,
+}
+
+#[tactic(auto, using(ua_binary::proofs::Fields::fields2), unfolding(crate::specs::Subscriptions::delete_subscriptions_request_reading, crate::specs::Subscriptions::delete_subscriptions_request_encoding))]
+impl Wire for DeleteSubscriptionsRequest {
+    ghost reading = { delete_subscriptions_request_reading };
+
+    ghost encoding = { delete_subscriptions_request_encoding };
+
+    fn decode(
+        alloc: Global,
+        cursor: &mut Cursor<'_>,
+    ) -> Result<DeleteSubscriptionsRequest, TakeFault> {
+        Ok(DeleteSubscriptionsRequest {
+            request_header: RequestHeader::decode(alloc, cursor)?,
+            subscription_ids: Array::<u32>::decode(alloc, cursor)?,
+        })
+    }
+
+    fn encode(&self, out: &mut Vec<u8>) -> Result<(), AllocError> {
+        self.request_header.encode(out)?;
+        self.subscription_ids.encode(out)?;
+        Ok(())
+    }
+}
+
+/// What became of each subscription, in the order of the request: the response to
+/// [`DeleteSubscriptionsRequest`].
+pub type DeleteSubscriptionsResponse = Results<Status>;

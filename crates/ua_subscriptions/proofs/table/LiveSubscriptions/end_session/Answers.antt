@@ -1,0 +1,9 @@
+use Rattle.std.proofs.Common.{rules}
+use Rattle.ua_subscriptions.specs.Tables.{world}
+use Rattle.ua_subscriptions.proofs.Places.{end_stops}
+use Rattle.ua_subscriptions.proofs.table.LiveSubscriptions.end_session.Goals as goal
+
+pub returns-in-Err : goal.returns-in-Err
+returns-in-Err c =
+    end_stops c.in-Err.halt c.args.session c.args.deleting c.as_slice.result.now (world c.args.turn.now c.args.self.now c.args.items.now)
+    (world c.fire_all.new.turn c.fire_all.new.self c.fire_all.new.items) (world c.fire_all.new.turn c.fire_all.new.self c.fire_all.new.items) (search rules) c.in-Err.ensures

@@ -1,0 +1,36 @@
+-- The end of sessions (IEC 62541-4, "CloseSession").
+use Rattle.std.specs.Prelude.{ℕ, ◌==◌, Bool, not, map, filter}
+use Rattle.std.specs.BTreeMap.{is_at}
+use Rattle.std.specs.Map.{remove_entry}
+use Rattle.std.specs.Ordering.{nat_cmp}
+use Rattle.ua_types.specs.declared.status.TheConstants.Status as status
+use Rattle.ua_subscriptions.specs.declared.call.Call.TheVariants.{SessionEnd}
+use Rattle.ua_subscriptions.specs.declared.publish_call.PublishCall.{PublishCall}
+use Rattle.ua_subscriptions.specs.declared.session_part.SessionSubscriptions.{SessionSubscriptions}
+use Rattle.ua_subscriptions.specs.Named.{all_refused}
+use Rattle.ua_subscriptions.specs.Tables.{TableState, World, all_met, part_at}
+
+abbrev pub without_session : ℕ → World → World
+without_session session w =
+    let table : TableState = w.table in
+    record w { table = record table { sessions = remove_entry (is_at (nat_cmp session)) table.sessions } }
+
+-- its subscriptions see the end, by rising number; then its requests that wait are answered, and nothing of it is left
+unfoldable pub session_ended : ℕ → Bool → World → World
+session_ended session deleting w =
+    without_session session (all_refused session status.BAD_SESSION_CLOSED (all_met (SessionEnd deleting) w (part_at session w.table.sessions).numbers))
+
+-- ---- a connection that is closed or gone
+
+abbrev pub came_by_other : ℕ → PublishCall → Bool
+came_by_other conn call = not (call.conn == conn)
+
+-- the requests that came by a connection wait no more
+abbrev pub part_without_conn : ℕ → SessionSubscriptions → SessionSubscriptions
+part_without_conn conn part = record part { requests = filter (came_by_other conn) part.requests }
+
+abbrev pub entry_without_conn : ℕ → ℕ × SessionSubscriptions → ℕ × SessionSubscriptions
+entry_without_conn conn e = (e.0, part_without_conn conn e.1)
+
+abbrev pub without_conn : ℕ → TableState → TableState
+without_conn conn table = record table { sessions = map (entry_without_conn conn) table.sessions }

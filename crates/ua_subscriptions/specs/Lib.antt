@@ -1,0 +1,16 @@
+pub mod Queues
+pub mod Settings
+pub mod Messages
+pub mod Answers
+pub mod Calls
+pub mod Subscriptions
+pub mod Scenes
+pub mod Firing
+pub mod Tables
+pub mod Named
+pub mod Ranks
+pub mod Publishing
+pub mod Ending
+pub mod Making
+pub mod SubscriptionCalls
+pub mod Owing

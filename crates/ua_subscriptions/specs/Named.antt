@@ -1,0 +1,98 @@
+-- Requests that name subscriptions of their session.
+use Rattle.std.specs.Prelude.{◌≡◌, ⊤, ℕ, Bool, true, false, List, [], ◌∷◌, ◌++◌, map, fold, Option, Some, None, Result, Ok, Err, if◌then◌else◌}
+use Rattle.std.specs.BTreeMap.{is_at}
+use Rattle.std.specs.Map.{set_value}
+use Rattle.std.specs.Ordering.{nat_cmp}
+use Rattle.ua_types.specs.declared.status.Status.{Status}
+use Rattle.ua_types.specs.declared.status.TheConstants.Status as status
+use Rattle.server_messages.specs.declared.halt.Halt.{Halt}
+use Rattle.server_messages.specs.declared.halt.Halt.TheVariants.{Memory, Exhausted}
+use Rattle.server_messages.specs.declared.reply.Reply.{Reply}
+use Rattle.ua_subscriptions.specs.declared.call.Call.{Call}
+use Rattle.ua_subscriptions.specs.declared.call.Call.TheVariants.{Delete}
+use Rattle.ua_subscriptions.specs.declared.session_part.SessionSubscriptions.{SessionSubscriptions}
+use Rattle.ua_subscriptions.specs.declared.subscription.Subscription.{Subscription}
+use Rattle.ua_subscriptions.specs.declared.turn.Turn.{Turn}
+use Rattle.ua_subscriptions.specs.Answers.{refused_of}
+use Rattle.ua_subscriptions.specs.Scenes.{is_overspent}
+use Rattle.ua_subscriptions.specs.Subscriptions.{is_of}
+use Rattle.ua_subscriptions.specs.Tables.{TableState, World, met, part_at, subscription_at}
+
+-- what a call answers, and the world that it leaves
+pub record Outcome (A : Type 0) : Type 0 where
+  pub answer : A
+  pub world : World
+
+abbrev pub outcome : {A : Type 0} → A → World → Outcome A
+outcome x w = record { answer = x; world = w }
+
+-- a call comes to what is said of it, unless memory ran out, or messages can't be counted any more
+abbrev pub Comes : {A : Type 0} → Result A Halt → World → Outcome A → Type 0
+Comes (Ok x) new said = outcome x new ≡ said
+Comes (Err Memory) new said = ⊤
+Comes (Err Exhausted) new said = is_overspent said.world.turn ≡ true
+
+-- ---- subscriptions that are named
+
+abbrev pub is_own_in : ℕ → Option Subscription → Bool
+is_own_in session None = false
+is_own_in session (Some s) = is_of s.session session
+
+-- a number is that of a live subscription of a session
+abbrev pub is_own : TableState → ℕ → ℕ → Bool
+is_own table session number = is_own_in session (subscription_at number table.subscriptions)
+
+-- it comes to the subscription that is named, if it is the session's
+unfoldable pub own_met : ℕ → Call → World → ℕ → Outcome Status
+own_met session call w number =
+    if is_own w.table session number then outcome status.GOOD (met w number call) else outcome status.BAD_SUBSCRIPTION_ID_INVALID w
+
+abbrev pub named_one : ℕ → Call → Outcome (List Status) → ℕ → Outcome (List Status)
+named_one session call before number =
+    let one = own_met session call before.world number in
+    outcome (before.answer ++ one.answer ∷ []) one.world
+
+-- it comes to each that is named, one after the other
+abbrev pub named_all : ℕ → Call → World → List ℕ → Outcome (List Status)
+named_all session call w numbers = fold (named_one session call) (outcome [] w) numbers
+
+-- ---- requests that wait in vain
+
+abbrev pub with_replies : Turn → List Reply → Turn
+with_replies turn replies = record turn { replies = turn.replies ++ replies }
+
+abbrev pub requests_refused : ℕ → Status → Turn → List (ℕ × SessionSubscriptions) → Turn
+requests_refused session code turn sessions = with_replies turn (map (refused_of turn.clock code) (part_at session sessions).requests)
+
+abbrev pub without_requests : SessionSubscriptions → SessionSubscriptions
+without_requests part = record part { requests = [] }
+
+abbrev pub sessions_without_requests : ℕ → List (ℕ × SessionSubscriptions) → List (ℕ × SessionSubscriptions)
+sessions_without_requests session sessions = set_value (is_at (nat_cmp session)) sessions (without_requests (part_at session sessions))
+
+-- all requests of a session that wait are answered with a fault
+unfoldable pub all_refused : ℕ → Status → World → World
+all_refused session code w =
+    let table : TableState = w.table in
+    record w {
+      turn = requests_refused session code w.turn table.sessions;
+      table = record table { sessions = sessions_without_requests session table.sessions };
+    }
+
+-- ---- DeleteSubscriptions
+
+abbrev pub is_none : List ℕ → Bool
+is_none [] = true
+is_none (number ∷ numbers) = false
+
+abbrev pub has_none : ℕ → TableState → Bool
+has_none session table = is_none (part_at session table.sessions).numbers
+
+abbrev pub if_none_left : ℕ → World → World
+if_none_left session w = if has_none session w.table then all_refused session status.BAD_NO_SUBSCRIPTION w else w
+
+-- those that are named go; where the session has none left, the requests that wait are answered
+unfoldable pub deleted : ℕ → World → List ℕ → Outcome (List Status)
+deleted session w numbers =
+    let named = named_all session Delete w numbers in
+    outcome named.answer (if_none_left session named.world)

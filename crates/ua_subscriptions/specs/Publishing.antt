@@ -1,0 +1,121 @@
+-- Publish: acknowledgements, notes of time-outs, and who answers (IEC 62541-4, "Publish").
+use Rattle.std.specs.Prelude.{ℕ, false, List, [], ◌∷◌, ◌++◌, fold, drop, Option, Some, None, if◌then◌else◌}
+use Rattle.std.specs.BTreeMap.{is_at}
+use Rattle.std.specs.List.{position, remove}
+use Rattle.std.specs.Map.{set_value}
+use Rattle.std.specs.Option.{is_some}
+use Rattle.std.specs.Ordering.{nat_cmp}
+use Rattle.ua_types.specs.declared.status.Status.{Status}
+use Rattle.ua_types.specs.declared.status.TheConstants.Status as status
+use Rattle.ua_subscription_messages.specs.declared.publishing.SubscriptionAcknowledgement.{SubscriptionAcknowledgement}
+use Rattle.ua_subscriptions.specs.declared.call.Call.TheVariants.{Publish}
+use Rattle.ua_subscriptions.specs.declared.messages.KeptMessage.{KeptMessage}
+use Rattle.ua_subscriptions.specs.declared.publish_call.PublishCall.{PublishCall}
+use Rattle.ua_subscriptions.specs.declared.ranks.Rank.{Rank}
+use Rattle.ua_subscriptions.specs.declared.session_part.SessionSubscriptions.{SessionSubscriptions}
+use Rattle.ua_subscriptions.specs.declared.session_part.TimeoutNote.{TimeoutNote}
+use Rattle.ua_subscriptions.specs.declared.subscription.Subscription.{Subscription}
+use Rattle.ua_subscriptions.specs.declared.turn.Turn.{Turn}
+use Rattle.ua_subscriptions.specs.Answers.{published_of, refused_of}
+use Rattle.ua_subscriptions.specs.Messages.{has_number, timeout_message}
+use Rattle.ua_subscriptions.specs.Queues.{first_of}
+use Rattle.ua_subscriptions.specs.Ranks.{waiting_of}
+use Rattle.ua_subscriptions.specs.Scenes.{with_reply}
+use Rattle.ua_subscriptions.specs.Subscriptions.{is_of}
+use Rattle.ua_subscriptions.specs.Tables.{TableState, World, met, all_met, part_at, subscription_at}
+
+-- ---- acknowledgements
+
+abbrev pub without_at : List KeptMessage → Option ℕ → List KeptMessage
+without_at kept None = kept
+without_at kept (Some place) = remove kept place
+
+-- the first message with a number is kept no longer
+abbrev pub forgotten : ℕ → List KeptMessage → List KeptMessage
+forgotten number kept = without_at kept (position (has_number number) kept)
+
+-- what becomes of an acknowledgement, and the subscriptions after it
+pub record Acknowledged : Type 0 where
+  pub status : Status
+  pub subscriptions : List (ℕ × Subscription)
+
+abbrev pub acknowledgement_status : ℕ → List KeptMessage → Status
+acknowledgement_status number kept = if is_some (position (has_number number) kept) then status.GOOD else status.BAD_SEQUENCE_NUMBER_UNKNOWN
+
+abbrev pub without_kept : ℕ → Subscription → Subscription
+without_kept number s = record s { kept = forgotten number s.kept }
+
+abbrev pub acknowledged_by : ℕ → List (ℕ × Subscription) → SubscriptionAcknowledgement → Option Subscription → Acknowledged
+acknowledged_by session subscriptions a None = record { status = status.BAD_SUBSCRIPTION_ID_INVALID; subscriptions = subscriptions }
+acknowledged_by session subscriptions a (Some s) =
+    if is_of s.session session
+    then record {
+      status = acknowledgement_status a.sequence_number s.kept;
+      subscriptions = set_value (is_at (nat_cmp a.subscription_id)) subscriptions (without_kept a.sequence_number s);
+    }
+    else record { status = status.BAD_SUBSCRIPTION_ID_INVALID; subscriptions = subscriptions }
+
+-- a message of a subscription of the session is acknowledged
+unfoldable pub acknowledged : ℕ → List (ℕ × Subscription) → SubscriptionAcknowledgement → Acknowledged
+acknowledged session subscriptions a = acknowledged_by session subscriptions a (subscription_at a.subscription_id subscriptions)
+
+-- what becomes of several
+pub record AllAcknowledged : Type 0 where
+  pub results : List Status
+  pub subscriptions : List (ℕ × Subscription)
+
+abbrev pub with_acknowledged : ℕ → AllAcknowledged → SubscriptionAcknowledgement → AllAcknowledged
+with_acknowledged session before a =
+    let one = acknowledged session before.subscriptions a in
+    record { results = before.results ++ one.status ∷ []; subscriptions = one.subscriptions }
+
+abbrev pub acknowledged_all : ℕ → List (ℕ × Subscription) → List SubscriptionAcknowledgement → AllAcknowledged
+acknowledged_all session subscriptions acks = fold (with_acknowledged session) (record { results = []; subscriptions = subscriptions }) acks
+
+-- ---- notes of time-outs
+
+-- the oldest note of a session
+abbrev pub note_of : ℕ → List (ℕ × SessionSubscriptions) → Option TimeoutNote
+note_of session sessions = first_of (part_at session sessions).notes
+
+abbrev pub part_without_note : SessionSubscriptions → SessionSubscriptions
+part_without_note part = record part { notes = drop 1 part.notes }
+
+abbrev pub without_note : ℕ → List (ℕ × SessionSubscriptions) → List (ℕ × SessionSubscriptions)
+without_note session sessions = set_value (is_at (nat_cmp session)) sessions (part_without_note (part_at session sessions))
+
+-- a request is answered by the note that a subscription has timed out: under that one's number, with nothing kept
+abbrev pub note_told : Turn → PublishCall → TimeoutNote → Turn
+note_told turn call note = with_reply turn (published_of turn.clock call note.subscription [] false (timeout_message note.number turn.clock))
+
+-- ---- who answers
+
+abbrev pub with_turn : World → Turn → World
+with_turn w turn = record w { turn = turn }
+
+abbrev pub asked_by : World → PublishCall → World
+asked_by w call = let turn : Turn = w.turn in with_turn w (record turn { asked = Some call })
+
+abbrev pub met_by_best : Option Rank → List ℕ → World → World
+met_by_best (Some rank) numbers w = met w rank.number Publish
+met_by_best None numbers w = all_met Publish w numbers
+
+-- the best of some subscriptions that waits meets a request alone, or else all of them do
+unfoldable pub answered_to : List ℕ → PublishCall → World → World
+answered_to [] call w = with_turn w (with_reply w.turn (refused_of w.turn.clock status.BAD_NO_SUBSCRIPTION call))
+answered_to (n ∷ ns) call w = met_by_best (first_of (waiting_of w.table.subscriptions (n ∷ ns))) (n ∷ ns) (asked_by w call)
+
+abbrev pub answered_by : Option TimeoutNote → ℕ → PublishCall → World → World
+answered_by (Some note) session call w = with_turn w (note_told w.turn call note)
+answered_by None session call w = answered_to (part_at session w.table.sessions).numbers call w
+
+abbrev pub with_results : PublishCall → List Status → PublishCall
+with_results call results = record call { results = results }
+
+-- acknowledgements are applied; then the oldest note is told, or else the session's subscriptions see the request
+unfoldable pub published : ℕ → PublishCall → List SubscriptionAcknowledgement → World → World
+published session call acks w =
+    let table : TableState = w.table in
+    let all = acknowledged_all session table.subscriptions acks in
+    answered_by (note_of session table.sessions) session (with_results call all.results)
+    (record w { table = record { subscriptions = all.subscriptions; sessions = without_note session table.sessions } })

@@ -1,0 +1,66 @@
+//! The end of sessions and connections.
+
+ghost use Rattle.std.specs.Prelude.{◌≡◌, true, filter};
+ghost use Rattle.ua_subscriptions.specs.Ending.{session_ended, came_by_other, part_without_conn, without_conn};
+ghost use Rattle.ua_subscriptions.specs.Tables.{world, Meets};
+
+use crate::call::Call;
+use crate::publish_call::PublishCall;
+use crate::queue::Queue;
+use crate::session_part::SessionSubscriptions;
+use crate::table::LiveSubscriptions;
+use crate::turn::Turn;
+use server_messages::Halt;
+use std::alloc::Global;
+use ua_monitored_items::Items;
+use ua_types::Status;
+
+impl LiveSubscriptions {
+    /// A session ends: its subscriptions are deleted, or left to their lifetime; then its requests that wait are answered,
+    /// and its notes go. At an `Err` nothing is known of what is left.
+    #[tactic(auto, unfolding(crate::specs::Ending::session_ended))]
+    pub(crate) fn end_session(
+        &mut self,
+        alloc: Global,
+        turn: &mut Turn,
+        items: &mut Items,
+        session: u32,
+        deleting: bool,
+    ) -> Result<(), Halt>
+        ensures { Meets result (world turn.new self.new items.new) (session_ended session deleting (world turn.old self.old items.old)) }
+    {
+        let numbers = self.numbers(alloc, session)?;
+        let call = Call::SessionEnd { deleting };
+        match self.fire_all(alloc, turn, items, numbers.as_slice(), call) {
+            Ok(()) => {}
+            Err(halt) => return Err(halt),
+        }
+        self.refuse_all(alloc, turn, session, Status::BAD_SESSION_CLOSED)?;
+        let _ = self.sessions.remove(&session);
+        Ok(())
+    }
+
+    /// A connection is closed or gone: the requests that came by it wait no more, whatever session they are of. Takes no
+    /// memory.
+    pub(crate) fn gone(&mut self, conn: u64)
+        ensures { self.new ≡ without_conn conn self.old }
+    {
+        self.sessions.retain(|_, part| forget_requests(part, conn));
+    }
+}
+
+// The requests that came by a connection go.
+fn drop_requests(requests: &mut Queue<PublishCall>, conn: u64)
+    ensures { requests.new ≡ filter (came_by_other conn) requests.old }
+{
+    requests.items.retain(|call| call.conn != conn);
+}
+
+// The requests of a session that came by a connection go. Answers true: the session stays.
+fn forget_requests(part: &mut SessionSubscriptions, conn: u64) -> bool
+    ensures kept { result ≡ true }
+    ensures part { part.new ≡ part_without_conn conn part.old }
+{
+    drop_requests(&mut part.requests, conn);
+    true
+}

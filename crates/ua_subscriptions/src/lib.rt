@@ -1,0 +1,57 @@
+//! Subscriptions: what is sent of monitored items, to whom, and when (IEC 62541-4, 5.13).
+//!
+//! [`Subscriptions`] holds the subscriptions of a server, the Publish requests that wait for them, and the notes of those that
+//! timed out. A client's requests about subscriptions are its calls, and so are the timers and the ends of sessions and
+//! connections. Each call fires rows of the state table ([`ua_state_table`]), and what it does is what the rows' actions say:
+//! it answers Publish requests ([`server_messages::Reply`]), and says which rows fired. It is lent the monitored items, whose
+//! values the messages take. Nothing here knows the wire but for the messages' bytes, which are made once and kept.
+//!
+//! ```text
+//! a call ── which subscriptions does it concern? ── for each, in order:
+//!           variables ── the table's row ── its actions, one after the other ── next state
+//! ```
+//!
+//! What a contract sees: the live subscriptions, and what each session has of subscriptions, under their numbers
+//! (`specs/Tables`). `Scenes` has the actions as definitions; `Firing` a row; `Making`, `Named`, `Publishing` and `Ending`
+//! the calls, `Ranks` who comes first, and `Subscriptions` what a call leaves. What follows from any calls, one after the other, the
+//! crate `subscription_laws` says.
+//!
+//! Read docs/SUBSCRIPTIONS.md first, then [`Subscriptions`], then `src/acting.rt`.
+#![tactic(auto)]
+
+mod acting;
+mod answered;
+mod call;
+mod ending;
+mod firing;
+mod making;
+mod messages;
+mod named;
+mod numbers;
+mod publish_call;
+mod publishing;
+mod queue;
+mod ranks;
+mod session_part;
+mod settings;
+mod subscription;
+mod subscriptions;
+mod table;
+mod turn;
+mod waiting;
+
+pub use acting::number_after;
+pub use answered::Answered;
+pub use call::Call;
+pub use making::Revised;
+pub use messages::KeptMessage;
+pub use numbers::Numbers;
+pub use publish_call::PublishCall;
+pub use queue::Queue;
+pub use ranks::{Rank, Ranks};
+pub use session_part::{SessionSubscriptions, TimeoutNote};
+pub use settings::{Bounds, Settings, revised_keep, revised_life, revised_notifications};
+pub use subscription::Subscription;
+pub use subscriptions::{Created, Subscriptions};
+pub use table::LiveSubscriptions;
+pub use turn::Turn;

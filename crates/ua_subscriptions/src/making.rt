@@ -1,0 +1,208 @@
+//! Subscriptions that are made, changed, asked for a message again, or whose timer comes.
+
+ghost use Rattle.std.specs.Prelude.{◌≡◌, false, length, option_map, IfOk, IsOk};
+ghost use Rattle.ua_subscriptions.specs.Making.{revised_of, refused_one, added, modified, republished, timed, kept_at};
+ghost use Rattle.ua_subscriptions.specs.Named.{Comes};
+ghost use Rattle.ua_subscriptions.specs.Tables.{world, Meets, part_at};
+ghost use Rattle.ua_subscriptions.specs.Ranks.{is_any_due};
+
+use crate::call::Call;
+use crate::firing::fire;
+use crate::publishing::message;
+use crate::session_part::SessionSubscriptions;
+use crate::settings::{Settings, revised_keep, revised_life};
+use crate::subscription::Subscription;
+use crate::table::LiveSubscriptions;
+use crate::turn::Turn;
+use bytes::Bytes;
+use server_messages::Halt;
+use std::alloc::{AllocError, Global};
+use ua_monitored_items::Items;
+use ua_types::Status;
+
+/// The counts of a subscription as the server allows them (the revised counts of CreateSubscription and
+/// ModifySubscription, IEC 62541-4, section 5, Subscription Service Set).
+#[derive(Clone, Copy, Debug, PartialEq, Eq, Drop)]
+pub struct Revised {
+    /// The keep-alive count, from 2 to 65535.
+    pub keep_count: u32,
+    /// The lifetime count, from three times the keep-alive count to 196605.
+    pub life_count: u32,
+}
+
+impl Revised {
+    /// Those for what is asked.
+    pub fn new(settings: Settings) -> Revised
+        ensures { result ≡ revised_of settings }
+    {
+        let keep_count = revised_keep(settings.keep_count);
+        Revised {
+            keep_count,
+            life_count: revised_life(keep_count, settings.life_count),
+        }
+    }
+}
+
+impl LiveSubscriptions {
+    /// How many live subscriptions a session has.
+    pub(crate) fn count(&self, session: u32) -> usize
+        ensures { result ≡ length (part_at session self.now.sessions).numbers }
+    {
+        match self.sessions.get(&session) {
+            None => 0,
+            Some(part) => part.numbers.len(),
+        }
+    }
+
+    /// A subscription is refused, since its session has as many as it may have: only the row is told. At an `Err` nothing
+    /// is known of what is left.
+    #[tactic(auto, unfolding(crate::specs::Making::refused_one))]
+    pub(crate) fn refuse(
+        &self,
+        alloc: Global,
+        turn: &mut Turn,
+        items: &mut Items,
+        session: u32,
+        settings: Settings,
+        enabled: bool,
+    ) -> Result<(), Halt>
+        ensures { Meets result (world turn.new self.now items.new) (refused_one session settings enabled (world turn.old self.now items.old)) }
+    {
+        turn.own = 0;
+        turn.call = Call::Create {
+            full: true,
+            settings,
+            enabled,
+        };
+        let mut subscription = Subscription::unborn(alloc, session);
+        fire(
+            turn,
+            alloc,
+            &mut subscription,
+            &mut SessionSubscriptions::new(alloc),
+            items,
+        )
+    }
+
+    /// A subscription of a session begins under this number. At an `Err` nothing is known of what is left.
+    #[tactic(auto, unfolding(crate::specs::Making::added))]
+    pub(crate) fn add(
+        &mut self,
+        alloc: Global,
+        turn: &mut Turn,
+        items: &mut Items,
+        session: u32,
+        number: u32,
+        settings: Settings,
+        enabled: bool,
+    ) -> Result<(), Halt>
+        ensures { Meets result (world turn.new self.new items.new) (added session number settings enabled (world turn.old self.old items.old)) }
+    {
+        turn.own = number;
+        turn.call = Call::Create {
+            full: false,
+            settings,
+            enabled,
+        };
+        let mut part = match self.sessions.remove(&session) {
+            Some(part) => part,
+            None => SessionSubscriptions::new(alloc),
+        };
+        let mut subscription = Subscription::unborn(alloc, session);
+        match fire(turn, alloc, &mut subscription, &mut part, items) {
+            Ok(()) => {}
+            Err(halt) => return Err(halt),
+        }
+        part.numbers.insert(number)?;
+        self.sessions.insert(session, part)?;
+        self.subscriptions.insert(number, subscription)?;
+        Ok(())
+    }
+
+    /// ModifySubscription. At an `Err` nothing is known of what is left.
+    #[tactic(auto, unfolding(crate::specs::Making::modified))]
+    pub(crate) fn modify(
+        &mut self,
+        alloc: Global,
+        turn: &mut Turn,
+        items: &mut Items,
+        session: u32,
+        number: u32,
+        settings: Settings,
+    ) -> Result<Result<Revised, Status>, Halt>
+        ensures { Comes result (world turn.new self.new items.new) (modified session number settings (world turn.old self.old items.old)) }
+    {
+        if !self.is_own(session, number) {
+            return Ok(Err(Status::BAD_SUBSCRIPTION_ID_INVALID));
+        }
+        match self.fire_one(alloc, turn, items, number, Call::Modify { settings }) {
+            Ok(()) => Ok(Ok(Revised::new(settings))),
+            Err(halt) => Err(halt),
+        }
+    }
+
+    /// Republish: the message with this number, if it is kept. At an `Err` nothing is known of what is left.
+    #[tactic(auto, unfolding(crate::specs::Making::republished))]
+    pub(crate) fn republish(
+        &mut self,
+        alloc: Global,
+        turn: &mut Turn,
+        items: &mut Items,
+        session: u32,
+        number: u32,
+        wanted: u32,
+    ) -> Result<Result<Bytes, Status>, Halt>
+        ensures { Comes result (world turn.new self.new items.new) (republished session number wanted (world turn.old self.old items.old)) }
+    {
+        if !self.is_own(session, number) {
+            return Ok(Err(Status::BAD_SUBSCRIPTION_ID_INVALID));
+        }
+        let bytes = self.kept_bytes(number, wanted)?;
+        let kept = bytes.is_some();
+        match self.fire_one(alloc, turn, items, number, Call::Republish { kept }) {
+            Ok(()) => Ok(bytes.ok_or(Status::BAD_MESSAGE_NOT_AVAILABLE)),
+            Err(halt) => Err(halt),
+        }
+    }
+
+    /// The timers that are due, the best subscription first. Takes no memory where none is. At an `Err` nothing is known
+    /// of what is left.
+    #[tactic(auto, using(crate::proofs::Dues::none_due))]
+    pub(crate) fn timers(
+        &mut self,
+        alloc: Global,
+        turn: &mut Turn,
+        items: &mut Items,
+    ) -> Result<(), Halt>
+        ensures timed { Meets result (world turn.new self.new items.new) (timed (world turn.old self.old items.old)) }
+        ensures none { is_any_due turn.old.clock self.old.subscriptions ≡ false → IsOk result }
+    {
+        let numbers = self.due(alloc, turn.clock)?;
+        if numbers.is_empty() {
+            return Ok(());
+        }
+        self.fire_all(alloc, turn, items, numbers.as_slice(), Call::Timer)
+    }
+
+    /// The message of a subscription with this number, as it was first sent, if it is kept.
+    pub(crate) fn kept(&self, number: u32, wanted: u32) -> Option<&[u8]>
+        ensures { option_map (λ bytes. bytes.now) result ≡ kept_at number wanted self.now }
+    {
+        let subscription = self.subscriptions.get(&number)?;
+        let message = message(&subscription.kept, wanted)?;
+        Some(message.bytes.as_slice())
+    }
+
+    // A share of it.
+    fn kept_bytes(&self, number: u32, wanted: u32) -> Result<Option<Bytes>, AllocError>
+        ensures { IfOk result (λ bytes. bytes ≡ kept_at number wanted self.now) }
+    {
+        let Some(subscription) = self.subscriptions.get(&number) else {
+            return Ok(None);
+        };
+        match message(&subscription.kept, wanted) {
+            None => Ok(None),
+            Some(message) => Ok(Some(message.bytes.clone()?)),
+        }
+    }
+}

@@ -1,0 +1,97 @@
+//! Messages of subscriptions, as their bytes.
+
+ghost use Rattle.std.specs.Prelude.{◌≡◌, IfOk};
+ghost use Rattle.ua_subscriptions.specs.Messages.{message_of, data_message, keep_alive_message, timeout_message};
+
+use bytes::Bytes;
+use std::alloc::{AllocError, Global};
+use ua_binary::Wire;
+use ua_messages::{DiagnosticInfo, DiagnosticInfos, extension_object, type_ids};
+use ua_subscription_messages::{
+    DataChangeNotification, MonitoredItemNotification, NotificationMessage,
+    StatusChangeNotification,
+};
+use ua_types::{Array, ExtensionObject, Moment, Status};
+
+/// A message that is kept until its client acknowledges it, or too many are kept.
+#[derive(Debug, Drop)]
+pub struct KeptMessage {
+    /// The message's number in its subscription.
+    pub number: u32,
+    /// The NotificationMessage, as it was first sent.
+    pub bytes: Bytes,
+}
+
+/// The bytes of a message with this number (NotificationMessage, IEC 62541-4, section 7).
+fn message(
+    alloc: Global,
+    number: u32,
+    clock: Moment,
+    objects: Vec<ExtensionObject>,
+) -> Result<Bytes, AllocError>
+    ensures { IfOk result (λ bytes. bytes ≡ message_of number clock objects.items) }
+{
+    if objects.len() >= 1 << 31 {
+        return Err(AllocError);
+    }
+    let message = NotificationMessage {
+        sequence_number: number,
+        publish_time: clock,
+        notification_data: Array::new(objects),
+    };
+    let mut bytes = Vec::new(alloc);
+    message.encode(&mut bytes)?;
+    Ok(Bytes::from_vec(bytes)?)
+}
+
+/// The bytes of a message with these values.
+#[tactic(auto, unfolding(crate::specs::Messages::data_message))]
+pub(crate) fn data_message(
+    alloc: Global,
+    number: u32,
+    clock: Moment,
+    notes: Vec<MonitoredItemNotification>,
+) -> Result<Bytes, AllocError>
+    ensures { IfOk result (λ bytes. bytes ≡ data_message number clock notes.items) }
+{
+    if notes.len() >= 1 << 31 {
+        return Err(AllocError);
+    }
+    let changes = DataChangeNotification {
+        monitored_items: Array::new(notes),
+        diagnostic_infos: DiagnosticInfos,
+    };
+    let mut objects = Vec::new(alloc);
+    objects.push(extension_object(alloc, type_ids::DATA_CHANGE_NOTIFICATION, &changes)?)?;
+    message(alloc, number, clock, objects)
+}
+
+/// The bytes of a message with nothing to tell.
+#[tactic(auto, unfolding(crate::specs::Messages::keep_alive_message))]
+pub(crate) fn keep_alive_message(
+    alloc: Global,
+    number: u32,
+    clock: Moment,
+) -> Result<Bytes, AllocError>
+    ensures { IfOk result (λ bytes. bytes ≡ keep_alive_message number clock) }
+{
+    message(alloc, number, clock, Vec::new(alloc))
+}
+
+/// The bytes of the message that the subscription has timed out.
+#[tactic(auto, unfolding(crate::specs::Messages::timeout_message))]
+pub(crate) fn timeout_message(
+    alloc: Global,
+    number: u32,
+    clock: Moment,
+) -> Result<Bytes, AllocError>
+    ensures { IfOk result (λ bytes. bytes ≡ timeout_message number clock) }
+{
+    let change = StatusChangeNotification {
+        status: Status::BAD_TIMEOUT,
+        diagnostic_info: DiagnosticInfo,
+    };
+    let mut objects = Vec::new(alloc);
+    objects.push(extension_object(alloc, type_ids::STATUS_CHANGE_NOTIFICATION, &change)?)?;
+    message(alloc, number, clock, objects)
+}

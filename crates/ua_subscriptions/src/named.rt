@@ -1,0 +1,165 @@
+//! Requests that name subscriptions of their session.
+
+ghost use Rattle.std.specs.Prelude.{◌≡◌, [], map, OnOk};
+ghost use Rattle.ua_subscriptions.specs.Named.{is_own as is_own_spec, is_own_in, Comes, own_met, named_all, with_replies, requests_refused, sessions_without_requests, all_refused, has_none, deleted};
+ghost use Rattle.ua_subscriptions.specs.Answers.{refused_of};
+ghost use Rattle.ua_subscriptions.specs.Tables.{world, subscription_at};
+ghost use Rattle.ua_monitored_items.specs.Items.{ItemsState};
+
+use crate::call::Call;
+use crate::publish_call::PublishCall;
+use crate::queue::Queue;
+use crate::session_part::SessionSubscriptions;
+use crate::subscription::Subscription;
+use crate::table::LiveSubscriptions;
+use crate::turn::Turn;
+use server_messages::Halt;
+use std::alloc::{AllocError, Global};
+use std::collections::BTreeMap;
+use ua_monitored_items::Items;
+use ua_types::{Listed, Status};
+
+// Answers requests with a fault, the oldest first.
+fn refuse_requests(
+    turn: &mut Turn,
+    alloc: Global,
+    requests: &mut Queue<PublishCall>,
+    status: Status,
+) -> Result<(), AllocError>
+    ensures turn { OnOk result (turn.new ≡ with_replies turn.old (map (refused_of turn.old.clock status) requests.old)) }
+    ensures requests { OnOk result (requests.new ≡ []) }
+{
+    while let Some(call) = requests.pop() {
+        turn.replies.push(call.refused(alloc, turn.clock, status)?)?;
+    }
+    Ok(())
+}
+
+/// Whether this is the number of a live subscription of this session.
+pub(crate) fn is_own(subscriptions: &BTreeMap<u32, Subscription>, session: u32, number: u32) -> bool
+    ensures { result ≡ is_own_in session (subscription_at number subscriptions.now.entries) }
+{
+    match subscriptions.get(&number) {
+        None => false,
+        Some(subscription) => subscription.session == Some(session),
+    }
+}
+
+impl LiveSubscriptions {
+    /// Whether this is the number of a live subscription of this session.
+    pub(crate) fn is_own(&self, session: u32, number: u32) -> bool
+        ensures { result ≡ is_own_spec self.now session number }
+    {
+        is_own(&self.subscriptions, session, number)
+    }
+
+    // It comes to the subscription of this number, if it is this session's.
+    #[tactic(auto, unfolding(crate::specs::Named::own_met))]
+    pub(crate) fn fire_own(
+        &mut self,
+        alloc: Global,
+        turn: &mut Turn,
+        items: &mut Items,
+        session: u32,
+        number: u32,
+        call: Call,
+    ) -> Result<Status, Halt>
+        ensures { Comes result (world turn.new self.new items.new) (own_met session call (world turn.old self.old items.old) number) }
+    {
+        if !self.is_own(session, number) {
+            return Ok(Status::BAD_SUBSCRIPTION_ID_INVALID);
+        }
+        match self.fire_one(alloc, turn, items, number, call) {
+            Ok(()) => Ok(Status::GOOD),
+            Err(halt) => Err(halt),
+        }
+    }
+
+    /// It comes to each subscription that is named and is this session's, one after the other. Tells of each whether it
+    /// was. At an `Err` nothing is known of what is left.
+    pub(crate) fn fire_named(
+        &mut self,
+        alloc: Global,
+        turn: &mut Turn,
+        items: &mut Items,
+        session: u32,
+        numbers: &[u32],
+        call: Call,
+    ) -> Result<Listed<Status>, Halt>
+        ensures { Comes result (world turn.new self.new items.new) (named_all session call (world turn.old self.old items.old) numbers.now) }
+    {
+        let mut results = Listed::new(alloc);
+        for number in numbers {
+            match self.fire_own(alloc, turn, items, session, *number, call) {
+                Ok(status) => results.push(status)?,
+                Err(halt) => return Err(halt),
+            }
+        }
+        Ok(results)
+    }
+
+    /// Answers all requests of a session that wait with this fault. At an `Err` nothing is known of what is left.
+    #[tactic(auto, unfolding(crate::specs::Named::all_refused))]
+    pub(crate) fn refuse_all(
+        &mut self,
+        alloc: Global,
+        turn: &mut Turn,
+        session: u32,
+        status: Status,
+    ) -> Result<(), AllocError>
+        ensures { OnOk result ((items : ItemsState) → world turn.new self.new items ≡ all_refused session status (world turn.old self.old items)) }
+    {
+        refuse_at(turn, alloc, &mut self.sessions, session, status)
+    }
+
+    // Whether a session has no subscription.
+    fn has_none(&self, session: u32) -> bool
+        ensures { result ≡ has_none session self.now }
+    {
+        match self.sessions.get(&session) {
+            None => true,
+            Some(part) => part.numbers.len() == 0,
+        }
+    }
+
+    /// DeleteSubscriptions: those that are named and are this session's go, with their items. Where none is left, the
+    /// requests that wait are answered that there is no subscription. At an `Err` nothing is known of what is left.
+    #[tactic(auto, unfolding(crate::specs::Named::deleted))]
+    pub(crate) fn delete(
+        &mut self,
+        alloc: Global,
+        turn: &mut Turn,
+        items: &mut Items,
+        session: u32,
+        numbers: &[u32],
+    ) -> Result<Listed<Status>, Halt>
+        ensures { Comes result (world turn.new self.new items.new) (deleted session (world turn.old self.old items.old) numbers.now) }
+    {
+        match self.fire_named(alloc, turn, items, session, numbers, Call::Delete) {
+            Ok(results) => {
+                if self.has_none(session) {
+                    self.refuse_all(alloc, turn, session, Status::BAD_NO_SUBSCRIPTION)?;
+                }
+                Ok(results)
+            }
+            Err(halt) => Err(halt),
+        }
+    }
+}
+
+// Answers those of the session under its number.
+fn refuse_at(
+    turn: &mut Turn,
+    alloc: Global,
+    sessions: &mut BTreeMap<u32, SessionSubscriptions>,
+    session: u32,
+    status: Status,
+) -> Result<(), AllocError>
+    ensures turn { OnOk result (turn.new ≡ requests_refused session status turn.old sessions.old.entries) }
+    ensures sessions { OnOk result (sessions.new.entries ≡ sessions_without_requests session sessions.old.entries) }
+{
+    match sessions.get_mut(&session) {
+        None => Ok(()),
+        Some(part) => refuse_requests(turn, alloc, &mut part.requests, status),
+    }
+}

@@ -1,0 +1,182 @@
+//! Publish: acknowledgements, notes of time-outs, and who answers.
+
+ghost use Rattle.std.specs.Prelude.{◌≡◌, find, OnOk, IfOk};
+ghost use Rattle.std.specs.List.{position};
+ghost use Rattle.std.specs.Option.{is_some, option_copied};
+ghost use Rattle.ua_subscriptions.specs.Messages.{has_number};
+ghost use Rattle.ua_subscriptions.specs.Publishing.{forgotten, acknowledged, acknowledged_all, note_of, without_note, note_told, answered_to, published};
+ghost use Rattle.ua_subscriptions.specs.Tables.{world, Meets};
+
+use crate::call::Call;
+use crate::messages::{KeptMessage, timeout_message};
+use crate::named::is_own;
+use crate::publish_call::PublishCall;
+use crate::queue::Queue;
+use crate::session_part::{SessionSubscriptions, TimeoutNote};
+use crate::subscription::Subscription;
+use crate::table::LiveSubscriptions;
+use crate::turn::Turn;
+use server_messages::Halt;
+use std::alloc::{AllocError, Global};
+use std::collections::BTreeMap;
+use ua_monitored_items::Items;
+use ua_subscription_messages::SubscriptionAcknowledgement;
+use ua_types::{Listed, Status};
+
+// The place of the first message with this number.
+fn place_of(kept: &Queue<KeptMessage>, number: u32) -> Option<usize>
+    ensures { result ≡ position (has_number number) kept.now }
+{
+    kept.items
+        .iter()
+        .position(|message| message.number == number)
+}
+
+/// The first message with this number.
+pub(crate) fn message(kept: &Queue<KeptMessage>, number: u32) -> Option<&KeptMessage>
+    ensures { option_copied result ≡ find (has_number number) kept.now }
+{
+    kept.items.iter().find(|message| message.number == number)
+}
+
+// Drops the first message with this number, and tells whether there is one.
+fn forget(kept: &mut Queue<KeptMessage>, number: u32) -> bool
+    ensures known { result ≡ is_some (position (has_number number) kept.old) }
+    ensures kept { kept.new ≡ forgotten number kept.old }
+{
+    match place_of(kept, number) {
+        None => false,
+        Some(place) => {
+            let _ = kept.items.remove(place);
+            true
+        }
+    }
+}
+
+#[tactic(auto, unfolding(crate::specs::Publishing::acknowledged))]
+fn acknowledge(
+    subscriptions: &mut BTreeMap<u32, Subscription>,
+    session: u32,
+    acknowledgement: SubscriptionAcknowledgement,
+) -> Status
+    ensures status { result ≡ (acknowledged session subscriptions.old.entries acknowledgement).status }
+    ensures subscriptions { subscriptions.new.entries ≡ (acknowledged session subscriptions.old.entries acknowledgement).subscriptions }
+{
+    let own = acknowledgement.subscription_id;
+    if !is_own(subscriptions, session, own) {
+        return Status::BAD_SUBSCRIPTION_ID_INVALID;
+    }
+    match subscriptions.get_mut(&own) {
+        None => Status::BAD_SUBSCRIPTION_ID_INVALID,
+        Some(subscription) => {
+            if forget(&mut subscription.kept, acknowledgement.sequence_number) {
+                Status::GOOD
+            } else {
+                Status::BAD_SEQUENCE_NUMBER_UNKNOWN
+            }
+        }
+    }
+}
+
+fn acknowledge_all(
+    alloc: Global,
+    subscriptions: &mut BTreeMap<u32, Subscription>,
+    session: u32,
+    acknowledgements: &[SubscriptionAcknowledgement],
+) -> Result<Listed<Status>, AllocError>
+    ensures results { IfOk result (λ results. results ≡ (acknowledged_all session subscriptions.old.entries acknowledgements.now).results) }
+    ensures subscriptions { OnOk result (subscriptions.new.entries ≡ (acknowledged_all session subscriptions.old.entries acknowledgements.now).subscriptions) }
+{
+    let mut results = Listed::new(alloc);
+    for acknowledgement in acknowledgements {
+        results.push(acknowledge(subscriptions, session, *acknowledgement))?;
+    }
+    Ok(results)
+}
+
+// Takes out the oldest note of a session.
+fn take_note(
+    sessions: &mut BTreeMap<u32, SessionSubscriptions>,
+    session: u32,
+) -> Option<TimeoutNote>
+    ensures note { result ≡ note_of session sessions.old.entries }
+    ensures sessions { sessions.new.entries ≡ without_note session sessions.old.entries }
+{
+    match sessions.get_mut(&session) {
+        None => None,
+        Some(part) => part.notes.pop(),
+    }
+}
+
+// Answers a request by the note that a subscription has timed out.
+fn tell_note(
+    turn: &mut Turn,
+    alloc: Global,
+    call: PublishCall,
+    note: TimeoutNote,
+) -> Result<(), AllocError>
+    ensures { OnOk result (turn.new ≡ note_told turn.old call note) }
+{
+    let bytes = timeout_message(alloc, note.number, turn.clock)?;
+    let none = Queue::new(alloc);
+    let message = bytes.as_slice();
+    let reply = call.published(alloc, turn.clock, note.subscription, &none, false, message)?;
+    turn.replies.push(reply)
+}
+
+impl LiveSubscriptions {
+    // Gives a request to the best of these subscriptions that waits, or else to all of them.
+    #[tactic(auto, unfolding(crate::specs::Publishing::answered_to))]
+    fn publish_to(
+        &mut self,
+        alloc: Global,
+        turn: &mut Turn,
+        items: &mut Items,
+        numbers: &[u32],
+        call: PublishCall,
+    ) -> Result<(), Halt>
+        ensures { Meets result (world turn.new self.new items.new) (answered_to numbers.now call (world turn.old self.old items.old)) }
+    {
+        if numbers.is_empty() {
+            turn.replies.push(call.refused(alloc, turn.clock, Status::BAD_NO_SUBSCRIPTION)?)?;
+            return Ok(());
+        }
+        let best = self.best_waiting(alloc, numbers)?;
+        turn.asked = Some(call);
+        match best {
+            Some(rank) => self.fire_one(alloc, turn, items, rank.number, Call::Publish),
+            None => self.fire_all(alloc, turn, items, numbers, Call::Publish),
+        }
+    }
+
+    /// Publish: the acknowledged messages of the session's subscriptions are no longer kept. Then the oldest note of a
+    /// time-out is the answer; where there is none and no subscription, a fault; else the best subscription that waits
+    /// answers, or all of the session see the request, and it is queued. `call` comes without results. At an `Err` nothing
+    /// is known of what is left.
+    #[tactic(auto, unfolding(crate::specs::Publishing::published))]
+    pub(crate) fn publish(
+        &mut self,
+        alloc: Global,
+        turn: &mut Turn,
+        items: &mut Items,
+        session: u32,
+        call: PublishCall,
+        acknowledgements: &[SubscriptionAcknowledgement],
+    ) -> Result<(), Halt>
+        ensures { Meets result (world turn.new self.new items.new) (published session call acknowledgements.now (world turn.old self.old items.old)) }
+    {
+        let subscriptions = &mut self.subscriptions;
+        let results = acknowledge_all(alloc, subscriptions, session, acknowledgements)?;
+        let call = PublishCall {
+            conn: call.conn,
+            id: call.id,
+            handle: call.handle,
+            results,
+        };
+        if let Some(note) = take_note(&mut self.sessions, session) {
+            return Ok(tell_note(turn, alloc, call, note)?);
+        }
+        let numbers = self.numbers(alloc, session)?;
+        self.publish_to(alloc, turn, items, numbers.as_slice(), call)
+    }
+}

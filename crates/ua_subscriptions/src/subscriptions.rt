@@ -1,0 +1,423 @@
+//! The subscriptions of a server.
+
+ghost use Rattle.std.specs.Prelude.{◌≡◌, ◌<◌, ◌-◌, ◌^◌, false, option_map, IfOk, IsOk, None};
+ghost use Rattle.ua_subscriptions.specs.Ending.{session_ended, without_conn};
+ghost use Rattle.ua_subscriptions.specs.Making.{kept_at, modified, republished, timed};
+ghost use Rattle.ua_subscriptions.specs.Named.{is_own as is_own_spec, named_all, deleted};
+ghost use Rattle.ua_subscriptions.specs.Publishing.{published};
+ghost use Rattle.ua_subscriptions.specs.Ranks.{is_any_due};
+ghost use Rattle.ua_subscriptions.specs.SubscriptionCalls.{no_subscriptions, turn_of, world_of, settled, Serves, said, told, is_full as is_full_spec, refused, created_one, created};
+ghost use Rattle.ua_subscriptions.specs.Tables.{met, vars_found, kept_found};
+ghost use Rattle.ua_subscriptions.specs.declared.call.Call.TheVariants.{Items as ItemsCall, SetMode};
+
+use crate::answered::Answered;
+use crate::call::Call;
+use crate::making::Revised;
+use crate::publish_call::PublishCall;
+use crate::settings::{Bounds, Settings};
+use crate::table::LiveSubscriptions;
+use crate::turn::Turn;
+use bytes::Bytes;
+use server_messages::Halt;
+use std::alloc::{AllocError, Global};
+use std::marker::Model;
+use ua_monitored_items::Items;
+use ua_state_table::Vars;
+use ua_subscription_messages::SubscriptionAcknowledgement;
+use ua_types::{Config, Listed, Moment, Status};
+
+/// A subscription that was made.
+#[derive(Clone, Copy, Debug, PartialEq, Eq, Drop)]
+pub struct Created {
+    /// Its number, counted from 1 over the server and never used again.
+    pub number: u32,
+    /// Its counts as the server allows them.
+    pub revised: Revised,
+}
+
+/// The subscriptions of a server: those that live, the Publish requests that wait for them, and the notes of those that
+/// timed out.
+///
+/// Each call says which rows of the state table fired ([`ua_state_table`]) and what is answered to Publish requests by that. It
+/// is lent the server's monitored items, whose values the messages take.
+///
+/// `Memory` comes only where an allocation failed, and `Exhausted` only where the messages can't be counted in 64 bits.
+/// After either each call that has an error answers it for good, and nothing is known of the subscriptions and items.
+#[derive(Debug, Drop)]
+pub struct Subscriptions {
+    bounds: Bounds,
+    // What ended it.
+    halted: Option<Halt>,
+    // The number of the last subscription that was made, 0 before the first.
+    made: u32,
+    // How many messages were sent.
+    place: u64,
+    table: LiveSubscriptions,
+}
+
+impl Model for Subscriptions {
+    ghost use Rattle.ua_subscriptions.specs.SubscriptionCalls.{SubscriptionsState};
+
+    ghost Value = { SubscriptionsState };
+
+    ghost view = { λ s. record { bounds = s.bounds; halted = s.halted; made = s.made; place = s.place; table = s.table } };
+}
+
+impl Subscriptions {
+    /// No subscription yet, under this configuration. Takes no memory.
+    pub fn new(alloc: Global, config: &Config) -> Subscriptions
+        ensures { result ≡ no_subscriptions config.now }
+    {
+        Subscriptions {
+            bounds: Bounds::new(config),
+            halted: None,
+            made: 0,
+            place: 0,
+            table: LiveSubscriptions::new(alloc),
+        }
+    }
+
+    // What rows are done with at this clock.
+    fn turn(&self, alloc: Global, clock: Moment) -> Turn
+        ensures { result ≡ turn_of self.now clock }
+    {
+        Turn {
+            bounds: self.bounds,
+            clock,
+            own: 0,
+            call: Call::Timer,
+            asked: None,
+            place: self.place,
+            replies: Listed::new(alloc),
+            rows: Listed::new(alloc),
+        }
+    }
+
+    // Ends a call.
+    fn settle<T: Drop>(&mut self, turn: Turn, answer: Result<T, Halt>) -> Result<Answered<T>, Halt>
+        ensures { record { result = result; state = self.new } ≡ settled self.old turn answer }
+    {
+        match answer {
+            Ok(answer) => {
+                self.place = turn.place;
+                Ok(Answered {
+                    answer,
+                    replies: turn.replies,
+                    rows: turn.rows,
+                })
+            }
+            Err(halt) => {
+                self.halted = Some(halt);
+                Err(halt)
+            }
+        }
+    }
+
+    // Whether no subscription can be made for a session.
+    fn is_full(&self, session: u32) -> bool
+        ensures full { result ≡ is_full_spec self.now session }
+        ensures room { result ≡ false → self.now.made < 2 ^ 32 - 1 }
+    {
+        self.table.count(session) >= self.bounds.subscriptions as usize || self.made == u32::MAX
+    }
+
+    // Refuses a subscription.
+    #[tactic(auto, unfolding(crate::specs::SubscriptionCalls::refused))]
+    fn refuse(
+        &mut self,
+        alloc: Global,
+        items: &mut Items,
+        clock: Moment,
+        session: u32,
+        settings: Settings,
+        enabled: bool,
+    ) -> Result<Answered<Result<Created, Status>>, Halt>
+        requires { self.old.halted ≡ None }
+        ensures { Serves result self.old self.new items.new (refused session settings enabled self.old (world_of self.old items.old clock)) }
+    {
+        let mut turn = self.turn(alloc, clock);
+        let table = &self.table;
+        match table.refuse(alloc, &mut turn, items, session, settings, enabled) {
+            Ok(()) => self.settle(turn, Ok(Err(Status::BAD_TOO_MANY_SUBSCRIPTIONS))),
+            Err(halt) => self.settle(turn, Err(halt)),
+        }
+    }
+
+    // Makes a subscription under the next number.
+    #[tactic(auto, unfolding(crate::specs::SubscriptionCalls::created_one))]
+    fn add(
+        &mut self,
+        alloc: Global,
+        items: &mut Items,
+        clock: Moment,
+        session: u32,
+        settings: Settings,
+        enabled: bool,
+    ) -> Result<Answered<Result<Created, Status>>, Halt>
+        requires going { self.old.halted ≡ None }
+        requires room { self.old.made < 2 ^ 32 - 1 }
+        ensures { Serves result self.old self.new items.new (created_one session settings enabled self.old (world_of self.old items.old clock)) }
+    {
+        let mut turn = self.turn(alloc, clock);
+        let number = self.made + 1;
+        self.made = number;
+        let table = &mut self.table;
+        match table.add(alloc, &mut turn, items, session, number, settings, enabled) {
+            Ok(()) => {
+                let revised = Revised::new(settings);
+                self.settle(turn, Ok(Ok(Created { number, revised })))
+            }
+            Err(halt) => self.settle(turn, Err(halt)),
+        }
+    }
+
+    /// Makes a subscription of a session (CreateSubscription, IEC 62541-4, section 5, Subscription Service Set).
+    ///
+    /// `BAD_TOO_MANY_SUBSCRIPTIONS` where the session has as many as the configuration allows, or the numbers are used up.
+    #[tactic(auto, unfolding(crate::specs::SubscriptionCalls::created))]
+    pub fn create(
+        &mut self,
+        alloc: Global,
+        items: &mut Items,
+        clock: Moment,
+        session: u32,
+        settings: Settings,
+        enabled: bool,
+    ) -> Result<Answered<Result<Created, Status>>, Halt>
+        ensures { Serves result self.old self.new items.new (created session settings enabled self.old items.old clock) }
+    {
+        if let Some(halt) = self.halted {
+            return Err(halt);
+        }
+        if self.is_full(session) {
+            self.refuse(alloc, items, clock, session, settings, enabled)
+        } else {
+            self.add(alloc, items, clock, session, settings, enabled)
+        }
+    }
+
+    /// Gives a subscription of a session other counts, another size of messages and another priority (ModifySubscription,
+    /// IEC 62541-4, section 5, Subscription Service Set).
+    ///
+    /// `BAD_SUBSCRIPTION_ID_INVALID` where the session has no such subscription.
+    pub fn modify(
+        &mut self,
+        alloc: Global,
+        items: &mut Items,
+        clock: Moment,
+        session: u32,
+        number: u32,
+        settings: Settings,
+    ) -> Result<Answered<Result<Revised, Status>>, Halt>
+        ensures { Serves result self.old self.new items.new (said self.old (modified session number settings (world_of self.old items.old clock))) }
+    {
+        if let Some(halt) = self.halted {
+            return Err(halt);
+        }
+        let mut turn = self.turn(alloc, clock);
+        let answer = self
+            .table
+            .modify(alloc, &mut turn, items, session, number, settings);
+        self.settle(turn, answer)
+    }
+
+    /// Switches the notifications of subscriptions of a session on or off, one after the other (SetPublishingMode,
+    /// IEC 62541-4, section 5, Subscription Service Set).
+    ///
+    /// Tells of each whether it is the session's: `GOOD` or `BAD_SUBSCRIPTION_ID_INVALID`.
+    pub fn set_mode(
+        &mut self,
+        alloc: Global,
+        items: &mut Items,
+        clock: Moment,
+        session: u32,
+        numbers: &[u32],
+        enabled: bool,
+    ) -> Result<Answered<Listed<Status>>, Halt>
+        ensures { Serves result self.old self.new items.new (said self.old (named_all session (SetMode enabled) (world_of self.old items.old clock) numbers.now)) }
+    {
+        if let Some(halt) = self.halted {
+            return Err(halt);
+        }
+        let mut turn = self.turn(alloc, clock);
+        let call = Call::SetMode { enabled };
+        let answer = self
+            .table
+            .fire_named(alloc, &mut turn, items, session, numbers, call);
+        self.settle(turn, answer)
+    }
+
+    /// Deletes subscriptions of a session, one after the other, with their items (DeleteSubscriptions, IEC 62541-4,
+    /// section 5, Subscription Service Set).
+    ///
+    /// Tells of each whether it is the session's: `GOOD` or `BAD_SUBSCRIPTION_ID_INVALID`. Where the session has none left,
+    /// its Publish requests that wait are answered `BAD_NO_SUBSCRIPTION`, after the answer to the call.
+    pub fn delete(
+        &mut self,
+        alloc: Global,
+        items: &mut Items,
+        clock: Moment,
+        session: u32,
+        numbers: &[u32],
+    ) -> Result<Answered<Listed<Status>>, Halt>
+        ensures { Serves result self.old self.new items.new (said self.old (deleted session (world_of self.old items.old clock) numbers.now)) }
+    {
+        if let Some(halt) = self.halted {
+            return Err(halt);
+        }
+        let mut turn = self.turn(alloc, clock);
+        let answer = self.table.delete(alloc, &mut turn, items, session, numbers);
+        self.settle(turn, answer)
+    }
+
+    /// Takes a Publish request (IEC 62541-4, section 5, Subscription Service Set), which comes without results: they are
+    /// made of its acknowledgements.
+    ///
+    /// It is answered at once where a subscription timed out of which the session wasn't told, where there is no
+    /// subscription (`BAD_NO_SUBSCRIPTION`), or where one waits for it; else it waits. Where more wait than may, the oldest
+    /// is answered `BAD_TOO_MANY_PUBLISH_REQUESTS`.
+    pub fn publish(
+        &mut self,
+        alloc: Global,
+        items: &mut Items,
+        clock: Moment,
+        session: u32,
+        call: PublishCall,
+        acknowledgements: &[SubscriptionAcknowledgement],
+    ) -> Result<Answered<()>, Halt>
+        ensures { Serves result self.old self.new items.new (told self.old (published session call acknowledgements.now (world_of self.old items.old clock))) }
+    {
+        if let Some(halt) = self.halted {
+            return Err(halt);
+        }
+        let mut turn = self.turn(alloc, clock);
+        let answer = self
+            .table
+            .publish(alloc, &mut turn, items, session, call, acknowledgements);
+        self.settle(turn, answer)
+    }
+
+    /// Gives a message of a subscription of a session again, as it was first sent (Republish, IEC 62541-4, section 5,
+    /// Subscription Service Set). Of two with that number it is the older.
+    ///
+    /// `BAD_SUBSCRIPTION_ID_INVALID` where the session has no such subscription, `BAD_MESSAGE_NOT_AVAILABLE` where the
+    /// message isn't kept.
+    pub fn republish(
+        &mut self,
+        alloc: Global,
+        items: &mut Items,
+        clock: Moment,
+        session: u32,
+        number: u32,
+        wanted: u32,
+    ) -> Result<Answered<Result<Bytes, Status>>, Halt>
+        ensures { Serves result self.old self.new items.new (said self.old (republished session number wanted (world_of self.old items.old clock))) }
+    {
+        if let Some(halt) = self.halted {
+            return Err(halt);
+        }
+        let mut turn = self.turn(alloc, clock);
+        let answer = self
+            .table
+            .republish(alloc, &mut turn, items, session, number, wanted);
+        self.settle(turn, answer)
+    }
+
+    /// The timers of all subscriptions that are due at this clock, the best subscription first. Takes no memory where none
+    /// is due.
+    pub fn timers(
+        &mut self,
+        alloc: Global,
+        items: &mut Items,
+        clock: Moment,
+    ) -> Result<Answered<()>, Halt>
+        ensures serves { Serves result self.old self.new items.new (told self.old (timed (world_of self.old items.old clock))) }
+        ensures none { self.old.halted ≡ None → is_any_due clock self.old.table.subscriptions ≡ false → IsOk result }
+    {
+        if let Some(halt) = self.halted {
+            return Err(halt);
+        }
+        let mut turn = self.turn(alloc, clock);
+        let answer = self.table.timers(alloc, &mut turn, items);
+        self.settle(turn, answer)
+    }
+
+    /// A session ends. Its subscriptions are deleted with it, or left to their lifetime; its Publish requests that wait are
+    /// answered `BAD_SESSION_CLOSED`, and it is told of no time-out any more.
+    pub fn session_end(
+        &mut self,
+        alloc: Global,
+        items: &mut Items,
+        clock: Moment,
+        session: u32,
+        deleting: bool,
+    ) -> Result<Answered<()>, Halt>
+        ensures { Serves result self.old self.new items.new (told self.old (session_ended session deleting (world_of self.old items.old clock))) }
+    {
+        if let Some(halt) = self.halted {
+            return Err(halt);
+        }
+        let mut turn = self.turn(alloc, clock);
+        let answer = self
+            .table
+            .end_session(alloc, &mut turn, items, session, deleting);
+        self.settle(turn, answer)
+    }
+
+    /// The items of this subscription were created, changed or deleted, or their mode was set. `before`: what
+    /// [`Subscriptions::vars`] gave before that.
+    pub fn items(
+        &mut self,
+        alloc: Global,
+        items: &mut Items,
+        clock: Moment,
+        number: u32,
+        before: Vars,
+    ) -> Result<Answered<()>, Halt>
+        ensures { Serves result self.old self.new items.new (told self.old (met (world_of self.old items.old clock) number (ItemsCall before))) }
+    {
+        if let Some(halt) = self.halted {
+            return Err(halt);
+        }
+        let mut turn = self.turn(alloc, clock);
+        let call = Call::Items { before };
+        let answer = self.table.fire_one(alloc, &mut turn, items, number, call);
+        self.settle(turn, answer)
+    }
+
+    /// A connection is closed or gone: the Publish requests that came by it wait no more. No row fires. Takes no memory.
+    pub fn gone(&mut self, conn: u64)
+        ensures { self.new ≡ record self.old { table = without_conn conn self.old.table } }
+    {
+        self.table.gone(conn);
+    }
+
+    /// Whether this is the number of a live subscription of this session.
+    pub fn is_own(&self, session: u32, number: u32) -> bool
+        ensures { result ≡ is_own_spec self.now.table session number }
+    {
+        self.table.is_own(session, number)
+    }
+
+    /// The variables of a subscription, or None where there is none with this number. Takes no memory.
+    pub fn vars(&self, number: u32, items: &Items) -> Option<Vars>
+        ensures { result ≡ vars_found number items.now self.now.table }
+    {
+        self.table.vars(number, items)
+    }
+
+    /// The numbers of the messages that a subscription keeps, in the order in which they were sent; none where there is no
+    /// such subscription.
+    pub fn kept_numbers(&self, alloc: Global, number: u32) -> Result<Vec<u32>, AllocError>
+        ensures { IfOk result (λ numbers. numbers.items ≡ kept_found number self.now.table) }
+    {
+        self.table.kept_numbers(alloc, number)
+    }
+
+    /// The message of a subscription with this number, as it was first sent, if it is kept. Takes no memory.
+    pub fn kept(&self, number: u32, wanted: u32) -> Option<&[u8]>
+        ensures { option_map (λ bytes. bytes.now) result ≡ kept_at number wanted self.now.table }
+    {
+        self.table.kept(number, wanted)
+    }
+}

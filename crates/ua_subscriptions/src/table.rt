@@ -1,0 +1,181 @@
+//! Subscriptions and sessions under their numbers.
+
+ghost use Rattle.std.specs.Prelude.{◌≡◌, true, OnOk, IfOk, IfErr};
+ghost use Rattle.server_messages.specs.declared.halt.Halt.TheVariants.{Exhausted};
+ghost use Rattle.ua_subscriptions.specs.Tables.{no_table, part_of, vars_found, kept_found, met_in, one_met, met_at, world, met, all_met, Meets};
+ghost use Rattle.ua_subscriptions.specs.Subscriptions.{is_any};
+ghost use Rattle.ua_subscriptions.specs.Scenes.{is_overspent};
+
+use crate::call::Call;
+use crate::firing::{fire, is_closed};
+use crate::publish_call::numbers;
+use crate::session_part::SessionSubscriptions;
+use crate::subscription::Subscription;
+use crate::turn::Turn;
+use server_messages::Halt;
+use std::alloc::{AllocError, Global};
+use std::collections::BTreeMap;
+use std::marker::Model;
+use ua_monitored_items::Items;
+use ua_state_table::Vars;
+
+/// The live subscriptions of a server under their numbers, and what each session has of them. Contracts see both as
+/// lists by rising number.
+#[derive(Debug, Drop)]
+pub struct LiveSubscriptions {
+    pub(crate) subscriptions: BTreeMap<u32, Subscription>,
+    pub(crate) sessions: BTreeMap<u32, SessionSubscriptions>,
+}
+
+impl Model for LiveSubscriptions {
+    ghost use Rattle.ua_subscriptions.specs.Tables.{TableState};
+
+    ghost Value = { TableState };
+
+    ghost view = { λ t. record { subscriptions = t.subscriptions.entries; sessions = t.sessions.entries } };
+}
+
+// Fires a row, where what the session has of subscriptions is found under its number.
+#[tactic(auto, using(crate::proofs::Meetings::met_absent))]
+fn fire_in(
+    turn: &mut Turn,
+    alloc: Global,
+    subscription: &mut Subscription,
+    sessions: &mut BTreeMap<u32, SessionSubscriptions>,
+    items: &mut Items,
+) -> Result<(), Halt>
+    ensures ok { OnOk result (record { turn = turn.new; subscription = subscription.new; sessions = sessions.new.entries; items = items.new } ≡ met_in turn.old subscription.old sessions.old.entries items.old) }
+    ensures exhausted { IfErr result (λ halt. halt ≡ Exhausted → is_overspent (met_in turn.old subscription.old sessions.old.entries items.old).turn ≡ true) }
+{
+    let Some(session) = subscription.session else {
+        return fire(
+            turn,
+            alloc,
+            subscription,
+            &mut SessionSubscriptions::new(alloc),
+            items,
+        );
+    };
+    match sessions.get_mut(&session) {
+        None => fire(
+            turn,
+            alloc,
+            subscription,
+            &mut SessionSubscriptions::new(alloc),
+            items,
+        ),
+        Some(part) => fire(turn, alloc, subscription, part, items),
+    }
+}
+
+// Fires a row at the subscription whose turn it is, if it is there, and tells whether it is closed then.
+#[tactic(auto, using(crate::proofs::Meetings::one_met_found))]
+fn fire_at(
+    turn: &mut Turn,
+    alloc: Global,
+    subscriptions: &mut BTreeMap<u32, Subscription>,
+    sessions: &mut BTreeMap<u32, SessionSubscriptions>,
+    items: &mut Items,
+) -> Result<bool, Halt>
+    ensures ok { IfOk result (λ closed. one_met turn.new subscriptions.new.entries sessions.new.entries items.new closed ≡ met_at turn.old subscriptions.old.entries sessions.old.entries items.old) }
+    ensures exhausted { IfErr result (λ halt. halt ≡ Exhausted → is_overspent (met_at turn.old subscriptions.old.entries sessions.old.entries items.old).turn ≡ true) }
+{
+    match subscriptions.get_mut(&turn.own) {
+        None => Ok(false),
+        Some(subscription) => match fire_in(turn, alloc, subscription, sessions, items) {
+            Ok(()) => Ok(is_closed(subscription)),
+            Err(halt) => Err(halt),
+        },
+    }
+}
+
+impl LiveSubscriptions {
+    /// No subscription. Takes no memory.
+    pub(crate) fn new(alloc: Global) -> LiveSubscriptions
+        ensures { result ≡ no_table }
+    {
+        LiveSubscriptions {
+            subscriptions: BTreeMap::new(alloc),
+            sessions: BTreeMap::new(alloc),
+        }
+    }
+
+    // Whether a request of a session waits.
+    fn waits(&self, session: Option<u32>) -> bool
+        ensures { result ≡ is_any (part_of session self.now.sessions).requests }
+    {
+        match session {
+            None => false,
+            Some(session) => match self.sessions.get(&session) {
+                None => false,
+                Some(part) => part.waits(),
+            },
+        }
+    }
+
+    /// The variables of the live subscription of a number.
+    pub(crate) fn vars(&self, number: u32, items: &Items) -> Option<Vars>
+        ensures { result ≡ vars_found number items.now self.now }
+    {
+        let subscription = self.subscriptions.get(&number)?;
+        let waits = self.waits(subscription.session);
+        Some(subscription.vars(waits, items, number))
+    }
+
+    /// The numbers of the messages that the subscription of a number keeps.
+    pub(crate) fn kept_numbers(&self, alloc: Global, number: u32) -> Result<Vec<u32>, AllocError>
+        ensures { IfOk result (λ numbers. numbers.items ≡ kept_found number self.now) }
+    {
+        match self.subscriptions.get(&number) {
+            None => Ok(Vec::new(alloc)),
+            Some(subscription) => numbers(alloc, &subscription.kept),
+        }
+    }
+
+    /// What comes to the subscription of this number fires a row there, if there is one. At an `Err` nothing is known of
+    /// what is left.
+    #[tactic(auto, unfolding(crate::specs::Tables::met))]
+    pub(crate) fn fire_one(
+        &mut self,
+        alloc: Global,
+        turn: &mut Turn,
+        items: &mut Items,
+        own: u32,
+        call: Call,
+    ) -> Result<(), Halt>
+        ensures { Meets result (world turn.new self.new items.new) (met (world turn.old self.old items.old) own call) }
+    {
+        turn.own = own;
+        turn.call = call;
+        if fire_at(
+            turn,
+            alloc,
+            &mut self.subscriptions,
+            &mut self.sessions,
+            items,
+        )? {
+            let _ = self.subscriptions.remove(&own);
+        }
+        Ok(())
+    }
+
+    /// It comes to several, one after the other. At an `Err` nothing is known of what is left.
+    pub(crate) fn fire_all(
+        &mut self,
+        alloc: Global,
+        turn: &mut Turn,
+        items: &mut Items,
+        numbers: &[u32],
+        call: Call,
+    ) -> Result<(), Halt>
+        ensures { Meets result (world turn.new self.new items.new) (all_met call (world turn.old self.old items.old) numbers.now) }
+    {
+        for number in numbers {
+            match self.fire_one(alloc, turn, items, *number, call) {
+                Ok(()) => {}
+                Err(halt) => return Err(halt),
+            }
+        }
+        Ok(())
+    }
+}

@@ -1,0 +1,126 @@
+//! Which subscriptions wait, or are due.
+
+ghost use Rattle.std.specs.Prelude.{◌≡◌, false, IfOk, IsOk};
+ghost use Rattle.ua_subscriptions.specs.Queues.{first_of};
+ghost use Rattle.ua_subscriptions.specs.Ranks.{is_waiting as is_waiting_spec, waiting_by, waiting_of as waiting_of_spec, due_rank as due_rank_spec, due_of as due_of_spec, due_numbers, is_any_due as is_any_due_spec};
+ghost use Rattle.ua_subscriptions.specs.Tables.{part_at, subscription_at};
+
+use crate::ranks::{Rank, Ranks};
+use crate::subscription::Subscription;
+use crate::table::LiveSubscriptions;
+use std::alloc::{AllocError, Global};
+use std::collections::BTreeMap;
+use ua_state_table::State;
+use ua_types::Moment;
+
+// Whether it waits for a request.
+fn is_waiting(subscription: &Subscription) -> bool
+    ensures { result ≡ is_waiting_spec subscription.now }
+{
+    match subscription.state {
+        State::Late => true,
+        State::Normal => subscription.enabled && subscription.more,
+        State::KeepAlive | State::Closed => false,
+    }
+}
+
+// The rank of the one with this number, if it waits.
+#[tactic(auto, unfolding(crate::specs::Ranks::waiting_by))]
+fn waiting_rank(subscriptions: &BTreeMap<u32, Subscription>, number: u32) -> Option<Rank>
+    ensures { result ≡ waiting_by number (subscription_at number subscriptions.now.entries) }
+{
+    match subscriptions.get(&number) {
+        Some(subscription) if is_waiting(subscription) => Some(Rank::new(number, subscription)),
+        _ => None,
+    }
+}
+
+// The ranks of those that wait among these numbers.
+fn waiting_of(
+    alloc: Global,
+    subscriptions: &BTreeMap<u32, Subscription>,
+    numbers: &[u32],
+) -> Result<Ranks, AllocError>
+    ensures { IfOk result (λ ranks. ranks ≡ waiting_of_spec subscriptions.now.entries numbers.now) }
+{
+    let mut ranks = Ranks::new(alloc);
+    for number in numbers {
+        ranks.insert(waiting_rank(subscriptions, *number))?;
+    }
+    Ok(ranks)
+}
+
+// Its rank, if its timer is due.
+fn due_rank(number: u32, subscription: &Subscription, clock: Moment) -> Option<Rank>
+    ensures { result ≡ due_rank_spec clock (number, subscription.now) }
+{
+    if subscription.due <= clock {
+        Some(Rank::new(number, subscription))
+    } else {
+        None
+    }
+}
+
+// The ranks of those whose timer is due.
+fn due_of(
+    alloc: Global,
+    subscriptions: &BTreeMap<u32, Subscription>,
+    clock: Moment,
+) -> Result<Ranks, AllocError>
+    ensures { IfOk result (λ ranks. ranks ≡ due_of_spec clock subscriptions.now.entries) }
+{
+    let mut ranks = Ranks::new(alloc);
+    for (number, subscription) in subscriptions {
+        ranks.insert(due_rank(*number, subscription, clock))?;
+    }
+    Ok(ranks)
+}
+
+// Whether there is one whose timer is due.
+fn is_any_due(subscriptions: &BTreeMap<u32, Subscription>, clock: Moment) -> bool
+    ensures { result ≡ is_any_due_spec clock subscriptions.now.entries }
+{
+    for (_, subscription) in subscriptions {
+        if subscription.due <= clock {
+            return true;
+        }
+    }
+    false
+}
+
+impl LiveSubscriptions {
+    /// The numbers of a session's live subscriptions, rising.
+    pub(crate) fn numbers(&self, alloc: Global, session: u32) -> Result<Vec<u32>, AllocError>
+        ensures { IfOk result (λ numbers. numbers.items ≡ (part_at session self.now.sessions).numbers) }
+    {
+        match self.sessions.get(&session) {
+            None => Ok(Vec::new(alloc)),
+            Some(part) => part.numbers.to_vec(alloc),
+        }
+    }
+
+    /// The best of those that wait among these numbers.
+    pub(crate) fn best_waiting(
+        &self,
+        alloc: Global,
+        numbers: &[u32],
+    ) -> Result<Option<Rank>, AllocError>
+        ensures { IfOk result (λ best. best ≡ first_of (waiting_of_spec self.now.subscriptions numbers.now)) }
+    {
+        let ranks = waiting_of(alloc, &self.subscriptions, numbers)?;
+        Ok(ranks.first())
+    }
+
+    /// The numbers of those whose timer is due, the best first. Takes no memory where there is none.
+    #[tactic(auto, using(crate::proofs::Dues::none_due))]
+    pub(crate) fn due(&self, alloc: Global, clock: Moment) -> Result<Vec<u32>, AllocError>
+        ensures numbers { IfOk result (λ numbers. numbers.items ≡ due_numbers clock self.now.subscriptions) }
+        ensures none { is_any_due_spec clock self.now.subscriptions ≡ false → IsOk result }
+    {
+        if !is_any_due(&self.subscriptions, clock) {
+            return Ok(Vec::new(alloc));
+        }
+        let ranks = due_of(alloc, &self.subscriptions, clock)?;
+        ranks.numbers(alloc)
+    }
+}
