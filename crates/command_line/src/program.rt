@@ -62,7 +62,7 @@ fn check<'a>(alloc: Global) -> Result<Command<'a>, AllocError>
 {
     Command::new(alloc, "check")
         .about(
-            "Counts the nodes and references of a node file, or says what is wrong with it (docs/NODE_FILE.md)",
+            "Counts the nodes and references of a node file, or says what is wrong with it (docs/NODES.md)",
         )
         .arg(nodes(alloc).required(true))
 }
