@@ -103,7 +103,8 @@ impl Write for Sink {
 // The first bytes of `hello`, as such numbers.
 const FIRST: [u64; 6] = [0, 0x68, 0x6865, 0x68_656c, 0x6865_6c6c, 0x68_656c_6c6f];
 
-// Whether so many of five bytes go out to a stream that fails so, and one failure is counted, or none where there is none.
+// Whether so many of five bytes go out to a stream that fails so. One failure is counted where it was the last call, and one
+// interruption where it wasn't; and none where all five went out before.
 fn goes_out(fails_at: usize, kind: Option<ErrorKind>, due: usize) -> bool {
     let mut writer = Tap::new(Sink {
         taken: 0,
@@ -112,7 +113,10 @@ fn goes_out(fails_at: usize, kind: Option<ErrorKind>, due: usize) -> bool {
         kind,
     });
     let count = put_bytes(&mut writer, b"hello");
-    let is_counted = (writer.failures() == 1) == (fails_at < 6);
+    let is_interrupted = kind == Some(ErrorKind::Interrupted);
+    let met = u64::from(fails_at < 6);
+    let counts = if is_interrupted { (0, met) } else { (met, 0) };
+    let is_counted = (writer.failures(), writer.interruptions()) == counts;
     let taken = writer.into_inner().taken;
     count == due && is_counted && FIRST.get(due) == Some(&taken)
 }

@@ -1,20 +1,22 @@
 -- Every header can be written, whatever lines come.
-use Rattle.std.proofs.Common.{◌≡◌, ℕ, ◌+◌, ◌<◌, ◌≤◌, ◌^◌, Bool, true, false, cond, List, [], ◌∷◌, ◌++◌, Option, Some, None, Result, Ok, Err, refl, sym, ap, arith, subst}
-use Rattle.std.specs.Prelude.{nat_lt, unwrap_or}
+use Rattle.std.proofs.Common.{◌≡◌, ℕ, ◌<◌, ◌≤◌, ◌^◌, Bool, true, false, cond, List, [], ◌∷◌, ◌++◌, Option, Some, None, Result, Ok, Err, sym, ap, arith, subst}
+use Rattle.std.specs.Prelude.{unwrap_or}
 use Rattle.std.specs.Ordering.{nat_cmp, eq_by_cmp}
 use Rattle.std.specs.Cmp.{nat_cmp_total}
 use Rattle.std.specs.FinMap.{FinMap, get, insert, remove, get-insert, get-remove, get-empty}
-use Rattle.std.proofs.lemmas.Bool.Decides.{nat_tests}
 use Rattle.ua_types.specs.Answers.{◌>>=◌}
 use Rattle.ua_tcp.specs.declared.frame.ChunkType.{ChunkType}
 use Rattle.ua_tcp.specs.declared.frame.ChunkType.TheVariants.{Final, Aborted}
+use Rattle.ua_channel.specs.Cutting.{next_header}
+use Rattle.ua_channel.specs.SequenceNumbers.{sequence_number_after}
+use Rattle.ua_channel.proofs.HeaderLemmas.{sequence_number_small}
 use Rattle.ua_channel.specs.declared.headers.ChunkHeader.{ChunkHeader}
 use Rattle.scenario_text.specs.declared.choices.ChannelRequest.{ChannelRequest}
 use Rattle.scenario_text.specs.declared.choices.ChannelRequest.TheVariants.{Issue, Renew}
 use Rattle.scenario_text.specs.declared.fault.Cause.{Cause}
 use Rattle.scenario_text.specs.declared.statement.Statement.{Statement}
 use Rattle.scenario_text.specs.declared.statement.Statement.TheVariants as statements
-use Rattle.scenario_events.specs.Runs.{number_after, header_after, run_of, request_run, no_reason}
+use Rattle.scenario_events.specs.Runs.{run_of, request_run, no_reason}
 use Rattle.scenario_events.specs.Pieces.{pieces_of}
 use Rattle.scenario_events.proofs.Pieces.{some_piece}
 use Rattle.scenario_events.specs.Sendings.{Sending, room_of, no_client, new_client, header_of, after_request, opened, hello_of, opening_of, closing_of, service_of}
@@ -22,13 +24,6 @@ use Rattle.scenario_events.specs.Members.{client_of, sending, opening_turn, serv
 use Rattle.scenario_events.specs.Reading.{IsCounted, AllCounted, AfterCounted}
 use Rattle.scenario_events.specs.declared.assembler.Assembler.{Assembler}
 use Rattle.scenario_events.specs.declared.clients.Client.{Client}
-
-small_after : (b : Bool) (n : ℕ) → nat_lt n 4294966272 ≡ b → cond b (n + 1) 1 ≤ 4294966272
-small_after true n e = let small : n < 4294966272 = grind (arith, nat_tests) in omega arith
-small_after false n e = omega arith
-
-small : (n : ℕ) → number_after n ≤ 4294966272
-small n = small_after (nat_lt n 4294966272) n refl
 
 none_counted : IsCounted no_client
 none_counted = record { channel_id = omega arith; token_id = omega arith; sequence_number = omega arith; request_id = omega arith }
@@ -69,19 +64,19 @@ after_counted client n l w = record {
   channel_id = w.channel_id;
   token_id = w.token_id;
   sequence_number = l;
-  request_id = (let s = small client.request_id in omega arith);
+  request_id = (let s = sequence_number_small client.request_id in omega arith);
 }
 
 opened_counted : (number : ℕ) (request : ChannelRequest) (client : Client) → number < 2 ^ 32 → IsCounted client → IsCounted (opened number request client)
 opened_counted number Issue client l w = record {
   channel_id = l;
-  token_id = (let s = small client.token_id in omega arith);
+  token_id = omega arith;
   sequence_number = w.sequence_number;
   request_id = w.request_id;
 }
 opened_counted number Renew client l w = record {
   channel_id = w.channel_id;
-  token_id = (let s = small client.token_id in omega arith);
+  token_id = (let s = sequence_number_small client.token_id in omega arith);
   sequence_number = w.sequence_number;
   request_id = w.request_id;
 }
@@ -93,17 +88,17 @@ hello_counted client url w = then_counted _ _ (λ b. w)
 opening_counted : (client : Client) (number : ℕ) (request : ChannelRequest) → number < 2 ^ 32 → IsCounted client → LeavesCounted (opening_of client number request)
 unfolding opening_of
 opening_counted client number request l w =
-    then_counted _ _ (λ b. opened_counted number request (after_request client (number_after client.sequence_number)) l (after_counted client (number_after client.sequence_number) (small client.sequence_number) w))
+    then_counted _ _ (λ b. opened_counted number request (after_request client (sequence_number_after client.sequence_number)) l (after_counted client (sequence_number_after client.sequence_number) (sequence_number_small client.sequence_number) w))
 
 closing_counted : (client : Client) → IsCounted client → LeavesCounted (closing_of client)
 unfolding closing_of
-closing_counted client w = then_counted _ _ (λ b. after_counted client (number_after client.sequence_number) (small client.sequence_number) w)
+closing_counted client w = then_counted _ _ (λ b. after_counted client (sequence_number_after client.sequence_number) (sequence_number_small client.sequence_number) w)
 
 -- the chunk behind a run has a number again
 run_next : (last : ChunkType) (header : ChunkHeader) (p : List ℕ) (ps : List (List ℕ)) → (run_of last header (p ∷ ps)).next.sequence_number ≤ 4294966272
 unfolding run_of
-run_next last header p [] = small header.sequence_number
-run_next last header p (q ∷ qs) = run_next last (header_after header) q qs
+run_next last header p [] = sequence_number_small header.sequence_number
+run_next last header p (q ∷ qs) = run_next last (next_header header) q qs
 
 parts_next : (last : ChunkType) (header : ChunkHeader) (parts : List (List ℕ)) (p : List ℕ) (ps : List (List ℕ)) → parts ≡ p ∷ ps → (run_of last header parts).next.sequence_number ≤ 4294966272
 parts_next last header parts p ps is = subst (λ (qs : List (List ℕ)). (run_of last header qs).next.sequence_number ≤ 4294966272) (sym is) (run_next last header p ps)
@@ -126,7 +121,7 @@ sent_counted a connection (Ok s) w h = record { clients = put_counted a.clients 
 sent_counted a connection (Err e) w h = tt
 
 channels_counted : (a : Assembler) (request : ChannelRequest) → AllCounted a → channels_after a request < 2 ^ 32
-channels_counted a Issue w = let s = small a.channels in omega arith
+channels_counted a Issue w = let s = sequence_number_small a.channels in omega arith
 channels_counted a Renew w = w.channels
 
 opening_turn_counted : (a : Assembler) (connection : ℕ) (request : ChannelRequest) → AllCounted a → AfterCounted (opening_turn a connection request)

@@ -41,7 +41,7 @@ use Rattle.scenario_requests.specs.Messages.{opening_body, closing_body}
 use Rattle.scenario_requests.specs.Structures.{plain_request}
 use Rattle.scenario_events.specs.Members.{client_of, channels_after, sent_on, sending, opening_turn, turn_of}
 use Rattle.scenario_events.specs.Reading.{IsAmple, SendsFrame, hello_said, opening_said, closing_said, IsCounted, AllCounted}
-use Rattle.scenario_events.specs.Runs.{number_after}
+use Rattle.ua_channel.specs.SequenceNumbers.{sequence_number_after}
 use Rattle.scenario_events.specs.Sendings.{body_limit, limited, after_request, named_channel, opened, hello_of, opening_of, closing_of}
 use Rattle.scenario_events.specs.declared.assembler.Assembler.{Assembler}
 use Rattle.scenario_events.specs.declared.clients.Client.{Client}
@@ -209,7 +209,7 @@ opening_read limit a connection request ample w =
     let said = opening_said client request in
     let front = opening_header_encoding said.0 in
     sent_as limit connection (record a { channels = number }) message.OpenSecureChannel opening_header_reading said front said.1
-    (opened number request (after_request client (number_after client.sequence_number))) ample (omega (arith, opening_encoding_length named client.sequence_number client.request_id)) refl (opening_short client.request_id request)
+    (opened number request (after_request client (sequence_number_after client.sequence_number))) ample (omega (arith, opening_encoding_length named client.sequence_number client.request_id)) refl (opening_short client.request_id request)
     (fields_again named client.sequence_number client.request_id security_policy_none said.1 (named_small client request counted) (omega (arith, counted.sequence_number)) counted.request_id policy_again)
 
 pub closing_read : (limit : ℕ) (a : Assembler) (connection : ℕ) → IsAmple limit → AllCounted a
@@ -219,5 +219,5 @@ closing_read limit a connection ample w =
     let client = client_of a connection in
     let said = closing_said client in
     sent_as limit connection a message.CloseSecureChannel chunk_header_reading said (chunk_header_encoding said.0) said.1
-    (after_request client (number_after client.sequence_number)) ample (omega (arith, encoding_length said.0)) refl (closing_short client.request_id)
+    (after_request client (sequence_number_after client.sequence_number)) ample (omega (arith, encoding_length said.0)) refl (closing_short client.request_id)
     (header_again said.0 said.1 (w.clients connection))

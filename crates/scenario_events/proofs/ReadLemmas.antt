@@ -1,33 +1,21 @@
 -- A request's run is read again.
-use Rattle.std.specs.Prelude.{◌&&◌}
-use Rattle.std.proofs.Common.{◌≡◌, Bool, true, false, cond, Some, None, eq-eqb, ℕ, ◌+◌, ◌<◌, ◌≤◌, ◌^◌, List, [], ◌∷◌, ◌++◌, length, Result, refl, sym, ◌∙◌, ap, arith, append_assoc, append-nil, subst}
-use Rattle.std.specs.Prelude.{nat_lt}
-use Rattle.std.proofs.lemmas.Bool.Decides.{nat_tests}
+use Rattle.std.proofs.Common.{◌≡◌, Bool, true, false, Some, None, eq-eqb, ℕ, ◌+◌, ◌<◌, ◌≤◌, ◌^◌, List, [], ◌∷◌, ◌++◌, length, refl, sym, ◌∙◌, ap, arith, append_assoc, append-nil, subst}
 use Rattle.std.specs.List.{concat, flat_map, AllByRecursion}
-use Rattle.std.proofs.lemmas.List.{length-append}
-use Rattle.ua_binary.specs.declared.fault.TakeFault.{TakeFault}
 use Rattle.ua_tcp.specs.Encoding.{frame_encoding, IsFrame}
-use Rattle.ua_tcp.specs.Header.{judgement_of}
 use Rattle.ua_tcp.specs.Frames.{Framed, Rest, frames}
 use Rattle.ua_tcp.specs.declared.frame.Frame.{Frame}
-use Rattle.ua_tcp.specs.declared.frame.Judgement.TheVariants.{Incomplete}
-use Rattle.ua_tcp.specs.declared.frame.MessageType.TheVariants as message
 use Rattle.ua_tcp.specs.declared.frame.ChunkType.{ChunkType}
 use Rattle.ua_tcp.specs.declared.frame.ChunkType.TheVariants.{Intermediate, Final, Aborted}
 use Rattle.ua_tcp.proofs.EncodedLemmas.{split_read}
 use Rattle.ua_channel.specs.declared.headers.ChunkHeader.{ChunkHeader}
-use Rattle.ua_channel.specs.Headers.{chunk_header_reading, chunk_header_encoding, IsWritable}
-use Rattle.ua_channel.specs.Chunks.{Begun, Messages, parts_of, is_of, joined_on, joined_to, joined_by, joins}
-use Rattle.ua_channel.specs.Cutting.{chunk_frame, chunk_encoding}
-use Rattle.ua_channel.proofs.HeaderLemmas.{header_again, encoding_length, part_again}
+use Rattle.ua_channel.specs.Headers.{IsWritable}
+use Rattle.ua_channel.specs.Chunks.{Begun, Messages, parts_of, is_of, joined_on, joins}
+use Rattle.ua_channel.specs.Cutting.{chunk_frame, chunk_encoding, next_header}
+use Rattle.ua_channel.proofs.ReadAgainLemmas.{none_yet, is_frame, read_chunk, next_writable}
 use Rattle.scenario_events.specs.Pieces.{pieces_of}
-use Rattle.scenario_events.specs.Runs.{header_after, run_of, request_run, no_reason}
+use Rattle.scenario_events.specs.Runs.{run_of, request_run, no_reason}
 use Rattle.scenario_events.specs.Reading.{IsReadAgain}
 use Rattle.scenario_events.proofs.Pieces.{some_piece, short_pieces, whole_pieces}
-
-none_yet : (limit : ℕ) → judgement_of limit [] ≡ Incomplete
-unfolding judgement_of
-none_yet limit = refl
 
 -- what comes of a run that ends so
 abbrev outcome : ChunkType → ℕ → List ℕ → Messages
@@ -39,21 +27,6 @@ record Reads (limit id : ℕ) (last : ChunkType) (body bytes : List ℕ) : Type 
   text : bytes ≡ flat_map frame_encoding fs
   each : AllByRecursion (IsFrame limit) fs
   message : (begun : Begun) → is_of begun id ≡ true → joins begun fs ≡ outcome last id (parts_of begun ++ body)
-
-is_frame : (limit : ℕ) (header : ChunkHeader) (chunk_type : ChunkType) (part : List ℕ) → 24 + length part ≤ limit → IsFrame limit (chunk_frame header chunk_type part)
-is_frame limit header chunk_type part l =
-    record { chunk_type = refl; size = omega (arith, encoding_length header, length-append (chunk_header_encoding header) part) }
-
--- a chunk is read as its header and its part, and joins what has begun of its request
-read_chunk : (header : ChunkHeader) (chunk_type : ChunkType) (part : List ℕ) (begun : Begun) (more : Begun → Messages) → IsWritable header → is_of begun header.request_id ≡ true →
-    (let f = chunk_frame header chunk_type part in joined_by begun f (chunk_header_reading f.body) more)
-    ≡ joined_on chunk_type header.request_id (parts_of begun ++ part) more
-read_chunk header chunk_type part begun more w e =
-    let f = chunk_frame header chunk_type part in
-    let whole : Messages = joined_on chunk_type header.request_id (parts_of begun ++ part) more in
-    ap (λ (r : Result (ChunkHeader × List ℕ) TakeFault). joined_by begun f r more) (header_again header part w)
-    ∙ ap (λ (p : List ℕ). joined_to begun message.Message chunk_type header.request_id p more) (part_again header part)
-    ∙ ap (λ (b : Bool). cond (true && b) whole None) e
 
 last_read : (limit : ℕ) (header : ChunkHeader) (last : ChunkType) (part : List ℕ) → 24 + length part ≤ limit → IsWritable header → Reads limit header.request_id last part (chunk_encoding header last part ++ [])
 last_read limit header last part m w =
@@ -78,24 +51,12 @@ more_read limit header last part rest bytes m w rs =
           ∙ ap (λ (b : List ℕ). outcome last header.request_id b) (append_assoc (parts_of begun) part rest);
     }
 
-number_small : (b : Bool) (n : ℕ) → nat_lt n 4294966272 ≡ b → cond b (n + 1) 1 ≤ 4294966272
-number_small true n e = let small : n < 4294966272 = grind (arith, nat_tests) in omega arith
-number_small false n e = omega arith
-
-next_writable : (header : ChunkHeader) → IsWritable header → IsWritable (header_after header)
-next_writable header w = record {
-  channel_id = w.channel_id;
-  token_id = w.token_id;
-  sequence_number = number_small (nat_lt header.sequence_number 4294966272) header.sequence_number refl;
-  request_id = w.request_id;
-}
-
 run_read : (limit : ℕ) (header : ChunkHeader) (last : ChunkType) (p : List ℕ) (ps : List (List ℕ)) → AllByRecursion (λ part. 24 + length part ≤ limit) (p ∷ ps) → IsWritable header
     → Reads limit header.request_id last (concat (p ∷ ps)) (run_of last header (p ∷ ps)).bytes
 unfolding run_of
 run_read limit header last p [] few w = subst (λ (b : List ℕ). Reads limit header.request_id last b (chunk_encoding header last p ++ [])) (sym (append-nil p)) (last_read limit header last p few.0 w)
 run_read limit header last p (q ∷ qs) few w =
-    more_read limit header last p (concat (q ∷ qs)) (run_of last (header_after header) (q ∷ qs)).bytes few.0 w (run_read limit (header_after header) last q qs few.1 (next_writable header w))
+    more_read limit header last p (concat (q ∷ qs)) (run_of last (next_header header) (q ∷ qs)).bytes few.0 w (run_read limit (next_header header) last q qs few.1 (next_writable header w))
 
 -- the stream is read as its frames
 stream_read : (limit id : ℕ) (last : ChunkType) (body bytes : List ℕ) → limit < 2 ^ 32 → Reads limit id last body bytes

@@ -1,10 +1,10 @@
 -- What a line comes to: something that happens, or bytes that a client sends.
-use Rattle.std.specs.Prelude.{◌≡◌, ◌≢◌, ℕ, ◌-◌, true, false, List, [], ◌∷◌, ◌++◌, length, take, slice_get, unwrap_or, Option, Some, None, Result, Ok, Err}
+use Rattle.std.specs.Prelude.{◌≡◌, ◌≢◌, ℕ, ◌-◌, true, false, List, [], ◌∷◌, ◌++◌, length, slice_get, unwrap_or, Option, Some, None, Result, Ok, Err}
 use Rattle.std.specs.FinMap.{get, insert, remove, empty}
 use Rattle.ua_types.specs.Answers.{◌>>=◌}
 use Rattle.ua_types.specs.NodeIds.{numeric_id}
 use Rattle.ua_types.specs.declared.node_id.NodeId.{NodeId}
-use Rattle.ua_session.specs.Tokens.{token_of}
+use Rattle.ua_session.specs.Tokens.{secret_of, token_of}
 use Rattle.server_core.specs.declared.event.Event.TheVariants as events
 use Rattle.scenario_text.specs.declared.choices.ChannelRequest.{ChannelRequest}
 use Rattle.scenario_text.specs.declared.choices.ChannelRequest.TheVariants.{Issue, Renew}
@@ -13,7 +13,7 @@ use Rattle.scenario_text.specs.declared.statement.Statement.{Statement}
 use Rattle.scenario_text.specs.declared.statement.Statement.TheVariants as statements
 use Rattle.scenario_requests.specs.Messages.{endpoints_body, create_session_body, request_body}
 use Rattle.scenario_requests.specs.Structures.{plain_request}
-use Rattle.scenario_events.specs.Runs.{number_after}
+use Rattle.ua_channel.specs.SequenceNumbers.{sequence_number_after}
 use Rattle.scenario_events.specs.Sendings.{Sending, new_client, no_client, hello_of, opening_of, closing_of, service_of}
 use Rattle.scenario_events.specs.declared.assembler.Assembler.{Assembler}
 use Rattle.scenario_events.specs.declared.assembler.Member.{Member}
@@ -47,7 +47,7 @@ sending a connection said = do
 
 -- a new channel has the next number
 abbrev pub channels_after : Assembler → ChannelRequest → ℕ
-channels_after a Issue = number_after a.channels
+channels_after a Issue = sequence_number_after a.channels
 channels_after a Renew = a.channels
 
 unfoldable pub opening_turn : Assembler → ℕ → ChannelRequest → Result Turn Cause
@@ -60,7 +60,7 @@ opening_turn a connection request =
 -- the token that the server gives the session, which is known by its number
 abbrev pub token_in : Option Session → NodeId
 token_in None = numeric_id 0 0
-token_in (Some s) = token_of (take 16 s.key) s.number
+token_in (Some s) = token_of (secret_of s.key) s.number
 
 abbrev pub token_at : Assembler → ℕ → NodeId
 token_at a session = token_in (slice_get a.sessions (session - 1))
@@ -68,7 +68,7 @@ token_at a session = token_in (slice_get a.sessions (session - 1))
 -- a session is made on this connection
 abbrev pub with_session : Assembler → ℕ → Assembler
 with_session a connection =
-    record a { sessions = a.sessions ++ record { key = (client_of a connection).key; number = number_after (length a.sessions) } ∷ [] }
+    record a { sessions = a.sessions ++ record { key = (client_of a connection).key; number = sequence_number_after (length a.sessions) } ∷ [] }
 
 -- a request with this body, aborted where that was said
 unfoldable pub service_turn : Assembler → ℕ → List ℕ → Result Turn Cause

@@ -1,17 +1,10 @@
 -- The chunks of a request.
-use Rattle.std.specs.Prelude.{ℕ, ◌+◌, List, [], ◌∷◌, ◌++◌, nat_lt, Bool, true, false, if◌then◌else◌}
+use Rattle.std.specs.Prelude.{ℕ, List, [], ◌∷◌, ◌++◌, Bool, true, false}
 use Rattle.ua_tcp.specs.declared.frame.ChunkType.{ChunkType}
 use Rattle.ua_tcp.specs.declared.frame.ChunkType.TheVariants.{Intermediate, Final, Aborted}
-use Rattle.ua_channel.specs.Cutting.{chunk_encoding}
+use Rattle.ua_channel.specs.Cutting.{chunk_encoding, next_header}
 use Rattle.ua_channel.specs.declared.headers.ChunkHeader.{ChunkHeader}
 use Rattle.scenario_events.specs.Pieces.{pieces_of}
-
--- what is counted from 1: after 4294966272 comes 1
-abbrev pub number_after : ℕ → ℕ
-number_after n = if nat_lt n 4294966272 then n + 1 else 1
-
-abbrev pub header_after : ChunkHeader → ChunkHeader
-header_after header = record header { sequence_number = number_after header.sequence_number }
 
 -- chunks one behind the other, and the header of the next one
 pub record Run : Type 0 where
@@ -29,7 +22,7 @@ type_before last (part ∷ parts) = Intermediate
 -- one chunk a part, numbered one after the other, and the last of this type
 unfoldable pub run_of : ChunkType → ChunkHeader → List (List ℕ) → Run
 run_of last header [] = record { bytes = []; next = header }
-run_of last header (part ∷ parts) = behind (chunk_encoding header (type_before last parts) part) (run_of last (header_after header) parts)
+run_of last header (part ∷ parts) = behind (chunk_encoding header (type_before last parts) part) (run_of last (next_header header) parts)
 
 -- why a message is given up: a status of 0 and a reason that is null
 abbrev pub no_reason : List ℕ

@@ -8,6 +8,7 @@ use Rattle.ua_tcp.specs.declared.frame.ChunkType.TheVariants.{Final}
 use Rattle.ua_tcp.specs.declared.frame.MessageType.TheVariants.{Hello, CloseSecureChannel}
 use Rattle.ua_channel.specs.Cutting.{opening_frame, opening_header_by}
 use Rattle.ua_channel.specs.Headers.{chunk_header_encoding}
+use Rattle.ua_channel.specs.SequenceNumbers.{sequence_number_after}
 use Rattle.ua_channel.specs.declared.headers.ChunkHeader.{ChunkHeader}
 use Rattle.scenario_text.specs.declared.choices.ChannelRequest.{ChannelRequest}
 use Rattle.scenario_text.specs.declared.choices.ChannelRequest.TheVariants.{Issue, Renew}
@@ -15,7 +16,7 @@ use Rattle.scenario_text.specs.declared.fault.Cause.{Cause}
 use Rattle.scenario_text.specs.declared.fault.Cause.TheVariants.{Limit}
 use Rattle.scenario_requests.specs.Messages.{opening_body, closing_body}
 use Rattle.scenario_requests.specs.Structures.{plain_request}
-use Rattle.scenario_events.specs.Runs.{Run, number_after, request_run}
+use Rattle.scenario_events.specs.Runs.{Run, request_run}
 use Rattle.scenario_events.specs.declared.clients.Client.{Client}
 
 -- the longest body
@@ -46,7 +47,7 @@ header_of client = record {
 
 -- after a request, whose next chunk would have this sequence number
 abbrev pub after_request : Client → ℕ → Client
-after_request client sequence_number = record client { sequence_number = sequence_number; request_id = number_after client.request_id }
+after_request client sequence_number = record client { sequence_number = sequence_number; request_id = sequence_number_after client.request_id }
 
 -- ---- hello
 
@@ -69,17 +70,17 @@ abbrev pub named_channel : Client → ChannelRequest → ℕ
 named_channel client Issue = 0
 named_channel client Renew = client.channel_id
 
--- a new channel has this number, and each request brings a new token
+-- a new channel has this number and the token 1, and each renewal brings the next token
 abbrev pub opened : ℕ → ChannelRequest → Client → Client
-opened number Issue client = record client { channel_id = number; token_id = number_after client.token_id }
-opened number Renew client = record client { token_id = number_after client.token_id }
+opened number Issue client = record client { channel_id = number; token_id = 1 }
+opened number Renew client = record client { token_id = sequence_number_after client.token_id }
 
 unfoldable pub opening_of : Client → ℕ → ChannelRequest → Result Sending Cause
 opening_of client number request = do
   body ← limited (opening_body (plain_request (numeric_id 0 0) client.request_id) request)
   Ok (
     frame_encoding (opening_frame (opening_header_by (named_channel client request) client.sequence_number client.request_id) body),
-    opened number request (after_request client (number_after client.sequence_number)),
+    opened number request (after_request client (sequence_number_after client.sequence_number)),
   )
 
 unfoldable pub closing_of : Client → Result Sending Cause
@@ -87,7 +88,7 @@ closing_of client = do
   body ← limited (closing_body (plain_request (numeric_id 0 0) client.request_id))
   Ok (
     frame_encoding (record { message_type = CloseSecureChannel; chunk_type = Final; body = chunk_header_encoding (header_of client) ++ body }),
-    after_request client (number_after client.sequence_number),
+    after_request client (sequence_number_after client.sequence_number),
   )
 
 -- ---- services

@@ -4,17 +4,18 @@ ghost use Rattle.std.specs.Prelude.{◌≡◌, ◌++◌, ◌∷◌, [], length, 
 ghost use Rattle.ua_types.specs.Answers.{GivesAs};
 ghost use Rattle.scenario_text.specs.declared.fault.Cause.TheVariants.{Memory};
 ghost use Rattle.std.specs.Option.{option_copied};
-ghost use Rattle.scenario_events.specs.Runs.{number_after as number_after_spec};
+ghost use Rattle.ua_channel.specs.SequenceNumbers.{sequence_number_after as sequence_number_after_spec};
 ghost use Rattle.scenario_text.specs.declared.statement.Statement.TheVariants.{GetEndpoints, CreateSession, Ask};
 ghost use Rattle.scenario_events.specs.Members.{Turns, nothing_sent, client_of as client_of_spec, sending, channels_after as channels_after_spec, opening_turn, token_in as token_in_spec, token_at as token_at_spec, with_session, service_turn, turn_of};
 
 use crate::clients::{Client, closing, hello, new_client, opening, service};
-use crate::runs::number_after;
 use scenario_requests::{create_session_body, endpoints_body, request_body, request_header};
 use scenario_text::{Cause, ChannelRequest, Request, Statement};
 use server_core::Event;
 use std::alloc::{AllocError, Global};
-use ua_types::{ByteString, Identifier, Listed, NodeId, Numbered};
+use ua_channel::sequence_number_after;
+use ua_session::{session_secret, session_token};
+use ua_types::{Listed, NodeId, Numbered};
 
 /// A session that was asked for.
 #[derive(Clone, Copy, Debug)]
@@ -57,16 +58,10 @@ pub struct Assembler {
 fn token_in(alloc: Global, session: Option<&Session>) -> Result<NodeId, AllocError>
     ensures { IfOk result (λ id. id ≡ token_in_spec (option_copied session.entry)) }
 {
-    let Some(session) = session else {
-        return Ok(NodeId::null());
-    };
-    let mut bytes = Vec::with_capacity(alloc, 20)?;
-    bytes.extend_from_slice(&session.key[..16])?;
-    bytes.extend_from_slice(&session.number.to_le_bytes()[..])?;
-    Ok(NodeId {
-        namespace: 0,
-        identifier: Identifier::Opaque(ByteString::new(bytes)),
-    })
+    match session {
+        None => Ok(NodeId::null()),
+        Some(session) => session_token(alloc, &session_secret(&session.key), session.number),
+    }
 }
 
 impl Assembler {
@@ -111,7 +106,7 @@ impl Assembler {
         ensures { result ≡ channels_after_spec self.now request }
     {
         match request {
-            ChannelRequest::Issue => number_after(self.channels),
+            ChannelRequest::Issue => sequence_number_after(self.channels),
             ChannelRequest::Renew => self.channels,
         }
     }
@@ -165,7 +160,7 @@ impl Assembler {
 
     // The number of the next session.
     fn session_number(&self) -> u32
-        ensures { result ≡ number_after_spec (length self.now.sessions) }
+        ensures { result ≡ sequence_number_after_spec (length self.now.sessions) }
     {
         let made = self.sessions.as_slice().len();
         if made < 4_294_966_272 {

@@ -7,12 +7,12 @@ ghost use Rattle.ua_channel.specs.Cutting.{opening_frame, opening_header_by};
 ghost use Rattle.scenario_text.specs.declared.fault.Cause.TheVariants.{Memory};
 ghost use Rattle.scenario_events.specs.Sendings.{limited, body_limit, new_client, header_of as header_of_spec, after_request, hello_of, named_channel, opened as opened_spec, opening_of, closing_of, room_of as room_of_spec, service_of};
 
-use crate::runs::{number_after, put_frame, put_request};
+use crate::runs::{put_frame, put_request};
 use scenario_requests::{closing_body, opening_body, request_header};
 use scenario_text::{Cause, ChannelRequest};
 use std::alloc::Global;
 use ua_binary::Wire;
-use ua_channel::{ChunkHeader, OpeningHeader};
+use ua_channel::{ChunkHeader, OpeningHeader, sequence_number_after};
 use ua_tcp::{ChunkType, Hello, MessageType};
 use ua_types::{NodeId, Text};
 
@@ -78,7 +78,7 @@ fn after_request(client: &Client, sequence_number: u32) -> Client
 {
     let mut after = *client;
     after.sequence_number = sequence_number;
-    after.request_id = number_after(client.request_id);
+    after.request_id = sequence_number_after(client.request_id);
     after
 }
 
@@ -117,15 +117,17 @@ fn named_channel(client: &Client, request: ChannelRequest) -> u32
     }
 }
 
-// The client with its new token, and with its channel where it is new.
+// The client with its new token: the first of a new channel, or the next one of the channel that it has.
 fn opened(number: u32, request: ChannelRequest, client: &Client) -> Client
     ensures { result ≡ opened_spec number request client.now }
 {
     let mut opened = *client;
-    opened.token_id = number_after(client.token_id);
     match request {
-        ChannelRequest::Issue => opened.channel_id = number,
-        ChannelRequest::Renew => {}
+        ChannelRequest::Issue => {
+            opened.channel_id = number;
+            opened.token_id = 1;
+        }
+        ChannelRequest::Renew => opened.token_id = sequence_number_after(client.token_id),
     }
     opened
 }
@@ -176,7 +178,7 @@ pub(crate) fn opening(
         client.request_id,
         body.as_slice(),
     )?;
-    let after = after_request(client, number_after(client.sequence_number));
+    let after = after_request(client, sequence_number_after(client.sequence_number));
     Ok((out, opened(number, request, &after)))
 }
 
@@ -199,7 +201,7 @@ pub(crate) fn closing(alloc: Global, client: &Client) -> Result<(Vec<u8>, Client
     )?;
     Ok((
         out,
-        after_request(client, number_after(client.sequence_number)),
+        after_request(client, sequence_number_after(client.sequence_number)),
     ))
 }
 

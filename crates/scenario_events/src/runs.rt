@@ -2,24 +2,17 @@
 
 ghost use Rattle.std.specs.Prelude.{◌≡◌, ◌<◌, ◌≤◌, ◌+◌, ◌^◌, ◌++◌, length, OnOk, IfOk};
 ghost use Rattle.ua_tcp.specs.Encoding.{letters_of, frame_encoding};
-ghost use Rattle.ua_channel.specs.Cutting.{chunk_encoding};
-ghost use Rattle.scenario_events.specs.Runs.{number_after as number_after_spec, header_after, no_reason, request_run};
+ghost use Rattle.ua_channel.specs.Cutting.{chunk_encoding, next_header};
+ghost use Rattle.scenario_events.specs.Runs.{no_reason, request_run};
 ghost use Rattle.ua_tcp.specs.declared.frame.ChunkType.TheVariants.{Intermediate, Aborted};
 
 use std::alloc::{AllocError, Global};
 use ua_binary::Wire;
-use ua_channel::ChunkHeader;
+use ua_channel::{ChunkHeader, sequence_number_after};
 use ua_tcp::{ChunkType, MessageType};
 
 /// Why a message is given up: a status of 0 and a reason that is null.
 const NO_REASON: [u8; 8] = [0, 0, 0, 0, 0xff, 0xff, 0xff, 0xff];
-
-/// What is counted from 1: after 4294966272 comes 1.
-pub(crate) fn number_after(n: u32) -> u32
-    ensures { result ≡ number_after_spec n }
-{
-    if n < 4_294_966_272 { n + 1 } else { 1 }
-}
 
 fn put_letters(out: &mut Vec<u8>, message_type: MessageType) -> Result<(), AllocError>
     ensures { OnOk result (out.new.items ≡ out.old.items ++ letters_of message_type) }
@@ -80,16 +73,16 @@ fn give_up(
 ) -> Result<u32, AllocError>
     requires { length part.now + 24 < 2 ^ 32 }
     ensures bytes { OnOk result (out.new.items ≡ out.old.items ++ chunk_encoding header Intermediate part.now
-        ++ chunk_encoding (header_after header) Aborted no_reason) }
-    ensures next { IfOk result (λ n. n ≡ (header_after (header_after header)).sequence_number) }
+        ++ chunk_encoding (next_header header) Aborted no_reason) }
+    ensures next { IfOk result (λ n. n ≡ (next_header (next_header header)).sequence_number) }
 {
     put_chunk(alloc, out, &header, ChunkType::Intermediate, part)?;
     let next = ChunkHeader {
-        sequence_number: number_after(header.sequence_number),
+        sequence_number: sequence_number_after(header.sequence_number),
         ..header
     };
     put_chunk(alloc, out, &next, ChunkType::Aborted, &NO_REASON)?;
-    Ok(number_after(next.sequence_number))
+    Ok(sequence_number_after(next.sequence_number))
 }
 
 /// Writes a request in parts of this size, and gives up the message where it is to be aborted. The answer is
@@ -112,7 +105,7 @@ pub(crate) fn put_request(
     while rest.len() > room {
         let (part, more) = rest.split_at(room);
         put_chunk(alloc, out, &header, ChunkType::Intermediate, part)?;
-        header.sequence_number = number_after(header.sequence_number);
+        header.sequence_number = sequence_number_after(header.sequence_number);
         rest = more;
     }
     if aborted {
@@ -120,5 +113,5 @@ pub(crate) fn put_request(
         return Ok(next);
     }
     put_chunk(alloc, out, &header, ChunkType::Final, rest)?;
-    Ok(number_after(header.sequence_number))
+    Ok(sequence_number_after(header.sequence_number))
 }

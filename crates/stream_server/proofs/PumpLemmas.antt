@@ -3,27 +3,16 @@ use lib.Seq.{take-append-add, take-append-le, drop-cons}
 use Rattle.std.proofs.lemmas.List.Concat.{flat_map-append}
 use Rattle.server_core.specs.Running.{joined, sent_bytes}
 use Rattle.server_messages.specs.declared.out.Out.{Out}
-use Rattle.std.proofs.lemmas.Bool.Decides.{nat_tests}
-use Rattle.stream_taps.specs.Tapped.{counted}
-use Rattle.std.proofs.Common.{Bool, true, false, suc, ◌∷◌, get_or, length-append, take-append-drop, ◌≡◌, ℕ, ◌+◌, ◌^◌, ◌<◌, ◌≤◌, ◌*◌, inl, inr, List, ◌++◌, length, take, drop, Option, arith, sym, ap, ◌∙◌}
+use Rattle.std.proofs.Common.{suc, ◌∷◌, get_or, length-append, take-append-drop, ◌≡◌, ℕ, ◌+◌, ◌^◌, ◌<◌, ◌≤◌, ◌*◌, List, ◌++◌, length, take, drop, Option, arith, sym, ap, ◌∙◌}
 use Rattle.std.specs.Io.KnownBytes.{Appends}
 use Rattle.std.proofs.KnownBytes.{Appends-trans}
-use Rattle.stream_taps.specs.Tapped.{Rose}
 
-pub Rose-then : (a b c : ℕ) → Rose a b → b ≤ c → Rose a c
-Rose-then a b c (inl h) k = inl (omega arith)
-Rose-then a b c (inr h) k = inr h
-
-pub Rose-after : (a b c : ℕ) → a ≤ b → Rose b c → b ≤ c → Rose a c
-Rose-after a b c k (inl h) l = inl (omega arith)
-Rose-after a b c k (inr h) l = grind arith
-
--- all of these bytes, of `count` sends, are out
+-- all of these bytes, of `count` sends, are out, and no call has failed
 pub record AllPut (bytes : List ℕ) (count done : ℕ) (held now : Option (List ℕ)) (failures failed : ℕ) : Type 0 where
   pub all : done ≡ length bytes
   pub small : done ≤ count * 2 ^ 64
   pub written : Appends held now bytes
-  pub grows : failures ≤ failed
+  pub well : failed ≡ failures
 
 -- the sends around the one at i
 pub joined_at : (outs : List Out) (i : ℕ) (x : Out) → i < length outs → x ≡ get_or outs i x
@@ -43,10 +32,3 @@ part_put outs i x done n held mid now a b lt is s fits w =
     let there : take (done + n) (joined outs) ≡ front ++ take n (sent_bytes x) =
     rw (all, s.all) (take-append-add front (sent_bytes x ++ back) n ∙ ap (λ l. front ++ l) (take-append-le n (sent_bytes x) back fits)) in
     (rw (all, s.all) (simp length-append (omega arith)), rw there (Appends-trans held mid now _ _ s.written w))
-
-pub counted-le : (a : ℕ) (failed : Bool) → a ≤ counted a failed
-counted-le a true = grind (arith, nat_tests)
-counted-le a false = omega arith
-
-pub counted-Rose : (a : ℕ) → Rose a (counted a true)
-counted-Rose a = grind (arith, nat_tests)

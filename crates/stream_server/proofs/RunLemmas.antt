@@ -1,5 +1,5 @@
 -- One run of a pump after another.
-use Rattle.std.proofs.Common.{◌≡◌, ◌≢◌, ℕ, ◌+◌, ◌^◌, ◌<◌, ◌≤◌, ◌||◌, inl, inr, List, [], ◌∷◌, ◌++◌, length, Option, Some, None, Bool, true, false, arith, sym, ap, ◌∙◌, refl, subst, append_assoc, length-append, not, is_ok, Result, Ok, Err, IfErr, MatchResult}
+use Rattle.std.proofs.Common.{◌≡◌, ◌≢◌, ℕ, ◌+◌, ◌^◌, ◌<◌, ◌≤◌, ◌||◌, inl, inr, List, [], ◌∷◌, ◌++◌, length, Option, Some, None, Bool, true, false, arith, sym, ap, ◌∙◌, refl, subst, append_assoc, length-append, not, is_ok, is_err, Result, Ok, Err, IfErr, MatchResult}
 use Rattle.std.specs.Bool.{MatchBool}
 use Rattle.std.specs.Io.KnownBytes.{Appends, Consumes, Keeps, IsAtEnd}
 use Rattle.std.specs.List.{list_any}
@@ -8,7 +8,7 @@ use Rattle.std.proofs.lemmas.Bool.{false≢true}
 use Rattle.std.proofs.lemmas.List.Concat.{flat_map-append}
 use Rattle.std.proofs.lemmas.List.Folds.{list_any-append}
 use Rattle.ua_types.specs.Answers as answers
-use Rattle.stream_taps.specs.Tapped.{Rose}
+use Rattle.stream_taps.specs.Tapped.{Rose, counted}
 use Rattle.server_core.specs.declared.event.Event.TheVariants.{Bytes}
 use Rattle.server_core.specs.declared.out.Step as core_step
 use Rattle.server_core.specs.declared.out.StepFault.{StepFault}
@@ -21,7 +21,6 @@ use Rattle.server_core.proofs.RecutLemmas.{behind, heard_both, heard_piece}
 use Rattle.stream_server.specs.declared.PumpFault.{PumpFault}
 use Rattle.stream_server.specs.declared.PumpFault.TheVariants.{Read, Write, Step, Turns}
 use Rattle.stream_server.specs.Pumped.{State, outs_to, sends_to, is_closed_by, counting, IsPrefix, Scene, Moved, Fed, Tried, Goes, Done, Stopped, Faulted, Answered}
-use Rattle.stream_server.proofs.PumpLemmas.{Rose-after}
 
 -- ---- what is heard after what was heard
 
@@ -51,32 +50,34 @@ counting-more a m n = omega arith
 counting-none : (a : ℕ) → a < 2 ^ 128 → counting a 0 ≡ a
 counting-none a h = omega arith
 
-Moved-trans : (a b c : Scene) (r s x y : List ℕ) → Moved a b r x → Moved b c s y → Moved a c (r ++ s) (x ++ y)
-Moved-trans a b c r s x y p q = record {
+-- after what went well, what comes next may fail
+Moved-trans : (a b c : Scene) (r s x y : List ℕ) (rf wf : Bool) → Moved a b r x false false → Moved b c s y rf wf → Moved a c (r ++ s) (x ++ y) rf wf
+Moved-trans a b c r s x y rf wf p q = record {
   taken = Consumes-trans _ _ _ _ _ p.taken q.taken;
   written = Appends-trans _ _ _ _ _ p.written q.written;
   count = q.count ∙ ap (λ n. counting n (length y)) p.count ∙ counting-more a.sent (length x) (length y)
       ∙ ap (counting a.sent) (sym (length-append x y));
-  reads = omega (arith, p.reads, q.reads);
-  writes = omega (arith, p.writes, q.writes);
+  reads = q.reads ∙ ap (λ n. counted n rf) p.reads;
+  writes = q.writes ∙ ap (λ n. counted n wf) p.writes;
+  interrupted = omega (arith, p.interrupted, q.interrupted);
 }
 
-Fed-trans : (conn : ℕ) (a b c : Scene) (r s x y : List ℕ) → Fed conn a b r x → Fed conn b c s y → Fed conn a c (r ++ s) (x ++ y)
-Fed-trans conn a b c r s x y p q =
+Fed-trans : (conn : ℕ) (a b c : Scene) (r s x y : List ℕ) (rf wf : Bool) → Fed conn a b r x false false → Fed conn b c s y rf wf → Fed conn a c (r ++ s) (x ++ y) rf wf
+Fed-trans conn a b c r s x y rf wf p q =
     let e = both conn a.server b.server r s p.answered p.server in
     record {
-      moved = Moved-trans a b c _ _ x y p.moved q.moved;
+      moved = Moved-trans a b c _ _ x y rf wf p.moved q.moved;
       answered = ap (λ (j : Joined). j.fault) e ∙ q.answered;
       server = q.server ∙ sym (ap (λ (j : Joined). j.server) e);
     }
 
 -- fed piece after piece, where all that the server sends is out
-Fed-after : (conn : ℕ) (a b c : Scene) (r s : List ℕ) → Fed conn a b r (sends_to conn a.server r) → Fed conn b c s (sends_to conn b.server s)
-    → Fed conn a c (r ++ s) (sends_to conn a.server (r ++ s))
-Fed-after conn a b c r s p q =
-    subst (Fed conn a c (r ++ s)) (sym (sends_to-append conn a.server b.server r s p.answered p.server)) (Fed-trans conn a b c r s _ _ p q)
+Fed-after : (conn : ℕ) (a b c : Scene) (r s : List ℕ) (rf wf : Bool) → Fed conn a b r (sends_to conn a.server r) false false → Fed conn b c s (sends_to conn b.server s) rf wf
+    → Fed conn a c (r ++ s) (sends_to conn a.server (r ++ s)) rf wf
+Fed-after conn a b c r s rf wf p q =
+    subst (λ x. Fed conn a c (r ++ s) x rf wf) (sym (sends_to-append conn a.server b.server r s p.answered p.server)) (Fed-trans conn a b c r s _ _ rf wf p q)
 
-Tried-trans : (n : ℕ) (a b c : Scene) (r s : List ℕ) → Tried n a b r → Tried 1 b c s → a.read_failures ≤ b.read_failures → b.read_failures ≤ c.read_failures
+Tried-trans : (n : ℕ) (a b c : Scene) (r s : List ℕ) → Tried n a b r → Tried 1 b c s → a.interruptions ≤ b.interruptions → b.interruptions ≤ c.interruptions
     → Tried (n + 1) a c (r ++ s)
 Tried-trans n a b c r s (inl h) (inl k) p q = let len = length-append r s in inl (omega arith)
 Tried-trans n a b c r s (inl h) (inr k) p q = inr k
@@ -86,7 +87,7 @@ pub Goes-none : (conn : ℕ) (a : Scene) → a.sent ≡ 0 → Goes 0 conn a a
 Goes-none conn a h = (
   [],
   record {
-    moved = record { taken = Consumes-nil _; written = Appends-nil _; count = sym (counting-none a.sent (omega arith)); reads = omega arith; writes = omega arith };
+    moved = record { taken = Consumes-nil _; written = Appends-nil _; count = sym (counting-none a.sent (omega arith)); reads = refl; writes = refl; interrupted = omega arith };
     answered = refl;
     server = refl;
   },
@@ -97,20 +98,20 @@ Goes-none conn a h = (
 pub Goes-more : (n conn : ℕ) (a b c : Scene) → Goes n conn a b → Goes 1 conn b c → Goes (n + 1) conn a c
 Goes-more n conn a b c p q = (
   p.0 ++ q.0,
-  Fed-after conn a b c _ _ p.1 q.1,
+  Fed-after conn a b c _ _ false false p.1 q.1,
   closed-append conn a.server b.server p.0 q.0 p.1.answered p.1.server p.2 ∙ q.2,
-  Tried-trans n a b c p.0 q.0 p.3 q.3 p.1.moved.reads q.1.moved.reads,
+  Tried-trans n a b c p.0 q.0 p.3 q.3 p.1.moved.interrupted q.1.moved.interrupted,
 )
 
 pub Goes-done : (n conn : ℕ) (a b c : Scene) → Goes n conn a b → Done conn b c → Done conn a c
 Goes-done n conn a b c p (read, fed, inl (end, still)) = (
   p.0 ++ read,
-  Fed-after conn a b c _ _ p.1 fed,
+  Fed-after conn a b c _ _ false false p.1 fed,
   inl (end, closed-append conn a.server b.server p.0 read p.1.answered p.1.server p.2 ∙ still),
 )
 Goes-done n conn a b c p (read, fed, inr closed) = (
   p.0 ++ read,
-  Fed-after conn a b c _ _ p.1 fed,
+  Fed-after conn a b c _ _ false false p.1 fed,
   inr (record {
     before = p.0 ++ closed.before;
     last = closed.last;
@@ -125,27 +126,25 @@ IsPrefix-after : (a b c : List ℕ) → IsPrefix b c → IsPrefix (a ++ b) (a ++
 IsPrefix-after a b c (rest, h) = (rest, ap (λ l. a ++ l) h ∙ sym (append_assoc a b rest))
 
 pub Goes-stopped : (n conn : ℕ) (a b c : Scene) (fault : PumpFault) → fault ≢ Turns → Goes n conn a b → Stopped conn b c fault → Stopped conn a c fault
-Goes-stopped n conn a b c Read ne p (read, fed, still, rose) = (
+Goes-stopped n conn a b c Read ne p (read, fed, still) = (
   p.0 ++ read,
-  Fed-after conn a b c _ _ p.1 fed,
+  Fed-after conn a b c _ _ true false p.1 fed,
   closed-append conn a.server b.server p.0 read p.1.answered p.1.server p.2 ∙ still,
-  Rose-after _ _ _ p.1.moved.reads rose fed.moved.reads,
 )
-Goes-stopped n conn a b c Write ne p (read, put, fed, front, rose) = (
+Goes-stopped n conn a b c Write ne p (read, put, fed, front) = (
   p.0 ++ read,
   sends_to conn a.server p.0 ++ put,
-  Fed-trans conn a b c _ _ _ _ p.1 fed,
+  Fed-trans conn a b c _ _ _ _ false true p.1 fed,
   subst (IsPrefix (sends_to conn a.server p.0 ++ put)) (sym (sends_to-append conn a.server b.server p.0 read p.1.answered p.1.server))
       (IsPrefix-after (sends_to conn a.server p.0) put (sends_to conn b.server read) front),
-  Rose-after _ _ _ p.1.moved.writes rose fed.moved.writes,
 )
 Goes-stopped n conn a b c (Step fault) ne p (read, last, moved, answered, still, faulted) =
     let e = both conn a.server b.server p.0 read p.1.answered p.1.server in (
       p.0 ++ read,
       last,
-      subst (λ l. Moved a c l (sends_to conn a.server (p.0 ++ read))) (sym (append_assoc p.0 read last))
-          (subst (Moved a c (p.0 ++ (read ++ last))) (sym (sends_to-append conn a.server b.server p.0 read p.1.answered p.1.server))
-          (Moved-trans a b c _ _ _ _ p.1.moved moved)),
+      subst (λ l. Moved a c l (sends_to conn a.server (p.0 ++ read)) false false) (sym (append_assoc p.0 read last))
+          (subst (λ x. Moved a c (p.0 ++ (read ++ last)) x false false) (sym (sends_to-append conn a.server b.server p.0 read p.1.answered p.1.server))
+          (Moved-trans a b c _ _ _ _ false false p.1.moved moved)),
       ap (λ (j : Joined). j.fault) e ∙ answered,
       closed-append conn a.server b.server p.0 read p.1.answered p.1.server p.2 ∙ still,
       subst (λ w. Faulted conn w c.server last fault) (sym (ap (λ (j : Joined). j.server) e)) faulted,
@@ -154,16 +153,17 @@ Goes-stopped n conn a b c Turns ne p q = absurd (ne refl)
 
 -- ---- one turn
 
--- nothing was read: what stands is as it was, but for the counts of failures
-pub Fed-none : (conn : ℕ) (a b : Scene) → Keeps a.left b.left → Keeps a.held b.held → b.sent ≡ a.sent → a.sent < 2 ^ 128 → a.read_failures ≤ b.read_failures
-    → a.write_failures ≤ b.write_failures → b.server ≡ a.server → Fed conn a b [] []
-Fed-none conn a b left held sent small reads writes server = record {
+-- nothing was read: what stands is as it was, but for the counts
+pub Fed-none : (conn : ℕ) (a b : Scene) (rf : Bool) → Keeps a.left b.left → Keeps a.held b.held → b.sent ≡ a.sent → a.sent < 2 ^ 128 → b.read_failures ≡ counted a.read_failures rf
+    → b.write_failures ≡ a.write_failures → a.interruptions ≤ b.interruptions → b.server ≡ a.server → Fed conn a b [] [] rf false
+Fed-none conn a b rf left held sent small reads writes interrupted server = record {
   moved = record {
     taken = Consumes-kept _ _ _ [] (Consumes-nil a.left) left;
     written = Appends-kept _ _ _ [] (Appends-nil a.held) held;
     count = sent ∙ sym (counting-none a.sent small);
     reads = reads;
     writes = writes;
+    interrupted = interrupted;
   };
   answered = refl;
   server = server;
@@ -207,8 +207,9 @@ outs_one : (s t : State) (conn : ℕ) (p : List ℕ) (x : core_step.Step) → Is
 outs_one s t conn p x a low =
     sym (ap (λ (y : core_step.Step). y.outs) a.given) ∙ sym (ap (λ (j : Joined). outs_of j.effects) (heard_one s t conn p x a low))
 
-Fed-one : (conn : ℕ) (a b : Scene) (p put : List ℕ) (x : core_step.Step) → 0 < length p → Moved a b p put → IsAnswered a.server b.server conn p x → Fed conn a b p put
-Fed-one conn a b p put x low moved h =
+Fed-one : (conn : ℕ) (a b : Scene) (p put : List ℕ) (x : core_step.Step) (wf : Bool) → 0 < length p → Moved a b p put false wf → IsAnswered a.server b.server conn p x
+    → Fed conn a b p put false wf
+Fed-one conn a b p put x wf low moved h =
     let e = heard_one a.server b.server conn p x h low in
     record { moved = moved; answered = ap (λ (j : Joined). j.fault) e; server = sym (ap (λ (j : Joined). j.server) e) }
 
@@ -223,33 +224,34 @@ pub Consumes-empty : (a b : Option (List ℕ)) (p : List ℕ) → Consumes a b p
 Consumes-empty a b [] h e = Consumes-none a b h
 Consumes-empty a b (x ∷ xs) h e = absurd (omega arith)
 
-pub Done-end : (conn : ℕ) (a b : Scene) → Fed conn a b [] [] → IsAtEnd b.left → Done conn a b
+pub Done-end : (conn : ℕ) (a b : Scene) → Fed conn a b [] [] false false → IsAtEnd b.left → Done conn a b
 Done-end conn a b fed end = ([], fed, inl (end, refl))
 
--- a read failed, and is tried again
-pub Goes-again : (conn : ℕ) (a b : Scene) → Fed conn a b [] [] → Rose a.read_failures b.read_failures → Goes 1 conn a b
+-- a read was interrupted, and is tried again
+pub Goes-again : (conn : ℕ) (a b : Scene) → Fed conn a b [] [] false false → Rose a.interruptions b.interruptions → Goes 1 conn a b
 Goes-again conn a b fed (inl h) = ([], fed, refl, inl (omega arith))
-Goes-again conn a b fed (inr h) = let up = fed.moved.reads in ([], fed, refl, inr (omega arith))
+Goes-again conn a b fed (inr h) = let up = fed.moved.interrupted in ([], fed, refl, inr (omega arith))
 
-pub Stopped-read : (conn : ℕ) (a b : Scene) → Fed conn a b [] [] → Rose a.read_failures b.read_failures → Stopped conn a b Read
-Stopped-read conn a b fed rose = ([], fed, refl, rose)
+pub Stopped-read : (conn : ℕ) (a b : Scene) → Fed conn a b [] [] true false → Stopped conn a b Read
+Stopped-read conn a b fed = ([], fed, refl)
 
 -- the server didn't take the piece that was read
-pub Stopped-step : (conn : ℕ) (a b : Scene) (p : List ℕ) (fault : StepFault) → Moved a b p [] → Faulted conn a.server b.server p fault → Stopped conn a b (Step fault)
+pub Stopped-step : (conn : ℕ) (a b : Scene) (p : List ℕ) (fault : StepFault) → Moved a b p [] false false → Faulted conn a.server b.server p fault → Stopped conn a b (Step fault)
 Stopped-step conn a b p fault moved faulted = ([], p, moved, refl, refl, faulted)
 
 -- there was no room for a piece, or for its event
-pub Moved-read : (a b : Scene) (p : List ℕ) → Consumes a.left b.left p → b.held ≡ a.held → b.sent ≡ a.sent → a.sent < 2 ^ 128 → a.read_failures ≤ b.read_failures
-    → a.write_failures ≤ b.write_failures → Moved a b p []
-Moved-read a b p taken held sent small reads writes = record {
+pub Moved-read : (a b : Scene) (p : List ℕ) → Consumes a.left b.left p → b.held ≡ a.held → b.sent ≡ a.sent → a.sent < 2 ^ 128 → b.read_failures ≡ a.read_failures
+    → b.write_failures ≡ a.write_failures → a.interruptions ≤ b.interruptions → Moved a b p [] false false
+Moved-read a b p taken held sent small reads writes interrupted = record {
   taken = taken;
   written = subst (λ h. Appends a.held h []) (sym held) (Appends-nil a.held);
   count = sent ∙ sym (counting-none a.sent small);
   reads = reads;
   writes = writes;
+  interrupted = interrupted;
 }
 
-pub Stopped-memory : (conn : ℕ) (a b : Scene) (p : List ℕ) → Moved a b p [] → b.server ≡ a.server → Stopped conn a b (Step Memory)
+pub Stopped-memory : (conn : ℕ) (a b : Scene) (p : List ℕ) → Moved a b p [] false false → b.server ≡ a.server → Stopped conn a b (Step Memory)
 Stopped-memory conn a b p moved same = Stopped-step conn a b p Memory moved (inr same)
 
 not_false : (x : Bool) → false ≡ not x → x ≡ true
@@ -262,32 +264,32 @@ not_true false e = refl
 
 -- a piece was read, the server took it, and its answers are out or a write failed
 pub turned : (conn : ℕ) (a b : Scene) (p : List ℕ) (x : core_step.Step) (r : Result Bool PumpFault) → StepsTo (Ok x) a.server b.server (step_on a.server (Bytes conn p))
-    → 0 < length p → length p ≤ 4096 → Consumes a.left b.left p → a.read_failures ≤ b.read_failures
-    → a.write_failures ≤ b.write_failures → Answered conn x.outs a.held b.held a.sent b.sent r
-    → IfErr r (λ fault. (fault ≡ Write) × Rose a.write_failures b.write_failures)
+    → 0 < length p → length p ≤ 4096 → Consumes a.left b.left p → b.read_failures ≡ a.read_failures
+    → a.interruptions ≤ b.interruptions → b.write_failures ≡ counted a.write_failures (is_err r) → Answered conn x.outs a.held b.held a.sent b.sent r
+    → IfErr r (λ fault. fault ≡ Write)
     → MatchResult r (λ more. MatchBool more (Goes 1 conn a b) (Done conn a b)) (Stopped conn a b)
-turned conn a b p x (Ok true) is low high taken reads writes (written, count, still) h =
+turned conn a b p x (Ok true) is low high taken reads interrupted writes (written, count, still) h =
     let k = is_answered a.server b.server conn p x is in
     let outs = outs_one a.server b.server conn p x k low in
-    let moved : Moved a b p (joined x.outs) = record { taken = taken; written = written; count = count; reads = reads; writes = writes } in (
+    let moved : Moved a b p (joined x.outs) false false = record { taken = taken; written = written; count = count; reads = reads; writes = writes; interrupted = interrupted } in (
       p,
-      subst (λ os. Fed conn a b p (joined os)) outs (Fed-one conn a b p (joined x.outs) x low moved k),
+      subst (λ os. Fed conn a b p (joined os) false false) outs (Fed-one conn a b p (joined x.outs) x false low moved k),
       subst (λ os. closes conn os ≡ false) outs (not_true _ still),
       inl (omega arith),
     )
-turned conn a b p x (Ok false) is low high taken reads writes (written, count, still) h =
+turned conn a b p x (Ok false) is low high taken reads interrupted writes (written, count, still) h =
     let k = is_answered a.server b.server conn p x is in
     let outs = outs_one a.server b.server conn p x k low in
-    let moved : Moved a b p (joined x.outs) = record { taken = taken; written = written; count = count; reads = reads; writes = writes } in (
+    let moved : Moved a b p (joined x.outs) false false = record { taken = taken; written = written; count = count; reads = reads; writes = writes; interrupted = interrupted } in (
       p,
-      subst (λ os. Fed conn a b p (joined os)) outs (Fed-one conn a b p (joined x.outs) x low moved k),
+      subst (λ os. Fed conn a b p (joined os) false false) outs (Fed-one conn a b p (joined x.outs) x false low moved k),
       inr (record { before = []; last = p; split = refl; size = high; open_before = refl; closed = subst (λ os. closes conn os ≡ true) outs (not_false _ still) }),
     )
-turned conn a b p x (Err fault) is low high taken reads writes (put, front, written, count) (at, rose) =
+turned conn a b p x (Err fault) is low high taken reads interrupted writes (put, front, written, count) at =
     let k = is_answered a.server b.server conn p x is in
-    let moved : Moved a b p put = record { taken = taken; written = written; count = count; reads = reads; writes = writes } in
+    let moved : Moved a b p put false true = record { taken = taken; written = written; count = count; reads = reads; writes = writes; interrupted = interrupted } in
     subst (Stopped conn a b) (sym at)
-    (p, put, Fed-one conn a b p put x low moved k, subst (λ os. IsPrefix put (joined os)) (outs_one a.server b.server conn p x k low) front, rose)
+    (p, put, Fed-one conn a b p put x true low moved k, subst (λ os. IsPrefix put (joined os)) (outs_one a.server b.server conn p x k low) front)
 
 -- ---- what the server answers where it doesn't take a piece
 

@@ -1,7 +1,7 @@
 -- What a pump reads, hands to the server and writes.
 use Rattle.std.specs.Prelude.{◌≡◌, ℕ, ◌+◌, ◌-◌, ◌^◌, ◌≤◌, ◌⊎◌, min, List, ◌++◌, length, Option, None, Bool, true, false, not, Result, Ok, Err}
 use Rattle.std.specs.Io.KnownBytes.{Appends, Consumes, IsAtEnd}
-use Rattle.stream_taps.specs.Tapped.{Tapped, Rose}
+use Rattle.stream_taps.specs.Tapped.{Tapped, counted}
 use Rattle.server_messages.specs.declared.out.Out.{Out}
 use Rattle.server_core.specs.Effects.{outs_of}
 use Rattle.server_core.specs.Running.{heard_run, joined, closes}
@@ -38,13 +38,14 @@ abbrev pub counting : ℕ → ℕ → ℕ
 counting count n = min (count + n) (2 ^ 128 - 1)
 
 -- all that a pump works on: the server, the bytes that the reader has left and those that the writer holds, where they are known,
--- how many reads and writes failed, and how many bytes are out
+-- how many reads and writes failed, how many reads were interrupted, and how many bytes are out
 pub record Scene : Type 0 where
   pub server : State
   pub left : Option (List ℕ)
   pub held : Option (List ℕ)
   pub read_failures : ℕ
   pub write_failures : ℕ
+  pub interruptions : ℕ
   pub sent : ℕ
 
 module _ {R W : Type 0} where
@@ -55,33 +56,35 @@ module _ {R W : Type 0} where
     held = contents writer.stream;
     read_failures = reader.failures;
     write_failures = writer.failures;
+    interruptions = reader.interruptions;
     sent = sent;
   }
 
--- these bytes were read and those were written
-pub record Moved (old new : Scene) (read put : List ℕ) : Type 0 where
+-- these bytes were read and those were written, and one read failed or none, and one write or none
+pub record Moved (old new : Scene) (read put : List ℕ) (read_failed write_failed : Bool) : Type 0 where
   pub taken : Consumes old.left new.left read
   pub written : Appends old.held new.held put
   pub count : new.sent ≡ counting old.sent (length put)
-  pub reads : old.read_failures ≤ new.read_failures
-  pub writes : old.write_failures ≤ new.write_failures
+  pub reads : new.read_failures ≡ counted old.read_failures read_failed
+  pub writes : new.write_failures ≡ counted old.write_failures write_failed
+  pub interrupted : old.interruptions ≤ new.interruptions
 
 -- these bytes were read, the server answered them and is as they left it, and those were written
-pub record Fed (conn : ℕ) (old new : Scene) (read put : List ℕ) : Type 0 where
-  pub moved : Moved old new read put
+pub record Fed (conn : ℕ) (old new : Scene) (read put : List ℕ) (read_failed write_failed : Bool) : Type 0 where
+  pub moved : Moved old new read put read_failed write_failed
   pub answered : (heard_run old.server conn read).fault ≡ None
   pub server : new.server ≡ (heard_run old.server conn read).server
 
 -- ---- what a run comes to
 
--- at least n reads were tried: each gave a byte or more, or failed
+-- at least n reads were tried: each gave a byte or more, or was interrupted
 abbrev pub Tried : ℕ → Scene → Scene → List ℕ → Type 0
-Tried n old new read = (n ≤ length read + (new.read_failures - old.read_failures)) ⊎ (2 ^ 64 - 1 ≤ new.read_failures)
+Tried n old new read = (n ≤ length read + (new.interruptions - old.interruptions)) ⊎ (2 ^ 64 - 1 ≤ new.interruptions)
 
--- n reads or more went well, all that the server sends to what was read is out, and the connection is open
+-- n reads or more were tried and no call failed, all that the server sends to what was read is out, and the connection is open
 abbrev pub Goes : ℕ → ℕ → Scene → Scene → Type 0
 Goes n conn old new =
-    (read : List ℕ) × Fed conn old new read (sends_to conn old.server read) × (is_closed_by conn old.server read ≡ false) × Tried n old new read
+    (read : List ℕ) × Fed conn old new read (sends_to conn old.server read) false false × (is_closed_by conn old.server read ≡ false) × Tried n old new read
 
 -- the last piece, of at most 4096 bytes, closed the connection
 pub record JustClosed (conn : ℕ) (server : State) (read : List ℕ) : Type 0 where
@@ -92,10 +95,11 @@ pub record JustClosed (conn : ℕ) (server : State) (read : List ℕ) : Type 0 w
   pub open_before : is_closed_by conn server before ≡ false
   pub closed : is_closed_by conn server read ≡ true
 
--- All that the server sends to what was read is out. The input is at its end and the connection open, or it has just been closed
+-- No call failed, and all that the server sends to what was read is out. The input is at its end and the connection open, or it
+-- has just been closed
 abbrev pub Done : ℕ → Scene → Scene → Type 0
 Done conn old new =
-    (read : List ℕ) × Fed conn old new read (sends_to conn old.server read)
+    (read : List ℕ) × Fed conn old new read (sends_to conn old.server read) false false
     × ((IsAtEnd new.left × (is_closed_by conn old.server read ≡ false)) ⊎ JustClosed conn old.server read)
 
 -- The server's fault at the piece that came last. Where memory ran out, the server is halted, or else there was no room for
@@ -106,14 +110,14 @@ Faulted conn server new last Exhausted = (new ≡ None) × IsSpent (step_on serv
 Faulted conn server new last fault = (step_on server (Bytes conn last) ≡ Err fault) × (new ≡ server)
 
 -- Where a read failed, or the server didn't answer the piece that came last, all that was due before is out. Where a write
--- failed, a part of what is due is out, from its beginning on
+-- failed, a part of what is due is out, from its beginning on. The call that failed is the only one that did, and the last
 abbrev pub Stopped : ℕ → Scene → Scene → PumpFault → Type 0
 Stopped conn old new Read =
-    (read : List ℕ) × Fed conn old new read (sends_to conn old.server read) × (is_closed_by conn old.server read ≡ false) × Rose old.read_failures new.read_failures
+    (read : List ℕ) × Fed conn old new read (sends_to conn old.server read) true false × (is_closed_by conn old.server read ≡ false)
 Stopped conn old new Write =
-    (read : List ℕ) × (put : List ℕ) × Fed conn old new read put × IsPrefix put (sends_to conn old.server read) × Rose old.write_failures new.write_failures
+    (read : List ℕ) × (put : List ℕ) × Fed conn old new read put false true × IsPrefix put (sends_to conn old.server read)
 Stopped conn old new (Step fault) =
-    (read : List ℕ) × (last : List ℕ) × Moved old new (read ++ last) (sends_to conn old.server read) × ((heard_run old.server conn read).fault ≡ None)
+    (read : List ℕ) × (last : List ℕ) × Moved old new (read ++ last) (sends_to conn old.server read) false false × ((heard_run old.server conn read).fault ≡ None)
     × (is_closed_by conn old.server read ≡ false) × Faulted conn (heard_run old.server conn read).server new.server last fault
 Stopped conn old new Turns = Goes 1000000000 conn old new
 

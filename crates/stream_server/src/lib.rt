@@ -4,10 +4,10 @@
 //! server sends, before it reads the next. `specs/Pumped` says what a run comes to.
 #![tactic(auto)]
 
-ghost use Rattle.std.specs.Prelude.{◌≡◌, ℕ, ◌+◌, ◌-◌, ◌^◌, ◌<◌, ◌≤◌, length, take, IfOk, IfSome, IfErr, MatchResult, OnErr, is_err, Err, ◌≢◌, true, false};
+ghost use Rattle.std.specs.Prelude.{◌≡◌, ℕ, ◌+◌, ◌-◌, ◌^◌, ◌<◌, ◌≤◌, length, take, IfOk, IfSome, IfErr, MatchResult, OnErr, is_err, not, Err, ◌≢◌, true};
 ghost use Rattle.std.specs.Bool.{MatchBool};
 ghost use Rattle.std.specs.Io.KnownBytes.{Appends, Consumes, Keeps, IsAtEnd};
-ghost use Rattle.stream_taps.specs.Tapped.{Rose, counted};
+ghost use Rattle.stream_taps.specs.Tapped.{counted, CountsRead};
 ghost use Rattle.server_core.specs.Running.{joined, closes};
 ghost use Rattle.server_core.specs.World.{world_of};
 
@@ -15,9 +15,9 @@ use bytes::Bytes;
 use server_core::{Event, Out, Server, StepFault};
 use std::alloc::Global;
 use std::io;
-use std::io::{ErrorKind, Read, Write};
+use std::io::{Read, Write};
 use std::marker::Model;
-use stream_taps::{Tap, put_bytes};
+use stream_taps::{Tap, is_interruption, put_bytes};
 use thiserror::Error;
 
 /// The most bytes of a piece.
@@ -87,8 +87,7 @@ fn put_outs<W: Write>(alloc: Global, writer: &mut Tap<W>, outs: &[Out]) -> (u128
     ensures all { result.1 ≡ true → result.0 ≡ length (joined outs.now) }
     ensures small { result.0 < 2 ^ 128 }
     ensures written { Appends (W.contents writer.old.stream) (W.contents writer.new.stream) (take result.0 (joined outs.now)) }
-    ensures failed { result.1 ≡ false → Rose writer.old.failures writer.new.failures }
-    ensures failures { writer.old.failures ≤ writer.new.failures }
+    ensures failures { writer.new.failures ≡ counted writer.old.failures (not result.1) }
 {
     if outs.len() < 2 {
         return put_each(writer, outs);
@@ -108,8 +107,7 @@ fn put_each<W: Write>(writer: &mut Tap<W>, outs: &[Out]) -> (u128, bool)
     ensures all { result.1 ≡ true → result.0 ≡ length (joined outs.now) }
     ensures small { result.0 < 2 ^ 128 }
     ensures written { Appends (W.contents writer.old.stream) (W.contents writer.new.stream) (take result.0 (joined outs.now)) }
-    ensures failed { result.1 ≡ false → Rose writer.old.failures writer.new.failures }
-    ensures failures { writer.old.failures ≤ writer.new.failures }
+    ensures failures { writer.new.failures ≡ counted writer.old.failures (not result.1) }
 {
     let mut done = 0;
     for out in outs {
@@ -131,7 +129,7 @@ fn read_piece<R: Read>(reader: &mut Tap<R>, piece: &mut Vec<u8>) -> io::Result<u
         × Consumes (R.remaining reader.old.stream) (R.remaining reader.new.stream) piece.new.items) }
     ensures end { IfOk result (λ n. n ≡ 0 → 0 < length piece.old.items → IsAtEnd (R.remaining reader.new.stream)) }
     ensures err { OnErr result (Keeps (R.remaining reader.old.stream) (R.remaining reader.new.stream)) }
-    ensures counts { reader.new.failures ≡ counted reader.old.failures (is_err result) }
+    ensures counts { CountsRead result reader.old reader.new }
 {
     match reader.read(piece) {
         Ok(n) => {
@@ -179,8 +177,8 @@ impl Pump {
     ) -> Result<bool, PumpFault>
         ensures answered { Answered conn outs.now (W.contents writer.old.stream) (W.contents writer.new.stream)
             self.old self.new result }
-        ensures write { IfErr result (λ fault. (fault ≡ PumpFault.Write) × Rose writer.old.failures writer.new.failures) }
-        ensures failures { writer.old.failures ≤ writer.new.failures }
+        ensures write { IfErr result (λ fault. fault ≡ PumpFault.Write) }
+        ensures failures { writer.new.failures ≡ counted writer.old.failures (is_err result) }
     {
         let (count, all) = put_outs(alloc, writer, outs);
         self.sent = self.sent.saturating_add(count);
@@ -215,7 +213,7 @@ impl Pump {
             Ok(0) => return Ok(false),
             Ok(_) => {}
             Err(e) => {
-                if e.kind() == ErrorKind::Interrupted {
+                if is_interruption(&e) {
                     return Ok(true);
                 }
                 return Err(PumpFault::Read);
@@ -234,13 +232,13 @@ impl Pump {
     /// Hands what is read to the server, a piece of at most 4096 bytes at a time, and writes what it
     /// sends, until the input ends or the connection is closed.
     ///
-    /// All that the server sends is written here, so it should know no other connection. A read that is
-    /// interrupted is tried again.
+    /// All that the server sends is written here, so it should know no other connection. A call that is
+    /// interrupted is made again; any other one that fails is the last.
     ///
     /// Each piece is answered before the next is read, and nothing is read once the connection is closed.
     /// So where the run ends well, at `Read`, `Step` and `Turns`, all that the server sends to what was
     /// read before is out. At `Write` a part of it is, from its beginning on. [`Pump::sent`] is the
-    /// length of what is out. `Read` and `Write` come only where a call of that tap failed. At
+    /// length of what is out. `Read` and `Write` come only where a call of that tap failed, which was then the last. At
     /// `Step(Memory)` the server is halted, or as its last step left it, where a growth of the pump's own
     /// was refused. `Turns` comes after 10^9 reads.
     pub fn run<R: Read, W: Write>(

@@ -4,7 +4,8 @@ use Rattle.std.specs.Prelude.{not}
 use Rattle.ua_state_table.specs.Chosen.{Answers, answers, timer_row, publish_row, chosen}
 use Rattle.ua_state_table.specs.Doing.{enqueues}
 use Rattle.ua_state_table.specs.Events.{fits}
-use Rattle.ua_state_table.specs.declared.row.RowId.TheVariants.{N1, N2, N3, N4, N5, N6, L1, L2, K2, K3, K4, K5, G6}
+use Rattle.ua_state_table.specs.declared.row.RowId.{RowId}
+use Rattle.ua_state_table.specs.declared.row.RowId.TheVariants.{N1, N2, N3, N4, N5, N6, L1, L2, L3, K2, K3, K4, K5, G6}
 use Rattle.ua_state_table.specs.declared.state.State.{State}
 use Rattle.ua_state_table.specs.declared.state.State.TheVariants.{Closed, Normal, Late, KeepAlive}
 use Rattle.ua_state_table.specs.declared.vars.Vars.{Vars}
@@ -29,53 +30,55 @@ abbrev pub is_end : Call → Bool
 is_end (SessionEnd deleting) = true
 is_end call = false
 
+-- what holds of each row that a timer may fire
+pub record OfTimers (P : RowId → Type 0) : Type 0 where
+  pub n3 : P N3
+  pub n4 : P N4
+  pub n5 : P N5
+  pub n6 : P N6
+  pub l3 : P L3
+  pub k2 : P K2
+  pub k3 : P K3
+  pub k4 : P K4
+  pub k5 : P K5
+  pub g6 : P G6
+
+-- it holds of the row that one fires
+pub of_timer : (P : RowId → Type 0) → OfTimers P → (s : State) (a : Answers) → P (timer_row s a)
+of_timer P each Normal a = by a.queued a.enabled_available a.sent
+  where
+    by : (q ea se : Bool) → P (cond q (cond ea N3 (cond se N6 N4)) (cond (not se || ea) N5 N6))
+    by true true se = each.n3
+    by true false true = each.n6
+    by true false false = each.n4
+    by false true true = each.n5
+    by false true false = each.n5
+    by false false true = each.n6
+    by false false false = each.n5
+of_timer P each Late a = each.l3
+of_timer P each KeepAlive a = by a.queued a.enabled_available a.last_keep
+  where
+    by : (q ea k1 : Bool) → P (cond q (cond ea K2 (cond k1 K3 K4)) (cond (k1 || ea) K5 K4))
+    by true true k1 = each.k2
+    by true false true = each.k3
+    by true false false = each.k4
+    by false true true = each.k5
+    by false true false = each.k5
+    by false false true = each.k5
+    by false false false = each.k4
+of_timer P each Closed a = each.g6
+
+-- a test that is false of each of them is false of that row
+pub timer_is_none : (test : RowId → Bool) → OfTimers (λ r. test r ≡ false) → (s : State) (a : Answers) → test (timer_row s a) ≡ false
+timer_is_none test each = of_timer (λ r. test r ≡ false) each
+
 timer_none : (s : State) (a : Answers) → enqueues (timer_row s a) ≡ false
-timer_none Normal a = by a.queued a.enabled_available a.sent
-  where
-    by : (q ea se : Bool) → enqueues (cond q (cond ea N3 (cond se N6 N4)) (cond (not se || ea) N5 N6)) ≡ false
-    by true true se = refl
-    by true false true = refl
-    by true false false = refl
-    by false true true = refl
-    by false true false = refl
-    by false false true = refl
-    by false false false = refl
-timer_none Late a = refl
-timer_none KeepAlive a = by a.queued a.enabled_available a.last_keep
-  where
-    by : (q ea k1 : Bool) → enqueues (cond q (cond ea K2 (cond k1 K3 K4)) (cond (k1 || ea) K5 K4)) ≡ false
-    by true true k1 = refl
-    by true false true = refl
-    by true false false = refl
-    by false true true = refl
-    by false true false = refl
-    by false false true = refl
-    by false false false = refl
-timer_none Closed a = refl
+timer_none = timer_is_none enqueues
+    (record { n3 = refl; n4 = refl; n5 = refl; n6 = refl; l3 = refl; k2 = refl; k3 = refl; k4 = refl; k5 = refl; g6 = refl })
 
 timer_stays : (s : State) (a : Answers) → leaves (timer_row s a) ≡ false
-timer_stays Normal a = by a.queued a.enabled_available a.sent
-  where
-    by : (q ea se : Bool) → leaves (cond q (cond ea N3 (cond se N6 N4)) (cond (not se || ea) N5 N6)) ≡ false
-    by true true se = refl
-    by true false true = refl
-    by true false false = refl
-    by false true true = refl
-    by false true false = refl
-    by false false true = refl
-    by false false false = refl
-timer_stays Late a = refl
-timer_stays KeepAlive a = by a.queued a.enabled_available a.last_keep
-  where
-    by : (q ea k1 : Bool) → leaves (cond q (cond ea K2 (cond k1 K3 K4)) (cond (k1 || ea) K5 K4)) ≡ false
-    by true true k1 = refl
-    by true false true = refl
-    by true false false = refl
-    by false true true = refl
-    by false true false = refl
-    by false false true = refl
-    by false false false = refl
-timer_stays Closed a = refl
+timer_stays = timer_is_none leaves
+    (record { n3 = refl; n4 = refl; n5 = refl; n6 = refl; l3 = refl; k2 = refl; k3 = refl; k4 = refl; k5 = refl; g6 = refl })
 
 -- no other call but Publish queues a request
 pub plain_none : (v : Vars) (call : Call) → is_plain call ≡ true → enqueues (chosen v (event_of call)) ≡ false

@@ -1,10 +1,9 @@
 -- Messages stay numbered without a gap, and what is kept stays what was made, whatever is called.
-use Rattle.std.proofs.Common.{◌≡◌, ◌≢◌, ◌⊎◌, inl, inr, ℕ, ◌<◌, ◌≤◌, arith, Bool, true, false, ◌||◌, cond, List, [], ◌∷◌, ◌++◌, append-nil, append_assoc, Option, Some, None, refl, sym, ap, ◌∙◌, subst}
+use Rattle.std.proofs.Common.{◌≡◌, ◌≢◌, ◌⊎◌, inl, inr, ℕ, ◌<◌, ◌≤◌, arith, Bool, true, false, cond, List, [], ◌∷◌, ◌++◌, append-nil, append_assoc, Option, Some, None, refl, sym, ap, ◌∙◌, subst}
 use Rattle.std.proofs.lemmas.Bool.{false≢true}
-use Rattle.std.specs.Prelude.{not}
 use Rattle.ua_state_table.specs.Chosen.{Answers, answers, timer_row, publish_row, chosen}
 use Rattle.ua_state_table.specs.declared.row.RowId.{RowId}
-use Rattle.ua_state_table.specs.declared.row.RowId.TheVariants.{C2, N1, N2, N3, N4, N5, N6, L1, L2, K2, K3, K4, K5, G5, G6, G8}
+use Rattle.ua_state_table.specs.declared.row.RowId.TheVariants.{C2, N1, N2, L1, L2, G5, G6, G8}
 use Rattle.ua_state_table.specs.declared.state.State.{State}
 use Rattle.ua_state_table.specs.declared.state.State.TheVariants.{Closed, Normal, Late, KeepAlive}
 use Rattle.ua_state_table.specs.declared.vars.Vars.{Vars}
@@ -19,7 +18,7 @@ use Rattle.subscription_laws.specs.Messaging.{Made, made_of, made_by, met_made, 
 use Rattle.subscription_laws.specs.Numbering.{AreNumbered, last_number, IsMade, messages_of, begins_or_ends}
 use Rattle.ua_subscriptions.specs.Scenes.{Scene, row_done}
 use Rattle.ua_subscriptions.specs.Tables.{World, with_call, without_closed, met_found, met, all_met, subscription_at}
-use Rattle.subscription_laws.proofs.ChosenRows.{is_create}
+use Rattle.subscription_laws.proofs.ChosenRows.{is_create, timer_is_none}
 use Rattle.subscription_laws.proofs.Entries.{same_or_not}
 use Rattle.subscription_laws.proofs.Firings.{fired_subscription}
 use Rattle.subscription_laws.proofs.Keeping.{scene_at}
@@ -42,28 +41,8 @@ is_C2 C2 = true
 is_C2 r = false
 
 timer_begins_none : (s : State) (a : Answers) → is_C2 (timer_row s a) ≡ false
-timer_begins_none Normal a = by a.queued a.enabled_available a.sent
-  where
-    by : (q ea se : Bool) → is_C2 (cond q (cond ea N3 (cond se N6 N4)) (cond (not se || ea) N5 N6)) ≡ false
-    by true true se = refl
-    by true false true = refl
-    by true false false = refl
-    by false true true = refl
-    by false true false = refl
-    by false false true = refl
-    by false false false = refl
-timer_begins_none Late a = refl
-timer_begins_none KeepAlive a = by a.queued a.enabled_available a.last_keep
-  where
-    by : (q ea k1 : Bool) → is_C2 (cond q (cond ea K2 (cond k1 K3 K4)) (cond (k1 || ea) K5 K4)) ≡ false
-    by true true k1 = refl
-    by true false true = refl
-    by true false false = refl
-    by false true true = refl
-    by false true false = refl
-    by false false true = refl
-    by false false false = refl
-timer_begins_none Closed a = refl
+timer_begins_none = timer_is_none is_C2
+    (record { n3 = refl; n4 = refl; n5 = refl; n6 = refl; l3 = refl; k2 = refl; k3 = refl; k4 = refl; k5 = refl; g6 = refl })
 
 publish_begins_none : (s : State) (a : Answers) → is_C2 (publish_row s a) ≡ false
 publish_begins_none Normal a = by a.enabled_more

@@ -10,3 +10,4 @@ pub mod Apartness
 pub mod ItemCalls
 pub mod Fates
 pub mod Tellings
+pub mod Precedence

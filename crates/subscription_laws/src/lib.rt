@@ -1,10 +1,11 @@
 //! Laws of subscriptions: what follows from what the rows do, and from any calls, one after the other.
 //!
-//! The laws have no code: their contracts state them, over the definitions of the crate [`subscription`]. `Runs` has the list
-//! of calls and what it comes to, from no subscription on; `Standings` how a subscription stands, and `Histories` what the
-//! rows that fired count; `Numbering` and `Messaging` the messages that were made, `Answering` the answers that bring them,
-//! `Requests` the requests that are answered, `Calm` what always holds, and `Apartness` what is of other sessions; `ItemCalls`
-//! the calls of items that come of any calls, `Fates` and `Tellings` what becomes of values and which messages tell them.
+//! The laws have no code: their contracts state them, over the definitions of the crate [`ua_subscriptions`]. `Runs` has the
+//! list of calls and what it comes to, from no subscription on; `Standings` how a subscription stands, and `Histories` what
+//! the rows that fired count; `Precedence` which subscription comes first; `Numbering` and `Messaging` the messages that were
+//! made, `Answering` the answers that bring them, `Requests` the requests that are answered, `Calm` what always holds, and
+//! `Apartness` what is of other sessions; `ItemCalls` the calls of items that come of any calls, `Fates` and `Tellings` what
+//! becomes of values and which messages tell them.
 //!
 //! Read docs/SUBSCRIPTIONS.md first, then `specs/Runs`.
 #![tactic(auto)]
@@ -31,7 +32,8 @@ ghost use Rattle.ua_subscriptions.specs.Making.{kept_at, republished};
 ghost use Rattle.ua_subscriptions.specs.Messages.{number_after, keep_alive_message};
 ghost use Rattle.subscription_laws.specs.Messaging.{messages_for, run_made, IsAmong, AreNotes, AreItsMessages};
 ghost use Rattle.subscription_laws.specs.Numbering.{AreNumbered, IsMade, messages_of, begins_or_ends};
-ghost use Rattle.ua_subscriptions.specs.Ranks.{is_waiting};
+ghost use Rattle.subscription_laws.specs.Precedence.{precedence};
+ghost use Rattle.ua_subscriptions.specs.Ranks.{is_waiting, rank_cmp};
 ghost use Rattle.subscription_laws.specs.Requests.{Name, such_answers, such_waiting, such_came};
 ghost use Rattle.subscription_laws.specs.Runs.{Move, run, moved, start};
 ghost use Rattle.ua_subscriptions.specs.Scenes.{Scene, row_done};
@@ -41,9 +43,16 @@ ghost use Rattle.ua_subscriptions.specs.Tables.{part_at, subscription_at};
 ghost use Rattle.subscription_laws.specs.Tellings.{all_taken, AreTold, entries_told};
 ghost use Rattle.ua_subscriptions.specs.declared.call.Call.TheVariants.{Publish};
 ghost use Rattle.ua_subscriptions.specs.declared.publish_call.PublishCall.{PublishCall};
+ghost use Rattle.ua_subscriptions.specs.declared.ranks.Rank.{Rank};
 ghost use Rattle.ua_subscriptions.specs.declared.subscription.Subscription.{Subscription};
 ghost use Rattle.ua_types.specs.Configuration.{Configuration};
 ghost use Rattle.ua_types.specs.declared.moment.Moment.{Moment};
+
+/// Of the subscriptions that wait, or are due, the one with the highest priority comes first; among equals the one whose last
+/// message is the least recent, one that has sent none before any; and among those the one with the least number.
+pub fn the_highest_priority_comes_first()
+    ensures { (a b : Rank) → rank_cmp a b ≡ precedence a b }
+{}
 
 /// Exactly one row fires of what comes to a steady subscription, the one that is chosen.
 pub fn one_row_fires()

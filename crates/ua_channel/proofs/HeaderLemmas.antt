@@ -1,5 +1,5 @@
 -- How long a header is, and that it is read again.
-use Rattle.std.proofs.Common.{◌≡◌, ℕ, ◌+◌, ◌≤◌, Bool, true, false, cond, List, ◌++◌, length, take, drop, Ok, Err, refl, arith, append_assoc}
+use Rattle.std.proofs.Common.{◌≡◌, ℕ, ◌+◌, ◌<◌, ◌≤◌, Bool, true, false, cond, List, ◌++◌, length, take, drop, Ok, Err, refl, arith, append_assoc}
 use Rattle.std.specs.Prelude.{nat_lt}
 use Rattle.std.specs.Int.{w32, from_le_bytes}
 use Rattle.std.proofs.lemmas.List.{length-append, length-drop, drop_at}
@@ -67,8 +67,12 @@ header_again header part w =
 pub part_again : (header : ChunkHeader) (part : List ℕ) → drop 16 (chunk_header_encoding header ++ part) ≡ part
 part_again header part = drop_at (chunk_header_encoding header) part 16 (encoding_length header)
 
-pub sequence_number_small : (n : ℕ) → n ≤ 4294966272 → sequence_number_after n ≤ 4294966272
-sequence_number_small n l = grind (arith, nat_tests)
+after_small : (b : Bool) (n : ℕ) → nat_lt n 4294966272 ≡ b → cond b (n + 1) 1 ≤ 4294966272
+after_small true n e = let below : n < 4294966272 = grind (arith, nat_tests) in omega arith
+after_small false n e = omega arith
+
+pub sequence_number_small : (n : ℕ) → sequence_number_after n ≤ 4294966272
+sequence_number_small n = after_small (nat_lt n 4294966272) n refl
 
 -- the header of an OPN that is sent has 71 bytes: its numbers, the URI, and two nulls
 pub opening_encoding_length : (channel_id sequence_number request_id : ℕ) → length (opening_header_encoding (opening_header_by channel_id sequence_number request_id)) ≡ 71

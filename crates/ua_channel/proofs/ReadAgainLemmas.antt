@@ -22,7 +22,7 @@ use Rattle.ua_channel.specs.Cutting.{Cut, cut_of, chunk_frame, chunk_encoding, n
 use Rattle.ua_channel.proofs.HeaderLemmas.{header_again, encoding_length, part_again, sequence_number_small}
 use Rattle.ua_channel.proofs.CuttingLemmas.{cut_more, cut_last, chunks_of_send}
 
-none_yet : (limit : ℕ) → judgement_of limit [] ≡ Incomplete
+pub none_yet : (limit : ℕ) → judgement_of limit [] ≡ Incomplete
 unfolding judgement_of
 none_yet limit = refl
 
@@ -33,12 +33,12 @@ record Reads (limit id : ℕ) (body : List ℕ) (chunks : List (List ℕ)) : Typ
   each : AllByRecursion (IsFrame limit) fs
   message : (begun : Begun) → is_of begun id ≡ true → joins begun fs ≡ Some ((id, parts_of begun ++ body) ∷ [])
 
-is_frame : (limit : ℕ) (header : ChunkHeader) (chunk_type : ChunkType) (part : List ℕ) → 24 + length part ≤ limit → IsFrame limit (chunk_frame header chunk_type part)
+pub is_frame : (limit : ℕ) (header : ChunkHeader) (chunk_type : ChunkType) (part : List ℕ) → 24 + length part ≤ limit → IsFrame limit (chunk_frame header chunk_type part)
 is_frame limit header chunk_type part l =
     record { chunk_type = refl; size = omega (arith, encoding_length header, length-append (chunk_header_encoding header) part) }
 
 -- a chunk is read as its header and its part, and joins what has begun of its request
-read_chunk : (header : ChunkHeader) (chunk_type : ChunkType) (part : List ℕ) (begun : Begun) (more : Begun → Messages) → IsWritable header → is_of begun header.request_id ≡ true →
+pub read_chunk : (header : ChunkHeader) (chunk_type : ChunkType) (part : List ℕ) (begun : Begun) (more : Begun → Messages) → IsWritable header → is_of begun header.request_id ≡ true →
     (let f = chunk_frame header chunk_type part in joined_by begun f (chunk_header_reading f.body) more)
     ≡ joined_on chunk_type header.request_id (parts_of begun ++ part) more
 read_chunk header chunk_type part begun more w e =
@@ -71,11 +71,11 @@ more_read limit header part rest chunks m w rs =
           ∙ ap (λ (b : List ℕ). Some ((header.request_id, b) ∷ [])) (append_assoc (parts_of begun) part rest);
     }
 
-next_writable : (header : ChunkHeader) → IsWritable header → IsWritable (next_header header)
+pub next_writable : (header : ChunkHeader) → IsWritable header → IsWritable (next_header header)
 next_writable header w = record {
   channel_id = w.channel_id;
   token_id = w.token_id;
-  sequence_number = sequence_number_small header.sequence_number w.sequence_number;
+  sequence_number = sequence_number_small header.sequence_number;
   request_id = w.request_id;
 }
 

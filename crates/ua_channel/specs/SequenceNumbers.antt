@@ -9,4 +9,4 @@ may_follow (Some last) n = n == last + 1 || (nat_lt 4294966271 last && nat_lt n 
 
 -- the number of the next chunk that is sent: after 4294966272 comes 1
 abbrev pub sequence_number_after : ℕ → ℕ
-sequence_number_after n = if n == 4294966272 then 1 else n + 1
+sequence_number_after n = if nat_lt n 4294966272 then n + 1 else 1

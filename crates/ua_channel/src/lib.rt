@@ -29,4 +29,5 @@ mod taken;
 pub use channel::Channel;
 pub use headers::{ChunkHeader, OpeningHeader};
 pub use send_fault::SendFault;
+pub use sequence_numbers::sequence_number_after;
 pub use taken::Taken;

@@ -17,11 +17,10 @@ pub(crate) fn may_follow(received: Option<u32>, sequence_number: u32) -> bool
     }
 }
 
-// The sequence number of the next chunk that is sent.
-pub(crate) fn sequence_number_after(sent: u32) -> u32
-    requires { sent ≤ 4294966272 }
+/// The sequence number of the next chunk that is sent: they count from 1, and after 4294966272 comes 1.
+pub fn sequence_number_after(sent: u32) -> u32
     ensures value { result ≡ sequence_number_after_spec sent }
     ensures small { result ≤ 4294966272 }
 {
-    if sent == 4_294_966_272 { 1 } else { sent + 1 }
+    if sent < 4_294_966_272 { sent + 1 } else { 1 }
 }

@@ -1,5 +1,5 @@
 -- The sessions of a server: making them, judging who may use them, and their end.
-use Rattle.std.specs.Prelude.{◌≡◌, ◌+ℤ◌, ℕ, ◌+◌, ◌==◌, ◌-◌, ◌<◌, ◌^◌, pos, Bool, true, false, not, ◌&&◌, ◌||◌, nat_le, List, [], ◌∷◌, take, Option, Some, None, unwrap_or, Result, Ok, Err, IsOk, if◌then◌else◌}
+use Rattle.std.specs.Prelude.{◌≡◌, ◌+ℤ◌, ℕ, ◌+◌, ◌==◌, ◌-◌, ◌<◌, ◌^◌, pos, Bool, true, false, not, ◌&&◌, ◌||◌, nat_le, List, [], ◌∷◌, Option, Some, None, unwrap_or, Result, Ok, Err, IsOk, if◌then◌else◌}
 use Rattle.std.specs.FinMap.{FinMap, entries, get, insert, remove, empty, len}
 use Rattle.std.specs.Int.{w64, saturate_signed}
 use Rattle.std.specs.Ordering.{nat_cmp}
@@ -16,7 +16,7 @@ use Rattle.ua_types.specs.declared.status.TheConstants.Status as status
 use Rattle.ua_session.specs.Nonces.{nonce_of}
 use Rattle.ua_session.specs.Points.{PointsState, no_points}
 use Rattle.ua_session.specs.SessionTables.{due_in, IsNoneDueBefore}
-use Rattle.ua_session.specs.Tokens.{parts_of, token_of}
+use Rattle.ua_session.specs.Tokens.{parts_of, secret_of, token_of}
 use Rattle.ua_session.specs.declared.session.Session.{Session}
 use Rattle.ua_session.specs.declared.sessions.Created.{Created}
 
@@ -110,10 +110,10 @@ abbrev pub is_full : SessionsState → Bool
 is_full s = nat_le s.most (len s.sessions) || nat_le (2 ^ 32 - 1) s.made
 
 abbrev pub new_session : SessionsState → ℕ → List ℕ → Session
-new_session s conn key = record { secret = take 16 key; conn = conn; is_activated = false; deadline = deadline_of s }
+new_session s conn key = record { secret = secret_of key; conn = conn; is_activated = false; deadline = deadline_of s }
 
 abbrev pub created : SessionsState → ℕ → List ℕ → Created
-created s conn key = record { number = s.made + 1; token = token_of (take 16 key) (s.made + 1); nonce = next_nonce s key }
+created s conn key = record { number = s.made + 1; token = token_of (secret_of key) (s.made + 1); nonce = next_nonce s key }
 
 -- a session for who came by this connection, with this key
 unfoldable pub create_of : SessionsState → ℕ → List ℕ → Step Created Status SessionsState

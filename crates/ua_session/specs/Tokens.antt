@@ -10,6 +10,10 @@ use Rattle.ua_types.specs.declared.node_id.NodeId.{NodeId}
 abbrev pub session_id_of : ℕ → NodeId
 session_id_of number = numeric_id 1 number
 
+-- the first half of the random bytes with which a connection was opened
+abbrev pub secret_of : List ℕ → List ℕ
+secret_of key = take 16 key
+
 -- the secret and the number, the lowest byte first, as opaque bytes of namespace 0
 abbrev pub token_of : List ℕ → ℕ → NodeId
 token_of secret number = record { namespace = 0; identifier = Opaque (Some (secret ++ to_le_bytes w32 number)) }

@@ -29,4 +29,4 @@ pub use nonces::nonce;
 pub use points::{BrowsePoint, HistoryPoint, Point, Points, point_bytes, point_serial};
 pub use session::Session;
 pub use sessions::{Created, Sessions};
-pub use tokens::session_id;
+pub use tokens::{session_id, session_secret, session_token};

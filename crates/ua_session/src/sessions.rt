@@ -10,7 +10,7 @@ use crate::points::Points;
 use crate::session::Session;
 use crate::session_points::SessionPoints;
 use crate::session_table::SessionTable;
-use crate::tokens::{session_token, token_parts};
+use crate::tokens::{session_secret, session_token, token_parts};
 use std::alloc::{AllocError, Global};
 use std::marker::Model;
 use ua_types::{Config, Moment, NodeId, Refusal, Status};
@@ -185,8 +185,7 @@ impl Sessions {
         if self.nonces == u64::MAX {
             return Err(Refusal::Exhausted);
         }
-        let mut secret = [0; 16];
-        secret.copy_from_slice(&key[..16]);
+        let secret = session_secret(key);
         let session = Session {
             secret,
             conn,

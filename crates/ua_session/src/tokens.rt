@@ -1,7 +1,7 @@
 //! How sessions are named: by an id that all may know, and by a token that only its client should.
 
 ghost use Rattle.std.specs.Prelude.{◌≡◌, IfOk, option_map};
-ghost use Rattle.ua_session.specs.Tokens.{session_id_of, token_of, parts_of};
+ghost use Rattle.ua_session.specs.Tokens.{session_id_of, secret_of, token_of, parts_of};
 
 use std::alloc::{AllocError, Global};
 use ua_types::{ByteString, Identifier, NodeId};
@@ -19,12 +19,17 @@ pub fn session_id(number: u32) -> NodeId
     NodeId::numeric(OWN, number)
 }
 
+/// The secret of a session: the first half of the random bytes with which the connection was opened that asked for it.
+pub fn session_secret(key: &[u8; 32]) -> [u8; 16]
+    ensures { result ≡ secret_of key.now }
+{
+    let mut secret = [0; SECRET];
+    secret.copy_from_slice(&key[..SECRET]);
+    secret
+}
+
 /// The authentication token of a session: its secret and its number, the lowest byte first.
-pub(crate) fn session_token(
-    alloc: Global,
-    secret: &[u8; 16],
-    number: u32,
-) -> Result<NodeId, AllocError>
+pub fn session_token(alloc: Global, secret: &[u8; 16], number: u32) -> Result<NodeId, AllocError>
     ensures { IfOk result (λ token. token ≡ token_of secret.now number) }
 {
     let mut bytes = Vec::with_capacity(alloc, SECRET + 4)?;

@@ -9,7 +9,7 @@ pub loop-rest-preserved : goal.loop-rest-preserved
 loop-rest-preserved c =
     let rest = c.loop-rest.rest.now in
     let part = chunk_encoding c.loop-rest.header Intermediate (take c.args.room rest) in
-    rw (c.in_ok-put_chunk.ensures, c.number_after.ensures, c.split_at.ensures.front, c.split_at.ensures.back)
+    rw (c.in_ok-put_chunk.ensures, c.sequence_number_after.ensures.value, c.split_at.ensures.front, c.split_at.ensures.back)
     (behind_twice c.loop-rest.out.items part _
     ∙ ap (behind c.loop-rest.out.items) (sym (more c.args.aborted c.loop-rest.header c.args.room rest c.requires.some c.loop-rest-test.true))
     ∙ c.loop-rest.invariant)
@@ -20,7 +20,7 @@ returns c =
     c.requires.some c.loop-rest-test.false c.if-aborted.false c.loop-rest.invariant in
     record {
       bytes = rw c.in_ok-put_chunk-2.ensures (ap (λ (r : Run). r.bytes) whole);
-      next = rw c.number_after-2.ensures (ap (λ (r : Run). r.next.sequence_number) whole);
+      next = rw c.sequence_number_after-2.ensures.value (ap (λ (r : Run). r.next.sequence_number) whole);
     }
 
 pub returns-then-aborted : goal.returns-then-aborted

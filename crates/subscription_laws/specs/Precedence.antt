@@ -1,0 +1,15 @@
+-- Which of two subscriptions comes first, where both wait or both are due (IEC 62541-4, 5.13: the priority of a subscription).
+use Rattle.std.specs.Ordering.{nat_cmp}
+use Rattle.std.specs.declared.cmp.Ordering.{Ordering}
+use Rattle.std.specs.declared.cmp.Ordering.TheVariants.{Less, Equal, Greater}
+use Rattle.ua_subscriptions.specs.declared.ranks.Rank.{Rank}
+
+-- where the first order sees no difference, the second decides
+abbrev pub and_then : Ordering → Ordering → Ordering
+and_then Less second = Less
+and_then Equal second = second
+and_then Greater second = Greater
+
+-- the highest priority, among equals the least recent message, and among those the least number
+abbrev pub precedence : Rank → Rank → Ordering
+precedence a b = and_then (nat_cmp b.priority.0 a.priority.0) (and_then (nat_cmp a.place b.place) (nat_cmp a.number b.number))
