@@ -59,7 +59,7 @@ spent_right [] ys e = e
 spent_right (Fire fired ∷ xs) ys e = spent_right xs ys e
 spent_right (Spent ∷ xs) ys e = refl
 
-any_spent : (b : Bool) → b ≡ true → list_any is_spent (cond b (Spent ∷ []) []) ≡ true
+pub any_spent : (b : Bool) → b ≡ true → list_any is_spent (cond b (Spent ∷ []) []) ≡ true
 any_spent b e = ap (λ (t : Bool). list_any is_spent (cond t (Spent ∷ []) [])) e
 
 counted_out : (halted : Option Halt) (turn : Turn) → Halts halted Exhausted turn → is_uncounted halted turn ≡ true
@@ -87,21 +87,23 @@ module _ {A : Type 0} (state : Services) (own : A → List Reply) (said : Said A
 
 -- a call that answers Publish requests alone
 module _ (state : Services) (w : World) where
-  pub told_gives : (x : Answered (Unit {0})) (new : SubscriptionsState) (items : ItemsState) → subs.Serves (Ok x) state.subs new items (told state.subs w) →
-      given (with_subs state new items) (record { replies = x.replies; rows = x.rows }) ≡ given_of (told_alone state w)
+  pub told_gives : (x : Answered (Unit {0})) (new : SubscriptionsState) (items : ItemsState) (served : Served) → subs.Serves (Ok x) state.subs new items (told state.subs w) → served ≡ record { replies = x.replies; rows = x.rows } →
+      given (with_subs state new items) served ≡ given_of (told_alone state w)
   unfolding told_alone
-  told_gives x new items h = called_gives state no_reply (told state.subs w) x new items _ h refl
+  told_gives x new items served h e = called_gives state no_reply (told state.subs w) x new items served h e
 
   pub told_halts : (halt : Halt) (new : SubscriptionsState) (items : ItemsState) → subs.Serves (Err halt) state.subs new items (told state.subs w) → Serves (Err halt) (with_subs state new items) (told_alone state w)
   unfolding told_alone
   told_halts halt new items h = called_halts state no_reply (told state.subs w) halt new items h
 
--- a call whose answer is told first
-pub called_first : {A : Type 0} (state : Services) (call : Call) (body : A → List ℕ) (said : Said A) (x : Answered A) (new : SubscriptionsState) (items : ItemsState) (bytes : List ℕ) (served : Served) → subs.Serves (Ok x) state.subs new items said → bytes ≡ body x.answer →
-    served ≡ record { replies = reply_of call bytes ∷ x.replies; rows = x.rows } → given (with_subs state new items) served ≡ given_of (called state (λ answer. reply_of call (body answer) ∷ []) said)
-called_first state call body said x new items bytes served h b e =
+-- a call whose answer is told first, and then what else is served
+pub called_first : {A : Type 0} (state : Services) (call : Call) (body : A → List ℕ) (said : Said A) (x : Answered A) (new : SubscriptionsState) (items : ItemsState) (others : Served) (bytes : List ℕ) (served : Served) → subs.Serves (Ok x) state.subs new items said →
+    others ≡ record { replies = x.replies; rows = x.rows } → bytes ≡ body x.answer → served ≡ record { replies = reply_of call bytes ∷ others.replies; rows = others.rows } →
+    given (with_subs state new items) served ≡ given_of (called state (λ answer. reply_of call (body answer) ∷ []) said)
+called_first state call body said x new items others bytes served h o b e =
     called_gives state (λ answer. reply_of call (body answer) ∷ []) said x new items served h
-    (e ∙ ap (λ (bs : List ℕ). let s : Served = record { replies = reply_of call bs ∷ x.replies; rows = x.rows } in s) b)
+    (e ∙ ap (λ (bs : List ℕ). let s : Served = record { replies = reply_of call bs ∷ others.replies; rows = others.rows } in s) b
+    ∙ ap (λ (more : Served). let s : Served = record { replies = reply_of call (body x.answer) ∷ more.replies; rows = more.rows } in s) o)
 
 -- ---- one step behind another
 

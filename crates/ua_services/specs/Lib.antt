@@ -19,6 +19,7 @@ pub mod Browse
 pub mod BrowseNext
 pub mod HistoryResults
 pub mod HistoryRead
+pub mod RisingSerials
 pub mod CreateMonitoredItems
 pub mod ModifyMonitoredItems
 pub mod SetMonitoringMode

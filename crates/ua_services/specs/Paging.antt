@@ -1,6 +1,6 @@
 -- What the services with continuation points share: things that are asked for are done one after the other, with the points that
 -- those before them left.
-use Rattle.std.specs.Prelude.{◌≡◌, ⊤, ℕ, true, List, [], ◌∷◌, ◌++◌, Result, Ok, Err, if◌then◌else◌}
+use Rattle.std.specs.Prelude.{◌≡◌, ◌≤◌, ⊤, ℕ, true, List, [], ◌∷◌, ◌++◌, Result, Ok, Err, if◌then◌else◌}
 use Rattle.std.specs.List.{fold}
 use Rattle.ua_types.specs.Answers.{Step}
 use Rattle.ua_types.specs.declared.refusal.Refusal.{Refusal}
@@ -47,6 +47,10 @@ with_one f before x =
 -- one after the other
 abbrev pub all_done : {A R : Type 0} → (PointsState → A → Done R) → PointsState → List A → AllDone R
 all_done f points xs = fold (with_one f) (record { results = []; points = points }) xs
+
+-- no serial is given twice: however many were given before, as many or more were given after
+abbrev pub Rises : {A R : Type 0} → (PointsState → A → Done R) → Type 0
+Rises {A = A} f = (points : PointsState) (x : A) → points.made ≤ (f points x).points.made
 
 -- ---- the answer
 

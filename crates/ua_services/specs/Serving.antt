@@ -2,6 +2,8 @@
 use Rattle.std.specs.Prelude.{◌≡◌, ⊤, ℕ, Bool, true, false, List, [], ◌∷◌, Result, Ok, Err}
 use Rattle.std.specs.List.{list_any}
 use Rattle.ua_types.specs.declared.moment.Moment.{Moment}
+use Rattle.ua_types.specs.declared.refusal.Refusal.{Refusal}
+use Rattle.ua_types.specs.declared.refusal.Refusal.TheVariants as refusals
 use Rattle.ua_types.specs.declared.status.Status.{Status}
 use Rattle.ua_types.specs.declared.status.TheConstants.Status as status
 use Rattle.ua_binary.specs.declared.fault.TakeFault.{TakeFault}
@@ -41,6 +43,12 @@ faulted state call code clock = answered state call (fault_body call.handle code
 abbrev pub served_by : {A : Type 0} → (Setting → Call → A → Services → Serving) → Setting → Call → Services → Result A TakeFault → Serving
 served_by meaning setting call state (Ok request) = meaning setting call request state
 served_by meaning setting call state (Err fault) = faulted state call status.BAD_DECODING_ERROR setting.clock
+
+-- the refusal that a status tells, or for which the server halts
+abbrev pub refusal_by : Result Status Halt → Refusal
+refusal_by (Ok code) = refusals.Service code
+refusal_by (Err Memory) = refusals.Memory
+refusal_by (Err Exhausted) = refusals.Exhausted
 
 -- ---- what the code gives of it
 

@@ -4,7 +4,7 @@ ghost use Rattle.std.specs.Prelude.{◌≡◌, IfOk};
 ghost use Rattle.ua_services.specs.ActivateSession.{activate_session_meaning, activate_session_response, is_anonymous as is_anonymous_spec};
 
 use crate::call::Call;
-use crate::service::{Service, refuse, reply};
+use crate::service::{Service, refuse, reply, status_told};
 use crate::services::Services;
 use server_messages::{Halt, Served, Setting};
 use std::alloc::{AllocError, Global};
@@ -12,7 +12,7 @@ use ua_messages::{DiagnosticInfos, ResponseHeader, StructureFault, body, structu
 use ua_service_messages::{
     ActivateSessionRequest, ActivateSessionResponse, AnonymousIdentityToken,
 };
-use ua_types::{Array, ByteString, ExtensionObject, ExtensionObjectBody, Refusal, Status};
+use ua_types::{Array, ByteString, ExtensionObject, ExtensionObjectBody, Status};
 
 // Whether the user stays anonymous.
 fn is_anonymous(alloc: Global, identity: &ExtensionObject) -> Result<bool, AllocError>
@@ -77,9 +77,10 @@ impl Service for ActivateSession {
                     body(alloc, type_ids::ACTIVATE_SESSION_RESPONSE, &response)?,
                 )?)
             }
-            Err(Refusal::Service(status)) => Ok(refuse(alloc, call, status, setting.clock)?),
-            Err(Refusal::Memory) => Err(Halt::Memory),
-            Err(Refusal::Exhausted) => Err(Halt::Exhausted),
+            Err(refusal) => {
+                let status = status_told(refusal)?;
+                Ok(refuse(alloc, call, status, setting.clock)?)
+            }
         }
     }
 }

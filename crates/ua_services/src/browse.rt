@@ -1,63 +1,28 @@
 //! The service Browse (IEC 62541-4, "Browse").
 
-ghost use Rattle.std.specs.Prelude.{◌≡◌, ◌<◌, ◌^◌, length, IfOk};
-ghost use Rattle.std.specs.Result.{result_map_both};
+ghost use Rattle.std.specs.Prelude.{◌≡◌};
 ghost use Rattle.ua_browse.specs.Browsing.{page_size as page_size_spec, browse_of};
-ghost use Rattle.ua_services.specs.Browse.{browse_meaning};
 ghost use Rattle.ua_messages.specs.declared.type_ids.TheConstants.{BROWSE_RESPONSE};
-ghost use Rattle.ua_session.specs.Sessions.{points_of};
-ghost use Rattle.ua_services.specs.BrowseResults.{browse_told, browsed};
-ghost use Rattle.ua_services.specs.Paging.{DoesOne, DoesAll, all_done};
-ghost use Rattle.ua_services.specs.Serving.{Serves};
+ghost use Rattle.ua_services.specs.Browse.{browse_meaning};
+ghost use Rattle.ua_services.specs.BrowseResults.{browse_told};
+ghost use Rattle.ua_services.specs.RisingSerials.{browse_rises};
 
 use crate::browse_results::told;
 use crate::call::Call;
-use crate::operations::operations;
-use crate::paging::paged;
+use crate::operations::into_operations;
+use crate::paging::{Pages, serve_pages};
 use crate::service::refuse;
 use crate::services::Services;
 use crate::session_service::SessionService;
 use server_messages::{Halt, Served, Setting};
 use std::alloc::Global;
 use ua_browse::{browse, page_size};
+use ua_history::History;
 use ua_messages::type_ids;
 use ua_service_messages::{BrowseDescription, BrowseRequest, BrowseResult};
 use ua_session::Points;
 use ua_space::Space;
 use ua_types::{Config, Status};
-
-#[tactic(auto, using(crate::proofs::PagingLemmas::does_one))]
-fn browse_one(
-    alloc: Global,
-    space: &Space,
-    points: &mut Points,
-    size: u32,
-    description: BrowseDescription,
-) -> Result<BrowseResult, Halt>
-    ensures { DoesOne result points.new (browse_told (browse_of space.now points.old size description)) }
-{
-    told(alloc, browse(alloc, space, points, size, description))
-}
-
-fn browse_all(
-    alloc: Global,
-    space: &Space,
-    points: &mut Points,
-    size: u32,
-    descriptions: Vec<BrowseDescription>,
-) -> Result<Vec<BrowseResult>, Halt>
-    ensures all { DoesAll (result_map_both (λ rs. rs.items) (λ halt. halt) result) points.new (all_done (λ s d. browse_told (browse_of space.now s size d)) points.old descriptions.items) }
-    ensures count { IfOk result (λ rs. length rs.items ≡ length descriptions.items) }
-{
-    let mut results = Vec::with_capacity(alloc, descriptions.len())?;
-    for description in descriptions {
-        match browse_one(alloc, space, points, size, description) {
-            Ok(result) => results.push(result)?,
-            Err(halt) => return Err(halt),
-        }
-    }
-    Ok(results)
-}
 
 // How many references a page has at most under this configuration.
 fn size_in(config: &Config, requested: u32) -> u32
@@ -66,30 +31,37 @@ fn size_in(config: &Config, requested: u32) -> u32
     page_size(config.references, requested)
 }
 
-// Answers with the first page of each, and leaves the session the points for the next ones.
-fn serve_nodes(
-    alloc: Global,
-    setting: &Setting,
-    call: &Call,
-    session: u32,
-    services: &mut Services,
+// The first page of each node.
+#[derive(Drop)]
+struct FirstPages {
+    // How many references a page has at most.
     size: u32,
-    descriptions: Vec<BrowseDescription>,
-) -> Result<Served, Halt>
-    requires { length descriptions.items < 2 ^ 31 }
-    ensures { Serves result services.new (browsed setting.now call.now session BROWSE_RESPONSE services.old
-        (all_done (λ s d. browse_told (browse_of services.old.space s size d)) (points_of services.old.sessions session) descriptions.items)) }
-{
-    let mut points = services.sessions.take_points(alloc, session);
-    match browse_all(alloc, &services.space, &mut points, size, descriptions) {
-        Ok(results) => {
-            let type_id = type_ids::BROWSE_RESPONSE;
-            Ok(paged(
-                alloc, setting, call, session, type_id, services, points, &results,
-            )?)
-        }
-        Err(halt) => Err(halt),
+}
+
+#[tactic(auto, using(crate::proofs::PagingLemmas::does_one))]
+impl Pages for FirstPages {
+    type Asked = BrowseDescription;
+
+    type Told = BrowseResult;
+
+    const RESPONSE: u32 = type_ids::BROWSE_RESPONSE;
+
+    ghost RESPONSE = { BROWSE_RESPONSE };
+
+    ghost meaning = { λ pages space history points d. browse_told (browse_of space points pages.size d) };
+
+    fn page(
+        &self,
+        alloc: Global,
+        space: &Space,
+        _history: &History,
+        points: &mut Points,
+        description: BrowseDescription,
+    ) -> Result<BrowseResult, Halt> {
+        told(alloc, browse(alloc, space, points, self.size, description))
     }
+
+    ghost rises = { λ pages space history. browse_rises space pages.size };
 }
 
 /// Gives the references of nodes, page by page.
@@ -116,14 +88,22 @@ impl SessionService for Browse {
         if !request.view_id.is_null() {
             return Ok(refuse(alloc, call, Status::BAD_VIEW_ID_UNKNOWN, setting.clock)?);
         }
-        if let Err(status) = operations(&setting.config, &request.nodes_to_browse) {
-            return Ok(refuse(alloc, call, status, setting.clock)?);
-        }
-        let Some(descriptions) = request.nodes_to_browse.into_vec() else {
-            return Ok(refuse(alloc, call, Status::BAD_NOTHING_TO_DO, setting.clock)?);
+        let descriptions = match into_operations(&setting.config, request.nodes_to_browse) {
+            Ok(descriptions) => descriptions,
+            Err(status) => return Ok(refuse(alloc, call, status, setting.clock)?),
         };
         let requested = request.requested_max_references_per_node;
-        let size = size_in(&setting.config, requested);
-        serve_nodes(alloc, setting, call, session, services, size, descriptions)
+        let pages = FirstPages {
+            size: size_in(&setting.config, requested),
+        };
+        serve_pages(
+            alloc,
+            setting,
+            call,
+            session,
+            services,
+            &pages,
+            descriptions,
+        )
     }
 }

@@ -1,26 +1,24 @@
 //! The service BrowseNext (IEC 62541-4, "BrowseNext").
 
-ghost use Rattle.std.specs.Prelude.{◌≡◌, ◌<◌, ◌^◌, length, IfOk};
-ghost use Rattle.std.specs.Result.{result_map_both};
+ghost use Rattle.std.specs.Prelude.{◌≡◌};
 ghost use Rattle.ua_browse.specs.Browsing.{release_of};
+ghost use Rattle.ua_messages.specs.declared.type_ids.TheConstants.{BROWSE_NEXT_RESPONSE};
 ghost use Rattle.ua_session.specs.Points.{TakesSerial};
 ghost use Rattle.ua_services.specs.BrowseNext.{emptied, go_on_of, browse_next_meaning};
-ghost use Rattle.ua_messages.specs.declared.type_ids.TheConstants.{BROWSE_NEXT_RESPONSE};
-ghost use Rattle.ua_session.specs.Sessions.{points_of};
-ghost use Rattle.ua_services.specs.BrowseResults.{browse_told, browsed};
-ghost use Rattle.ua_services.specs.Paging.{DoesOne, DoesAll, all_done};
-ghost use Rattle.ua_services.specs.Serving.{Serves};
+ghost use Rattle.ua_services.specs.BrowseResults.{browse_told};
+ghost use Rattle.ua_services.specs.RisingSerials.{go_on_rises};
 
 use crate::browse_results::told;
 use crate::call::Call;
-use crate::operations::operations;
-use crate::paging::paged;
+use crate::operations::into_operations;
+use crate::paging::{Pages, serve_pages};
 use crate::service::refuse;
 use crate::services::Services;
 use crate::session_service::SessionService;
 use server_messages::{Halt, Served, Setting};
 use std::alloc::Global;
 use ua_browse::{Page, browse_next, release};
+use ua_history::History;
 use ua_messages::type_ids;
 use ua_service_messages::{BrowseNextRequest, BrowseResult};
 use ua_session::{Points, point_serial};
@@ -57,63 +55,37 @@ fn go_on(
     }
 }
 
+// The next page of each point.
+#[derive(Drop)]
+struct NextPages {
+    // Whether the points are only given up.
+    is_release: bool,
+}
+
 #[tactic(auto, using(crate::proofs::PagingLemmas::does_one))]
-fn go_on_one(
-    alloc: Global,
-    space: &Space,
-    points: &mut Points,
-    is_release: bool,
-    point: &ByteString,
-) -> Result<BrowseResult, Halt>
-    ensures { DoesOne result points.new (browse_told (go_on_of space.now is_release points.old point.now)) }
-{
-    told(alloc, go_on(alloc, space, points, is_release, point))
-}
+impl Pages for NextPages {
+    type Asked = ByteString;
 
-fn go_on_all(
-    alloc: Global,
-    space: &Space,
-    points: &mut Points,
-    is_release: bool,
-    named: &[ByteString],
-) -> Result<Vec<BrowseResult>, Halt>
-    ensures all { DoesAll (result_map_both (λ rs. rs.items) (λ halt. halt) result) points.new (all_done (λ s p. browse_told (go_on_of space.now is_release s p)) points.old named.now) }
-    ensures count { IfOk result (λ rs. length rs.items ≡ length named.now) }
-{
-    let mut results = Vec::with_capacity(alloc, named.len())?;
-    for point in named {
-        match go_on_one(alloc, space, points, is_release, point) {
-            Ok(result) => results.push(result)?,
-            Err(halt) => return Err(halt),
-        }
-    }
-    Ok(results)
-}
+    type Told = BrowseResult;
 
-// Answers with the next page of each, and leaves the session the points for those after them.
-fn serve_points(
-    alloc: Global,
-    setting: &Setting,
-    call: &Call,
-    session: u32,
-    services: &mut Services,
-    is_release: bool,
-    named: &[ByteString],
-) -> Result<Served, Halt>
-    requires { length named.now < 2 ^ 31 }
-    ensures { Serves result services.new (browsed setting.now call.now session BROWSE_NEXT_RESPONSE services.old
-        (all_done (λ s p. browse_told (go_on_of services.old.space is_release s p)) (points_of services.old.sessions session) named.now)) }
-{
-    let mut points = services.sessions.take_points(alloc, session);
-    match go_on_all(alloc, &services.space, &mut points, is_release, named) {
-        Ok(results) => {
-            let type_id = type_ids::BROWSE_NEXT_RESPONSE;
-            Ok(paged(
-                alloc, setting, call, session, type_id, services, points, &results,
-            )?)
-        }
-        Err(halt) => Err(halt),
+    const RESPONSE: u32 = type_ids::BROWSE_NEXT_RESPONSE;
+
+    ghost RESPONSE = { BROWSE_NEXT_RESPONSE };
+
+    ghost meaning = { λ pages space history points bytes. browse_told (go_on_of space pages.is_release points bytes) };
+
+    fn page(
+        &self,
+        alloc: Global,
+        space: &Space,
+        _history: &History,
+        points: &mut Points,
+        point: ByteString,
+    ) -> Result<BrowseResult, Halt> {
+        told(alloc, go_on(alloc, space, points, self.is_release, &point))
     }
+
+    ghost rises = { λ pages space history. go_on_rises space pages.is_release };
 }
 
 /// Gives the next page of references for each continuation point, or gives the points up.
@@ -137,12 +109,13 @@ impl SessionService for BrowseNext {
         request: BrowseNextRequest,
         services: &mut Services,
     ) -> Result<Served, Halt> {
-        match operations(&setting.config, &request.continuation_points) {
-            Ok(named) => {
-                let is_release = request.release_continuation_points;
-                serve_points(alloc, setting, call, session, services, is_release, named)
-            }
-            Err(status) => Ok(refuse(alloc, call, status, setting.clock)?),
-        }
+        let named = match into_operations(&setting.config, request.continuation_points) {
+            Ok(named) => named,
+            Err(status) => return Ok(refuse(alloc, call, status, setting.clock)?),
+        };
+        let pages = NextPages {
+            is_release: request.release_continuation_points,
+        };
+        serve_pages(alloc, setting, call, session, services, &pages, named)
     }
 }

@@ -3,6 +3,7 @@
 ghost use Rattle.ua_services.specs.BrowseResults.{result_of};
 ghost use Rattle.ua_services.specs.Paging.{Tells};
 
+use crate::service::status_told;
 use server_messages::Halt;
 use std::alloc::Global;
 use ua_browse::Page;
@@ -20,12 +21,10 @@ pub(crate) fn told(alloc: Global, answer: Result<Page, Refusal>) -> Result<Brows
             continuation_point: point_bytes(alloc, page.point)?,
             references: page.references,
         }),
-        Err(Refusal::Service(status_code)) => Ok(BrowseResult {
-            status_code,
+        Err(refusal) => Ok(BrowseResult {
+            status_code: status_told(refusal)?,
             continuation_point: ByteString::null(),
             references: Array::new(Vec::new(alloc)),
         }),
-        Err(Refusal::Memory) => Err(Halt::Memory),
-        Err(Refusal::Exhausted) => Err(Halt::Exhausted),
     }
 }

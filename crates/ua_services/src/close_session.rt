@@ -50,9 +50,7 @@ impl Service for CloseSession {
             Err(status) => return Ok(refuse(alloc, call, status, setting.clock)?),
         };
         let deleting = request.delete_subscriptions;
-        match end_session(alloc, setting, number, deleting, services) {
-            Ok(ended) => Ok(joined(ended, closed(alloc, setting, call)?)?),
-            Err(halt) => Err(halt),
-        }
+        let ended = end_session(alloc, setting, number, deleting, services)?;
+        Ok(joined(ended, closed(alloc, setting, call)?)?)
     }
 }

@@ -5,14 +5,14 @@ ghost use Rattle.ua_services.specs.CreateSession.{create_session_meaning, create
 
 use crate::call::Call;
 use crate::endpoint_list::endpoint;
-use crate::service::{Service, refuse, reply};
+use crate::service::{Service, refuse, reply, status_told};
 use crate::services::Services;
 use server_messages::{Halt, Served, Setting};
 use std::alloc::{AllocError, Global};
 use ua_messages::{ResponseHeader, body, type_ids};
 use ua_service_messages::{CreateSessionRequest, CreateSessionResponse, SignatureData};
 use ua_session::{Created, session_id};
-use ua_types::{Array, ByteString, Refusal, Status, Text};
+use ua_types::{Array, ByteString, Status, Text};
 
 fn response(
     alloc: Global,
@@ -68,9 +68,10 @@ impl Service for CreateSession {
                     body(alloc, type_ids::CREATE_SESSION_RESPONSE, &response)?,
                 )?)
             }
-            Err(Refusal::Service(status)) => Ok(refuse(alloc, call, status, setting.clock)?),
-            Err(Refusal::Memory) => Err(Halt::Memory),
-            Err(Refusal::Exhausted) => Err(Halt::Exhausted),
+            Err(refusal) => {
+                let status = status_told(refusal)?;
+                Ok(refuse(alloc, call, status, setting.clock)?)
+            }
         }
     }
 }

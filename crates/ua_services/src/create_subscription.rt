@@ -6,12 +6,12 @@ ghost use Rattle.ua_services.specs.CreateSubscription.{create_subscription_body,
 use crate::call::Call;
 use crate::services::Services;
 use crate::session_service::SessionService;
-use crate::sub_serving::reply_first;
+use crate::sub_serving::{apart, reply_first};
 use server_messages::{Halt, Served, Setting};
 use std::alloc::{AllocError, Global};
 use ua_messages::{ResponseHeader, body, fault, type_ids};
 use ua_subscription_messages::{CreateSubscriptionRequest, CreateSubscriptionResponse};
-use ua_subscriptions::{Answered, Created, Settings};
+use ua_subscriptions::{Created, Settings};
 use ua_types::Status;
 
 // What a client is told of its new subscription, or why there is none.
@@ -66,20 +66,11 @@ impl SessionService for CreateSubscription {
         };
         let enabled = request.publishing_enabled;
         let items = &mut services.items;
-        match services
+        let answered = services
             .subs
-            .create(alloc, items, setting.clock, session, settings, enabled)
-        {
-            Ok(answered) => {
-                let Answered {
-                    answer,
-                    replies,
-                    rows,
-                } = answered;
-                let body = answer_body(alloc, setting, call, answer)?;
-                Ok(reply_first(alloc, call, body, replies, rows)?)
-            }
-            Err(halt) => Err(halt),
-        }
+            .create(alloc, items, setting.clock, session, settings, enabled)?;
+        let (answer, others) = apart(answered);
+        let body = answer_body(alloc, setting, call, answer)?;
+        Ok(reply_first(alloc, call, body, others)?)
     }
 }

@@ -8,12 +8,11 @@ use crate::service::refuse;
 use crate::services::Services;
 use crate::session_service::SessionService;
 use crate::status_results::statuses_body;
-use crate::sub_serving::reply_first;
+use crate::sub_serving::{apart, reply_first};
 use server_messages::{Halt, Served, Setting};
 use std::alloc::Global;
 use ua_messages::type_ids;
 use ua_subscription_messages::DeleteSubscriptionsRequest;
-use ua_subscriptions::Answered;
 
 /// Deletes subscriptions of the session with their items, one after the other. Where the session has none left, its
 /// Publish requests that wait are answered `BAD_NO_SUBSCRIPTION`, behind the answer to this one.
@@ -40,21 +39,12 @@ impl SessionService for DeleteSubscriptions {
             Err(status) => return Ok(refuse(alloc, call, status, setting.clock)?),
         };
         let items = &mut services.items;
-        match services
+        let answered = services
             .subs
-            .delete(alloc, items, setting.clock, session, numbers)
-        {
-            Ok(answered) => {
-                let Answered {
-                    answer,
-                    replies,
-                    rows,
-                } = answered;
-                let type_id = type_ids::DELETE_SUBSCRIPTIONS_RESPONSE;
-                let body = statuses_body(alloc, type_id, setting, call, answer.as_slice())?;
-                Ok(reply_first(alloc, call, body, replies, rows)?)
-            }
-            Err(halt) => Err(halt),
-        }
+            .delete(alloc, items, setting.clock, session, numbers)?;
+        let (statuses, others) = apart(answered);
+        let type_id = type_ids::DELETE_SUBSCRIPTIONS_RESPONSE;
+        let body = statuses_body(alloc, type_id, setting, call, statuses.as_slice())?;
+        Ok(reply_first(alloc, call, body, others)?)
     }
 }

@@ -1,20 +1,20 @@
 //! The service HistoryRead (IEC 62541-4, "HistoryRead").
 
-ghost use Rattle.std.specs.Prelude.{◌≡◌, ◌<◌, ◌^◌, length, IfOk};
-ghost use Rattle.std.specs.Result.{result_map_both};
+ghost use Rattle.std.specs.Prelude.{◌≡◌};
 ghost use Rattle.ua_types.specs.Refusals.{GivesOrRefuses};
+ghost use Rattle.ua_messages.specs.declared.type_ids.TheConstants.{HISTORY_READ_RESPONSE};
 ghost use Rattle.ua_read_write.specs.Timestamps.{timestamps_of};
 ghost use Rattle.ua_history.specs.Reading.{read_raw_of};
-ghost use Rattle.ua_services.specs.HistoryRead.{some_times as some_times_spec, is_time_given as is_time_given_spec, is_bounded as is_bounded_spec, range_of as range_of_spec, details_judged, node_read, history_read_of, history_read_meaning};
+ghost use Rattle.ua_services.specs.HistoryRead.{some_times as some_times_spec, is_time_given as is_time_given_spec, is_bounded as is_bounded_spec, range_of as range_of_spec, details_judged, node_read, history_read_meaning};
 ghost use Rattle.ua_services.specs.HistoryResults.{history_result_of};
-ghost use Rattle.ua_services.specs.Paging.{DoesOne, DoesAll, told_as, all_done};
-ghost use Rattle.ua_services.specs.Serving.{Serves};
+ghost use Rattle.ua_services.specs.Paging.{DoesOne, told_as};
+ghost use Rattle.ua_services.specs.RisingSerials.{node_read_rises};
 
 use crate::call::Call;
 use crate::history_results::{history_told, release_told};
-use crate::operations::operations;
-use crate::paging::paged;
-use crate::service::refuse;
+use crate::operations::into_operations;
+use crate::paging::{Pages, serve_pages};
+use crate::service::{refuse, status_told};
 use crate::services::Services;
 use crate::session_service::SessionService;
 use server_messages::{Halt, Served, Setting};
@@ -117,67 +117,32 @@ fn page_told(
     history_told(alloc, wanted.timestamps, page)
 }
 
-fn read_one(
-    alloc: Global,
-    history: &History,
-    space: &Space,
-    points: &mut Points,
-    wanted: Wanted,
-    asked: &HistoryReadValueId,
-) -> Result<HistoryReadResult, Halt>
-    ensures { DoesOne result points.new (node_read history.now space.now.nodes wanted points.old asked.now) }
-{
-    if wanted.is_release {
-        return Ok(release_told(release(points, &asked.continuation_point)));
-    }
-    page_told(alloc, history, space, points, wanted, asked)
-}
+impl Pages for Wanted {
+    type Asked = HistoryReadValueId;
 
-fn read_all(
-    alloc: Global,
-    history: &History,
-    space: &Space,
-    points: &mut Points,
-    wanted: Wanted,
-    nodes: &[HistoryReadValueId],
-) -> Result<Vec<HistoryReadResult>, Halt>
-    ensures all { DoesAll (result_map_both (λ rs. rs.items) (λ halt. halt) result) points.new (all_done (λ s asked. node_read history.now space.now.nodes wanted s asked) points.old nodes.now) }
-    ensures count { IfOk result (λ rs. length rs.items ≡ length nodes.now) }
-{
-    let mut results = Vec::with_capacity(alloc, nodes.len())?;
-    for asked in nodes {
-        match read_one(alloc, history, space, points, wanted, asked) {
-            Ok(result) => results.push(result)?,
-            Err(halt) => return Err(halt),
-        }
-    }
-    Ok(results)
-}
+    type Told = HistoryReadResult;
 
-// Answers with a page of each node, and leaves the session the points for the next ones.
-fn serve_nodes(
-    alloc: Global,
-    setting: &Setting,
-    call: &Call,
-    session: u32,
-    services: &mut Services,
-    wanted: Wanted,
-    nodes: &[HistoryReadValueId],
-) -> Result<Served, Halt>
-    requires { length nodes.now < 2 ^ 31 }
-    ensures { Serves result services.new (history_read_of setting.now call.now session services.old wanted nodes.now) }
-{
-    let mut points = services.sessions.take_points(alloc, session);
-    let (history, space) = (&services.history, &services.space);
-    match read_all(alloc, history, space, &mut points, wanted, nodes) {
-        Ok(results) => {
-            let type_id = type_ids::HISTORY_READ_RESPONSE;
-            Ok(paged(
-                alloc, setting, call, session, type_id, services, points, &results,
-            )?)
+    const RESPONSE: u32 = type_ids::HISTORY_READ_RESPONSE;
+
+    ghost RESPONSE = { HISTORY_READ_RESPONSE };
+
+    ghost meaning = { λ wanted space history points asked. node_read history space.nodes wanted points asked };
+
+    fn page(
+        &self,
+        alloc: Global,
+        space: &Space,
+        history: &History,
+        points: &mut Points,
+        asked: HistoryReadValueId,
+    ) -> Result<HistoryReadResult, Halt> {
+        if self.is_release {
+            return Ok(release_told(release(points, &asked.continuation_point)));
         }
-        Err(halt) => Err(halt),
+        page_told(alloc, history, space, points, *self, &asked)
     }
+
+    ghost rises = { λ wanted space history. node_read_rises history space.nodes wanted };
 }
 
 /// Gives the values that variables had, page by page, or gives continuation points up.
@@ -208,23 +173,23 @@ impl SessionService for HistoryRead {
             let status = Status::BAD_TIMESTAMPS_TO_RETURN_INVALID;
             return Ok(refuse(alloc, call, status, setting.clock)?);
         };
-        let nodes = match operations(&setting.config, &request.nodes_to_read) {
+        let nodes = match into_operations(&setting.config, request.nodes_to_read) {
             Ok(nodes) => nodes,
             Err(status) => return Ok(refuse(alloc, call, status, setting.clock)?),
         };
         match judged(alloc, &setting.config, &request.history_read_details) {
             Ok(range) => {
-                let is_release = request.release_continuation_points;
                 let wanted = Wanted {
                     timestamps,
-                    is_release,
+                    is_release: request.release_continuation_points,
                     range,
                 };
-                serve_nodes(alloc, setting, call, session, services, wanted, nodes)
+                serve_pages(alloc, setting, call, session, services, &wanted, nodes)
             }
-            Err(Refusal::Service(status)) => Ok(refuse(alloc, call, status, setting.clock)?),
-            Err(Refusal::Memory) => Err(Halt::Memory),
-            Err(Refusal::Exhausted) => Err(Halt::Exhausted),
+            Err(refusal) => {
+                let status = status_told(refusal)?;
+                Ok(refuse(alloc, call, status, setting.clock)?)
+            }
         }
     }
 }

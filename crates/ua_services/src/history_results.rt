@@ -8,6 +8,7 @@ ghost use Rattle.ua_services.specs.HistoryResults.{stored_time_of, shown as show
 ghost use Rattle.ua_services.specs.Paging.{Tells};
 ghost use Rattle.ua_read_write.specs.Reading.{source_time_of};
 
+use crate::service::status_told;
 use server_messages::Halt;
 use std::alloc::{AllocError, Global};
 use ua_binary::BorrowedDataValue;
@@ -96,9 +97,7 @@ pub(crate) fn history_told(
             continuation_point: point_bytes(alloc, page.point)?,
             history_data: history_data(alloc, timestamps, page.values.as_slice())?,
         }),
-        Err(Refusal::Service(status_code)) => Ok(status_alone(status_code)),
-        Err(Refusal::Memory) => Err(Halt::Memory),
-        Err(Refusal::Exhausted) => Err(Halt::Exhausted),
+        Err(refusal) => Ok(status_alone(status_told(refusal)?)),
     }
 }
 

@@ -1,19 +1,56 @@
 //! What the services of monitored items share: each names a subscription of its session.
 
-ghost use Rattle.std.specs.Prelude.{◌≡◌};
-ghost use Rattle.ua_services.specs.ItemServing.{own_vars as own_vars_spec, fired_after};
+ghost use Rattle.std.specs.Prelude.{◌≡◌, ℕ, IfOk, OnOk};
+ghost use Rattle.server_messages.specs.declared.setting.Setting.{Setting};
+ghost use Rattle.ua_services.specs.ItemServing.{Itemed, with_items, own_vars as own_vars_spec, fired_after, items_called};
 ghost use Rattle.ua_services.specs.Serving.{Serves};
+ghost use Rattle.ua_services.specs.ServicesState.{Services};
+ghost use Rattle.ua_services.specs.declared.call.Call.{Call};
 
 use crate::call::Call;
+use crate::service::refuse;
 use crate::services::Services;
-use crate::sub_serving::reply_first;
+use crate::session_service::SessionService;
+use crate::sub_serving::{reply_first, served_alone};
 use server_messages::{Halt, Served, Setting};
-use std::alloc::Global;
+use std::alloc::{AllocError, Global};
+use ua_binary::Wire;
 use ua_state_table::Vars;
-use ua_subscriptions::Answered;
+use ua_types::Status;
 
-/// The variables of a subscription, if it is one of the session's.
-pub(crate) fn own_vars(services: &Services, session: u32, number: u32) -> Option<Vars>
+/// A service of monitored items: a type of request, and what it changes of the items of a subscription.
+///
+/// Each is a [`SessionService`] in one way: the subscription has to be one of the session's, else the fault is
+/// `BAD_SUBSCRIPTION_ID_INVALID`; then the items are changed; then the subscription fires its row, whatever became of
+/// the request.
+pub trait ItemService {
+    /// The request's fields.
+    type Request: Wire;
+
+    /// The subscription that a request names.
+    ghost subscription: { Self.Request → ℕ };
+
+    /// What becomes of the items, and the answer.
+    ghost change: { Setting → Call → Self.Request → Services → Itemed };
+
+    /// The number of the subscription that a request names.
+    fn subscription_id(request: &Self::Request) -> u32
+        ensures { result ≡ subscription request.now };
+
+    /// Changes the items as a request asks for, and gives the body of the answer, which may be a fault.
+    fn change_items(
+        alloc: Global,
+        setting: &Setting,
+        call: &Call,
+        request: Self::Request,
+        services: &mut Services,
+    ) -> Result<Vec<u8>, AllocError>
+        ensures body { IfOk result (λ body. body.items ≡ (change setting.now call.now request services.old).body) }
+        ensures items { OnOk result (services.new ≡ with_items services.old (change setting.now call.now request services.old).items) };
+}
+
+// The variables of a subscription, if it is one of the session's.
+fn own_vars(services: &Services, session: u32, number: u32) -> Option<Vars>
     ensures { result ≡ own_vars_spec session number services.now }
 {
     if services.subs.is_own(session, number) {
@@ -23,9 +60,9 @@ pub(crate) fn own_vars(services: &Services, session: u32, number: u32) -> Option
     }
 }
 
-/// Answers a request that named a subscription of its session, whose items it may have changed: the subscription fires its
-/// row, whatever became of the request. `before`: its variables before the request.
-pub(crate) fn answer_items(
+// Answers a request that named a subscription of its session, whose items it may have changed: the subscription fires its
+// row. `before`: its variables before the request.
+fn answer_items(
     alloc: Global,
     setting: &Setting,
     call: &Call,
@@ -37,18 +74,31 @@ pub(crate) fn answer_items(
     ensures { Serves result services.new (fired_after setting.now call.now number services.old before body.items) }
 {
     let items = &mut services.items;
-    match services
+    let answered = services
         .subs
-        .items(alloc, items, setting.clock, number, before)
-    {
-        Ok(answered) => {
-            let Answered {
-                answer: _,
-                replies,
-                rows,
-            } = answered;
-            Ok(reply_first(alloc, call, body, replies, rows)?)
-        }
-        Err(halt) => Err(halt),
+        .items(alloc, items, setting.clock, number, before)?;
+    Ok(reply_first(alloc, call, body, served_alone(answered))?)
+}
+
+impl<S: ItemService> SessionService for S {
+    type Request = S::Request;
+
+    ghost meaning = { λ setting call session request state. items_called setting call session (S.subscription request) state (S.change setting call request state) };
+
+    fn serve(
+        alloc: Global,
+        setting: &Setting,
+        call: &Call,
+        session: u32,
+        request: S::Request,
+        services: &mut Services,
+    ) -> Result<Served, Halt> {
+        let number = S::subscription_id(&request);
+        let Some(before) = own_vars(services, session, number) else {
+            let status = Status::BAD_SUBSCRIPTION_ID_INVALID;
+            return Ok(refuse(alloc, call, status, setting.clock)?);
+        };
+        let body = S::change_items(alloc, setting, call, request, services)?;
+        answer_items(alloc, setting, call, number, before, body, services)
     }
 }

@@ -6,12 +6,12 @@ ghost use Rattle.ua_services.specs.ModifySubscription.{modify_subscription_body,
 use crate::call::Call;
 use crate::services::Services;
 use crate::session_service::SessionService;
-use crate::sub_serving::reply_first;
+use crate::sub_serving::{apart, reply_first};
 use server_messages::{Halt, Served, Setting};
 use std::alloc::{AllocError, Global};
 use ua_messages::{ResponseHeader, body, fault, type_ids};
 use ua_subscription_messages::{ModifySubscriptionRequest, ModifySubscriptionResponse};
-use ua_subscriptions::{Answered, Revised, Settings};
+use ua_subscriptions::{Revised, Settings};
 use ua_types::Status;
 
 // What a client is told of its subscription, or why nothing changed.
@@ -64,20 +64,11 @@ impl SessionService for ModifySubscription {
         };
         let number = request.subscription_id;
         let items = &mut services.items;
-        match services
+        let answered = services
             .subs
-            .modify(alloc, items, setting.clock, session, number, settings)
-        {
-            Ok(answered) => {
-                let Answered {
-                    answer,
-                    replies,
-                    rows,
-                } = answered;
-                let body = answer_body(alloc, setting, call, answer)?;
-                Ok(reply_first(alloc, call, body, replies, rows)?)
-            }
-            Err(halt) => Err(halt),
-        }
+            .modify(alloc, items, setting.clock, session, number, settings)?;
+        let (answer, others) = apart(answered);
+        let body = answer_body(alloc, setting, call, answer)?;
+        Ok(reply_first(alloc, call, body, others)?)
     }
 }

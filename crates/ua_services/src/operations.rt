@@ -2,9 +2,22 @@
 
 ghost use Rattle.std.specs.Prelude.{◌≡◌, ◌<◌, ◌^◌, length, IfOk};
 ghost use Rattle.std.specs.Result.{result_map_both};
-ghost use Rattle.ua_services.specs.Operations.{operations_of};
+ghost use Rattle.ua_services.specs.Operations.{count_judged, operations_of};
 
 use ua_types::{Array, Config, Status};
+
+// Whether a request may ask for so many things.
+fn judge(config: &Config, count: usize) -> Result<(), Status>
+    ensures { result ≡ count_judged config.now count }
+{
+    if count == 0 {
+        return Err(Status::BAD_NOTHING_TO_DO);
+    }
+    if count > config.operations as usize {
+        return Err(Status::BAD_TOO_MANY_OPERATIONS);
+    }
+    Ok(())
+}
 
 /// What a request asks for.
 ///
@@ -14,12 +27,21 @@ pub(crate) fn operations<'a, T>(config: &Config, list: &'a Array<T>) -> Result<&
     ensures entries { result_map_both (λ s. s.now) (λ code. code) result ≡ operations_of config.now list.now }
     ensures short { IfOk result (λ entries. length entries.now < 2 ^ 31) }
 {
-    match list.as_slice() {
-        Some(entries) if entries.is_empty() => Err(Status::BAD_NOTHING_TO_DO),
-        Some(entries) if entries.len() > config.operations as usize => {
-            Err(Status::BAD_TOO_MANY_OPERATIONS)
-        }
-        Some(entries) => Ok(entries),
-        None => Err(Status::BAD_NOTHING_TO_DO),
-    }
+    let Some(entries) = list.as_slice() else {
+        return Err(Status::BAD_NOTHING_TO_DO);
+    };
+    judge(config, entries.len())?;
+    Ok(entries)
+}
+
+/// What a request asks for, as [`operations`] gives it, where the list is used up.
+pub(crate) fn into_operations<T: Drop>(config: &Config, list: Array<T>) -> Result<Vec<T>, Status>
+    ensures entries { result_map_both (λ entries. entries.items) (λ code. code) result ≡ operations_of config.now list }
+    ensures short { IfOk result (λ entries. length entries.items < 2 ^ 31) }
+{
+    let Some(entries) = list.into_vec() else {
+        return Err(Status::BAD_NOTHING_TO_DO);
+    };
+    judge(config, entries.len())?;
+    Ok(entries)
 }

@@ -1,36 +1,119 @@
 //! What the services with continuation points share.
 
-ghost use Rattle.std.specs.Prelude.{◌≡◌, ◌<◌, ◌^◌, length, IfOk};
-ghost use Rattle.ua_services.specs.Paging.{paged as paged_spec};
-ghost use Rattle.ua_services.specs.Serving.{given, given_of};
+ghost use Rattle.std.specs.Prelude.{◌≡◌, ◌<◌, ◌^◌, ℕ, length, IfOk};
+ghost use Rattle.std.specs.Result.{result_map_both};
+ghost use Rattle.ua_history.specs.Histories.{HistoryState};
+ghost use Rattle.ua_session.specs.Points.{PointsState};
+ghost use Rattle.ua_session.specs.Sessions.{points_of};
+ghost use Rattle.ua_space.specs.Nodes.{SpaceState};
+ghost use Rattle.ua_services.specs.Paging.{Done, DoesOne, DoesAll, Rises, all_done, paged as paged_spec};
+ghost use Rattle.ua_services.specs.Serving.{Serves, given, given_of};
 
 use crate::call::Call;
 use crate::service::reply;
 use crate::services::Services;
-use server_messages::{Served, Setting};
+use server_messages::{Halt, Served, Setting};
 use std::alloc::{AllocError, Global};
-use ua_binary::Written;
+use ua_binary::Wire;
+use ua_history::History;
 use ua_messages::{ResponseHeader, results_body};
 use ua_session::Points;
+use ua_space::Space;
 use ua_types::Status;
 
-/// Gives the session the points that are left, and answers with the results.
-pub(crate) fn paged<W: Written>(
+/// How a service answers each thing that it is asked for, page by page.
+///
+/// Implementors give one result at a time. [`serve_pages`] asks for all, with the continuation points of the session.
+pub(crate) trait Pages {
+    /// One thing that is asked for.
+    type Asked: Drop;
+
+    /// Its result.
+    type Told: Wire;
+
+    /// The type id of the response.
+    const RESPONSE: u32;
+
+    ghost RESPONSE: { ℕ };
+
+    /// What one comes to, with the points that are held.
+    ghost meaning: { Self → SpaceState → HistoryState → PointsState → Self.Asked → Done Self.Told };
+
+    /// The result of one. `Exhausted` where a point's serial is the last.
+    fn page(
+        &self,
+        alloc: Global,
+        space: &Space,
+        history: &History,
+        points: &mut Points,
+        asked: Self::Asked,
+    ) -> Result<Self::Told, Halt>
+        ensures { DoesOne result points.new (meaning self.now space.now history.now points.old asked) };
+
+    /// No serial is given twice.
+    ghost rises: { (wanted : Self) (space : SpaceState) (history : HistoryState) → Rises (meaning wanted space history) };
+}
+
+// The result of each, one after the other.
+fn all_pages<P: Pages>(
+    alloc: Global,
+    space: &Space,
+    history: &History,
+    points: &mut Points,
+    wanted: &P,
+    list: Vec<P::Asked>,
+) -> Result<Vec<P::Told>, Halt>
+    ensures all { DoesAll (result_map_both (λ rs. rs.items) (λ halt. halt) result) points.new (all_done (P.meaning wanted.now space.now history.now) points.old list.items) }
+    ensures count { IfOk result (λ rs. length rs.items ≡ length list.items) }
+{
+    let mut results = Vec::with_capacity(alloc, list.len())?;
+    for asked in list {
+        match wanted.page(alloc, space, history, points, asked) {
+            Ok(result) => results.push(result)?,
+            Err(halt) => return Err(halt),
+        }
+    }
+    Ok(results)
+}
+
+// Gives the session the points that are left, and answers with the results.
+fn paged<P: Pages>(
     alloc: Global,
     setting: &Setting,
     call: &Call,
     session: u32,
-    type_id: u32,
     services: &mut Services,
     points: Points,
-    results: &[W],
+    results: &[P::Told],
 ) -> Result<Served, AllocError>
     requires { length results.now < 2 ^ 31 }
     ensures { IfOk result (λ served. given services.new served ≡ given_of
-        (paged_spec W.encoding setting.now call.now session type_id services.old (record { results = results.now; points = points }))) }
+        (paged_spec P.Told.encoding setting.now call.now session P.RESPONSE services.old (record { results = results.now; points = points }))) }
 {
     services.sessions.put_points(session, points)?;
     let header = ResponseHeader::new(call.handle, Status(0), setting.clock);
-    let body = results_body(alloc, type_id, &header, results)?;
+    let body = results_body(alloc, P::RESPONSE, &header, results)?;
     reply(alloc, call, body)
+}
+
+/// Answers with the first page of each thing that is asked for, and leaves the session the points for the next ones.
+pub(crate) fn serve_pages<P: Pages>(
+    alloc: Global,
+    setting: &Setting,
+    call: &Call,
+    session: u32,
+    services: &mut Services,
+    wanted: &P,
+    list: Vec<P::Asked>,
+) -> Result<Served, Halt>
+    requires { length list.items < 2 ^ 31 }
+    ensures { Serves result services.new (paged_spec P.Told.encoding setting.now call.now session P.RESPONSE services.old
+        (all_done (P.meaning wanted.now services.old.space services.old.history) (points_of services.old.sessions session) list.items)) }
+{
+    let mut points = services.sessions.take_points(alloc, session);
+    let (space, history) = (&services.space, &services.history);
+    match all_pages(alloc, space, history, &mut points, wanted, list) {
+        Ok(results) => Ok(paged::<P>(alloc, setting, call, session, services, points, &results)?),
+        Err(halt) => Err(halt),
+    }
 }

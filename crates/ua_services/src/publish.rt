@@ -10,10 +10,11 @@ use crate::call::Call;
 use crate::service::refuse;
 use crate::services::Services;
 use crate::session_service::SessionService;
+use crate::sub_serving::served_alone;
 use server_messages::{Halt, Served, Setting};
 use std::alloc::Global;
 use ua_subscription_messages::{PublishRequest, SubscriptionAcknowledgement};
-use ua_subscriptions::{Answered, PublishCall};
+use ua_subscriptions::PublishCall;
 use ua_types::{Array, Listed, Status};
 
 // The messages that the client has; none where the list is null.
@@ -46,24 +47,11 @@ fn taken(
         results: Listed::new(alloc),
     };
     let items = &mut services.items;
-    match services.subs.publish(
-        alloc,
-        items,
-        setting.clock,
-        session,
-        publish,
-        acknowledgements,
-    ) {
-        Ok(answered) => {
-            let Answered {
-                answer: _,
-                replies,
-                rows,
-            } = answered;
-            Ok(Served { replies, rows })
-        }
-        Err(halt) => Err(halt),
-    }
+    let clock = setting.clock;
+    let answered = services
+        .subs
+        .publish(alloc, items, clock, session, publish, acknowledgements)?;
+    Ok(served_alone(answered))
 }
 
 /// Acknowledges messages, and waits for the next one of any subscription of the session ([`ua_subscriptions::Subscriptions::publish`]).

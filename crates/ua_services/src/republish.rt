@@ -6,13 +6,12 @@ ghost use Rattle.ua_services.specs.Republish.{republish_answer, republish_meanin
 use crate::call::Call;
 use crate::services::Services;
 use crate::session_service::SessionService;
-use crate::sub_serving::reply_first;
+use crate::sub_serving::{apart, reply_first};
 use bytes::Bytes;
 use server_messages::{Halt, Served, Setting};
 use std::alloc::{AllocError, Global};
 use ua_messages::{ResponseHeader, fault};
 use ua_subscription_messages::{RepublishRequest, republish_body};
-use ua_subscriptions::Answered;
 use ua_types::Status;
 
 // The response with a message's bytes as they were made, or why there is none.
@@ -55,20 +54,11 @@ impl SessionService for Republish {
         let number = request.subscription_id;
         let wanted = request.retransmit_sequence_number;
         let items = &mut services.items;
-        match services
+        let answered = services
             .subs
-            .republish(alloc, items, setting.clock, session, number, wanted)
-        {
-            Ok(answered) => {
-                let Answered {
-                    answer,
-                    replies,
-                    rows,
-                } = answered;
-                let body = answer_body(alloc, setting, call, answer)?;
-                Ok(reply_first(alloc, call, body, replies, rows)?)
-            }
-            Err(halt) => Err(halt),
-        }
+            .republish(alloc, items, setting.clock, session, number, wanted)?;
+        let (answer, others) = apart(answered);
+        let body = answer_body(alloc, setting, call, answer)?;
+        Ok(reply_first(alloc, call, body, others)?)
     }
 }

@@ -5,7 +5,7 @@ ghost use Rattle.ua_messages.specs.Bodies.{message_of};
 ghost use Rattle.ua_messages.specs.ServiceFaults.{fault_body};
 ghost use Rattle.server_messages.specs.declared.setting.Setting.{Setting};
 ghost use Rattle.ua_services.specs.ServicesState.{Services};
-ghost use Rattle.ua_services.specs.Serving.{Serving, Serves, served_by, reply_of, replied};
+ghost use Rattle.ua_services.specs.Serving.{Serving, Serves, served_by, reply_of, replied, refusal_by};
 ghost use Rattle.ua_services.specs.declared.call.Call.{Call};
 
 use crate::call::Call;
@@ -15,7 +15,7 @@ use server_messages::{Halt, Reply, Served, Setting};
 use std::alloc::{AllocError, Global};
 use ua_binary::{TakeFault, Wire};
 use ua_messages::{fault, message};
-use ua_types::{Listed, Moment, Status};
+use ua_types::{Listed, Moment, Refusal, Status};
 
 /// The reply to a call, with this body.
 pub(crate) fn reply(alloc: Global, call: &Call, body: Vec<u8>) -> Result<Served, AllocError>
@@ -33,6 +33,17 @@ pub(crate) fn reply(alloc: Global, call: &Call, body: Vec<u8>) -> Result<Served,
         replies,
         rows: Listed::new(alloc),
     })
+}
+
+/// The status that a client is told of a refusal, or why the server halts.
+pub(crate) fn status_told(refusal: Refusal) -> Result<Status, Halt>
+    ensures { refusal ≡ refusal_by result }
+{
+    match refusal {
+        Refusal::Service(status) => Ok(status),
+        Refusal::Memory => Err(Halt::Memory),
+        Refusal::Exhausted => Err(Halt::Exhausted),
+    }
 }
 
 /// The fault with this status, in the place of a response.

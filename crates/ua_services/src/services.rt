@@ -171,13 +171,9 @@ impl Services {
         if ended.is_empty() {
             return fire_timers(alloc, setting, self);
         }
-        match end_sessions(alloc, setting, ended.as_slice(), self) {
-            Ok(served) => match fire_timers(alloc, setting, self) {
-                Ok(more) => Ok(joined(served, more)?),
-                Err(halt) => Err(halt),
-            },
-            Err(halt) => Err(halt),
-        }
+        let served = end_sessions(alloc, setting, ended.as_slice(), self)?;
+        let more = fire_timers(alloc, setting, self)?;
+        Ok(joined(served, more)?)
     }
 
     /// Drops what a connection that is closed or gone still waited for: its Publish requests. Takes no memory.

@@ -8,12 +8,11 @@ use crate::service::refuse;
 use crate::services::Services;
 use crate::session_service::SessionService;
 use crate::status_results::statuses_body;
-use crate::sub_serving::reply_first;
+use crate::sub_serving::{apart, reply_first};
 use server_messages::{Halt, Served, Setting};
 use std::alloc::Global;
 use ua_messages::type_ids;
 use ua_subscription_messages::SetPublishingModeRequest;
-use ua_subscriptions::Answered;
 
 /// Switches the notifications of subscriptions of the session on or off, one after the other.
 ///
@@ -40,21 +39,12 @@ impl SessionService for SetPublishingMode {
         };
         let enabled = request.publishing_enabled;
         let items = &mut services.items;
-        match services
+        let answered = services
             .subs
-            .set_mode(alloc, items, setting.clock, session, numbers, enabled)
-        {
-            Ok(answered) => {
-                let Answered {
-                    answer,
-                    replies,
-                    rows,
-                } = answered;
-                let type_id = type_ids::SET_PUBLISHING_MODE_RESPONSE;
-                let body = statuses_body(alloc, type_id, setting, call, answer.as_slice())?;
-                Ok(reply_first(alloc, call, body, replies, rows)?)
-            }
-            Err(halt) => Err(halt),
-        }
+            .set_mode(alloc, items, setting.clock, session, numbers, enabled)?;
+        let (statuses, others) = apart(answered);
+        let type_id = type_ids::SET_PUBLISHING_MODE_RESPONSE;
+        let body = statuses_body(alloc, type_id, setting, call, statuses.as_slice())?;
+        Ok(reply_first(alloc, call, body, others)?)
     }
 }

@@ -7,33 +7,45 @@ ghost use Rattle.ua_services.specs.Serving.{Serves, reply_of};
 ghost use Rattle.ua_services.specs.SubServing.{session_over, all_timed_out, timers_met};
 
 use crate::call::Call;
+use crate::service::reply;
 use crate::services::Services;
-use bytes::Bytes;
-use server_messages::{Fired, Halt, Reply, Served, Setting};
+use server_messages::{Halt, Served, Setting};
 use std::alloc::{AllocError, Global};
 use ua_subscriptions::Answered;
 use ua_types::Listed;
 
-/// The reply to a call with this body, then replies to Publish requests, and the rows that fired.
+/// What a call of the subscriptions answered, and what is served beside it: replies to Publish requests, and the rows
+/// that fired.
+pub(crate) fn apart<T>(answered: Answered<T>) -> (T, Served)
+    ensures answer { result.0 ≡ answered.answer }
+    ensures others { result.1 ≡ record { replies = answered.replies; rows = answered.rows } }
+{
+    let Answered {
+        answer,
+        replies,
+        rows,
+    } = answered;
+    (answer, Served { replies, rows })
+}
+
+/// What is served where the answer itself says nothing.
+pub(crate) fn served_alone(answered: Answered<()>) -> Served
+    ensures { result ≡ record { replies = answered.replies; rows = answered.rows } }
+{
+    let (_, served) = apart(answered);
+    served
+}
+
+/// The reply to a call with this body, before what else is served.
 pub(crate) fn reply_first(
     alloc: Global,
     call: &Call,
     body: Vec<u8>,
-    others: Listed<Reply>,
-    rows: Listed<Fired>,
+    others: Served,
 ) -> Result<Served, AllocError>
-    ensures { IfOk result (λ served. served ≡ record { replies = reply_of call.now body.items ∷ others; rows = rows }) }
+    ensures { IfOk result (λ served. served ≡ record { replies = reply_of call.now body.items ∷ others.replies; rows = others.rows }) }
 {
-    let body = Bytes::from_vec(body)?;
-    let mut replies = Listed::new(alloc);
-    replies.push(Reply {
-        conn: call.conn,
-        id: call.id,
-        handle: call.handle,
-        body,
-    })?;
-    replies.append(others)?;
-    Ok(Served { replies, rows })
+    joined(reply(alloc, call, body)?, others)
 }
 
 /// What was served before, and then more.
@@ -57,20 +69,10 @@ pub(crate) fn end_session(
     ensures { Serves result services.new (session_over setting.now deleting number services.old) }
 {
     let items = &mut services.items;
-    match services
+    let answered = services
         .subs
-        .session_end(alloc, items, setting.clock, number, deleting)
-    {
-        Ok(answered) => {
-            let Answered {
-                answer: _,
-                replies,
-                rows,
-            } = answered;
-            Ok(Served { replies, rows })
-        }
-        Err(halt) => Err(halt),
-    }
+        .session_end(alloc, items, setting.clock, number, deleting)?;
+    Ok(served_alone(answered))
 }
 
 /// Sessions have timed out, and leave their subscriptions to their lifetime.
@@ -87,10 +89,8 @@ pub(crate) fn end_sessions(
         rows: Listed::new(alloc),
     };
     for number in numbers {
-        match end_session(alloc, setting, *number, false, services) {
-            Ok(more) => served = joined(served, more)?,
-            Err(halt) => return Err(halt),
-        }
+        let more = end_session(alloc, setting, *number, false, services)?;
+        served = joined(served, more)?;
     }
     Ok(served)
 }
@@ -105,15 +105,6 @@ pub(crate) fn fire_timers(
     ensures none { is_some services.old.subs.halted ≡ false → is_any_due setting.now.clock services.old.subs.table.subscriptions ≡ false → IsOk result }
 {
     let items = &mut services.items;
-    match services.subs.timers(alloc, items, setting.clock) {
-        Ok(answered) => {
-            let Answered {
-                answer: _,
-                replies,
-                rows,
-            } = answered;
-            Ok(Served { replies, rows })
-        }
-        Err(halt) => Err(halt),
-    }
+    let answered = services.subs.timers(alloc, items, setting.clock)?;
+    Ok(served_alone(answered))
 }

@@ -5,7 +5,7 @@ ghost use Rattle.ua_space.specs.Values.{variable_at};
 ghost use Rattle.ua_services.specs.Write.{is_historizing as is_historizing_spec, all_kept, write_meaning};
 
 use crate::call::Call;
-use crate::operations::operations;
+use crate::operations::into_operations;
 use crate::service::{refuse, reply};
 use crate::services::Services;
 use crate::session_service::SessionService;
@@ -17,7 +17,7 @@ use ua_messages::type_ids;
 use ua_read_write::{Change, Written, write};
 use ua_service_messages::WriteRequest;
 use ua_space::Space;
-use ua_types::{Listed, NodeId, Status};
+use ua_types::{Listed, NodeId};
 
 // Whether the values of this node are kept.
 fn is_historizing(space: &Space, node: &NodeId) -> bool
@@ -69,11 +69,9 @@ impl SessionService for Write {
         request: WriteRequest,
         services: &mut Services,
     ) -> Result<Served, Halt> {
-        if let Err(status) = operations(&setting.config, &request.nodes_to_write) {
-            return Ok(refuse(alloc, call, status, setting.clock)?);
-        }
-        let Some(values) = request.nodes_to_write.into_vec() else {
-            return Ok(refuse(alloc, call, Status::BAD_NOTHING_TO_DO, setting.clock)?);
+        let values = match into_operations(&setting.config, request.nodes_to_write) {
+            Ok(values) => values,
+            Err(status) => return Ok(refuse(alloc, call, status, setting.clock)?),
         };
         let Written { statuses, changed } = write(
             alloc,

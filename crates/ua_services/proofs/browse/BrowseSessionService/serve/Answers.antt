@@ -1,6 +1,4 @@
 use Rattle.std.proofs.Common.{◌∙◌, ◌≡◌, Ok, true, not, cond, Bool, ap, sym, subst}
-use Rattle.std.specs.Prelude.{is_ok}
-use Rattle.std.specs.Result.{result_map_both}
 use Rattle.ua_types.specs.NodeIds.{is_null_id}
 use Rattle.ua_types.specs.declared.status.TheConstants.Status as status
 use Rattle.ua_messages.specs.declared.type_ids.TheConstants.{BROWSE_RESPONSE}
@@ -11,7 +9,6 @@ use Rattle.ua_services.specs.Operations.{operations_of}
 use Rattle.ua_services.specs.BrowseResults.{browse_told, browsed}
 use Rattle.ua_services.specs.Paging.{all_done}
 use Rattle.ua_services.specs.Serving.{Serving, Serves, faulted}
-use Rattle.ua_services.proofs.PagingLemmas.{listed_whole}
 use Rattle.ua_services.proofs.browse.BrowseSessionService.serve.Goals as goal
 
 pub returns : goal.returns
@@ -21,17 +18,12 @@ returns c =
     let session = c.args.session in
     let request = c.args.request in
     let state = c.args.services.now in
-    let ds = c.in-Some.descriptions.items in
+    let listed = browse_listed setting call session request.requested_max_references_per_node state in
     let no_view : is_null_id request.view_id ≡ true = sym c.is_null.ensures ∙ c.if-not-is_null.false in
-    let good : is_ok (operations_of setting.config request.nodes_to_browse) ≡ true =
-    ap is_ok (sym c.operations.ensures.entries) ∙ ap (λ r. is_ok (result_map_both (λ s. s.now) (λ code. code) r)) c.in_default.is
+    let is : browse_meaning setting call session request state ≡ browse_listed setting call session request.requested_max_references_per_node state (Ok c.in-Ok.descriptions.items) =
+    ap (λ (b : Bool). cond (not b) (faulted state call status.BAD_VIEW_ID_UNKNOWN setting.clock) (listed (operations_of setting.config request.nodes_to_browse))) no_view
+    ∙ ap listed (sym c.in-Ok.ensures.entries)
     in
-    let listed = listed_whole setting.config request.nodes_to_browse ds good (sym c.in-Some.ensures.items) in
-    let is : browse_meaning setting call session request state ≡ browse_listed setting call session request.requested_max_references_per_node state (Ok ds) =
-    ap (λ (b : Bool). cond (not b) (faulted state call status.BAD_VIEW_ID_UNKNOWN setting.clock)
-    (browse_listed setting call session request.requested_max_references_per_node state (operations_of setting.config request.nodes_to_browse))) no_view
-    ∙ ap (browse_listed setting call session request.requested_max_references_per_node state) listed
-    in
-    subst (λ (s : Serving). Serves c.serve_nodes.result c.serve_nodes.new.services s) (sym is)
-    (subst (λ size. Serves c.serve_nodes.result c.serve_nodes.new.services
-    (browsed setting call session BROWSE_RESPONSE state (all_done (λ points d. browse_told (browse_of state.space points size d)) (points_of state.sessions session) ds))) c.size_in-size.ensures c.serve_nodes.ensures)
+    subst (λ (s : Serving). Serves c.serve_pages.result c.serve_pages.new.services s) (sym is)
+    (subst (λ size. Serves c.serve_pages.result c.serve_pages.new.services
+    (browsed setting call session BROWSE_RESPONSE state (all_done (λ points d. browse_told (browse_of state.space points size d)) (points_of state.sessions session) c.in-Ok.descriptions.items))) c.size_in.ensures c.serve_pages.ensures)

@@ -12,17 +12,18 @@ use Rattle.ua_services.proofs.delete_subscriptions.DeleteSubscriptionsSessionSer
 
 pub statuses_body-requires : goal.statuses_body-requires
 statuses_body-requires c =
-    let same = ap length (c.as_slice.ensures ∙ ap (λ x. x.answer) c.in-Ok-delete.ensures.1) in
+    let same = ap length (c.as_slice.ensures ∙ c.apart-statuses.ensures.answer ∙ ap (λ x. x.answer) c.in_ok-answered.ensures.1) in
     let count = deleted_length c.args.session (world_at c.args.setting.now c.args.services.now) c.in-Ok.numbers.now in
     let few = c.in-Ok.ensures.short in
     omega (arith, same, count, few)
 
-pub returns-in-Ok-delete : goal.returns-in-Ok-delete
-returns-in-Ok-delete c =
+pub returns : goal.returns
+returns c =
     let state = c.args.services.now in
     let setting = c.args.setting.now in
     let call = c.args.call.now in
     let request = c.args.request in
-    subst (λ r. given (with_subs state c.delete.new.self c.delete.new.items) c.in_ok-reply_first-in-Ok-delete.field-0 ≡ given_of (delete_subscriptions_listed setting call c.args.session state r)) c.in-Ok.ensures.entries
+    subst (λ r. given (with_subs state c.delete.new.self c.delete.new.items) c.in_ok-reply_first.field-0 ≡ given_of (delete_subscriptions_listed setting call c.args.session state r)) c.in-Ok.ensures.entries
     (called_first state call (statuses_body DELETE_SUBSCRIPTIONS_RESPONSE setting call) (said state.subs (deleted c.args.session (world_at setting state) c.in-Ok.numbers.now))
-    c.in-Ok-delete.answered c.delete.new.self c.delete.new.items c.in_ok-body-in-Ok-delete.body.items c.in_ok-reply_first-in-Ok-delete.field-0 c.in-Ok-delete.ensures (c.in_ok-body-in-Ok-delete.ensures ∙ ap (statuses_body DELETE_SUBSCRIPTIONS_RESPONSE setting call) c.as_slice.ensures) c.in_ok-reply_first-in-Ok-delete.ensures)
+    c.in_ok-answered.answered c.delete.new.self c.delete.new.items c.apart-statuses.result.1 c.in_ok-body.body.items c.in_ok-reply_first.field-0
+    c.in_ok-answered.ensures c.apart-statuses.ensures.others (c.in_ok-body.ensures ∙ ap (statuses_body DELETE_SUBSCRIPTIONS_RESPONSE setting call) (c.as_slice.ensures ∙ c.apart-statuses.ensures.answer)) c.in_ok-reply_first.ensures)

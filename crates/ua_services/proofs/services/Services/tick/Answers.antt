@@ -6,16 +6,16 @@ use Rattle.ua_services.specs.SubServing.{all_timed_out, timers_met}
 use Rattle.ua_services.proofs.SubLemmas.{then_gives}
 use Rattle.ua_services.proofs.services.Services.tick.Goals as goal
 
-pub returns-in-Ok-fire_timers-clause-ticks : goal.returns-in-Ok-fire_timers-clause-ticks
-returns-in-Ok-fire_timers-clause-ticks c =
+pub returns-clause-ticks : goal.returns-clause-ticks
+returns-clause-ticks c =
     let state = c.args.self.now in
     let setting = c.args.setting.now in
     let after = with_sessions state (ticked state.sessions setting.clock) in
     let ended = ended_by state.sessions setting.clock in
     let first =
-    c.in-Ok.ensures
+    c.in_ok-served.ensures
     ∙ ap (λ s. given_of (all_timed_out setting (with_sessions state s) c.as_slice.result.now)) c.in_ok-ended.ensures.ok
     ∙ ap (λ numbers. given_of (all_timed_out setting after numbers)) (c.as_slice.ensures.value ∙ c.in_ok-ended.ensures.ended)
     in
-    then_gives (all_timed_out setting after ended) (timers_met setting) c.end_sessions.new.services c.fire_timers-in-Ok.new.services c.in-Ok.served c.in-Ok-fire_timers.more c.in_ok-joined-in-Ok-fire_timers.field-0
-    first c.in-Ok-fire_timers.ensures.serves c.in_ok-joined-in-Ok-fire_timers.ensures
+    then_gives (all_timed_out setting after ended) (timers_met setting) c.end_sessions.new.services c.fire_timers-2.new.services c.in_ok-served.served c.in_ok-more.more c.in_ok-joined.field-0
+    first c.in_ok-more.ensures.serves c.in_ok-joined.ensures

@@ -13,17 +13,18 @@ use Rattle.ua_services.proofs.set_publishing_mode.SetPublishingModeSessionServic
 
 pub statuses_body-requires : goal.statuses_body-requires
 statuses_body-requires c =
-    let same = ap length (c.as_slice.ensures ∙ ap (λ x. x.answer) c.in-Ok-set_mode.ensures.1) in
+    let same = ap length (c.as_slice.ensures ∙ c.apart-statuses.ensures.answer ∙ ap (λ x. x.answer) c.in_ok-answered.ensures.1) in
     let count = named_length c.args.session (SetMode c.args.request.publishing_enabled) (world_at c.args.setting.now c.args.services.now) c.in-Ok.numbers.now in
     let few = c.in-Ok.ensures.short in
     omega (arith, same, count, few)
 
-pub returns-in-Ok-set_mode : goal.returns-in-Ok-set_mode
-returns-in-Ok-set_mode c =
+pub returns : goal.returns
+returns c =
     let state = c.args.services.now in
     let setting = c.args.setting.now in
     let call = c.args.call.now in
     let request = c.args.request in
-    subst (λ r. given (with_subs state c.set_mode.new.self c.set_mode.new.items) c.in_ok-reply_first-in-Ok-set_mode.field-0 ≡ given_of (set_publishing_listed setting call c.args.session request.publishing_enabled state r)) c.in-Ok.ensures.entries
+    subst (λ r. given (with_subs state c.set_mode.new.self c.set_mode.new.items) c.in_ok-reply_first.field-0 ≡ given_of (set_publishing_listed setting call c.args.session request.publishing_enabled state r)) c.in-Ok.ensures.entries
     (called_first state call (statuses_body SET_PUBLISHING_MODE_RESPONSE setting call) (said state.subs (named_all c.args.session (SetMode request.publishing_enabled) (world_at setting state) c.in-Ok.numbers.now))
-    c.in-Ok-set_mode.answered c.set_mode.new.self c.set_mode.new.items c.in_ok-body-in-Ok-set_mode.body.items c.in_ok-reply_first-in-Ok-set_mode.field-0 c.in-Ok-set_mode.ensures (c.in_ok-body-in-Ok-set_mode.ensures ∙ ap (statuses_body SET_PUBLISHING_MODE_RESPONSE setting call) c.as_slice.ensures) c.in_ok-reply_first-in-Ok-set_mode.ensures)
+    c.in_ok-answered.answered c.set_mode.new.self c.set_mode.new.items c.apart-statuses.result.1 c.in_ok-body.body.items c.in_ok-reply_first.field-0
+    c.in_ok-answered.ensures c.apart-statuses.ensures.others (c.in_ok-body.ensures ∙ ap (statuses_body SET_PUBLISHING_MODE_RESPONSE setting call) (c.as_slice.ensures ∙ c.apart-statuses.ensures.answer)) c.in_ok-reply_first.ensures)

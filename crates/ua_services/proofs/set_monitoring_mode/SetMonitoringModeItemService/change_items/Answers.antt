@@ -1,11 +1,11 @@
 use Rattle.std.proofs.Common.{◌∙◌, ap, arith, length}
 use Rattle.ua_monitored_items.specs.Items.{mode_one}
 use Rattle.ua_services.proofs.SubLemmas.{served_length}
-use Rattle.ua_services.proofs.set_monitoring_mode.mode_items.Goals as goal
+use Rattle.ua_services.proofs.set_monitoring_mode.SetMonitoringModeItemService.change_items.Goals as goal
 
 pub statuses_body-requires : goal.statuses_body-requires
 statuses_body-requires c =
     let same = ap length (c.as_slice.ensures.value ∙ c.in_ok-statuses.ensures.results) in
-    let count = served_length (mode_one c.args.services.now.space.nodes c.args.setting.now.clock c.args.request.now.subscription_id c.in-Some.mode) c.args.services.now.items c.in-Ok.numbers.now in
+    let count = served_length (mode_one c.args.services.now.space.nodes c.args.setting.now.clock c.args.request.subscription_id c.in-Some.mode) c.args.services.now.items c.in-Ok.numbers.now in
     let few = c.in-Ok.ensures.short in
     omega (arith, same, count, few)
