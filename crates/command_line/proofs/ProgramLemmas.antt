@@ -92,7 +92,7 @@ no_nodes f is (Run nodes scenario) (named, _) =
 no_nodes f is (Trace nodes scenario) (named, _) =
     let first : ◌≡◌ {A = ℕ} 99 116 = first_letter (asked_of f) _ _ is named in
     absurd (omega (arith, first))
-no_nodes f is (Serve nodes port turns address) (named, _) =
+no_nodes f is (Serve nodes port turns address trace) (named, _) =
     let first : ◌≡◌ {A = ℕ} 99 115 = first_letter (asked_of f) _ _ is named in
     absurd (omega (arith, first))
 
@@ -112,7 +112,7 @@ no_asm f nodes is none (Run given scenario) (named, _) =
 no_asm f nodes is none (Trace given scenario) (named, _) =
     let first : ◌≡◌ {A = ℕ} 97 116 = first_letter (asked_of f) _ _ is named in
     absurd (omega (arith, first))
-no_asm f nodes is none (Serve given port turns address) (named, _) =
+no_asm f nodes is none (Serve given port turns address trace) (named, _) =
     let first : ◌≡◌ {A = ℕ} 97 115 = first_letter (asked_of f) _ _ is named in
     absurd (omega (arith, first))
 
@@ -132,7 +132,7 @@ no_run f nodes is none (Run given scenario) (named, has) = none given.now scenar
 no_run f nodes is none (Trace given scenario) (named, _) =
     let first : ◌≡◌ {A = ℕ} 114 116 = first_letter (asked_of f) _ _ is named in
     absurd (omega (arith, first))
-no_run f nodes is none (Serve given port turns address) (named, _) =
+no_run f nodes is none (Serve given port turns address trace) (named, _) =
     let first : ◌≡◌ {A = ℕ} 114 115 = first_letter (asked_of f) _ _ is named in
     absurd (omega (arith, first))
 
@@ -152,7 +152,7 @@ no_trace f nodes is none (Run given scenario) (named, _) =
     let first : ◌≡◌ {A = ℕ} 116 114 = first_letter (asked_of f) _ _ is named in
     absurd (omega (arith, first))
 no_trace f nodes is none (Trace given scenario) (named, has) = none given.now scenario.now (nodes_same (asked_of f) _ _ is named) has
-no_trace f nodes is none (Serve given port turns address) (named, _) =
+no_trace f nodes is none (Serve given port turns address trace) (named, _) =
     let first : ◌≡◌ {A = ℕ} 116 115 = first_letter (asked_of f) _ _ is named in
     absurd (omega (arith, first))
 
@@ -175,7 +175,7 @@ no_serve f nodes is none (Run given scenario) (named, _) =
 no_serve f nodes is none (Trace given scenario) (named, _) =
     let first : ◌≡◌ {A = ℕ} 115 116 = first_letter (asked_of f) _ _ is named in
     absurd (omega (arith, first))
-no_serve f nodes is none (Serve given port turns address) (named, numbers) =
+no_serve f nodes is none (Serve given port turns address trace) (named, numbers) =
     none given.now port turns address (nodes_same (asked_of f) _ _ is named) numbers.0 numbers.1 numbers.2
 
 -- neither want of memory nor a word that is no command is a request

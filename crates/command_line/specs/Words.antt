@@ -1,12 +1,14 @@
 -- What the words of the command line ask for.
-use Rattle.std.specs.Prelude.{◌≡◌, ◌≢◌, ◌⊎◌, ⊤, true, ℕ, ◌^◌, ◌&&◌, nat_lt, List, [], length, Option, Some, None, Result, Ok, Err, codes, option_map, slice_get, if◌then◌else◌}
+use Rattle.std.specs.Prelude.{◌≡◌, ◌≢◌, ◌⊎◌, ⊤, Bool, true, false, ℕ, ◌^◌, ◌&&◌, nat_lt, List, [], length, Option, Some, None, Result, Ok, Err, codes, option_map, slice_get, if◌then◌else◌}
 use Rattle.std.specs.Prelude.{option_and_then, unwrap_or}
 use Rattle.std.specs.Char.{is_ascii_digit}
 use Rattle.std.specs.Net.Grammar.{IsIpText}
 use Rattle.std.specs.declared.net.ip_addr.IpAddr.{IpAddr}
 use Rattle.std.specs.List.{list_all}
+use Rattle.std.specs.Str.{bytes_eq}
 use Rattle.std.specs.Str.Parse.{digits_value}
 use Rattle.clap.specs.Words.{App, Kinds, IsAmong, Row, Rule, Text, fault_of, first_of, new_app, new_rule, subcommand_of, with_rule, with_subcommand}
+use Rattle.clap.specs.declared.builder.action.ArgAction.TheVariants.{SetTrue}
 use Rattle.clap.specs.declared.error.kind.ErrorKind.{ErrorKind}
 use Rattle.clap.specs.declared.error.kind.ErrorKind.TheVariants.{DisplayHelp, DisplayVersion, OutOfMemory}
 use Rattle.command_line.specs.declared.command.Command.{Command}
@@ -40,6 +42,10 @@ trace_app = with_rule (with_rule (new_app (codes "trace")) (record nodes_rule { 
 abbrev pub option_rule : Text → Rule
 option_rule name = record (new_rule name) { long = Some name; value_names = 1 }
 
+-- an option of this name without a value, which is there or not
+abbrev pub flag_rule : Text → Rule
+flag_rule name = record (new_rule name) { long = Some name; action = Some SetTrue }
+
 -- `serve` with its NODES and its numbers
 abbrev pub serve_numbers : App
 serve_numbers =
@@ -47,7 +53,7 @@ serve_numbers =
     (option_rule (codes "turns"))
 
 abbrev pub serve_app : App
-serve_app = with_rule serve_numbers (option_rule (codes "address"))
+serve_app = with_rule (with_rule serve_numbers (option_rule (codes "address"))) (flag_rule (codes "trace"))
 
 abbrev pub bare_program : App
 bare_program = record (new_app (codes "uaserver")) {
@@ -79,7 +85,7 @@ words_of (Check nodes) = (codes "check", Some nodes.now)
 words_of (Asm scenario) = (codes "asm", None)
 words_of (Run nodes scenario) = (codes "run", Some nodes.now)
 words_of (Trace nodes scenario) = (codes "trace", Some nodes.now)
-words_of (Serve nodes port turns address) = (codes "serve", Some nodes.now)
+words_of (Serve nodes port turns address trace) = (codes "serve", Some nodes.now)
 
 -- the subcommand of a parse, where there is one, with what its arguments are
 abbrev pub Found : Type 0
@@ -114,14 +120,19 @@ turns_of (Some digits) = number_of digits
 abbrev pub IsAddressIn : Option Text → IpAddr → Type 0
 IsAddressIn text address = IsIpText (unwrap_or text (codes "127.0.0.1")) address
 
--- SCENARIO, and the numbers and the address behind the options of a command
+-- a flag that is there has the value `true`
+abbrev pub is_given : Option Text → Bool
+is_given None = false
+is_given (Some word) = bytes_eq word (codes "true")
+
+-- SCENARIO, and the numbers and the address behind the options of a command, and its flag
 abbrev pub HasOptions : Found → Command → Type 0
 HasOptions found (Asm scenario) = option_of (codes "SCENARIO") found ≡ Some scenario.now
 HasOptions found (Run nodes scenario) = option_of (codes "SCENARIO") found ≡ Some scenario.now
 HasOptions found (Trace nodes scenario) = option_of (codes "SCENARIO") found ≡ Some scenario.now
-HasOptions found (Serve nodes port turns address) =
+HasOptions found (Serve nodes port turns address trace) =
     (port_of (option_of (codes "port") found) ≡ Some port) × (turns_of (option_of (codes "turns") found) ≡ Some turns)
-    × IsAddressIn (option_of (codes "address") found) address
+    × IsAddressIn (option_of (codes "address") found) address × (is_given (option_of (codes "trace") found) ≡ trace)
 HasOptions found c = ⊤
 
 -- what was found is this command
@@ -135,7 +146,7 @@ asked words = asked_of (subcommand_of program words)
 abbrev pub faults : List Text → Kinds
 faults = fault_of program
 
--- nothing is wrong with the words, and they name the command, its NODES, its SCENARIO, its numbers and its address
+-- nothing is wrong with the words, and they name the command, its NODES, its SCENARIO, its numbers, its address and its flag
 abbrev pub AsksFor : List Text → Command → Type 0
 AsksFor words c = (faults words ≡ []) × IsAskedBy (subcommand_of program words) c
 

@@ -36,13 +36,15 @@ pub enum Command<'a> {
         scenario: &'a str,
     },
 
-    /// `uaserver serve NODES --port P [--address A] [--turns N]`: the server of the node file over sockets,
-    /// at this port from 1 on of this IPv4 or IPv6 address, which is 127.0.0.1 where the words have none, for
-    /// so many turns, or without end where the number is 0 or the words have none.
+    /// `uaserver serve NODES --port P [--address A] [--turns N] [--trace]`: the server of the node file over
+    /// sockets, at this port from 1 on of this IPv4 or IPv6 address, which is 127.0.0.1 where the words have
+    /// none, for so many turns, or without end where the number is 0 or the words have none, with or without a
+    /// trace.
     Serve {
         nodes: &'a str,
         port: u16,
         turns: u64,
         address: IpAddr,
+        trace: bool,
     },
 }

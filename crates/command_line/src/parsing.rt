@@ -5,7 +5,7 @@ ghost use Rattle.std.specs.declared.net.ip_addr.IpAddr.{IpAddr};
 ghost use Rattle.std.specs.Char.{is_ascii_digit};
 ghost use Rattle.std.specs.List.{list_all};
 ghost use Rattle.clap.specs.Words.{kind_of, subcommand_rows_of};
-ghost use Rattle.command_line.specs.Words.{Answers, AsksFor, IsAddressIn, IsAskedBy, IsNoCommand, IsPlainWord, IsStopOf, StopsBy, number_of, port_of as port_in, turns_of as turns_in};
+ghost use Rattle.command_line.specs.Words.{Answers, AsksFor, IsAddressIn, IsAskedBy, IsNoCommand, IsPlainWord, IsStopOf, StopsBy, is_given as is_given_spec, number_of, port_of as port_in, turns_of as turns_in};
 
 use crate::program::uaserver;
 use crate::{Command, Stop};
@@ -89,6 +89,7 @@ fn command_of<'a>(matches: &ArgMatches<'a>) -> Option<Command<'a>>
             port: port_of(given.get_str("port"))?,
             turns: turns_of(given.get_str("turns"))?,
             address: address_of(given.get_str("address"))?,
+            trace: is_given(given.get_str("trace")),
         }),
         _ => None,
     }
@@ -147,6 +148,16 @@ fn address_of(text: Option<&str>) -> Option<IpAddr>
     match written.parse::<IpAddr>() {
         Ok(address) => Some(address),
         Err(_) => None,
+    }
+}
+
+// Whether a flag stands in the words.
+fn is_given(text: Option<&str>) -> bool
+    ensures { result ≡ is_given_spec (option_map (λ t. t.now) text.entry) }
+{
+    match text {
+        Some(word) => word == "true",
+        None => false,
     }
 }
 

@@ -3,9 +3,9 @@
 ghost use Rattle.std.specs.Prelude.{◌≡◌, IfOk, false};
 ghost use Rattle.clap.specs.Words.{app_of, rule_of};
 ghost use Rattle.clap.specs.declared.builder.command.Command.TheViews.{out-Command as fields_of};
-ghost use Rattle.command_line.specs.Words.{asm_app, check_app, nodes_rule, option_rule, pipe_app, program, run_app, scenario_rule, serve_app, serve_numbers, trace_app, with_nodes, with_scenarios};
+ghost use Rattle.command_line.specs.Words.{asm_app, check_app, flag_rule, nodes_rule, option_rule, pipe_app, program, run_app, scenario_rule, serve_app, serve_numbers, trace_app, with_nodes, with_scenarios};
 
-use clap::{Arg, Command};
+use clap::{Arg, ArgAction, Command};
 use std::alloc::{AllocError, Global};
 
 // What `--version` prints behind the program's name.
@@ -98,12 +98,18 @@ fn trace<'a>(alloc: Global) -> Result<Command<'a>, AllocError>
 fn serve<'a>(alloc: Global) -> Result<Command<'a>, AllocError>
     ensures { IfOk result (λ c. (app_of c ≡ serve_app) × ((fields_of c).has_globals ≡ false)) }
 {
-    serve_numbers(alloc)?.arg(option(
-        alloc,
-        "address",
-        "A",
-        "the IPv4 or IPv6 address to listen at; 127.0.0.1 where left out, 0.0.0.0 for all. Whoever reaches it may write",
-    ))
+    serve_numbers(alloc)?
+        .arg(option(
+            alloc,
+            "address",
+            "A",
+            "the IPv4 or IPv6 address to listen at; 127.0.0.1 where left out, 0.0.0.0 for all. Whoever reaches it may write",
+        ))?
+        .arg(flag(
+            alloc,
+            "trace",
+            "prints the state table rows of subscriptions as they fire, behind the line 'listening P' (docs/SERVE.md)",
+        ))
 }
 
 // `serve` with its NODES and its numbers.
@@ -132,6 +138,17 @@ fn option<'a>(alloc: Global, name: &'a str, value: &'a str, help: &'a str) -> Ar
     Arg::new(alloc, name)
         .long(name)
         .value_name(value)
+        .help(help)
+}
+
+// An option without a value, which is there or not.
+fn flag<'a>(alloc: Global, name: &'a str, help: &'a str) -> Arg<'a>
+    ensures rule { rule_of result ≡ flag_rule name.entry.now }
+    ensures local { result.global ≡ false }
+{
+    Arg::new(alloc, name)
+        .long(name)
+        .action(ArgAction::SetTrue)
         .help(help)
 }
 

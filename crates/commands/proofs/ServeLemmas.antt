@@ -1,30 +1,50 @@
 -- What `serve` comes to.
-use Rattle.std.proofs.Common.{◌≡◌, ℕ, Result, Ok, Err, MatchResult, refl, inl, inr}
+use Rattle.std.proofs.Common.{◌≡◌, ℕ, Bool, true, false, Option, Result, Ok, Err, MatchResult, refl, sym, subst, inl, inr}
 use Rattle.stream_server.specs.Pumped.{State}
+use Rattle.row_tracer.specs.TraceText.{rows_text}
 use Rattle.socket_server.specs.Serving.{IsServed, IsStopped, IsOutside}
+use Rattle.socket_server.specs.Telling.{untold}
 use Rattle.socket_server.specs.declared.serve_fault.ServeFault.{ServeFault}
 use Rattle.socket_server.specs.declared.serve_fault.ServeFault.TheVariants as serve_fault
 use Rattle.scenario_lines.specs.Held.{Place}
-use Rattle.commands.specs.Commands.{Says, ServesOn, listening_line, status_served}
+use Rattle.commands.specs.Serving.{ServesWith, telling_of, told_at}
+use Rattle.commands.specs.Commands.{Says, ListensAndServes, ServesOn, listening_line, status_served}
+use Rattle.commands.specs.declared.program.Listening.{Listening}
 use Rattle.commands.specs.declared.status.Status.TheVariants.{Done}
 
-module _ (old new : Place) (port turns : ℕ) (server : State) where
+module _ (old new : Place) (l : Listening) (server : State) where
   -- nothing was said
-  pub refused : (f : ServeFault) → IsOutside f → new ≡ old → ServesOn old new port turns server (status_served (Err f))
+  pub refused : (f : ServeFault) → IsOutside f → new ≡ old → ServesOn old new l server (status_served (Err f))
   refused (serve_fault.Step f) h e = absurd h
+  refused serve_fault.Trace h e = absurd h
   refused serve_fault.Memory h e = (serve_fault.Memory, refl, inr (h, e))
   refused serve_fault.Network h e = (serve_fault.Network, refl, inr (h, e))
   refused serve_fault.Port h e = (serve_fault.Port, refl, inr (h, e))
   refused serve_fault.Address h e = (serve_fault.Address, refl, inr (h, e))
 
-  stopped : (f : ServeFault) → Says (listening_line port) old new Done → IsStopped server f → ServesOn old new port turns server (status_served (Err f))
-  stopped (serve_fault.Step f) s h = (serve_fault.Step f, refl, inl (s, h))
-  stopped serve_fault.Memory s h = (serve_fault.Memory, refl, inl (s, h))
-  stopped serve_fault.Network s h = (serve_fault.Network, refl, inl (s, h))
-  stopped serve_fault.Port s h = (serve_fault.Port, refl, inl (s, h))
-  stopped serve_fault.Address s h = (serve_fault.Address, refl, inl (s, h))
+  stopped : (f : ServeFault) → ListensAndServes old new l server (Err f) → ServesOn old new l server (status_served (Err f))
+  stopped (serve_fault.Step f) h = (serve_fault.Step f, refl, inl h)
+  stopped serve_fault.Trace h = inr h
+  stopped serve_fault.Memory h = (serve_fault.Memory, refl, inl h)
+  stopped serve_fault.Network h = (serve_fault.Network, refl, inl h)
+  stopped serve_fault.Port h = (serve_fault.Port, refl, inl h)
+  stopped serve_fault.Address h = (serve_fault.Address, refl, inl h)
 
-  pub ended : (r : Result (Unit {0}) ServeFault) → Says (listening_line port) old new Done
-      → MatchResult r (λ _. IsServed server turns) (IsStopped server) → ServesOn old new port turns server (status_served r)
-  ended (Ok x) s h = (s, h)
-  ended (Err f) s h = stopped f s h
+  pub ended : (r : Result (Unit {0}) ServeFault) → ListensAndServes old new l server r → ServesOn old new l server (status_served r)
+  ended (Ok x) h = h
+  ended (Err f) h = stopped f h
+
+module _ (turns : ℕ) (server : State) (old new : Place) where
+  -- with a trace, which is put into the writer that was lent
+  pub served_with : (w w' : ℕ) (r : Result (Unit {0}) ServeFault) → w' ≡ w
+      → MatchResult r (λ _. IsServed rows_text server turns (told_at w old) (told_at w' new)) (λ f. IsStopped rows_text server f (told_at w old) (told_at w' new))
+      → ServesWith true turns server old new r
+  served_with w w' (Ok x) e h = (w, subst (λ v. IsServed rows_text server turns (told_at w old) (told_at v new)) e h)
+  served_with w w' (Err f) e h = (w, subst (λ v. IsStopped rows_text server f (told_at w old) (told_at v new)) e h)
+
+  -- and without
+  pub served_without : (r : Result (Unit {0}) ServeFault) → new ≡ old
+      → MatchResult r (λ _. IsServed (telling_of false) server turns untold untold) (λ f. IsStopped (telling_of false) server f untold untold)
+      → ServesWith false turns server old new r
+  served_without (Ok x) e h = (h, e)
+  served_without (Err f) e h = (h, e)

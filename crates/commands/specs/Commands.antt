@@ -11,7 +11,7 @@ use Rattle.stream_server.specs.Pumped as pump
 use Rattle.stream_server.specs.Pumped.{State, scene}
 use Rattle.stream_server.specs.declared.PumpFault.{PumpFault}
 use Rattle.stream_server.specs.declared.PumpFault.TheVariants as fault
-use Rattle.socket_server.specs.Serving.{IsServed, IsStopped, IsOutside}
+use Rattle.socket_server.specs.Serving.{IsOutside}
 use Rattle.socket_server.specs.declared.serve_fault.ServeFault.{ServeFault}
 use Rattle.socket_server.specs.declared.serve_fault.ServeFault.TheVariants as serve_fault
 use Rattle.command_line.specs.Words.{AsksFor, StopsBy}
@@ -25,6 +25,8 @@ use Rattle.commands.specs.Scenarios.{AssemblesFile, TellsFiles, TracesFiles}
 use Rattle.commands.specs.declared.status.Status.{Status}
 use Rattle.commands.specs.declared.status.Status.TheVariants.{Done, Usage, Nodes, Halted, Network, Stream}
 use Rattle.commands.specs.declared.program.Ended.{Ended}
+use Rattle.commands.specs.declared.program.Listening.{Listening}
+use Rattle.commands.specs.Serving.{ServesWith}
 
 -- ---- what was read, made and said
 
@@ -92,28 +94,34 @@ abbrev pub status_served : Result (Unit {0}) ServeFault → Status
 status_served (Ok x) = Done
 status_served (Err (serve_fault.Step f)) = Halted
 status_served (Err serve_fault.Memory) = Halted
+status_served (Err serve_fault.Trace) = Stream
 status_served (Err of_the_network) = Network
 
 unfoldable pub listening_line : ℕ → List ℕ
 listening_line port = codes "listening " ++ decimal port ++ codes "\n"
 
+-- it is said that the program listens, and then this server serves so, and tells what happens behind that line
+abbrev pub ListensAndServes : Place → Place → Listening → State → Result (Unit {0}) ServeFault → Type 0
+ListensAndServes old new l server result =
+    (mid : Place) × Says (listening_line l.port) old mid Done × ServesWith l.trace l.turns server mid new result
+
 -- It is said that this server listens, and it serves so many turns, from no connection on, or stops before, for the fault that
 -- the status tells. Or nothing is said, for such a fault of the program's own; or saying it failed, and nobody is served
-abbrev pub ServesOn : Place → Place → ℕ → ℕ → State → Status → Type 0
-ServesOn old new port turns server Done = Says (listening_line port) old new Done × IsServed server turns
-ServesOn old new port turns server Stream = Says (listening_line port) old new Stream
-ServesOn old new port turns server status =
-    (f : ServeFault) × (status ≡ status_served (Err f)) × ((Says (listening_line port) old new Done × IsStopped server f) ⊎ (IsOutside f × (new ≡ old)))
+abbrev pub ServesOn : Place → Place → Listening → State → Status → Type 0
+ServesOn old new l server Done = ListensAndServes old new l server (Ok tt)
+ServesOn old new l server Stream = Says (listening_line l.port) old new Stream ⊎ ListensAndServes old new l server (Err serve_fault.Trace)
+ServesOn old new l server status =
+    (f : ServeFault) × (status ≡ status_served (Err f)) × (ListensAndServes old new l server (Err f) ⊎ (IsOutside f × (new ≡ old)))
 
 -- the server is the new one of what was made
-abbrev pub ServesBy : Place → Place → ℕ → ℕ → Made → Status → Type 0
-ServesBy old new port turns made = ServesOn old new port turns (Some (opening made.0 made.1))
+abbrev pub ServesBy : Place → Place → Listening → Made → Status → Type 0
+ServesBy old new l made = ServesOn old new l (Some (opening made.0 made.1))
 
-abbrev pub ServesMade : Place → Place → ℕ → ℕ → Option Made → Status → Type 0
-ServesMade old new port turns made status = OfNodes (ServesBy old new port turns) (new ≡ old) made status
+abbrev pub ServesMade : Place → Place → Listening → Option Made → Status → Type 0
+ServesMade old new l made status = OfNodes (ServesBy old new l) (new ≡ old) made status
 
-abbrev pub ServesFile : Place → Place → ℕ → ℕ → List ℕ → Status → Option ReadFile → Type 0
-ServesFile old new port turns path status file = OfFile (ServesBy old new port turns) (new ≡ old) path status file
+abbrev pub ServesFile : Place → Place → Listening → List ℕ → Status → Option ReadFile → Type 0
+ServesFile old new l path status file = OfFile (ServesBy old new l) (new ≡ old) path status file
 
 module _ {R W : Type 0} (remaining : R → Option (List ℕ)) (contents : W → Option (List ℕ)) (input input' : Tapped R) (output output' : Tapped W) where
   -- nothing was read and nothing was written
@@ -149,8 +157,9 @@ module _ {R W : Type 0} (remaining : R → Option (List ℕ)) (contents : W → 
       TellsFiles (place contents output) (place contents output') nodes.now scenario.now e.status e.file e.scenario × (input' ≡ input)
   Commanded (Trace nodes scenario) e =
       TracesFiles (place contents output) (place contents output') nodes.now scenario.now e.status e.file e.scenario × (input' ≡ input)
-  Commanded (Serve nodes port turns address) e =
-      ServesFile (place contents output) (place contents output') port turns nodes.now e.status e.file × (input' ≡ input)
+  Commanded (Serve nodes port turns address trace) e =
+      ServesFile (place contents output) (place contents output') (record { address = address; port = port; turns = turns; trace = trace }) nodes.now
+      e.status e.file × (input' ≡ input)
 
   abbrev pub StopsWith : Stop → Ended → Type 0
   StopsWith (Help text) e = Says (string_bytes text) (place contents output) (place contents output') e.status × (e.file ≡ None) × (input' ≡ input)

@@ -1,4 +1,5 @@
 pub mod Statuses
 pub mod NodeFiles
 pub mod Scenarios
+pub mod Serving
 pub mod Commands

@@ -7,7 +7,7 @@
 //! [`Status::code`].
 //!
 //! What a contract sees: the words, the text of each file that was read, and the bytes of the streams. `Commands` has what
-//! each command comes to, `Scenarios` those that take a scenario, `NodeFiles` what a node file makes, and `Statuses` the
+//! each command comes to, `Serving` what `serve` tells meanwhile, `Scenarios` those that take a scenario, `NodeFiles` what a node file makes, and `Statuses` the
 //! exit statuses.
 //!
 //! Read [`run`] and [`Status`] first.
@@ -17,8 +17,10 @@ mod program;
 mod scenarios;
 mod status;
 mod text_file;
+mod watching;
 
-pub use program::{Ended, check, no_memory, pipe, run, serve};
+pub use program::{Ended, Listening, check, no_memory, pipe, run, serve};
 pub use scenarios::asm;
 pub use status::Status;
 pub use text_file::{FileFault, TextFile};
+pub use watching::{Tracing, Visitors};

@@ -2,8 +2,10 @@
 
 ghost use Rattle.std.specs.Prelude.{◌≡◌, Option, Some, None, IfOk, IfErr, map, option_map, string_bytes};
 ghost use Rattle.server_core.specs.World.{world_of};
+ghost use Rattle.socket_server.specs.Serving.{unserved};
 ghost use Rattle.ua_space.specs.Build.{space_of};
 ghost use Rattle.scenario_lines.specs.Held.{place};
+ghost use Rattle.commands.specs.Serving.{ServesWith};
 ghost use Rattle.commands.specs.NodeFiles.{Made, ReadsNone, built, made_in, made_of_none};
 ghost use Rattle.commands.specs.Commands.{MadeBy, Says, Checks, ChecksFile, opened, status_of, status_served, Pipes, PipesMade, PipesFile, ServesOn, ServesBy, ServesMade, ServesFile, Runs};
 ghost use Rattle.commands.specs.Commands.{counts_line as counts_line_spec, listening_line as listening_line_spec};
@@ -11,6 +13,7 @@ ghost use Rattle.commands.specs.Commands.{counts_line as counts_line_spec, liste
 use crate::scenarios::{asm_at, run_at, trace_at};
 use crate::status::Status;
 use crate::text_file::{FileFault, TextFile};
+use crate::watching::{Tracing, Visitors};
 use command_line::{Command, Stop, parse};
 use node_loader::{Cause, Loaded, load};
 use server_core::{Event, Server, StepFault};
@@ -25,7 +28,7 @@ use std::time::Clock;
 use stream_server::{Pump, PumpFault};
 use stream_taps::{Tap, put_bytes};
 use ua_space::{Node, Space, SpaceFault, Triple};
-use ua_types::Config;
+use ua_types::{Config, Numbered};
 
 /// The one connection of `pipe`.
 const CONNECTION: u64 = 1;
@@ -320,6 +323,16 @@ fn pipe_with<R: Files + AllocGlobal, I: Read, O: Write, E: Write>(
     }
 }
 
+/// Where to listen, how long to serve, and whether to trace.
+#[derive(Clone, Copy, Debug)]
+pub struct Listening {
+    pub address: IpAddr,
+    pub port: u16,
+    /// 0 is without end.
+    pub turns: u64,
+    pub trace: bool,
+}
+
 // How the end of serving ends the program.
 fn served<E: Write>(ran: Result<(), ServeFault>, errors: &mut E) -> Status
     ensures { result ≡ status_served ran }
@@ -328,6 +341,7 @@ fn served<E: Write>(ran: Result<(), ServeFault>, errors: &mut E) -> Status
         Ok(()) => Status::Done,
         Err(ServeFault::Step(fault)) => step_fault(fault, errors),
         Err(ServeFault::Memory) => no_memory(errors),
+        Err(ServeFault::Trace) => stream(errors),
         Err(ServeFault::Network | ServeFault::Port | ServeFault::Address) => {
             let _ = writeln!(errors, "network");
             Status::Network
@@ -397,19 +411,50 @@ fn tell_not_had<E: Write>(fault: ServeFault, address: IpAddr, port: u16, errors:
     };
 }
 
+// Serves by this server, and tells what happens.
+fn serve_and_tell<R: Clock + Wait, O: Write, E: Write>(
+    rt: &R,
+    alloc: Global,
+    serve: &mut Serve,
+    server: &mut Server,
+    listening: Listening,
+    output: &mut Tap<O>,
+    errors: &mut E,
+) -> Result<(), ServeFault>
+    ensures { serve.old ≡ unserved →
+        ServesWith listening.trace listening.turns (world_of server.old) (place O.contents output.old) (place O.contents output.new) result }
+{
+    let mut addresses = Numbered::new(alloc);
+    if listening.trace {
+        let mut text = String::new(alloc);
+        let mut tracing = Tracing {
+            output,
+            errors,
+            addresses: &mut addresses,
+            text: &mut text,
+        };
+        serve.run(rt, alloc, server, &mut tracing, listening.turns)
+    } else {
+        let mut visitors = Visitors {
+            errors,
+            addresses: &mut addresses,
+        };
+        serve.run(rt, alloc, server, &mut visitors, listening.turns)
+    }
+}
+
 // Serves by this server, which knows no connection.
 fn serve_on<R: Net + RandomSource + Clock + Wait, O: Write, E: Write>(
     rt: &R,
     alloc: Global,
     server: &mut Server,
-    address: IpAddr,
-    port: u16,
-    turns: u64,
+    listening: Listening,
     output: &mut Tap<O>,
     errors: &mut E,
 ) -> Status
-    ensures { ServesOn (place O.contents output.old) (place O.contents output.new) port turns (world_of server.old) result }
+    ensures { ServesOn (place O.contents output.old) (place O.contents output.new) listening (world_of server.old) result }
 {
+    let Listening { address, port, .. } = listening;
     let Ok(line) = listening_line(alloc, port) else {
         return no_memory(errors);
     };
@@ -422,7 +467,7 @@ fn serve_on<R: Net + RandomSource + Clock + Wait, O: Write, E: Write>(
     };
     match say(line.as_str(), output, errors) {
         Status::Done => {
-            let ran = serve.run(rt, alloc, server, turns);
+            let ran = serve_and_tell(rt, alloc, &mut serve, server, listening, output, errors);
             served(ran, errors)
         }
         status => status,
@@ -431,27 +476,29 @@ fn serve_on<R: Net + RandomSource + Clock + Wait, O: Write, E: Write>(
 
 /// Serves connections to a port of an address by a server of this configuration and address space, for so
 /// many turns, or without end for 0. Says `listening` and the port once clients can connect, and before
-/// that, on standard error, what is served.
+/// that, on standard error, what is served. There it tells too which connections come and go.
+///
+/// With a trace the rows of the subscriptions' state table that fire follow, a line for each, in the form of
+/// [`row_tracer`]. The events that the server is handed count from 1 on.
 ///
 /// `Done` comes after the turns, `Network` where the port or the address can't be had, or where the system
 /// refuses the wait, the clock or random bytes, and `Halted` where memory ran out or the server halted. `Stream`
-/// comes where a call of the output failed, so that it isn't known that the program listens: nobody is served.
+/// comes where a call of the output failed: nobody is served where it isn't known that the program listens,
+/// and nobody any more where the trace can't be written.
 pub fn serve<R: Net + RandomSource + Clock + Wait, O: Write, E: Write>(
     rt: &R,
     alloc: Global,
     config: Config,
     space: Space,
-    address: IpAddr,
-    port: u16,
-    turns: u64,
+    listening: Listening,
     output: &mut Tap<O>,
     errors: &mut E,
 ) -> Status
-    ensures { ServesBy (place O.contents output.old) (place O.contents output.new) port turns (config, space) result }
+    ensures { ServesBy (place O.contents output.old) (place O.contents output.new) listening (config, space) result }
 {
-    tell_served(&config, &space, port, errors);
+    tell_served(&config, &space, listening.port, errors);
     let mut server = Server::new(alloc, config, space);
-    serve_on(rt, alloc, &mut server, address, port, turns, output, errors)
+    serve_on(rt, alloc, &mut server, listening, output, errors)
 }
 
 // `serve` of what was made.
@@ -459,19 +506,15 @@ fn serve_made<R: Net + RandomSource + Clock + Wait, O: Write, E: Write>(
     rt: &R,
     alloc: Global,
     made: Result<(Config, Space), Status>,
-    address: IpAddr,
-    port: u16,
-    turns: u64,
+    listening: Listening,
     output: &mut Tap<O>,
     errors: &mut E,
 ) -> Status
     ensures { (said : Option Made) → MadeBy made said →
-        ServesMade (place O.contents output.old) (place O.contents output.new) port turns said result }
+        ServesMade (place O.contents output.old) (place O.contents output.new) listening said result }
 {
     match made {
-        Ok((config, space)) => serve(
-            rt, alloc, config, space, address, port, turns, output, errors,
-        ),
+        Ok((config, space)) => serve(rt, alloc, config, space, listening, output, errors),
         Err(status) => status,
     }
 }
@@ -480,20 +523,18 @@ fn serve_made<R: Net + RandomSource + Clock + Wait, O: Write, E: Write>(
 fn serve_at<R: Files + AllocGlobal + Net + RandomSource + Clock + Wait, O: Write, E: Write>(
     rt: &R,
     path: &str,
-    address: IpAddr,
-    port: u16,
-    turns: u64,
+    listening: Listening,
     output: &mut Tap<O>,
     errors: &mut E,
 ) -> Ended
-    ensures { ServesFile (place O.contents output.old) (place O.contents output.new) port turns path.now
+    ensures { ServesFile (place O.contents output.old) (place O.contents output.new) listening path.now
         result.status result.file }
 {
     let alloc = rt.alloc();
     match read_file(rt, path, errors) {
         Ok(file) => {
             let made = nodes_in(alloc, file.text(), errors);
-            let status = serve_made(rt, alloc, made, address, port, turns, output, errors);
+            let status = serve_made(rt, alloc, made, listening, output, errors);
             Ended::with_nodes(status, file)
         }
         Err(status) => Ended::by(status),
@@ -523,8 +564,17 @@ pub fn run<R: Files + AllocGlobal + Net + RandomSource + Clock + Wait, I: Read, 
                 port,
                 turns,
                 address,
+                trace,
             },
-        ) => serve_at(rt, nodes, address, port, turns, output, errors),
+        ) => {
+            let listening = Listening {
+                address,
+                port,
+                turns,
+                trace,
+            };
+            serve_at(rt, nodes, listening, output, errors)
+        }
         Err(Stop::Help(text)) => Ended::by(say(text.as_str(), output, errors)),
         Err(Stop::Usage(text)) => {
             let _ = write!(errors, "{text}");

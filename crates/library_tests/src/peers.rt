@@ -9,15 +9,19 @@ use std::io;
 use std::io::ErrorKind;
 use std::test::*;
 
-// A stream that takes at most seven bytes in a write, so often, and gives no byte.
+// A stream that takes at most seven bytes in a write, so often, and gives no byte, or is at its end.
 #[derive(Drop)]
 struct Slow {
     taken: Vec<u8>,
     writes: usize,
+    is_at_end: bool,
 }
 
 impl Socket for Slow {
     fn receive(&mut self, _piece: &mut [u8]) -> io::Result<usize> {
+        if self.is_at_end {
+            return Ok(0);
+        }
         Err(io::Error::from(ErrorKind::WouldBlock))
     }
 
@@ -36,6 +40,7 @@ fn slow_stream(alloc: Global, writes: usize) -> Slow {
     Slow {
         taken: Vec::new(alloc),
         writes,
+        is_at_end: false,
     }
 }
 
@@ -62,7 +67,7 @@ fn several_frames_in_one_write(rt: HostRuntime) -> Result<(), Fail> {
     );
     peer.close();
     holds(&rt, "over", peer.is_over());
-    let Slow { taken, writes: _ } = peer.into_stream();
+    let Slow { taken, .. } = peer.into_stream();
     holds(
         &rt,
         "two writes of seven",
@@ -87,17 +92,43 @@ fn two_peers(alloc: Global) -> Result<Peers<Slow>, Fail> {
 #[test]
 fn each_on_its_own_connection(rt: HostRuntime) -> Result<(), Fail> {
     let mut peers = two_peers(rt.alloc())?;
-    holds(&rt, "not before its byte is out", !peers.release(1)?);
+    holds(&rt, "not before its byte is out", !peers.depart(1)?);
     peers.flush_touched()?;
     holds(&rt, "awake", peers.is_any_awake());
+    holds(&rt, "not before it is told", !peers.release(1)?);
+    holds(&rt, "told once", peers.depart(1)? && !peers.depart(1)?);
     holds(&rt, "the first goes", peers.release(1)?);
     holds(
         &rt,
         "the second stays",
-        !peers.release(2)? && peers.len() == 1,
+        !peers.depart(2)? && !peers.release(2)? && peers.len() == 1,
     );
     let mut piece = vec![in rt.alloc(); 0u8; 16]?;
     let heard = peers.read(2, &mut piece)?;
     holds(&rt, "nothing heard", matches!(heard, Heard::Nothing));
+    Ok(())
+}
+
+// A socket whose input is at its end, which is owed a byte and takes none yet.
+fn ended(alloc: Global) -> Result<Peers<Slow>, Fail> {
+    let mut peers = Peers::new(alloc);
+    let mut stream = slow_stream(alloc, 0);
+    stream.is_at_end = true;
+    peers.admit(alloc, 1, stream)?;
+    let mut outs = Vec::new(alloc);
+    let bytes = Bytes::copy_from_slice(alloc, b"A")?;
+    outs.push(Out::Send { conn: 1, bytes })?;
+    peers.owe_all(outs)?;
+    Ok(peers)
+}
+
+#[test]
+fn a_client_that_has_hung_up_is_gone_at_once(rt: HostRuntime) -> Result<(), Fail> {
+    let mut peers = ended(rt.alloc())?;
+    let mut piece = vec![in rt.alloc(); 0u8; 16]?;
+    let heard = peers.read(1, &mut piece)?;
+    holds(&rt, "at its end", matches!(heard, Heard::End));
+    holds(&rt, "told, though it is owed a byte", peers.depart(1)?);
+    holds(&rt, "its byte is still to be written", !peers.release(1)?);
     Ok(())
 }

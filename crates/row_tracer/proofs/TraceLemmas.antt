@@ -1,5 +1,5 @@
 -- One trace after another.
-use Rattle.std.proofs.Common.{◌≡◌, ℕ, ◌+◌, ◌<◌, ◌≤◌, inl, inr, suc, List, [], ◌∷◌, ◌++◌, length, map, Bool, true, false, take, drop, get_or, take-append-drop, Some, None, arith, sym, ap, ◌∙◌, refl, subst, append_assoc, append-nil, is_ok, Result, Ok, Err}
+use Rattle.std.proofs.Common.{◌≡◌, ℕ, ◌+◌, ◌<◌, ◌≤◌, inl, inr, suc, List, [], ◌∷◌, ◌++◌, length, map, Bool, true, false, take, drop, get_or, take-append-drop, Option, Some, None, arith, sym, ap, ◌∙◌, refl, subst, append_assoc, append-nil, is_ok, Result, Ok, Err, MatchResult}
 use Rattle.std.specs.Io.KnownBytes.{Appends, Keeps}
 use Rattle.std.proofs.KnownBytes.{Appends-nil, Appends-kept, Appends-trans}
 use Rattle.std.proofs.lemmas.Bool.{false≢true}
@@ -7,7 +7,7 @@ use Rattle.std.proofs.lemmas.Bool.Decides.{nat_tests}
 use Rattle.std.proofs.lemmas.List.{length-map, length-take-le, take_all, take_more, drop_more}
 use Rattle.ua_types.specs.Answers as answers
 use Rattle.server_messages.specs.declared.fired.Fired.{Fired}
-use Rattle.stream_taps.specs.Tapped.{Rose, counted}
+use Rattle.stream_taps.specs.Tapped.{Tapped, Rose, counted}
 use Rattle.server_core.specs.declared.event.Event.{Event}
 use Rattle.server_core.specs.declared.out.Step as core_step
 use Rattle.server_core.specs.declared.out.StepFault.{StepFault}
@@ -18,7 +18,7 @@ use Rattle.server_core.proofs.RunLemmas.{and_run_by, run_of-append}
 use Rattle.row_tracer.specs.declared.fault.TraceFault.{TraceFault}
 use Rattle.row_tracer.specs.declared.fault.TraceFault.TheVariants.{Write, Step, Memory}
 use Rattle.row_tracer.specs.TraceText.{rows_text, trace_text}
-use Rattle.row_tracer.specs.Tracing.{State, rows_in, trace_of, Scene, Wrote, Traced, Done, IsPrefix, Stopped}
+use Rattle.row_tracer.specs.Tracing.{State, rows_in, trace_of, Scene, scene, PutsText, Wrote, Traced, Done, IsPrefix, Stopped}
 
 -- ---- the text of two lists of events
 
@@ -237,12 +237,18 @@ Stopped-memory n a b event fired is wrote = record {
   traced = record { answered = is.fault; server = is.server; wrote = wrote };
 }
 
-pub Wrote-all : (a b : Scene) (n : ℕ) (bytes text : List ℕ) → bytes ≡ text → length bytes ≤ n → Appends a.held b.held (take n bytes) → a.failures ≤ b.failures
-    → Wrote a b text
-Wrote-all a b n bytes text e all written failures = record {
-  written = subst (Appends a.held b.held) (take_all n bytes all ∙ e) written;
-  failures = failures;
-}
+-- the lines of the rows that fired at an event were put, as far as they went
+pub one_put : {W : Type 0} (contents : W → Option (List ℕ)) (n : ℕ) (s t : State) (event : Event) (fired : List Fired) (old new : Tapped W) (r : Result (Unit {0}) TraceFault)
+    → IsAnswered s t event fired → PutsText contents (rows_text n fired) old new r
+    → MatchResult r (λ _. Done n (scene contents s old) (scene contents t new) (event ∷ [])) (Stopped n (scene contents s old) (scene contents t new) (event ∷ []))
+one_put contents n s t event fired old new (Ok x) is (written, failures) =
+    Done-one n (scene contents s old) (scene contents t new) event fired is (record { written = written; failures = failures })
+one_put contents n s t event fired old new (Err Write) is (put, front, written, failures, rose) =
+    Stopped-write n (scene contents s old) (scene contents t new) event fired put is (record { written = written; failures = failures }) front rose
+one_put contents n s t event fired old new (Err Memory) is same =
+    Stopped-memory n (scene contents s old) (scene contents t new) event fired is
+    (subst (λ w. Wrote (scene contents s old) (scene contents t w) []) (sym same) (Wrote-none (scene contents s old) (scene contents t old) refl (omega arith)))
+one_put contents n s t event fired old new (Err (Step fault)) is h = absurd h
 
 -- ---- the events up to one of a list
 

@@ -1,5 +1,5 @@
 -- What the tracer hands to a server and writes.
-use Rattle.std.specs.Prelude.{◌≡◌, ℕ, ◌≤◌, List, [], ◌∷◌, ◌++◌, map, Option, None, Err}
+use Rattle.std.specs.Prelude.{◌≡◌, ℕ, ◌≤◌, List, [], ◌∷◌, ◌++◌, map, Option, None, Result, Ok, Err}
 use Rattle.std.specs.Io.KnownBytes.{Appends}
 use Rattle.server_messages.specs.declared.fired.Fired.{Fired}
 use Rattle.stream_taps.specs.Tapped.{Tapped, Rose}
@@ -56,6 +56,16 @@ Done number old new events = Traced old new events (trace_of number old.server e
 
 abbrev pub IsPrefix : List ℕ → List ℕ → Type 0
 IsPrefix front all = (rest : List ℕ) × (all ≡ front ++ rest)
+
+-- this text is out; or a part of it is, from its beginning on, and a write failed; or there was no room for it, and nothing is out
+module _ {W : Type 0} (contents : W → Option (List ℕ)) where
+  abbrev pub PutsText : List ℕ → Tapped W → Tapped W → Result (Unit {0}) TraceFault → Type 0
+  PutsText text old new (Ok x) = Appends (contents old.stream) (contents new.stream) text × (old.failures ≤ new.failures)
+  PutsText text old new (Err Write) =
+      (put : List ℕ) × IsPrefix put text × Appends (contents old.stream) (contents new.stream) put × (old.failures ≤ new.failures)
+      × Rose old.failures new.failures
+  PutsText text old new (Err Memory) = new ≡ old
+  PutsText text old new (Err (Step fault)) = ⊥
 
 -- a write failed: of the trace of the events that were answered a part is out, from its beginning on
 pub record NotWritten (number : ℕ) (old new : Scene) (events : List Event) : Type 0 where

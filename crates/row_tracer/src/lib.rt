@@ -16,6 +16,8 @@
 //! other one has a reason: `ua_state_table::laws`). It knows nothing of files and scenarios, and what the server
 //! sends is not shown.
 //!
+//! [`put_rows`] writes the lines of one event, for whoever hands in events another way.
+//!
 //! Read [`trace`] and [`TraceFault`] first. `specs/TraceText` has the text, and `specs/Tracing` what a
 //! call comes to.
 #![tactic(auto)]
@@ -26,4 +28,4 @@ mod tracing;
 
 pub use fault::TraceFault;
 pub use trace_text::append_line;
-pub use tracing::trace;
+pub use tracing::{put_rows, trace};

@@ -2,14 +2,37 @@
 
 ghost use Rattle.std.specs.Prelude.{[], ◌∷◌, MatchResult};
 ghost use Rattle.server_core.specs.World.{world_of};
-ghost use Rattle.row_tracer.specs.Tracing.{scene, Done, Stopped};
+ghost use Rattle.row_tracer.specs.TraceText.{rows_text};
+ghost use Rattle.row_tracer.specs.Tracing.{scene, Done, Stopped, PutsText};
 
 use crate::fault::TraceFault;
 use crate::trace_text::append_lines;
-use server_core::{Event, Server};
+use server_core::{Event, Fired, Server};
 use std::alloc::Global;
 use std::io::Write;
 use stream_taps::{Tap, put_bytes};
+
+/// Puts the lines of the rows that fired at the event of this number, by one write where the stream takes
+/// them whole. The text is room for them.
+///
+/// At `Write` a part of the lines is out, from their beginning on, and at `Memory` none. `Step` never comes.
+pub fn put_rows<W: Write>(
+    text: &mut String,
+    number: u64,
+    rows: &[Fired],
+    writer: &mut Tap<W>,
+) -> Result<(), TraceFault>
+    ensures { PutsText W.contents (rows_text number rows.now) writer.old writer.new result }
+{
+    text.clear();
+    let Ok(()) = append_lines(text, number, rows) else {
+        return Err(TraceFault::Memory);
+    };
+    if put_bytes(writer, text.as_bytes()) < text.len() {
+        return Err(TraceFault::Write);
+    }
+    Ok(())
+}
 
 // One event, of this number. The text is room for its lines.
 fn trace_event<W: Write>(
@@ -28,14 +51,7 @@ fn trace_event<W: Write>(
         Ok(step) => step,
         Err(fault) => return Err(TraceFault::Step(fault)),
     };
-    text.clear();
-    let Ok(()) = append_lines(text, number, step.rows.as_slice()) else {
-        return Err(TraceFault::Memory);
-    };
-    if put_bytes(writer, text.as_bytes()) < text.len() {
-        return Err(TraceFault::Write);
-    }
-    Ok(())
+    put_rows(text, number, step.rows.as_slice(), writer)
 }
 
 // All events, up to the first fault.

@@ -18,4 +18,6 @@ mod sockets;
 #[cfg(test)]
 mod streams;
 #[cfg(test)]
+mod watching;
+#[cfg(test)]
 mod words;

@@ -4,7 +4,7 @@
 use crate::bytes_due::{ACKNOWLEDGE, HELLO};
 use crate::events::base_server;
 use crate::holding::holds;
-use socket_server::Serve;
+use socket_server::{Serve, Unobserved};
 use std::alloc::Global;
 use std::io::{ErrorKind, Read, Write};
 use std::net::{SocketAddr, TcpStream};
@@ -51,7 +51,9 @@ fn waiting(alloc: Global, mut stream: &TcpStream) -> Result<Vec<u8>, Fail> {
 // The loop takes turns until one of two connections is closed.
 fn takes_turns<R: Clock + Wait>(rt: &R, alloc: Global, serve: &mut Serve) -> Result<bool, Fail> {
     let mut server = base_server(alloc)?;
-    let is_done = serve.run(rt, alloc, &mut server, 8).is_ok();
+    let is_done = serve
+        .run(rt, alloc, &mut server, &mut Unobserved, 8)
+        .is_ok();
     Ok(is_done && serve.len() == 1)
 }
 

@@ -5,7 +5,7 @@ use command_line::{Command, Stop, parse};
 use std::alloc::Global;
 use std::test::*;
 
-// Whether these words serve `line.toml` at this port, for so many turns.
+// Whether these words serve `line.toml` at this port, for so many turns, without a trace.
 fn serves(alloc: Global, words: &[&str], port: u16, turns: u64) -> bool {
     match parse(alloc, words) {
         Ok(
@@ -14,8 +14,12 @@ fn serves(alloc: Global, words: &[&str], port: u16, turns: u64) -> bool {
                 port: found,
                 turns: counted,
                 address,
+                trace,
             },
-        ) => { nodes == "line.toml" && found == port && counted == turns && address.is_loopback() }
+        ) => {
+            let is_plain = address.is_loopback() && !trace;
+            nodes == "line.toml" && found == port && counted == turns && is_plain
+        }
         _ => false,
     }
 }
@@ -30,6 +34,28 @@ fn serve(rt: HostRuntime) {
     let most = "18446744073709551615";
     let last = ["serve", "line.toml", "--port", "65535", "--turns", most];
     holds(&rt, "most", serves(alloc, &last, 65_535, u64::MAX));
+}
+
+// Whether these words serve with a trace.
+fn traces(alloc: Global, words: &[&str]) -> bool {
+    match parse(alloc, words) {
+        Ok(
+            Command::Serve {
+                nodes: _,
+                port: _,
+                turns: _,
+                address: _,
+                trace,
+            },
+        ) => trace,
+        _ => false,
+    }
+}
+
+#[test]
+fn trace(rt: HostRuntime) {
+    let words = ["serve", "--trace", "line.toml", "--port", "4840"];
+    holds(&rt, "traced", traces(rt.alloc(), &words));
 }
 
 // Whether the words are refused by a text that ends in one newline.

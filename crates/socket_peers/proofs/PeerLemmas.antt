@@ -54,6 +54,8 @@ module _ {S : Type 0} (remaining contents : S → Option (List ℕ)) where
     read = Keeps-refl (remaining p.stream);
     owed = refl;
     closes = refl;
+    ended = refl;
+    gone = refl;
     failed = λ e. e;
   }
 
@@ -70,5 +72,7 @@ module _ {S : Type 0} (remaining contents : S → Option (List ℕ)) where
         read = Keeps-again (remaining a.stream) (remaining b.stream) (remaining c.stream) p.read q.read;
         owed = q.owed ∙ ap (drop q.count) p.owed ∙ drop-drop q.count p.count a.owed;
         closes = q.closes ∙ p.closes;
+        ended = q.ended ∙ p.ended;
+        gone = q.gone ∙ p.gone;
         failed = λ e. q.failed (p.failed e);
       }

@@ -7,7 +7,7 @@ use Rattle.server_messages.specs.declared.out.Out.{Out}
 use Rattle.server_messages.specs.declared.out.Out.TheVariants.{Send, Close}
 use Rattle.socket_peers.specs.declared.peer.Heard.{Heard}
 use Rattle.socket_peers.specs.declared.peer.Heard.TheVariants.{Nothing}
-use Rattle.socket_peers.specs.Peer.{PeerState, peer_code, owing, closing, fresh, is_over, Reads, Writes}
+use Rattle.socket_peers.specs.Peer.{PeerState, peer_code, owing, closing, fresh, departs, departed, is_done, Reads, Writes}
 
 -- the sockets that are connected, and the number that was given last, 0 before the first
 pub record PeersState (S : Type 0) : Type 0 where
@@ -30,12 +30,17 @@ module _ {S : Type 0} where
   abbrev pub at : PeersState S → ℕ → Option (PeerState S)
   at p number = get p.connected number
 
-  abbrev pub is_over_in : Option (PeerState S) → Bool
-  is_over_in None = false
-  is_over_in (Some peer) = is_over peer
+  abbrev pub is_true_of : (PeerState S → Bool) → Option (PeerState S) → Bool
+  is_true_of test None = false
+  is_true_of test (Some peer) = test peer
 
-  abbrev pub is_over_at : PeersState S → ℕ → Bool
-  is_over_at p number = is_over_in (at p number)
+  -- the connection of this number is no more, and the server is still to be told
+  abbrev pub departs_at : PeersState S → ℕ → Bool
+  departs_at p number = is_true_of departs (at p number)
+
+  -- the server was told, and nothing is left to be written
+  abbrev pub is_done_at : PeersState S → ℕ → Bool
+  is_done_at p number = is_true_of is_done (at p number)
 
   abbrev pub with_peer : PeersState S → ℕ → PeerState S → PeersState S
   with_peer p number peer = record p { connected = insert p.connected number peer }
@@ -47,10 +52,10 @@ module _ {S : Type 0} where
   abbrev pub with_joined : PeersState S → S → PeersState S
   with_joined p stream = record { connected = insert p.connected (p.last + 1) (fresh stream); last = p.last + 1 }
 
-  -- a socket that is over is let go of, and no other
+  -- a socket that is done with is let go of, and no other
   abbrev pub LetsGo : ℕ → PeersState S → PeersState S → Bool → Type 0
-  LetsGo number old new true = (is_over_at old number ≡ true) × (new ≡ without old number)
-  LetsGo number old new false = (is_over_at old number ≡ false) × (new ≡ old)
+  LetsGo number old new true = (is_done_at old number ≡ true) × (new ≡ without old number)
+  LetsGo number old new false = (is_done_at old number ≡ false) × (new ≡ old)
 
   -- one socket is changed, if it is there
   abbrev pub changed_by : PeersState S → ℕ → (PeerState S → PeerState S) → Option (PeerState S) → PeersState S
@@ -59,6 +64,14 @@ module _ {S : Type 0} where
 
   abbrev pub changed : PeersState S → ℕ → (PeerState S → PeerState S) → PeersState S
   changed p number change = changed_by p number change (at p number)
+
+  abbrev pub with_departed : PeersState S → ℕ → PeersState S
+  with_departed p number = changed p number departed
+
+  -- of a connection that is no more the server is told, and of no other, and of none twice
+  abbrev pub Departs : ℕ → PeersState S → PeersState S → Bool → Type 0
+  Departs number old new true = (departs_at old number ≡ true) × (new ≡ with_departed old number)
+  Departs number old new false = (departs_at old number ≡ false) × (new ≡ old)
 
   -- ---- what is to be done, each on the connection that it names
 

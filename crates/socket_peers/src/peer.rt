@@ -2,7 +2,7 @@
 
 ghost use Rattle.std.specs.Prelude.{◌≡◌, ◌<◌, ℕ, [], take, OnOk, OnErr, length};
 ghost use Rattle.bytes.specs.Unread.{IsChunkOf, concat_slices};
-ghost use Rattle.socket_peers.specs.Peer.{fresh, owing, closing, is_over as is_over_spec, listens as listens_spec, Reads, Writes};
+ghost use Rattle.socket_peers.specs.Peer.{fresh, owing, closing, is_over as is_over_spec, departs as departs_spec, departed, is_done as is_done_spec, listens as listens_spec, Reads, Writes};
 
 use crate::socket::Socket;
 use bytes::{Buf, Bytes, BytesQueue};
@@ -39,9 +39,13 @@ pub enum Heard {
 pub struct Peer<S> {
     stream: S,
     owed: BytesQueue,
-    // Nothing more is read. It is done once all is out.
+    // Nothing more is read. It is over once all is out.
     is_closing: bool,
+    // Its input is at its end: its connection is no more, and what it is owed is still written.
+    has_ended: bool,
     has_failed: bool,
+    // The server was told that its connection is no more.
+    is_gone: bool,
     // The stream took less than there was. It will be reported as writable.
     is_full: bool,
     // It stands on the list of those to be looked at.
@@ -55,7 +59,14 @@ impl<S> Model for Peer<S> {
 
     ghost coded = { peer_code S.code };
 
-    ghost view = { λ p. record { stream = p.stream; owed = p.owed; is_closing = p.is_closing; has_failed = p.has_failed } };
+    ghost view = { λ p. record {
+      stream = p.stream;
+      owed = p.owed;
+      is_closing = p.is_closing;
+      has_ended = p.has_ended;
+      has_failed = p.has_failed;
+      is_gone = p.is_gone;
+    } };
 }
 
 // Joins the first of these frames, as many as there is room for.
@@ -102,7 +113,9 @@ impl<S> Peer<S> {
             stream,
             owed: BytesQueue::new(alloc),
             is_closing: false,
+            has_ended: false,
             has_failed: false,
+            is_gone: false,
             is_full: false,
             is_awake: false,
         }
@@ -116,18 +129,42 @@ impl<S> Peer<S> {
             stream,
             owed: _,
             is_closing: _,
+            has_ended: _,
             has_failed: _,
+            is_gone: _,
             is_full: _,
             is_awake: _,
         } = self;
         stream
     }
 
-    /// Whether the socket can be let go of.
+    /// Whether nothing more is read and nothing more is written.
     pub fn is_over(&self) -> bool
         ensures { result ≡ is_over_spec self.now }
     {
         self.has_failed || self.is_closing && self.owed.is_empty()
+    }
+
+    /// Whether its connection is no more, and the server is still to be told: its input is at its end, whatever it is still
+    /// owed, or it is over.
+    pub fn departs(&self) -> bool
+        ensures { result ≡ departs_spec self.now }
+    {
+        !self.is_gone && (self.has_ended || self.is_over())
+    }
+
+    /// The server is told that its connection is no more.
+    pub fn depart(&mut self)
+        ensures { self.new ≡ departed self.old }
+    {
+        self.is_gone = true;
+    }
+
+    /// Whether the socket can be let go of: the server was told, and nothing is left to be written.
+    pub fn is_done(&self) -> bool
+        ensures { result ≡ is_done_spec self.now }
+    {
+        self.is_gone && self.is_over()
     }
 
     /// Whether there is something to read from it now: it isn't closing, and isn't owed too much.
@@ -174,7 +211,7 @@ impl<S> Peer<S> {
 
 impl<S: Socket> Peer<S> {
     /// One read of at most the length of `piece`, which holds what came. At the end of the stream the
-    /// peer closes; one that failed is over.
+    /// connection is no more, and the peer closes; one that failed is over.
     pub fn read(&mut self, piece: &mut Vec<u8>) -> Heard
         requires { 0 < length piece.old.items }
         ensures { Reads S.remaining S.contents self.old self.new (length piece.old.items) piece.new.items result }
@@ -187,6 +224,7 @@ impl<S: Socket> Peer<S> {
             Ok(0) => {
                 piece.clear();
                 self.is_closing = true;
+                self.has_ended = true;
                 Heard::End
             }
             Ok(count) => {

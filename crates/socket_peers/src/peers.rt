@@ -2,7 +2,7 @@
 
 ghost use Rattle.std.specs.Prelude.{◌≡◌, ℕ, ◌+◌, ◌<◌, IfSome, IfOk, OnOk, length};
 ghost use Rattle.std.specs.FinMap as map;
-ghost use Rattle.socket_peers.specs.Peers.{nobody, with_joined, owed_out, owed_all, LetsGo, ReadsAt, WritesAt, WritesAll};
+ghost use Rattle.socket_peers.specs.Peers.{nobody, with_joined, owed_out, owed_all, Departs, LetsGo, ReadsAt, WritesAt, WritesAll};
 
 use crate::peer::{Heard, Peer};
 use crate::socket::Socket;
@@ -22,7 +22,7 @@ pub struct Peers<S> {
     connected: Numbered<Peer<S>>,
     // The number that was given last, 0 before the first.
     last: u64,
-    // Sockets that may have something to read, or may be over.
+    // Sockets that may have something to read, or whose connections may be no more.
     awake: Vec<u64>,
     // Sockets that were owed something or closed since all were flushed.
     touched: Vec<u64>,
@@ -128,7 +128,26 @@ impl<S: Drop> Peers<S> {
         self.connected.insert(number, peer)
     }
 
-    /// Lets go of a socket that is over, and of what it is owed. Says whether it did.
+    /// Says whether the connection of a socket is no more and the server is still to be told. It counts as told from then on:
+    /// of each connection this is said once.
+    #[tactic(auto, using(ua_types::proofs::NumberMaps::insert_removed, crate::proofs::MapLemmas::put_back))]
+    pub fn depart(&mut self, number: u64) -> Result<bool, AllocError>
+        ensures { IfOk result (Departs number self.old self.new) }
+    {
+        let Some(mut peer) = self.connected.remove(number) else {
+            return Ok(false);
+        };
+        if peer.departs() {
+            peer.depart();
+            self.connected.insert(number, peer)?;
+            return Ok(true);
+        }
+        self.connected.insert(number, peer)?;
+        Ok(false)
+    }
+
+    /// Lets go of a socket of which the server was told that its connection is no more, once nothing is left to be written.
+    /// Says whether it did.
     #[tactic(auto, using(crate::proofs::MapLemmas::put_back))]
     pub fn release(&mut self, number: u64) -> Result<bool, AllocError>
         ensures { IfOk result (LetsGo number self.old self.new) }
@@ -136,7 +155,7 @@ impl<S: Drop> Peers<S> {
         let Some(peer) = self.connected.remove(number) else {
             return Ok(false);
         };
-        if peer.is_over() {
+        if peer.is_done() {
             return Ok(true);
         }
         self.connected.insert(number, peer)?;

@@ -1,16 +1,19 @@
 //! The server and the sockets: what happens at a socket is an event of the server, and what the server
 //! sends is owed to the sockets.
 
-ghost use Rattle.std.specs.Prelude.{◌≡◌, ◌+◌, true, MatchResult};
+ghost use Rattle.std.specs.Prelude.{◌≡◌, ◌+◌, true, false, IfErr, OnOk, MatchResult};
 ghost use Rattle.server_core.specs.declared.event.Event.TheVariants as happening;
 ghost use Rattle.server_core.specs.World.{world_of};
-ghost use Rattle.socket_server.specs.Serving.{scene, HandsIn, Fails, Serves};
+ghost use Rattle.socket_peers.specs.Peers.{departs_at};
+ghost use Rattle.socket_server.specs.Serving.{scene, HandsIn, Fails, Releases, Serves};
 
+use crate::observer::Observer;
 use crate::serve_fault::ServeFault;
 use bytes::Bytes;
-use server_core::{Event, Server};
+use server_core::{Event, Out, Server, Step};
 use socket_peers::{Heard, Peers, Socket};
 use std::alloc::Global;
+use std::net::SocketAddr;
 
 // The most bytes of a piece.
 const PIECE: usize = 4096;
@@ -18,60 +21,128 @@ const PIECE: usize = 4096;
 // The most pieces that are read from a socket in a turn.
 const PIECES: usize = 2;
 
-/// Hands an event to the server, owes the sockets what it sends, and writes what they take.
-pub(crate) fn hand_in<S: Socket + Drop>(
+/// A connection that a socket begins.
+#[derive(Clone, Copy)]
+pub(crate) struct Arrival {
+    /// The next number.
+    pub(crate) number: u64,
+    /// Where its peer is.
+    pub(crate) address: SocketAddr,
+    pub(crate) key: [u8; 32],
+}
+
+// Whether a connection is to be closed.
+fn closes(outs: &[Out]) -> bool {
+    for out in outs {
+        if let Out::Close { conn: _ } = out {
+            return true;
+        }
+    }
+    false
+}
+
+/// Hands an event to the server, owes the sockets what it sends, writes what they take, and tells which rows
+/// fired. Says whether a connection is to be closed.
+pub(crate) fn hand_in<S: Socket + Drop, W: Observer>(
     alloc: Global,
     peers: &mut Peers<S>,
+    events: &mut u64,
     server: &mut Server,
+    observer: &mut W,
     event: &Event,
-) -> Result<(), ServeFault>
-    ensures { MatchResult result
-        (λ _. HandsIn S.remaining S.contents event.now (scene (world_of server.old) peers.old) (scene (world_of server.new) peers.new))
-        (Fails event.now (world_of server.old) (world_of server.new)) }
+) -> Result<bool, ServeFault>
+    ensures { let old = scene (world_of server.old) peers.old events.old (W.told observer.old) in
+        let new = scene (world_of server.new) peers.new events.new (W.told observer.new) in
+        MatchResult result (λ _. HandsIn S.remaining S.contents W.telling event.now old new) (Fails W.telling event.now old new) }
 {
-    let step = match server.step(alloc, event) {
+    let Some(number) = events.checked_add(1) else {
+        return Err(ServeFault::Memory);
+    };
+    let Step { outs, rows } = match server.step(alloc, event) {
         Ok(step) => step,
         Err(fault) => return Err(ServeFault::Step(fault)),
     };
-    if peers.owe_all(step.outs.into_vec()).is_err() {
+    let is_close = closes(outs.as_slice());
+    if peers.owe_all(outs.into_vec()).is_err() {
         return Err(ServeFault::Memory);
     }
     if peers.flush_touched().is_err() {
         return Err(ServeFault::Memory);
     }
-    Ok(())
+    *events = number;
+    match observer.saw(number, rows.as_slice()) {
+        Ok(()) => Ok(is_close),
+        Err(fault) => Err(fault),
+    }
+}
+
+// Tells the server, and the observer, of a new connection.
+fn hand_in_opening<S: Socket + Drop, W: Observer>(
+    alloc: Global,
+    peers: &mut Peers<S>,
+    events: &mut u64,
+    server: &mut Server,
+    observer: &mut W,
+    arrival: Arrival,
+) -> Result<(), ServeFault>
+    ensures { let opened = happening.Opened arrival.number arrival.key in
+        let old = scene (world_of server.old) peers.old events.old (W.told observer.old) in
+        let new = scene (world_of server.new) peers.new events.new (W.told observer.new) in
+        MatchResult result (λ _. HandsIn S.remaining S.contents W.telling opened old new) (Fails W.telling opened old new) }
+{
+    let key = arrival.key;
+    let opened = Event::Opened {
+        conn: arrival.number,
+        key,
+    };
+    match hand_in(alloc, peers, events, server, observer, &opened) {
+        Ok(true) => {
+            observer.refused(arrival.number, arrival.address);
+            Ok(())
+        }
+        Ok(false) => {
+            observer.connected(arrival.number, arrival.address);
+            Ok(())
+        }
+        Err(fault) => Err(fault),
+    }
 }
 
 // Takes in a socket that has connected: it gets the next number, and the server is told.
-fn admit<S: Socket + Drop>(
+fn admit<S: Socket + Drop, W: Observer>(
     alloc: Global,
     peers: &mut Peers<S>,
+    events: &mut u64,
     server: &mut Server,
-    number: u64,
+    observer: &mut W,
+    arrival: Arrival,
     stream: S,
-    key: [u8; 32],
 ) -> Result<(), ServeFault>
-    requires { number ≡ peers.old.last + 1 }
-    ensures { Serves S.remaining S.contents 0 (scene (world_of server.old) peers.old) (scene (world_of server.new) peers.new) result }
+    requires { arrival.number ≡ peers.old.last + 1 }
+    ensures { Serves S.remaining S.contents W.telling 0 (scene (world_of server.old) peers.old events.old (W.told observer.old))
+        (scene (world_of server.new) peers.new events.new (W.told observer.new)) result }
 {
-    if peers.admit(alloc, number, stream).is_err() {
+    if peers.admit(alloc, arrival.number, stream).is_err() {
         return Err(ServeFault::Memory);
     }
-    let opened = Event::Opened { conn: number, key };
-    hand_in(alloc, peers, server, &opened)
+    hand_in_opening(alloc, peers, events, server, observer, arrival)
 }
 
 // Hands in a piece that was read from a socket.
-fn hand_in_piece<S: Socket + Drop>(
+fn hand_in_piece<S: Socket + Drop, W: Observer>(
     alloc: Global,
     peers: &mut Peers<S>,
+    events: &mut u64,
     server: &mut Server,
+    observer: &mut W,
     number: u64,
     piece: Vec<u8>,
 ) -> Result<bool, ServeFault>
-    ensures { MatchResult result
-        (λ more. (more ≡ true) × HandsIn S.remaining S.contents (happening.Bytes number piece.items) (scene (world_of server.old) peers.old) (scene (world_of server.new) peers.new))
-        (Fails (happening.Bytes number piece.items) (world_of server.old) (world_of server.new)) }
+    ensures { let old = scene (world_of server.old) peers.old events.old (W.told observer.old) in
+        let new = scene (world_of server.new) peers.new events.new (W.told observer.new) in
+        MatchResult result
+        (λ more. (more ≡ true) × HandsIn S.remaining S.contents W.telling (happening.Bytes number piece.items) old new)
+        (Fails W.telling (happening.Bytes number piece.items) old new) }
 {
     let Ok(bytes) = Bytes::from_vec(piece) else {
         return Err(ServeFault::Memory);
@@ -80,20 +151,23 @@ fn hand_in_piece<S: Socket + Drop>(
         conn: number,
         bytes,
     };
-    match hand_in(alloc, peers, server, &event) {
-        Ok(()) => Ok(true),
+    match hand_in(alloc, peers, events, server, observer, &event) {
+        Ok(_) => Ok(true),
         Err(fault) => Err(fault),
     }
 }
 
 // Reads a piece from a socket, and hands it to the server. Says whether there may be more.
-fn hear<S: Socket + Drop>(
+fn hear<S: Socket + Drop, W: Observer>(
     alloc: Global,
     peers: &mut Peers<S>,
+    events: &mut u64,
     server: &mut Server,
+    observer: &mut W,
     number: u64,
 ) -> Result<bool, ServeFault>
-    ensures { Serves S.remaining S.contents 0 (scene (world_of server.old) peers.old) (scene (world_of server.new) peers.new) result }
+    ensures { Serves S.remaining S.contents W.telling 0 (scene (world_of server.old) peers.old events.old (W.told observer.old))
+        (scene (world_of server.new) peers.new events.new (W.told observer.new)) result }
 {
     let Ok(mut piece) = vec![in alloc; 0u8; PIECE] else {
         return Err(ServeFault::Memory);
@@ -103,41 +177,99 @@ fn hear<S: Socket + Drop>(
         Ok(Heard::Again) => Ok(true),
         Ok(Heard::Nothing) => Ok(false),
         Ok(Heard::End) => Ok(false),
-        Ok(Heard::Piece) => hand_in_piece(alloc, peers, server, number, piece),
+        Ok(Heard::Piece) => hand_in_piece(alloc, peers, events, server, observer, number, piece),
     }
 }
 
-// Lets go of a socket that is over, and tells the server that its connection is no more.
-fn release<S: Socket + Drop>(
+// Tells the server, and the observer, that a connection is no more.
+fn hand_in_end<S: Socket + Drop, W: Observer>(
     alloc: Global,
     peers: &mut Peers<S>,
+    events: &mut u64,
     server: &mut Server,
+    observer: &mut W,
     number: u64,
 ) -> Result<(), ServeFault>
-    ensures { Serves S.remaining S.contents 0 (scene (world_of server.old) peers.old) (scene (world_of server.new) peers.new) result }
+    ensures { let old = scene (world_of server.old) peers.old events.old (W.told observer.old) in
+        let new = scene (world_of server.new) peers.new events.new (W.told observer.new) in
+        MatchResult result (λ _. HandsIn S.remaining S.contents W.telling (happening.Gone number) old new)
+        (Fails W.telling (happening.Gone number) old new) }
 {
-    match peers.release(number) {
+    let gone = Event::Gone { conn: number };
+    match hand_in(alloc, peers, events, server, observer, &gone) {
+        Ok(_) => {
+            observer.closed(number);
+            Ok(())
+        }
+        Err(fault) => Err(fault),
+    }
+}
+
+// Tells the server, and the observer, where a connection is no more and they weren't told yet.
+fn depart<S: Socket + Drop, W: Observer>(
+    alloc: Global,
+    peers: &mut Peers<S>,
+    events: &mut u64,
+    server: &mut Server,
+    observer: &mut W,
+    number: u64,
+) -> Result<(), ServeFault>
+    ensures serves { Serves S.remaining S.contents W.telling 0 (scene (world_of server.old) peers.old events.old (W.told observer.old))
+        (scene (world_of server.new) peers.new events.new (W.told observer.new)) result }
+    ensures told { OnOk result (departs_at peers.new number ≡ false) }
+{
+    match peers.depart(number) {
         Err(_) => Err(ServeFault::Memory),
         Ok(false) => Ok(()),
-        Ok(true) => {
-            let gone = Event::Gone { conn: number };
-            hand_in(alloc, peers, server, &gone)
-        }
+        Ok(true) => hand_in_end(alloc, peers, events, server, observer, number),
+    }
+}
+
+// Lets go of a socket that is done with.
+fn release<S: Socket + Drop>(peers: &mut Peers<S>, number: u64) -> Result<(), ServeFault>
+    ensures ok { OnOk result (Releases number peers.old peers.new) }
+    ensures err { IfErr result (λ fault. fault ≡ ServeFault.Memory) }
+{
+    match peers.release(number) {
+        Ok(_) => Ok(()),
+        Err(_) => Err(ServeFault::Memory),
+    }
+}
+
+// Tells the server where a connection is no more, and lets go of its socket once all that it is owed was written.
+fn finish<S: Socket + Drop, W: Observer>(
+    alloc: Global,
+    peers: &mut Peers<S>,
+    events: &mut u64,
+    server: &mut Server,
+    observer: &mut W,
+    number: u64,
+) -> Result<(), ServeFault>
+    ensures serves { Serves S.remaining S.contents W.telling 0 (scene (world_of server.old) peers.old events.old (W.told observer.old))
+        (scene (world_of server.new) peers.new events.new (W.told observer.new)) result }
+    ensures told { OnOk result (departs_at peers.new number ≡ false) }
+{
+    match depart(alloc, peers, events, server, observer, number) {
+        Ok(()) => release(peers, number),
+        Err(fault) => Err(fault),
     }
 }
 
 // Hands in what a socket has sent, at most two pieces. One that may have more is to be looked at again,
 // behind all others.
-fn read_pieces<S: Socket + Drop>(
+fn read_pieces<S: Socket + Drop, W: Observer>(
     alloc: Global,
     peers: &mut Peers<S>,
+    events: &mut u64,
     server: &mut Server,
+    observer: &mut W,
     number: u64,
 ) -> Result<(), ServeFault>
-    ensures { Serves S.remaining S.contents 0 (scene (world_of server.old) peers.old) (scene (world_of server.new) peers.new) result }
+    ensures { Serves S.remaining S.contents W.telling 0 (scene (world_of server.old) peers.old events.old (W.told observer.old))
+        (scene (world_of server.new) peers.new events.new (W.told observer.new)) result }
 {
     for _piece in 0..PIECES {
-        match hear(alloc, peers, server, number) {
+        match hear(alloc, peers, events, server, observer, number) {
             Ok(true) => {}
             Ok(false) => return Ok(()),
             Err(fault) => return Err(fault),
@@ -149,37 +281,44 @@ fn read_pieces<S: Socket + Drop>(
     }
 }
 
-// Looks at a socket: writes what it is owed, hands in what it has sent, and lets go of it where it is
-// over.
-fn attend<S: Socket + Drop>(
+// Looks at a socket: writes what it is owed, hands in what it has sent, tells the server where its connection is no more, and
+// lets go of it where it is done with.
+fn attend<S: Socket + Drop, W: Observer>(
     alloc: Global,
     peers: &mut Peers<S>,
+    events: &mut u64,
     server: &mut Server,
+    observer: &mut W,
     number: u64,
 ) -> Result<(), ServeFault>
-    ensures { Serves S.remaining S.contents 0 (scene (world_of server.old) peers.old) (scene (world_of server.new) peers.new) result }
+    ensures serves { Serves S.remaining S.contents W.telling 0 (scene (world_of server.old) peers.old events.old (W.told observer.old))
+        (scene (world_of server.new) peers.new events.new (W.told observer.new)) result }
+    ensures told { OnOk result (departs_at peers.new number ≡ false) }
 {
     match peers.look_at(number) {
         Ok(()) => {}
         Err(_) => return Err(ServeFault::Memory),
     }
-    match read_pieces(alloc, peers, server, number) {
-        Ok(()) => release(alloc, peers, server, number),
+    match read_pieces(alloc, peers, events, server, observer, number) {
+        Ok(()) => finish(alloc, peers, events, server, observer, number),
         Err(fault) => Err(fault),
     }
 }
 
 /// Looks at each socket that is to be looked at.
-pub(crate) fn attend_all<S: Socket + Drop>(
+pub(crate) fn attend_all<S: Socket + Drop, W: Observer>(
     alloc: Global,
     peers: &mut Peers<S>,
+    events: &mut u64,
     server: &mut Server,
+    observer: &mut W,
 ) -> Result<(), ServeFault>
-    ensures { Serves S.remaining S.contents 0 (scene (world_of server.old) peers.old) (scene (world_of server.new) peers.new) result }
+    ensures { Serves S.remaining S.contents W.telling 0 (scene (world_of server.old) peers.old events.old (W.told observer.old))
+        (scene (world_of server.new) peers.new events.new (W.told observer.new)) result }
 {
     let awake = peers.take_awake(alloc);
     for number in awake {
-        match attend(alloc, peers, server, number) {
+        match attend(alloc, peers, events, server, observer, number) {
             Ok(()) => {}
             Err(fault) => return Err(fault),
         }
@@ -189,19 +328,22 @@ pub(crate) fn attend_all<S: Socket + Drop>(
 
 /// Takes in a socket that has connected, and looks at it at once: it may have sent its first frame, or be
 /// gone again.
-pub(crate) fn join_socket<S: Socket + Drop>(
+pub(crate) fn join_socket<S: Socket + Drop, W: Observer>(
     alloc: Global,
     peers: &mut Peers<S>,
+    events: &mut u64,
     server: &mut Server,
-    number: u64,
+    observer: &mut W,
+    arrival: Arrival,
     stream: S,
-    key: [u8; 32],
 ) -> Result<(), ServeFault>
-    requires { number ≡ peers.old.last + 1 }
-    ensures { Serves S.remaining S.contents 0 (scene (world_of server.old) peers.old) (scene (world_of server.new) peers.new) result }
+    requires { arrival.number ≡ peers.old.last + 1 }
+    ensures { Serves S.remaining S.contents W.telling 0 (scene (world_of server.old) peers.old events.old (W.told observer.old))
+        (scene (world_of server.new) peers.new events.new (W.told observer.new)) result }
 {
-    match admit(alloc, peers, server, number, stream, key) {
-        Ok(()) => attend(alloc, peers, server, number),
+    let number = arrival.number;
+    match admit(alloc, peers, events, server, observer, arrival, stream) {
+        Ok(()) => attend(alloc, peers, events, server, observer, number),
         Err(fault) => Err(fault),
     }
 }

@@ -2,7 +2,8 @@
 //!
 //! [`Serve::listen`] listens, and [`Serve::run`] takes turns: it waits until a socket is ready or 100 ms are
 //! over, takes in who connects, hands each piece that is read to the [`server_core::Server`] as an event,
-//! puts what the server sends into the queues of the sockets, and writes what they take.
+//! puts what the server sends into the queues of the sockets, and writes what they take. An [`Observer`] is
+//! told which rows of the subscriptions' state table fire at each event, and which connections come and go.
 //!
 //! Only `src/serve.rt` knows of `mio`. What a turn is made of stands in `src/events.rt`, over any stream
 //! whose reads and writes don't wait, so that contracts can name the bytes. `docs/SERVE.md` has the loop as
@@ -10,8 +11,10 @@
 #![tactic(auto)]
 
 mod events;
+mod observer;
 mod serve;
 mod serve_fault;
 
+pub use observer::{Observer, Unobserved};
 pub use serve::Serve;
 pub use serve_fault::ServeFault;

@@ -2,11 +2,11 @@
 
 ghost use Rattle.std.specs.Prelude.{◌≡◌, ◌+◌, OnOk, IfOk, IfErr};
 ghost use Rattle.std.specs.FinMap as map;
-ghost use Rattle.socket_peers.specs.Peers.{nobody};
 ghost use Rattle.server_core.specs.World.{world_of};
-ghost use Rattle.socket_server.specs.Serving.{scene, unknown, IsOutside, Serves, Drawn};
+ghost use Rattle.socket_server.specs.Serving.{scene, unserved, unknown, IsOutside, Serves, Drawn};
 
-use crate::events::{attend_all, hand_in, join_socket};
+use crate::events::{Arrival, attend_all, hand_in, join_socket};
+use crate::observer::Observer;
 use crate::serve_fault::ServeFault;
 use mio::net::{TcpListener, TcpStream};
 use mio::{Events, Interest, Poll, Token};
@@ -50,18 +50,20 @@ pub struct Serve {
     // There may be a connection to be taken in.
     may_accept: bool,
     peers: Peers<TcpStream>,
+    // How many events the server was handed. The next has the number behind that.
+    events_so_far: u64,
 }
 
 impl Model for Serve {
     ghost use Rattle.mio.specs.declared.net.stream.TcpStream.{TcpStream};
     ghost use Rattle.mio.specs.contracts.net.stream.TcpStream as tcp_stream;
-    ghost use Rattle.socket_peers.specs.Peers.{PeersState, peers_code};
+    ghost use Rattle.socket_server.specs.Sockets.{Sockets, sockets_code};
 
-    ghost Value = { PeersState TcpStream };
+    ghost Value = { Sockets TcpStream };
 
-    ghost coded = { peers_code tcp_stream.the_row.coded };
+    ghost coded = { sockets_code tcp_stream.the_row.coded };
 
-    ghost view = { λ s. s.peers };
+    ghost view = { λ s. record { peers = s.peers; events = s.events_so_far } };
 }
 
 // Wakes the sockets that are reported as ready, and says whether one may have connected.
@@ -120,7 +122,7 @@ impl Serve {
         alloc: Global,
         port: u16,
     ) -> Result<Serve, ServeFault>
-        ensures ok { IfOk result (λ serve. serve ≡ nobody) }
+        ensures ok { IfOk result (λ serve. serve ≡ unserved) }
         ensures err { IfErr result IsOutside }
     {
         Serve::listen(rt, alloc, IpAddr::V4(Ipv4Addr::LOCALHOST), port)
@@ -134,7 +136,7 @@ impl Serve {
         address: IpAddr,
         port: u16,
     ) -> Result<Serve, ServeFault>
-        ensures ok { IfOk result (λ serve. serve ≡ nobody) }
+        ensures ok { IfOk result (λ serve. serve ≡ unserved) }
         ensures err { IfErr result IsOutside }
     {
         let mut listener = match TcpListener::bind(rt, SocketAddr::from((address, port))) {
@@ -164,6 +166,7 @@ impl Serve {
             keys,
             may_accept: true,
             peers: Peers::new(alloc),
+            events_so_far: 0,
         })
     }
 
@@ -174,31 +177,35 @@ impl Serve {
 
     /// How many connections there are.
     pub fn len(&self) -> usize
-        ensures { result ≡ map.len self.now.connected }
+        ensures { result ≡ map.len self.now.peers.connected }
     {
         self.peers.len()
     }
 
     /// Serves for so many turns, or without end for 0. A turn waits until a socket is ready, at most for
     /// 100 ms; then it tells the server the time, takes in who has connected, and looks at each socket that
-    /// is ready.
+    /// is ready. The observer is told which rows fire at each event, and which connections come and go.
     ///
-    /// The server should know no connection of another's, since numbers count up from 1. At `Step` and
-    /// `Memory` it is as its last step left it, and what was to be sent may be lost.
-    pub fn run<R: Clock + Wait>(
+    /// Each event that is handed to the server counts, from 1 on; a later run counts on.
+    ///
+    /// The server should know no connection of another's, since numbers count up from 1. At `Step`,
+    /// `Trace` and `Memory` it is as its last step left it, and what was to be sent may be lost.
+    pub fn run<R: Clock + Wait, W: Observer>(
         &mut self,
         rt: &R,
         alloc: Global,
         server: &mut Server,
+        observer: &mut W,
         turns: u64,
     ) -> Result<(), ServeFault>
-        ensures { Serves unknown unknown turns (scene (world_of server.old) self.old) (scene (world_of server.new) self.new) result }
+        ensures { Serves unknown unknown W.telling turns (scene (world_of server.old) self.old.peers self.old.events (W.told observer.old))
+            (scene (world_of server.new) self.new.peers self.new.events (W.told observer.new)) result }
     {
         if turns == 0 {
-            return self.run_on(rt, alloc, server);
+            return self.run_on(rt, alloc, server, observer);
         }
         for _turn in 0..turns {
-            match self.turn(rt, alloc, server) {
+            match self.turn(rt, alloc, server, observer) {
                 Ok(()) => {}
                 Err(fault) => return Err(fault),
             }
@@ -207,16 +214,18 @@ impl Serve {
     }
 
     // Turns without end.
-    fn run_on<R: Clock + Wait>(
+    fn run_on<R: Clock + Wait, W: Observer>(
         &mut self,
         rt: &R,
         alloc: Global,
         server: &mut Server,
+        observer: &mut W,
     ) -> Result<(), ServeFault>
-        ensures { Serves unknown unknown 0 (scene (world_of server.old) self.old) (scene (world_of server.new) self.new) result }
+        ensures { Serves unknown unknown W.telling 0 (scene (world_of server.old) self.old.peers self.old.events (W.told observer.old))
+            (scene (world_of server.new) self.new.peers self.new.events (W.told observer.new)) result }
     {
         for _turn in rt.forever() {
-            match self.turn(rt, alloc, server) {
+            match self.turn(rt, alloc, server, observer) {
                 Ok(()) => {}
                 Err(fault) => return Err(fault),
             }
@@ -224,42 +233,62 @@ impl Serve {
         unreachable!()
     }
 
-    fn turn<R: Clock>(
+    fn turn<R: Clock, W: Observer>(
         &mut self,
         rt: &R,
         alloc: Global,
         server: &mut Server,
+        observer: &mut W,
     ) -> Result<(), ServeFault>
-        ensures { Serves unknown unknown 1 (scene (world_of server.old) self.old) (scene (world_of server.new) self.new) result }
+        ensures { Serves unknown unknown W.telling 1 (scene (world_of server.old) self.old.peers self.old.events (W.told observer.old))
+            (scene (world_of server.new) self.new.peers self.new.events (W.told observer.new)) result }
     {
         match self.wait() {
             Ok(()) => {}
             Err(fault) => return Err(fault),
         }
-        match self.tick(rt, alloc, server) {
+        match self.tick(rt, alloc, server, observer) {
             Ok(()) => {}
             Err(fault) => return Err(fault),
         }
-        match self.accept_all(alloc, server) {
-            Ok(()) => attend_all(alloc, &mut self.peers, server),
+        match self.accept_all(alloc, server, observer) {
+            Ok(()) => attend_all(
+                alloc,
+                &mut self.peers,
+                &mut self.events_so_far,
+                server,
+                observer,
+            ),
             Err(fault) => Err(fault),
         }
     }
 
     // Tells the server the time.
-    fn tick<R: Clock>(
+    fn tick<R: Clock, W: Observer>(
         &mut self,
         rt: &R,
         alloc: Global,
         server: &mut Server,
+        observer: &mut W,
     ) -> Result<(), ServeFault>
-        ensures { Serves unknown unknown 1 (scene (world_of server.old) self.old) (scene (world_of server.new) self.new) result }
+        ensures { Serves unknown unknown W.telling 1 (scene (world_of server.old) self.old.peers self.old.events (W.told observer.old))
+            (scene (world_of server.new) self.new.peers self.new.events (W.told observer.new)) result }
     {
         let Ok(now) = moment(rt) else {
             return Err(ServeFault::Network);
         };
         let tick = Event::Tick { now };
-        hand_in(alloc, &mut self.peers, server, &tick)
+        match hand_in(
+            alloc,
+            &mut self.peers,
+            &mut self.events_so_far,
+            server,
+            observer,
+            &tick,
+        ) {
+            Ok(_) => Ok(()),
+            Err(fault) => Err(fault),
+        }
     }
 
     // Waits until a socket is ready, and wakes those that are.
@@ -285,14 +314,20 @@ impl Serve {
     }
 
     // Takes in those who have connected.
-    fn accept_all(&mut self, alloc: Global, server: &mut Server) -> Result<(), ServeFault>
-        ensures { Serves unknown unknown 0 (scene (world_of server.old) self.old) (scene (world_of server.new) self.new) result }
+    fn accept_all<W: Observer>(
+        &mut self,
+        alloc: Global,
+        server: &mut Server,
+        observer: &mut W,
+    ) -> Result<(), ServeFault>
+        ensures { Serves unknown unknown W.telling 0 (scene (world_of server.old) self.old.peers self.old.events (W.told observer.old))
+            (scene (world_of server.new) self.new.peers self.new.events (W.told observer.new)) result }
     {
         for _accept in 0..ACCEPTS {
-            let Some(stream) = self.accept() else {
+            let Some((stream, address)) = self.accept() else {
                 return Ok(());
             };
-            match self.take_in(alloc, server, stream) {
+            match self.take_in(alloc, server, observer, stream, address) {
                 Ok(()) => {}
                 Err(fault) => return Err(fault),
             }
@@ -302,7 +337,7 @@ impl Serve {
 
     // The next who has connected. A connection that is gone again is passed over. Where there are no more
     // descriptors, or no memory, it is tried again in the next turn.
-    fn accept(&mut self) -> Option<TcpStream>
+    fn accept(&mut self) -> Option<(TcpStream, SocketAddr)>
         ensures { self.new ≡ self.old }
     {
         for _try in 0..ACCEPTS {
@@ -310,7 +345,7 @@ impl Serve {
                 return None;
             }
             match self.listener.accept() {
-                Ok((stream, _)) => return Some(stream),
+                Ok(accepted) => return Some(accepted),
                 Err(error) => match error.kind() {
                     ErrorKind::ConnectionAborted | ErrorKind::Interrupted => {}
                     kind => {
@@ -324,13 +359,16 @@ impl Serve {
     }
 
     // Takes in one who has connected. A socket that can't be waited for is let go of.
-    fn take_in(
+    fn take_in<W: Observer>(
         &mut self,
         alloc: Global,
         server: &mut Server,
+        observer: &mut W,
         mut stream: TcpStream,
+        address: SocketAddr,
     ) -> Result<(), ServeFault>
-        ensures { Serves unknown unknown 0 (scene (world_of server.old) self.old) (scene (world_of server.new) self.new) result }
+        ensures { Serves unknown unknown W.telling 0 (scene (world_of server.old) self.old.peers self.old.events (W.told observer.old))
+            (scene (world_of server.new) self.new.peers self.new.events (W.told observer.new)) result }
     {
         let Some(number) = self.peers.next() else {
             return Ok(());
@@ -346,7 +384,19 @@ impl Serve {
         {
             return Ok(());
         }
-        let key = fresh_key(&mut self.keys);
-        join_socket(alloc, &mut self.peers, server, number, stream, key)
+        let arrival = Arrival {
+            number,
+            address,
+            key: fresh_key(&mut self.keys),
+        };
+        join_socket(
+            alloc,
+            &mut self.peers,
+            &mut self.events_so_far,
+            server,
+            observer,
+            arrival,
+            stream,
+        )
     }
 }

@@ -22,7 +22,11 @@ pub enum ServeFault {
     /// The server didn't answer an event.
     #[error("the server did not answer")]
     Step(StepFault),
-    /// A growth of the loop's own was refused. The server is as its last step left it.
+    /// What fired at an event, which the server answered, couldn't be told: a write failed.
+    #[error("a write of the trace failed")]
+    Trace,
+    /// A growth of the loop's own was refused, or events have no further number of 64 bits. The server is as
+    /// its last step left it.
     #[error("out of memory")]
     Memory,
 }

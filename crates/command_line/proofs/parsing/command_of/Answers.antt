@@ -2,7 +2,7 @@ use Rattle.std.proofs.Common.{◌∙◌, Option, Some, IfSome, ap, ap₂, refl, 
 use Rattle.std.proofs.lemmas.Option.{none-some}
 use Rattle.std.specs.Borrow.{Bor}
 use Rattle.clap.specs.Words.{Text}
-use Rattle.command_line.specs.Words.{IsAddressIn, port_of, turns_of}
+use Rattle.command_line.specs.Words.{IsAddressIn, is_given, port_of, turns_of}
 use Rattle.command_line.proofs.ProgramLemmas.{asked_met, no_asm, no_nodes, no_run, no_serve, no_trace, option_met}
 use Rattle.command_line.proofs.parsing.command_of.Goals as goal
 
@@ -45,13 +45,15 @@ returns-in_ok-address_of-in-serve-clause-some c =
     let met = asked_met c.args.matches.now c.in_ok-name.name c.in_ok-name.given c.get_str-nodes.result c.in_ok-name.ensures.name c.in_ok-name.ensures.rows c.get_str-nodes.ensures in
     let port_there = option_met c.args.matches.now c.in_ok-name.given (codes "port") c.get_str.result c.in_ok-name.name c.in_ok-name.ensures.name c.in_ok-name.ensures.rows c.get_str.ensures in
     let turns_there = option_met c.args.matches.now c.in_ok-name.given (codes "turns") c.get_str-in-serve.result c.in_ok-name.name c.in_ok-name.ensures.name c.in_ok-name.ensures.rows c.get_str-in-serve.ensures in
-    let address_there = option_met c.args.matches.now c.in_ok-name.given (codes "address") c.get_str-in-serve-2.result c.in_ok-name.name c.in_ok-name.ensures.name c.in_ok-name.ensures.rows c.get_str-in-serve-2.ensures in (
+    let address_there = option_met c.args.matches.now c.in_ok-name.given (codes "address") c.get_str-in-serve-2.result c.in_ok-name.name c.in_ok-name.ensures.name c.in_ok-name.ensures.rows c.get_str-in-serve-2.ensures in
+    let trace_there = option_met c.args.matches.now c.in_ok-name.given (codes "trace") c.get_str-in-serve-3.result c.in_ok-name.name c.in_ok-name.ensures.name c.in_ok-name.ensures.rows c.get_str-in-serve-3.ensures in (
       met ∙ ap₂ (λ n m. Some (n, option_map (λ n. n.now) m)) c.in-serve.is c.in_ok-nodes-in-serve.was,
       (
         ap port_of port_there ∙ sym c.port_of.ensures ∙ c.in_ok-port_of-in-serve.was,
         ap turns_of turns_there ∙ sym c.turns_of.ensures ∙ c.in_ok-turns_of-in-serve.was,
         subst (λ t. IsAddressIn t c.in_ok-address_of-in-serve.field-0) (sym address_there)
             (subst (λ r. IfSome r (IsAddressIn (option_map (λ t. t.now) c.get_str-in-serve-2.result))) c.in_ok-address_of-in-serve.was c.address_of.ensures.some),
+        ap is_given trace_there ∙ sym c.is_given.ensures,
       ),
     )
 

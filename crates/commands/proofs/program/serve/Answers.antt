@@ -6,6 +6,6 @@ use Rattle.commands.proofs.program.serve.Goals as goal
 
 pub returns : goal.returns
 returns g c =
-    subst (λ (server : State). ServesOn (place g.O.Write.contents c.args.output.now) (place g.O.Write.contents c.serve_on.new.output) c.args.port c.args.turns server c.serve_on.result)
+    subst (λ (server : State). ServesOn (place g.O.Write.contents c.args.output.now) (place g.O.Write.contents c.serve_on.new.output) c.args.listening server c.serve_on.result)
     c.new-server.ensures
     c.serve_on.ensures

@@ -10,5 +10,5 @@ use Rattle.commands.proofs.program.serve_made.Goals as goal
 pub returns-in-Err : goal.returns-in-Err
 returns-in-Err g c =
     let at = place g.O.Write.contents c.args.output.now in
-    λ said by. unmade (ServesBy at at c.args.port c.args.turns) (at ≡ at) said c.in-Err.status (subst (λ r. MadeBy r said) c.in-Err.is by) refl
-    (λ made. refused at at c.args.port c.args.turns (Some (opening made.0 made.1)) serve_fault.Memory tt refl)
+    λ said by. unmade (ServesBy at at c.args.listening) (at ≡ at) said c.in-Err.status (subst (λ r. MadeBy r said) c.in-Err.is by) refl
+    (λ made. refused at at c.args.listening (Some (opening made.0 made.1)) serve_fault.Memory tt refl)

@@ -1,13 +1,32 @@
-use Rattle.socket_server.specs.Serving.{unknown}
+use Rattle.std.proofs.Common.{◌≡◌, ap}
+use Rattle.mio.specs.declared.net.stream.TcpStream.{TcpStream}
+use Rattle.server_core.specs.World.{world_of}
+use Rattle.socket_server.specs.Sockets.{Sockets}
+use Rattle.socket_server.specs.Serving.{scene, unknown}
 use Rattle.socket_server.proofs.ServingLemmas.{goes_on, goes_same, stops_after}
 use Rattle.socket_server.proofs.serve.Serve.accept_all.Goals as goal
 
 pub returns-in_default : goal.returns-in_default
-returns-in_default c = goes_on unknown unknown _ _ _ c.loop-accept.invariant (goes_same unknown unknown _ _ _ c.accept.ensures)
+returns-in_default g c =
+    let at = (scene (world_of c.loop-accept.server) c.loop-accept.self.peers c.loop-accept.self.events (g.W.Observer.told c.loop-accept.observer)) in
+    let mid = (scene (world_of c.loop-accept.server) c.accept.new.self.peers c.accept.new.self.events (g.W.Observer.told c.loop-accept.observer)) in
+    let same : mid ≡ at = ap (λ (s : Sockets TcpStream). scene (world_of c.loop-accept.server) s.peers s.events (g.W.Observer.told c.loop-accept.observer)) c.accept.ensures in
+    let accepted = goes_on unknown unknown g.W.Observer.telling _ at mid c.loop-accept.invariant (goes_same unknown unknown g.W.Observer.telling at mid same) in
+    accepted
 
 pub returns-in-Err : goal.returns-in-Err
-returns-in-Err c = stops_after unknown unknown 0 _ _ _ c.in-Err.fault (goes_on unknown unknown _ _ _ c.loop-accept.invariant (goes_same unknown unknown _ _ _ c.accept.ensures)) c.in-Err.ensures
+returns-in-Err g c =
+    let at = (scene (world_of c.loop-accept.server) c.loop-accept.self.peers c.loop-accept.self.events (g.W.Observer.told c.loop-accept.observer)) in
+    let mid = (scene (world_of c.loop-accept.server) c.accept.new.self.peers c.accept.new.self.events (g.W.Observer.told c.loop-accept.observer)) in
+    let same : mid ≡ at = ap (λ (s : Sockets TcpStream). scene (world_of c.loop-accept.server) s.peers s.events (g.W.Observer.told c.loop-accept.observer)) c.accept.ensures in
+    let accepted = goes_on unknown unknown g.W.Observer.telling _ at mid c.loop-accept.invariant (goes_same unknown unknown g.W.Observer.telling at mid same) in
+    let new = (scene (world_of c.take_in.new.server) c.take_in.new.self.peers c.take_in.new.self.events (g.W.Observer.told c.take_in.new.observer)) in
+    stops_after unknown unknown g.W.Observer.telling 0 _ mid new c.in-Err.fault accepted c.in-Err.ensures
 
 pub loop-accept-preserved : goal.loop-accept-preserved
-loop-accept-preserved c =
-    goes_on unknown unknown _ _ _ (goes_on unknown unknown _ _ _ c.loop-accept.invariant (goes_same unknown unknown _ _ _ c.accept.ensures)) c.in-Ok.ensures
+loop-accept-preserved g c =
+    let at = (scene (world_of c.loop-accept.server) c.loop-accept.self.peers c.loop-accept.self.events (g.W.Observer.told c.loop-accept.observer)) in
+    let mid = (scene (world_of c.loop-accept.server) c.accept.new.self.peers c.accept.new.self.events (g.W.Observer.told c.loop-accept.observer)) in
+    let same : mid ≡ at = ap (λ (s : Sockets TcpStream). scene (world_of c.loop-accept.server) s.peers s.events (g.W.Observer.told c.loop-accept.observer)) c.accept.ensures in
+    let accepted = goes_on unknown unknown g.W.Observer.telling _ at mid c.loop-accept.invariant (goes_same unknown unknown g.W.Observer.telling at mid same) in
+    goes_on unknown unknown g.W.Observer.telling _ mid _ accepted c.in-Ok.ensures

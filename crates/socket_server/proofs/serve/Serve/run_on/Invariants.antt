@@ -4,4 +4,5 @@ use Rattle.std.proofs.Common.{ℕ}
 use Rattle.socket_server.proofs.serve.Serve.run_on.Given as goal
 
 abbrev pub invariant-loop-turn : goal.invariant-loop-turn
-invariant-loop-turn g l = (turns : ℕ) × Goes unknown unknown turns (scene (world_of l.initial.server) l.initial.self) (scene (world_of l.server) l.self)
+invariant-loop-turn g l = (turns : ℕ) × Goes unknown unknown g.W.Observer.telling turns (scene (world_of l.initial.server) l.initial.self.peers l.initial.self.events (g.W.Observer.told l.initial.observer))
+    (scene (world_of l.server) l.self.peers l.self.events (g.W.Observer.told l.observer))
