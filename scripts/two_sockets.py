@@ -1,22 +1,29 @@
 #!/usr/bin/env python3
 """Talks to `uaserver serve` as clients over sockets, and compares what they get with what `uaserver pipe` writes.
 
-    python3 scripts/two_sockets.py PROGRAM NODES [PORT]
+    python3 scripts/two_sockets.py PROGRAM NODES
 
 PROGRAM is the built program, NODES a node file with the standard's limits, as crates/uaserver/data/line.toml. It tries:
 two sockets whose conversations go on at once, cut differently; 100 sockets opened and closed at once, and then one
 that is served; a client that sends nothing, and one that never reads; a port and an address that can't be had, and an
-IPv6 address. Nothing but Python's own library is needed.
+IPv6 address, where the machine has one; the lines of connections that come, go and are turned away, and the trace of a run
+without subscriptions. Nothing but Python's own library is needed.
 """
 import select
 import socket
 import struct
 import subprocess
 import sys
+import tempfile
 import time
+
+from serving import PATIENCE, Server, free_port, has_ipv6
 
 HELLO = bytes.fromhex('48454c46380000000000000000000100000001000000000000000000180000006f70632e7463703a2f2f6c6f63616c686f73743a34383430')
 POLICY = struct.pack('<I', 47) + b'http://opcfoundation.org/UA/SecurityPolicy#None' + b'\xff' * 8
+
+# How often a client asks that doesn't read its answers.
+REQUESTS = 10000
 
 
 def opening():
@@ -81,7 +88,7 @@ def of_channel(answer, channel):
 
 
 def connect(port):
-    return socket.create_connection(('127.0.0.1', port), timeout=20)
+    return socket.create_connection(('127.0.0.1', port), timeout=PATIENCE)
 
 
 def read_all(sock):
@@ -125,8 +132,8 @@ def two_at_once(program, nodes, port):
     for sock in open_still:
         sock.setblocking(False)
     while open_still:
-        readable, writable, _ = select.select(list(open_still), [s for s in open_still if rest[s][0]], [], 20)
-        assert readable or writable, 'nothing for 20 seconds'
+        readable, writable, _ = select.select(list(open_still), [s for s in open_still if rest[s][0]], [], PATIENCE)
+        assert readable or writable, f'nothing for {PATIENCE} seconds'
         for sock in writable:
             taken = sock.send(rest[sock][0][:rest[sock][1]])
             rest[sock][0] = rest[sock][0][taken:]
@@ -169,7 +176,7 @@ def silent_and_deaf(program, nodes, port):
     channel = struct.unpack_from('<I', read_frame(deaf), 8)[0]
     # It asks and asks, and never reads, until its socket takes no more.
     deaf.setblocking(False)
-    data = b''.join(get_endpoints(channel, 2 + n) for n in range(20000))
+    data = b''.join(get_endpoints(channel, 2 + n) for n in range(REQUESTS))
     sent, last = 0, time.time()
     while sent < len(data) and time.time() - last < 1:
         try:
@@ -181,55 +188,87 @@ def silent_and_deaf(program, nodes, port):
     served_once(program, nodes, port)
     print(f'  beside one that never reads ({sent} bytes sent, then no more taken: {sent < len(data)}): {1000 * (time.time() - started):.1f} ms')
     # Once it reads, it is served on, to the last request.
-    deaf.setblocking(True)
     answers, left = 0, data[sent:]
-    deaf.settimeout(20)
-    if left:
-        deaf.setblocking(False)
+    deaf.setblocking(False)
     got = b''
-    while answers < 20000:
-        readable, writable, _ = select.select([deaf], [deaf] if left else [], [], 20)
-        assert readable or writable, f'nothing for 20 seconds after {answers} answers'
+    while answers < REQUESTS:
+        readable, writable, _ = select.select([deaf], [deaf] if left else [], [], PATIENCE)
+        assert readable or writable, f'nothing for {PATIENCE} seconds after {answers} answers'
         if writable:
             left = left[deaf.send(left[:65536]):]
         if readable:
             got += deaf.recv(1 << 20)
             answers = len(got) // 323
-    assert len(got) == 20000 * 323
+    assert len(got) == REQUESTS * 323
     silent.close()
     deaf.close()
 
 
+def told(program, nodes):
+    """Connections that come and go are told, and one too many is told to be refused, and then no more."""
+    with open(nodes, encoding='utf-8') as file:
+        text = file.read().replace('\n[server]\n', '\n[server]\nconnections = 1\n', 1)
+    with tempfile.NamedTemporaryFile('w', suffix='.toml') as one:
+        one.write(text)
+        one.flush()
+        server = Server(program, one.name, '--trace')
+        try:
+            first = connect(server.port)
+            first_at = '{}:{}'.format(*first.getsockname())
+            server.wait_for_line(f'connection 1 from {first_at}')
+            second = connect(server.port)
+            second_at = '{}:{}'.format(*second.getsockname())
+            server.wait_for_line(f'connection 2 from {second_at} refused: as many as may be are open')
+            second.close()
+            first.close()
+            server.wait_for_line(f'connection 1 from {first_at} closed')
+        finally:
+            server.end()
+    behind = server.lines[server.lines.index(f'listening {server.port}') + 1:]
+    # No subscription, and so no row; and of the second connection no further line.
+    assert len(behind) == 3, behind
+
+
 def refused(program, nodes, address, port, why):
-    ran = subprocess.run([program, 'serve', nodes, '--port', str(port), '--address', address], stdout=subprocess.PIPE, stderr=subprocess.PIPE, text=True)
+    words = [program, 'serve', nodes, '--port', str(port), '--address', address]
+    ran = subprocess.run(words, capture_output=True, text=True, timeout=PATIENCE)
     assert (ran.returncode, ran.stdout) == (6, ''), ran
     lines = ran.stderr.splitlines()
     assert lines[0].startswith('29 nodes, 43 references; clients are told opc.tcp://localhost:4840'), ran
     assert lines[1:] == [why, 'network'], ran
 
 
+def listens_by_ipv6(program, nodes):
+    port = free_port()
+    words = [program, 'serve', nodes, '--port', str(port), '--address', '::1', '--turns', '1']
+    ran = subprocess.run(words, capture_output=True, text=True, timeout=PATIENCE)
+    assert (ran.returncode, ran.stdout) == (0, f'listening {port}\n'), ran
+
+
 def main():
     program, nodes = sys.argv[1], sys.argv[2]
-    port = int(sys.argv[3]) if len(sys.argv) > 3 else 48410
-    server = subprocess.Popen([program, 'serve', nodes, '--port', str(port)], stdout=subprocess.PIPE, stderr=subprocess.DEVNULL)
+    server = Server(program, nodes)
+    port = server.port
     try:
-        line = server.stdout.readline()
-        assert line == f'listening {port}\n'.encode(), line
         for name, test in (('two at once', two_at_once), ('a hundred that vanish', hundred), ('silent and deaf', silent_and_deaf)):
             test(program, nodes, port)
-            assert server.poll() is None, 'the server ended'
-            print('ok', name)
+            assert server.is_running(), server.lines
+            print('ok', name, flush=True)
         refused(program, nodes, '127.0.0.1', port, f"can't listen at 127.0.0.1:{port}: another program has the port {port}, or only an administrator may")
         print('ok a port that is taken')
         # 192.0.2.1 is of a network for documents alone, so it is no machine's.
         refused(program, nodes, '192.0.2.1', port, f"can't listen at 192.0.2.1:{port}: the address 192.0.2.1 is none of this machine's")
         print('ok an address of another machine')
-        ran = subprocess.run([program, 'serve', nodes, '--port', str(port), '--address', '::1', '--turns', '1'], stdout=subprocess.PIPE, stderr=subprocess.PIPE)
-        assert (ran.returncode, ran.stdout) == (0, line), ran
-        print('ok an IPv6 address')
+        if has_ipv6():
+            listens_by_ipv6(program, nodes)
+            print('ok an IPv6 address')
+        else:
+            print('not tried: this machine has no IPv6 address')
+        told(program, nodes)
+        print('ok what is told of connections')
     finally:
-        server.kill()
-        server.wait()
+        server.end()
 
 
-main()
+if __name__ == '__main__':
+    main()

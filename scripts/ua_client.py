@@ -6,7 +6,7 @@
     endpoints                what the server offers, and whether this client can use it
     browse [ID]              the nodes below ID as a tree; ID is i=85, the folder Objects, where left out
     read ID..                the value of each node, with its status and the time of its source
-    write ID VALUE..         gives a variable a value, of the type that it has; several, one after the other
+    write ID VALUE..         gives a variable a value, of the type that it has; several, one after the other, in one request
     history ID               the values that a variable had
     watch ID..               prints each change of these variables, until it is stopped by Ctrl-C
 
@@ -814,12 +814,13 @@ class Session:
         read = self.call('Read', write)
         return read.array(read.data_value)
 
-    def write(self, node, kind, value):
-        def write(out):
-            out.int32(1).node_id(node).uint32(VALUE).string(None).byte(1).variant(kind, value)
+    def write(self, node, kind, values):
+        """Writes values, one after the other, in one request."""
+        def one(out, value):
+            out.node_id(node).uint32(VALUE).string(None).byte(1).variant(kind, value)
 
-        read = self.call('Write', write)
-        return read.array(read.uint32)[0]
+        read = self.call('Write', lambda out: out.array(values, one))
+        return read.array(read.uint32)
 
     def browse(self, node):
         """All forward hierarchical references of a node, page by page."""
@@ -983,7 +984,7 @@ def write(arguments):
     try:
         kind = arguments.type or type_of_variable(session, arguments.node)
         values = [parsed(kind, text) for text in arguments.values]
-        statuses = [session.write(arguments.node, kind, value) for value in values]
+        statuses = session.write(arguments.node, kind, values)
     finally:
         session.close()
     for text, status in zip(arguments.values, statuses):
@@ -1197,7 +1198,7 @@ def command_line():
     one = command(read, 'the values of nodes')
     one.add_argument('nodes', type=node, nargs='+', metavar='ID')
 
-    one = command(write, 'gives a variable a value, or several one after the other')
+    one = command(write, 'gives a variable a value, or several one after the other in one request')
     one.add_argument('node', type=node, metavar='ID')
     one.add_argument('values', nargs='+', metavar='VALUE')
     one.add_argument('--type', type=type_number, help='the built-in type of the value (that of the variable)')

@@ -1,20 +1,23 @@
 #!/usr/bin/env python3
 """Starts `uaserver serve`, watches a value that a second client writes, and stops.
 
-    python3 scripts/watch_test.py PROGRAM NODES [PORT]
+    python3 scripts/watch_test.py PROGRAM NODES
 
 PROGRAM is the built program, NODES the node file crates/uaserver/data/line.toml. Both clients are scripts/ua_client.py,
 so the bytes on the sockets are those of a client that was written from the standard. It tries what the server offers,
 the tree, values read and written, refusals by name, raw history, each change by a subscription, values dropped from a
-short queue, keep-alives, an answer in several chunks, and a server that isn't there.
+short queue, keep-alives, an answer in several chunks, and a server that isn't there. Meanwhile the server traces, and says
+which connections come and go; both are looked at, line by line, beside the tracer's form.
 Nothing but Python's own library is needed.
 """
 import os
 import re
+import signal
 import subprocess
 import sys
-import tempfile
 import time
+
+from serving import PATIENCE, Program, Server, free_port
 
 CLIENT = os.path.join(os.path.dirname(os.path.abspath(__file__)), 'ua_client.py')
 TIME = r'20\d\d-\d\d-\d\dT\d\d:\d\d:\d\d\.\d\d\dZ'
@@ -29,11 +32,11 @@ class Clients:
 
     def run(self, *words):
         """The status, the lines of standard output, and standard error."""
-        ran = subprocess.run(self.words(words), capture_output=True, text=True, timeout=30)
+        ran = subprocess.run(self.words(words), capture_output=True, text=True, timeout=PATIENCE)
         return ran.returncode, ran.stdout.splitlines(), ran.stderr
 
     def start(self, *words):
-        return subprocess.Popen(self.words(words), stdout=subprocess.PIPE, stderr=subprocess.PIPE, text=True)
+        return Program(self.words(words))
 
 
 def expect(found, wanted):
@@ -43,14 +46,10 @@ def expect(found, wanted):
         assert re.fullmatch(pattern, line), f'{line!r} is not {pattern!r}'
 
 
-def lines_until(process, pattern):
-    """The lines of a client up to the first of this pattern."""
-    lines = []
-    for line in process.stdout:
-        lines.append(line.rstrip('\n'))
-        if re.fullmatch(pattern, lines[-1]):
-            return lines
-    raise AssertionError(f'no line {pattern!r} in {lines}: {process.stderr.read()}')
+def wait_for(client, pattern, times=1):
+    """Waits until a client has printed so many lines of this pattern."""
+    if not client.wait_for(lambda lines: sum(bool(re.fullmatch(pattern, line)) for line in lines) >= times):
+        raise AssertionError(f'no line {pattern!r} in {client.lines}')
 
 
 def offers(clients):
@@ -77,14 +76,13 @@ def reads_and_writes(clients):
 
 def watches(clients):
     watching = clients.start('watch', 'ns=1;i=11', '--count', '4')
-    opening = lines_until(watching, TIME + r'|1601\S+ ns=1;i=11 UInt16 0 Good')
-    expect(opening, [r'subscription \d+: publishes every 1000 ms, a keep-alive after 10 intervals of silence, ends after 60 without a request',
-                     r'item \d+: ns=1;i=11, sampled every 0 ms, a queue of 10', r'\S+ ns=1;i=11 UInt16 0 Good'])
+    wait_for(watching, r'\S+ ns=1;i=11 UInt16 0 Good')
     for value in (7, 8, 9):
         assert clients.run('write', 'ns=1;i=11', str(value))[0] == 0
-    rest, error = watching.communicate(timeout=30)
-    expect(rest.splitlines(), [TIME + rf' ns=1;i=11 UInt16 {value} Good' for value in (7, 8, 9)])
-    assert (watching.returncode, error) == (0, ''), error
+    assert watching.wait() == 0
+    expect(watching.lines, [r'subscription \d+: publishes every 1000 ms, a keep-alive after 10 intervals of silence, ends after 60 without a request',
+                            r'item \d+: ns=1;i=11, sampled every 0 ms, a queue of 10', r'\S+ ns=1;i=11 UInt16 0 Good',
+                            *(TIME + rf' ns=1;i=11 UInt16 {value} Good' for value in (7, 8, 9))])
     status, lines, _ = clients.run('history', 'ns=1;i=11', '--page', '2')
     assert status == 0
     expect(lines, [TIME + rf' ns=1;i=11 UInt16 {value} Good' for value in (7, 8, 9)])
@@ -95,20 +93,20 @@ def drops(clients):
     for words, due in (([], [(19, lost), (20, '')]), (['--keep-oldest'], [(11, ''), (20, lost)])):
         assert clients.run('write', 'ns=1;i=12', '0')[0] == 0
         watching = clients.start('watch', 'ns=1;i=12', '--queue', '2', '--count', '4', *words)
-        lines_until(watching, r'\S+ ns=1;i=12 Int32 0 Good')
-        # One value comes alone, and ten within one interval behind it.
+        wait_for(watching, r'\S+ ns=1;i=12 Int32 0 Good')
+        # One value comes alone, and ten in one request behind it.
         assert clients.run('write', 'ns=1;i=12', '10')[0] == 0
-        lines_until(watching, TIME + r' ns=1;i=12 Int32 10 Good')
+        wait_for(watching, TIME + r' ns=1;i=12 Int32 10 Good')
         assert clients.run('write', 'ns=1;i=12', *map(str, range(11, 21)))[0] == 0
-        rest, error = watching.communicate(timeout=30)
-        assert error == '', error
-        expect(rest.splitlines(), [TIME + rf' ns=1;i=12 Int32 {value} Good{mark}' for value, mark in due])
+        assert watching.wait() == 0
+        expect(watching.lines[4:], [TIME + rf' ns=1;i=12 Int32 {value} Good{mark}' for value, mark in due])
 
 
 def keeps_alive(clients):
-    status, lines, error = clients.run('watch', 'ns=1;i=14', '--keep-alive', '2', '--keep-alives', '--seconds', '5.5')
-    assert status == 0, error
-    assert sum(line.endswith('keep-alive') for line in lines) >= 2, lines
+    watching = clients.start('watch', 'ns=1;i=14', '--keep-alive', '2', '--keep-alives')
+    wait_for(watching, TIME + ' keep-alive', 2)
+    watching.process.send_signal(signal.SIGINT)
+    assert watching.wait() == 0, watching.lines
 
 
 def chunks(clients):
@@ -120,27 +118,47 @@ def chunks(clients):
 
 
 def is_not_there(clients):
-    status, lines, error = Clients(1).run('read', 'ns=1;i=11')
+    status, lines, error = Clients(free_port()).run('read', 'ns=1;i=11')
     assert (status, lines) == (1, []) and 'refused' in error, error
 
 
+# The tracer's line: the event, the subscription, the row, two states, two counters, and what kept other rows from firing.
+ROW = r'(\d+) \d+ ([A-Z]\d+) (\w+) -> (\w+) K\d+ L\d+( [A-Z]\d+:\S+)*'
+
+
+def told(lines):
+    """Behind `listening` stand rows, whose events rise, and each connection once where it comes, and once where it goes."""
+    rows = [re.fullmatch(ROW, line) for line in lines if not line.startswith('connection ')]
+    assert rows and all(rows), lines
+    events = [int(row[1]) for row in rows]
+    assert events == sorted(events), events
+    assert rows[0][2] == 'C2' and rows[0][3] == 'closed', rows[0]
+    assert {'C2', 'N1', 'N6', 'K3'} <= {row[2] for row in rows}, {row[2] for row in rows}
+    came, went = set(), set()
+    for line in lines:
+        if line.startswith('connection '):
+            said = re.fullmatch(r'connection (\d+) from (127\.0\.0\.1:\d+)( closed)?', line)
+            assert said, line
+            seen = went if said[3] else came
+            assert (said[1], said[2]) not in seen, line
+            seen.add((said[1], said[2]))
+    assert came and went <= came, (came, went)
+
+
 def main():
-    program, nodes = sys.argv[1], sys.argv[2]
-    port = int(sys.argv[3]) if len(sys.argv) > 3 else 48411
-    with tempfile.TemporaryFile() as errors:
-        server = subprocess.Popen([program, 'serve', nodes, '--port', str(port)], stdout=subprocess.PIPE, stderr=errors)
-        try:
-            line = server.stdout.readline()
-            assert line == f'listening {port}\n'.encode(), line
-            clients = Clients(port)
-            for test in (offers, watches, reads_and_writes, drops, keeps_alive, chunks, is_not_there):
-                began = time.monotonic()
-                test(clients)
-                assert server.poll() is None, 'the server ended'
-                print(f'ok {test.__name__} ({time.monotonic() - began:.1f} s)', flush=True)
-        finally:
-            server.kill()
-            server.wait()
+    server = Server(sys.argv[1], sys.argv[2], '--trace')
+    try:
+        clients = Clients(server.port)
+        for test in (offers, watches, reads_and_writes, drops, keeps_alive, chunks, is_not_there):
+            began = time.monotonic()
+            test(clients)
+            assert server.is_running(), server.lines
+            print(f'ok {test.__name__} ({time.monotonic() - began:.1f} s)', flush=True)
+    finally:
+        server.end()
+    told(server.lines[server.lines.index(f'listening {server.port}') + 1:])
+    print('ok told', flush=True)
 
 
-main()
+if __name__ == '__main__':
+    main()

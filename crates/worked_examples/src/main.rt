@@ -2,14 +2,14 @@
 //! what comes of it; a line that begins with `#` is a comment. Each scenario in `data` can be copied, and tried by hand
 //! (docs/SCENARIOS.md). Words behind the program's name are one such line, and nothing but what comes of it is printed.
 //!
-//! A line is a command of `uaserver`, as `check NODES` or `trace NODES SCENARIO`, whose output is printed as it is. Where it
-//! isn't done, a line `status N` with its exit status follows, and then what it said to standard error. Or it is one of
-//! these, of a server:
+//! A line is a command of `uaserver`, as `check NODES` or `trace NODES SCENARIO`, whose output is printed as it is, but for
+//! the names of the frames of `run`. Where it isn't done, a line `status N` with its exit status follows, and then what it
+//! said to standard error. Or it is one of these, of a server:
 //!
 //! - `rows NODES SCENARIO`: a part of what `trace` and `run` print: `row SUBSCRIPTION ROW Kk Ll`, a line for each row of the
-//!   state table that fired, with the keep-alive and lifetime counters after it, and then `message TYPE RESULT`, a line for
-//!   each message that was sent: the bytes of its type id and of its service result;
-//! - `answers NODES SCENARIO`: `answer CONNECTION BODY`, a line for each message, with the bytes of its body;
+//!   state table that fired, with the keep-alive and lifetime counters after it, and then `message NAMES TYPE RESULT`, a
+//!   line for each message that was sent: the bytes of its type id and of its service result;
+//! - `answers NODES SCENARIO`: `answer CONNECTION NAMES BODY`, a line for each message, with the bytes of its body;
 //! - `last NODES SCENARIO`: the last of these lines, where the last that was sent is a message;
 //! - `behind SCENARIO LINE`: what `asm` prints where this line stands behind the scenario's;
 //! - `nodes TEXT`: what `check` says of a node file of this text, in which `\n` stands for the end of a line;
@@ -18,7 +18,14 @@
 //!   conditions, its actions, and the state afterwards.
 //!
 //! A message is one of a single chunk. What else a server sends or does, as the answers to a Hello and to an opening, a
-//! chunk of a longer answer, or a close, has no line in the first three: `run` shows it. Of the encoding:
+//! chunk of a longer answer, or a close, has no line in the first three: `run` shows it.
+//!
+//! NAMES are the standard's for a message and its result, as in `answer 1 ReadResponse Good 01007a02..`; behind them stands
+//! what a message of a subscription tells, `DataChangeNotification`, `StatusChangeNotification STATUS` or `keep-alive`. The
+//! lines of `run` have them too, as in `send 1 Error Bad_TcpMessageTypeInvalid 45525246..`. A frame that is a part of a
+//! message is an `intermediate chunk`, or the `final chunk`, where the names are those of the whole message.
+//!
+//! Of the encoding:
 //!
 //! - `take TYPE HEX`: what the bytes mean as a value of this type, how it is written again, and how many bytes are left,
 //!   or why they mean none, and how many are then left. Where the type is a message, they are its body, whose number
@@ -31,20 +38,24 @@
 //! And `benchmark NAME ROUNDS` ([`benchmarks`]), whose counts are printed; the times go to standard error.
 //!
 //! What is to be printed stands in `stdout`: written by hand from the standard's layouts and the state table, and never
-//! from what was printed.
+//! from what was printed. The names are put in by `scripts/name_messages.py`, which knows the standard and none of this code.
 #![tactic(auto)]
 
 mod behind;
 mod benchmarks;
 mod encoding;
 mod endings;
+mod messages;
+mod names;
 mod node_files;
+mod runs;
 mod state_table;
 
 use behind::{named, write_behind};
 use encoding::{write_compared, write_node_id, write_number, write_taken};
 use endings::write_end;
 use node_files::write_nodes;
+use runs::{write_answers, write_last, write_rows, write_run};
 use state_table::write_table;
 use std::alloc::{AllocError, Global};
 use std::io::Write;
@@ -59,9 +70,6 @@ use stream_taps::Tap;
 
 // The files of lines, in the order in which they are printed.
 const FILES: [&str; 4] = ["examples", "encoding", "conversations", "plant_cases"];
-
-// What precedes the hex digits of a message of one chunk, in a line of `run`: those of `MSGF`.
-const MESSAGE: &str = "4d534746";
 
 // Runs a command of the program, and gives what it prints.
 fn printed<R: Files + AllocGlobal + Net + RandomSource + Clock + Wait>(
@@ -78,76 +86,8 @@ fn printed<R: Files + AllocGlobal + Net + RandomSource + Clock + Wait>(
     Ok(all)
 }
 
-// The connection and the hex digits of a line of `run` that sends a message of one chunk.
-fn message(line: &str) -> Option<(&str, &str)> {
-    let (conn, digits) = line.strip_prefix("send ")?.split_once(' ')?;
-    if digits.starts_with(MESSAGE) {
-        Some((conn, digits))
-    } else {
-        None
-    }
-}
-
-// What a line of `trace` says of a row that fired, but for its states and for why others didn't fire.
-fn write_row(line: &str, output: &mut Vec<u8>) -> io::Result<()> {
-    let mut words = line.split(' ');
-    let (Some(_event), Some(subscription), Some(row)) = (words.next(), words.next(), words.next())
-    else {
-        return Ok(());
-    };
-    let mut counters = words.skip(3);
-    let (Some(keep), Some(life)) = (counters.next(), counters.next()) else {
-        return Ok(());
-    };
-    write!(output, "row {subscription} {row} {keep} {life}\n")
-}
-
-// The bytes of a message's type id, behind two of its encoding, and of its service result.
-fn write_message(digits: &str, output: &mut Vec<u8>) -> io::Result<()> {
-    let type_id = digits.get(52..56).unwrap_or("");
-    let result = digits.get(80..88).unwrap_or("");
-    write!(output, "message {type_id} {result}\n")
-}
-
-// The body of a message, behind the headers of its chunk.
-fn write_answer(conn: &str, digits: &str, output: &mut Vec<u8>) -> io::Result<()> {
-    let body = digits.get(48..).unwrap_or("");
-    write!(output, "answer {conn} {body}\n")
-}
-
 fn text_of(bytes: &[u8]) -> &str {
     std::str::from_utf8(bytes).unwrap_or("")
-}
-
-fn write_rows(traced: &str, sent: &str, output: &mut Vec<u8>) -> io::Result<()> {
-    for line in traced.lines() {
-        write_row(line, output)?;
-    }
-    for line in sent.lines() {
-        if let Some((_, digits)) = message(line) {
-            write_message(digits, output)?;
-        }
-    }
-    Ok(())
-}
-
-fn write_answers(sent: &str, output: &mut Vec<u8>) -> io::Result<()> {
-    for line in sent.lines() {
-        if let Some((conn, digits)) = message(line) {
-            write_answer(conn, digits, output)?;
-        }
-    }
-    Ok(())
-}
-
-fn write_last(sent: &str, output: &mut Vec<u8>) -> io::Result<()> {
-    let Some(line) = sent.lines().last() else {
-        return Ok(());
-    };
-    match message(line) {
-        Some((conn, digits)) => write_answer(conn, digits, output),
-        None => Ok(()),
-    }
 }
 
 // A line of the encoding, or what is no such line.
@@ -164,6 +104,40 @@ fn write_encoding(alloc: Global, words: &[&str], output: &mut Vec<u8>) -> Option
     }
 }
 
+// What a run sends: all of it, the bodies of its messages, or the last of these.
+fn write_part<R: Files + AllocGlobal + Net + RandomSource + Clock + Wait>(
+    rt: &R,
+    part: &str,
+    nodes: &str,
+    scenario: &str,
+    output: &mut Vec<u8>,
+) -> io::Result<()> {
+    let sent = printed(rt, &["run", nodes, scenario])?;
+    let sent = text_of(sent.as_slice());
+    match part {
+        "answers" => write_answers(rt.alloc(), sent, output),
+        "last" => write_last(rt.alloc(), sent, output),
+        _ => write_run(rt.alloc(), sent, output),
+    }
+}
+
+// The rows that fire, and what is sent.
+fn write_traced<R: Files + AllocGlobal + Net + RandomSource + Clock + Wait>(
+    rt: &R,
+    nodes: &str,
+    scenario: &str,
+    output: &mut Vec<u8>,
+) -> io::Result<()> {
+    let traced = printed(rt, &["trace", nodes, scenario])?;
+    let sent = printed(rt, &["run", nodes, scenario])?;
+    write_rows(
+        rt.alloc(),
+        text_of(traced.as_slice()),
+        text_of(sent.as_slice()),
+        output,
+    )
+}
+
 // A line whose words are a command, or a part of what commands print.
 fn write_command<R: Files + AllocGlobal + Net + RandomSource + Clock + Wait>(
     rt: &R,
@@ -173,18 +147,9 @@ fn write_command<R: Files + AllocGlobal + Net + RandomSource + Clock + Wait>(
     match words {
         ["uaserver"] => output.write_all(printed(rt, &[])?.as_slice()),
         ["state_table"] => write_table(output),
-        ["rows", nodes, scenario] => {
-            let traced = printed(rt, &["trace", nodes, scenario])?;
-            let sent = printed(rt, &["run", nodes, scenario])?;
-            write_rows(text_of(traced.as_slice()), text_of(sent.as_slice()), output)
-        }
-        ["answers", nodes, scenario] => {
-            let sent = printed(rt, &["run", nodes, scenario])?;
-            write_answers(text_of(sent.as_slice()), output)
-        }
-        ["last", nodes, scenario] => {
-            let sent = printed(rt, &["run", nodes, scenario])?;
-            write_last(text_of(sent.as_slice()), output)
+        ["rows", nodes, scenario] => write_traced(rt, nodes, scenario, output),
+        [part @ ("run" | "answers" | "last"), nodes, scenario] => {
+            write_part(rt, part, nodes, scenario, output)
         }
         command => output.write_all(printed(rt, command)?.as_slice()),
     }
