@@ -1,5 +1,5 @@
 -- What `serve` comes to.
-use Rattle.std.proofs.Common.{◌≡◌, ℕ, Bool, true, false, Option, Result, Ok, Err, MatchResult, refl, sym, subst, inl, inr}
+use Rattle.std.proofs.Common.{◌≡◌, ℕ, true, false, Result, Ok, Err, MatchResult, refl, subst, inl, inr}
 use Rattle.stream_server.specs.Pumped.{State}
 use Rattle.row_tracer.specs.TraceText.{rows_text}
 use Rattle.socket_server.specs.Serving.{IsServed, IsStopped, IsOutside}
@@ -8,9 +8,8 @@ use Rattle.socket_server.specs.declared.serve_fault.ServeFault.{ServeFault}
 use Rattle.socket_server.specs.declared.serve_fault.ServeFault.TheVariants as serve_fault
 use Rattle.scenario_lines.specs.Held.{Place}
 use Rattle.commands.specs.Serving.{ServesWith, telling_of, told_at}
-use Rattle.commands.specs.Commands.{Says, ListensAndServes, ServesOn, listening_line, status_served}
+use Rattle.commands.specs.Commands.{ListensAndServes, ServesOn, status_served}
 use Rattle.commands.specs.declared.program.Listening.{Listening}
-use Rattle.commands.specs.declared.status.Status.TheVariants.{Done}
 
 module _ (old new : Place) (l : Listening) (server : State) where
   -- nothing was said

@@ -1,5 +1,5 @@
 -- What `serve` tells while it serves.
-use Rattle.std.specs.Prelude.{◌≡◌, ℕ, Bool, true, false, List, [], Option, Result, Ok, Err}
+use Rattle.std.specs.Prelude.{◌≡◌, ℕ, Bool, true, false, [], Option, Result, Ok, Err}
 use Rattle.server_core.specs.declared.world.World.{World}
 use Rattle.row_tracer.specs.TraceText.{rows_text}
 use Rattle.socket_server.specs.Serving.{IsServed, IsStopped}
