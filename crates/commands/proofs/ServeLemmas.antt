@@ -2,12 +2,13 @@
 use Rattle.std.proofs.Common.{◌≡◌, ℕ, true, false, Result, Ok, Err, MatchResult, refl, subst, inl, inr}
 use Rattle.stream_server.specs.Pumped.{State}
 use Rattle.row_tracer.specs.TraceText.{rows_text}
+use Rattle.socket_server.specs.Sockets.{ServeState}
 use Rattle.socket_server.specs.Serving.{IsServed, IsStopped, IsOutside}
-use Rattle.socket_server.specs.Telling.{untold}
+use Rattle.socket_server.specs.Output.{no_output}
 use Rattle.socket_server.specs.declared.serve_fault.ServeFault.{ServeFault}
 use Rattle.socket_server.specs.declared.serve_fault.ServeFault.TheVariants as serve_fault
 use Rattle.scenario_lines.specs.Held.{Place}
-use Rattle.commands.specs.Serving.{ServesWith, telling_of, told_at}
+use Rattle.commands.specs.Serving.{ServesWith, text_of, output_at}
 use Rattle.commands.specs.Commands.{ListensAndServes, ServesOn, status_served}
 use Rattle.commands.specs.declared.program.Listening.{Listening}
 
@@ -33,17 +34,17 @@ module _ (old new : Place) (l : Listening) (server : State) where
   ended (Ok x) h = h
   ended (Err f) h = stopped f h
 
-module _ (turns : ℕ) (server : State) (old new : Place) where
+module _ (turns : ℕ) (sockets : ServeState) (server : State) (old new : Place) where
   -- with a trace, which is put into the writer that was lent
   pub served_with : (w w' : ℕ) (r : Result (Unit {0}) ServeFault) → w' ≡ w
-      → MatchResult r (λ _. IsServed rows_text server turns (told_at w old) (told_at w' new)) (λ f. IsStopped rows_text server f (told_at w old) (told_at w' new))
-      → ServesWith true turns server old new r
-  served_with w w' (Ok x) e h = (w, subst (λ v. IsServed rows_text server turns (told_at w old) (told_at v new)) e h)
-  served_with w w' (Err f) e h = (w, subst (λ v. IsStopped rows_text server f (told_at w old) (told_at v new)) e h)
+      → MatchResult r (λ _. IsServed rows_text sockets server turns (output_at w old) (output_at w' new)) (λ f. IsStopped rows_text sockets server f (output_at w old) (output_at w' new))
+      → ServesWith true turns sockets server old new r
+  served_with w w' (Ok x) e h = (w, subst (λ v. IsServed rows_text sockets server turns (output_at w old) (output_at v new)) e h)
+  served_with w w' (Err f) e h = (w, subst (λ v. IsStopped rows_text sockets server f (output_at w old) (output_at v new)) e h)
 
   -- and without
   pub served_without : (r : Result (Unit {0}) ServeFault) → new ≡ old
-      → MatchResult r (λ _. IsServed (telling_of false) server turns untold untold) (λ f. IsStopped (telling_of false) server f untold untold)
-      → ServesWith false turns server old new r
+      → MatchResult r (λ _. IsServed (text_of false) sockets server turns no_output no_output) (λ f. IsStopped (text_of false) sockets server f no_output no_output)
+      → ServesWith false turns sockets server old new r
   served_without (Ok x) e h = (h, e)
   served_without (Err f) e h = (h, e)

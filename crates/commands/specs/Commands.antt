@@ -11,6 +11,7 @@ use Rattle.stream_server.specs.Pumped as pump
 use Rattle.stream_server.specs.Pumped.{State, scene}
 use Rattle.stream_server.specs.declared.PumpFault.{PumpFault}
 use Rattle.stream_server.specs.declared.PumpFault.TheVariants as fault
+use Rattle.socket_server.specs.Sockets.{ServeState, IsUnserved}
 use Rattle.socket_server.specs.Serving.{IsOutside}
 use Rattle.socket_server.specs.declared.serve_fault.ServeFault.{ServeFault}
 use Rattle.socket_server.specs.declared.serve_fault.ServeFault.TheVariants as serve_fault
@@ -100,10 +101,12 @@ status_served (Err of_the_network) = Network
 unfoldable pub listening_line : ℕ → List ℕ
 listening_line port = codes "listening " ++ decimal port ++ codes "\n"
 
--- it is said that the program listens, and then this server serves so, and tells what happens behind that line
+-- The program was asked to listen at this address and this port, and nobody has connected yet; it is said that it listens; and then this
+-- server serves so, and what it puts out comes behind that line
 abbrev pub ListensAndServes : Place → Place → Listening → State → Result (Unit {0}) ServeFault → Type 0
 ListensAndServes old new l server result =
-    (mid : Place) × Says (listening_line l.port) old mid Done × ServesWith l.trace l.turns server mid new result
+    (sockets : ServeState) × IsUnserved l.address l.port sockets × (mid : Place) × Says (listening_line l.port) old mid Done
+    × ServesWith l.trace l.turns sockets server mid new result
 
 -- It is said that this server listens, and it serves so many turns, from no connection on, or stops before, for the fault that
 -- the status tells. Or nothing is said, for such a fault of the program's own; or saying it failed, and nobody is served
@@ -169,3 +172,7 @@ module _ {R W : Type 0} (remaining : R → Option (List ℕ)) (contents : W → 
   -- what the words ask for is done, or it is said why they ask for nothing
   abbrev pub Runs : List (List ℕ) → Ended → Type 0
   Runs words e = ((command : Command) × AsksFor words command × Commanded command e) ⊎ ((stop : Stop) × StopsBy words stop × StopsWith stop e)
+
+  -- these words ask for it, or there was no memory for them
+  abbrev pub RunsArguments : List (List ℕ) → Ended → Type 0
+  RunsArguments words e = Runs words e ⊎ ((e.status ≡ Halted) × (e.file ≡ None) × Untouched)

@@ -3,22 +3,24 @@
 //! [`run`] does what the words of a command line ask for and says how that ended: `pipe` serves one connection over a
 //! reader and a writer, `serve` any number over sockets, and `check` counts what a node file holds; `asm` prints the events
 //! of a scenario, `run` what is sent when they happen to a server, and `trace` which rows of the subscriptions' state table
-//! fire then. The program itself hands it the words after its name and its three standard streams, and ends with
+//! fire then. [`run_args`] is what the program itself calls, with its words and its three standard streams; it ends with
 //! [`Status::code`].
 //!
 //! What a contract sees: the words, the text of each file that was read, and the bytes of the streams. `Commands` has what
-//! each command comes to, `Serving` what `serve` tells meanwhile, `Scenarios` those that take a scenario, `NodeFiles` what a node file makes, and `Statuses` the
-//! exit statuses.
+//! each command comes to, `Serving` what `serve` puts out meanwhile, `Scenarios` those that take a scenario, `NodeFiles` what a
+//! node file makes, and `Statuses` the exit statuses.
 //!
 //! Read [`run`] and [`Status`] first.
 #![tactic(auto)]
 
+mod arguments;
 mod program;
 mod scenarios;
 mod status;
 mod text_file;
 mod watching;
 
+pub use arguments::run_args;
 pub use program::{Ended, Listening, check, no_memory, pipe, run, serve};
 pub use scenarios::asm;
 pub use status::Status;

@@ -2,7 +2,6 @@
 
 ghost use Rattle.std.specs.Prelude.{◌≡◌, Option, Some, None, IfOk, IfErr, map, option_map, string_bytes};
 ghost use Rattle.server_core.specs.World.{world_of};
-ghost use Rattle.socket_server.specs.Serving.{unserved};
 ghost use Rattle.ua_space.specs.Build.{space_of};
 ghost use Rattle.scenario_lines.specs.Held.{place};
 ghost use Rattle.commands.specs.Serving.{ServesWith};
@@ -421,8 +420,7 @@ fn serve_and_tell<R: Clock + Wait, O: Write, E: Write>(
     output: &mut Tap<O>,
     errors: &mut E,
 ) -> Result<(), ServeFault>
-    ensures { serve.old ≡ unserved →
-        ServesWith listening.trace listening.turns (world_of server.old) (place O.contents output.old) (place O.contents output.new) result }
+    ensures { ServesWith listening.trace listening.turns serve.old (world_of server.old) (place O.contents output.old) (place O.contents output.new) result }
 {
     let mut addresses = Numbered::new(alloc);
     if listening.trace {

@@ -4,8 +4,8 @@
 ghost use Rattle.std.specs.Prelude.{◌≡◌, ℕ, []};
 ghost use Rattle.row_tracer.specs.TraceText.{rows_text};
 ghost use Rattle.scenario_lines.specs.Held.{place};
-ghost use Rattle.socket_server.specs.Telling.{Tells, untold};
-ghost use Rattle.commands.specs.Serving.{told_at};
+ghost use Rattle.socket_server.specs.Output.{PutsOrFails, no_output};
+ghost use Rattle.commands.specs.Serving.{output_at};
 
 use row_tracer::{TraceFault, put_rows};
 use server_core::Fired;
@@ -48,9 +48,9 @@ pub struct Visitors<'a, 'b, E> {
 }
 
 impl<E: Write> Observer for Visitors<'_, '_, E> {
-    ghost told = { λ _. untold };
+    ghost output = { λ _. no_output };
 
-    ghost telling = { λ _ _. [] };
+    ghost text = { λ _ _. [] };
 
     fn saw(&mut self, _event: u64, _rows: &[Fired]) -> Result<(), ServeFault> {
         Ok(())
@@ -76,8 +76,8 @@ fn put_out<O: Write>(
     rows: &[Fired],
     output: &mut Tap<O>,
 ) -> Result<(), ServeFault>
-    ensures { (writer : ℕ) → Tells (rows_text event rows.now) (told_at writer (place O.contents output.old))
-        (told_at writer (place O.contents output.new)) result }
+    ensures { (writer : ℕ) → PutsOrFails (rows_text event rows.now) (output_at writer (place O.contents output.old))
+        (output_at writer (place O.contents output.new)) result }
 {
     match put_rows(text, event, rows, output) {
         Ok(()) => {}
@@ -103,9 +103,9 @@ pub struct Tracing<'a, 'b, 'c, 'd, O, E> {
 }
 
 impl<O: Write, E: Write> Observer for Tracing<'_, '_, '_, '_, O, E> {
-    ghost told = { λ t. told_at t.output.ghost_name (place O.contents t.output.now) };
+    ghost output = { λ t. output_at t.output.ghost_name (place O.contents t.output.now) };
 
-    ghost telling = { rows_text };
+    ghost text = { rows_text };
 
     fn saw(&mut self, event: u64, rows: &[Fired]) -> Result<(), ServeFault> {
         if rows.is_empty() {

@@ -1,5 +1,5 @@
-//! Tests of the libraries, through public items alone, for what no line of `worked_examples` can say: constants beside the
-//! standard's numerals, limits that no node file or scenario reaches, and what neither a client nor a trace sees.
+//! Tests of the libraries, through public items alone, for what no line of `worked_examples` can say: limits
+//! that no node file or scenario reaches, and what neither a client nor a trace sees.
 #![tactic(auto)]
 
 #[cfg(test)]
@@ -10,7 +10,6 @@ mod frames;
 mod histories;
 #[cfg(test)]
 mod holding;
-mod numbers;
 #[cfg(test)]
 mod peers;
 #[cfg(test)]

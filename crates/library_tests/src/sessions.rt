@@ -2,7 +2,7 @@
 
 use crate::holding::holds;
 use std::test::*;
-use ua_session::{HistoryPoint, Point, Points, Sessions, point_bytes, point_serial};
+use ua_session::{HistoryPoint, Point, Sessions, point_bytes, point_serial};
 use ua_types::{Config, Moment, NodeId};
 
 // A point of the history of the node `ns=1;i=11`.
@@ -16,8 +16,20 @@ fn point() -> Point {
     })
 }
 
-// Whether the first point that was held is there.
-fn has_first(points: &Points) -> bool {
+// Keeps a point of session 1, where it has a place for points. Says whether it has.
+fn hold_first(sessions: &mut Sessions) -> Result<bool, Fail> {
+    let Some(points) = sessions.points_mut(1) else {
+        return Ok(false);
+    };
+    points.hold(point())?;
+    Ok(true)
+}
+
+// Whether session 1 holds the first point that was held.
+fn has_first(sessions: &mut Sessions) -> bool {
+    let Some(points) = sessions.points_mut(1) else {
+        return false;
+    };
     matches!(points.get(1), Some(Point::History(point)) if point.last.0 == 100)
 }
 
@@ -25,11 +37,14 @@ fn has_first(points: &Points) -> bool {
 fn points_of_a_session(rt: HostRuntime) -> Result<(), Fail> {
     let alloc = rt.alloc();
     let mut sessions = Sessions::new(alloc, &Config::standard(alloc)?);
-    let mut points = sessions.take_points(alloc, 1);
-    points.hold(point())?;
-    sessions.put_points(1, points)?;
-    holds(&rt, "put back", has_first(&sessions.take_points(alloc, 1)));
-    holds(&rt, "taken", !has_first(&sessions.take_points(alloc, 1)));
+    let is_there = hold_first(&mut sessions)?;
+    holds(&rt, "no place yet", !is_there);
+    sessions.open_points(alloc, 1)?;
+    let is_there = hold_first(&mut sessions)?;
+    holds(&rt, "a place", is_there);
+    holds(&rt, "held", has_first(&mut sessions));
+    sessions.open_points(alloc, 1)?;
+    holds(&rt, "held still", has_first(&mut sessions));
     Ok(())
 }
 

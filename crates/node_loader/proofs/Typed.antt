@@ -2,7 +2,6 @@
 use Rattle.std.proofs.Common.{◌≡◌, ℕ, true, Result, Ok, Err, refl, subst}
 use Rattle.toml.specs.Data.{Members}
 use Rattle.ua_values.specs.ValueTypes.{type_number}
-use Rattle.ua_values.specs.declared.content.Content.TheVariants.{Scalar}
 use Rattle.ua_values.specs.declared.variant.Variant.{Variant}
 use Rattle.ua_space.specs.declared.node.ValueRank.TheVariants as ranks
 use Rattle.ua_space.specs.Variables.{is_of, has_rank}

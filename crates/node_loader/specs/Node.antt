@@ -9,7 +9,6 @@ use Rattle.ua_types.specs.declared.node_class.NodeClass.TheVariants as classes
 use Rattle.ua_types.specs.declared.node_id.NodeId.{NodeId}
 use Rattle.ua_values.specs.DataValues.{value_since}
 use Rattle.ua_values.specs.ValueTypes.{type_number}
-use Rattle.ua_values.specs.declared.data_value.DataValue.{DataValue}
 use Rattle.ua_values.specs.declared.variant.Variant.{Variant}
 use Rattle.ua_space.specs.declared.node.NodeDetails.TheVariants as details
 use Rattle.ua_space.specs.declared.node.ValueRank.TheVariants as ranks

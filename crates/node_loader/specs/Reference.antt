@@ -1,5 +1,5 @@
 -- An entry of the list `reference`: three ids, all required.
-use Rattle.std.specs.Prelude.{ℕ, [], ◌∷◌, codes, Option, Some, None, Result, Ok, Err}
+use Rattle.std.specs.Prelude.{ℕ, List, [], ◌∷◌, codes, Option, Some, None, Result, Ok, Err}
 use Rattle.toml.specs.Data.{Members}
 use Rattle.ua_space.specs.declared.triple.Part.{Part}
 use Rattle.ua_space.specs.declared.triple.Triple.{Triple}
@@ -9,9 +9,12 @@ use Rattle.node_loader.specs.Keys.{only}
 use Rattle.node_loader.specs.declared.fault.Cause.{Cause}
 use Rattle.node_loader.specs.declared.fault.Cause.TheVariants.{WrongKind}
 
+abbrev pub reference_keys : List (List ℕ)
+reference_keys = codes "from" ∷ codes "type" ∷ codes "to" ∷ []
+
 unfoldable pub reference_of : ℕ → Part → Members → Result Triple Cause
 reference_of highest part ms = do
-  known ← only (codes "from" ∷ codes "type" ∷ codes "to" ∷ []) ms
+  known ← only reference_keys ms
   source ← id_at highest (codes "from") ms
   reference_type ← id_at highest (codes "type") ms
   target ← id_at highest (codes "to") ms

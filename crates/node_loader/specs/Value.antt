@@ -1,5 +1,5 @@
 -- Values in a file: the words of the types, and what is read as a value of each.
-use Rattle.std.specs.Prelude.{ℕ, pos, neg_ℤ, ◌^◌, nat_lt, List, length, codes, Option, Some, None, Result, Ok, Err, if◌then◌else◌}
+use Rattle.std.specs.Prelude.{ℕ, pos, neg_ℤ, ◌^◌, nat_lt, List, length, codes, Option, Some, Result, Ok, Err, if◌then◌else◌}
 use Rattle.std.specs.Option.{ok_or}
 use Rattle.hex.specs.Hex.{decode_of}
 use Rattle.hex.specs.declared.error.FromHexError.{FromHexError}

@@ -1,13 +1,15 @@
 //! A whole node file.
 
-ghost use Rattle.std.specs.Prelude.{◌≡◌, ◌++◌, ◌∷◌, [], codes, OnOk};
+ghost use Rattle.std.specs.Prelude.{◌≡◌, ◌++◌, ◌∷◌, [], codes, Err, IfErr, IfOk, OnOk};
+ghost use Rattle.std.specs.Result.{result_map_both};
 ghost use Rattle.toml.specs.Data.{get_member, no_members};
 ghost use Rattle.toml.specs.View.{items_view, table_view};
-ghost use Rattle.ua_types.specs.Answers.{Gives, GivesAs};
 ghost use Rattle.node_loader.specs.Lists.{after};
-ghost use Rattle.node_loader.specs.declared.fault.Cause.TheVariants.{Memory};
 ghost use Rattle.node_loader.specs.File.{Loads, version_of, table_at, list_at, parts_of, setting_of, nodes_of, references_of, contents_of, meaning_of};
+ghost use Rattle.node_loader.specs.Keys.{only};
 ghost use Rattle.node_loader.specs.Node.{listed, triples_of};
+ghost use Rattle.node_loader.specs.Server.{server_keys};
+ghost use Rattle.ua_space.specs.declared.triple.Part.TheVariants as part;
 
 use crate::fault::{Cause, LoadFault};
 use crate::keys::{only, value_at};
@@ -20,7 +22,7 @@ use ua_space::{Node, Part, Triple};
 use ua_types::{Config, Listed};
 
 fn version(table: &Table) -> Result<(), Cause>
-    ensures { Gives Memory result (version_of (get_member (codes "version") (table_view table.now))) }
+    ensures { result ≡ version_of (get_member (codes "version") (table_view table.now)) }
 {
     match value_at(table, "version") {
         None => Err(Cause::Version),
@@ -34,7 +36,7 @@ fn version(table: &Table) -> Result<(), Cause>
 // The entries of a list, none where the key is absent.
 #[tactic(auto, unfolding(crate::specs::File::list_at))]
 fn list_at<'a>(table: &'a Table, key: &str) -> Result<&'a [Value], Cause>
-    ensures { GivesAs Memory (λ vs. items_view vs.now) result (list_at key.now (table_view table.now)) }
+    ensures { result_map_both (λ vs. items_view vs.now) (λ cause. cause) result ≡ list_at key.now (table_view table.now) }
 {
     let Some(value) = value_at(table, key) else {
         return Ok(&[]);
@@ -49,7 +51,7 @@ fn list_at<'a>(table: &'a Table, key: &str) -> Result<&'a [Value], Cause>
 #[tactic(auto, unfolding(crate::specs::File::table_at))]
 fn table_at<'a>(table: &'a Table, key: &str, empty: &'a Table) -> Result<&'a Table, Cause>
     requires { table_view empty.now ≡ no_members }
-    ensures { GivesAs Memory (λ t. table_view t.now) result (table_at key.now (table_view table.now)) }
+    ensures { result_map_both (λ t. table_view t.now) (λ cause. cause) result ≡ table_at key.now (table_view table.now) }
 {
     let Some(value) = value_at(table, key) else {
         return Ok(empty);
@@ -67,7 +69,7 @@ fn parts<'a>(
     empty: &'a Table,
 ) -> Result<(&'a Table, &'a [Value], &'a [Value]), Cause>
     requires { table_view empty.now ≡ no_members }
-    ensures { GivesAs Memory (λ p. record { server = table_view p.0.now; nodes = items_view p.1.now; references = items_view p.2.now }) result (parts_of (table_view table.now)) }
+    ensures { result_map_both (λ p. record { server = table_view p.0.now; nodes = items_view p.1.now; references = items_view p.2.now }) (λ cause. cause) result ≡ parts_of (table_view table.now) }
 {
     version(table)?;
     only(&["version", "server", "node", "reference"], table)?;
@@ -177,7 +179,9 @@ pub struct Loaded {
 
 #[tactic(auto, unfolding(crate::specs::File::contents_of))]
 fn contents(alloc: Global, table: &Table) -> Result<Loaded, LoadFault>
-    ensures { Loads (λ l. l) result (contents_of (table_view table.now)) }
+    ensures given { Loads (λ l. l) result (contents_of (table_view table.now)) }
+    ensures refused { IfErr (parts_of (table_view table.now)) (λ cause. result ≡ Err (record { cause = cause; part = part.File })) }
+    ensures keys { IfOk (parts_of (table_view table.now)) (λ parts. IfErr (only server_keys parts.server) (λ cause. result ≡ Err (record { cause = cause; part = part.Server }))) }
 {
     let empty = Table::new(alloc);
     let (server_table, node_list, reference_list) = match parts(table, &empty) {
@@ -209,7 +213,8 @@ fn contents(alloc: Global, table: &Table) -> Result<Loaded, LoadFault>
 }
 
 /// What the text of a node file means, or its first fault. The fault `Memory`, at any part, comes
-/// only where an allocation failed.
+/// only where an allocation failed. Once the text is parsed, the version, the file's own keys, the
+/// kinds of its parts and the keys of `server` are judged before anything else grows.
 pub fn load(alloc: Global, text: &str) -> Result<Loaded, LoadFault>
     ensures { Loads (λ l. l) result (meaning_of text.now) }
 {

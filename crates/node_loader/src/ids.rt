@@ -1,11 +1,12 @@
 //! Node ids in a file: the texts of ids, whose namespace the server must have.
 
-ghost use Rattle.std.specs.Prelude.{◌≡◌, ◌≤◌, IfOk};
+ghost use Rattle.std.specs.Prelude.{◌≡◌, ◌≤◌, Err, IfErr, IfOk};
 ghost use Rattle.toml.specs.View.{table_view};
 ghost use Rattle.ua_types.specs.NodeIds.{numeric_id};
 ghost use Rattle.ua_types.specs.Answers.{Gives};
 ghost use Rattle.node_loader.specs.declared.fault.Cause.TheVariants.{Memory};
 ghost use Rattle.node_loader.specs.Ids.{id_within, id_at, id_or, id_if_any};
+ghost use Rattle.node_loader.specs.Keys.{required_word, word_at};
 
 use crate::fault::Cause;
 use crate::keys::{required_word, word_at};
@@ -46,6 +47,7 @@ pub(crate) fn id_within(alloc: Global, highest: u16, text: &str) -> Result<NodeI
 #[tactic(auto, unfolding(crate::specs::Ids::id_at))]
 pub(crate) fn id_at(alloc: Global, highest: u16, table: &Table, key: &str) -> Result<NodeId, Cause>
     ensures given { Gives Memory result (id_at highest key.now (table_view table.now)) }
+    ensures refused { IfErr (required_word key.now (table_view table.now)) (λ cause. result ≡ Err cause) }
     ensures served { IfOk result (λ id. id.namespace ≤ highest) }
 {
     let text = required_word(table, key)?;
@@ -61,7 +63,8 @@ pub(crate) fn id_or(
     key: &str,
     fallback: u32,
 ) -> Result<NodeId, Cause>
-    ensures { Gives Memory result (id_or highest key.now fallback (table_view table.now)) }
+    ensures given { Gives Memory result (id_or highest key.now fallback (table_view table.now)) }
+    ensures refused { IfErr (word_at key.now (table_view table.now)) (λ cause. result ≡ Err cause) }
 {
     match word_at(table, key)? {
         None => Ok(standard_id(fallback)),
@@ -77,7 +80,8 @@ pub(crate) fn id_if_any(
     table: &Table,
     key: &str,
 ) -> Result<Option<NodeId>, Cause>
-    ensures { Gives Memory result (id_if_any highest key.now (table_view table.now)) }
+    ensures given { Gives Memory result (id_if_any highest key.now (table_view table.now)) }
+    ensures refused { IfErr (word_at key.now (table_view table.now)) (λ cause. result ≡ Err cause) }
 {
     match word_at(table, key)? {
         None => Ok(None),

@@ -1,12 +1,13 @@
 //! What a part of the file says at a key.
 
-ghost use Rattle.std.specs.Prelude.{◌≡◌, ◌≤◌, ◌≤ℤ◌, ◌<◌, ◌^◌, length, IfOk, IfSome, IsSome, option_map, if◌then◌else◌, Ok, Err, string_bytes};
+ghost use Rattle.std.specs.Prelude.{◌≡◌, ◌≤◌, ◌≤ℤ◌, ◌<◌, ◌^◌, length, IfOk, IfErr, IfSome, IsSome, option_map, if◌then◌else◌, Ok, Err, string_bytes};
 ghost use Rattle.std.specs.List.{list_all, list_any};
 ghost use Rattle.std.specs.Map.{keys_of};
+ghost use Rattle.std.specs.Result.{result_map_both};
 ghost use Rattle.std.specs.Str.{bytes_eq};
 ghost use Rattle.toml.specs.Data.{get_member, as_bool};
 ghost use Rattle.toml.specs.View.{table_view, view};
-ghost use Rattle.ua_types.specs.Answers.{Gives, GivesAs};
+ghost use Rattle.ua_types.specs.Answers.{Gives};
 ghost use Rattle.node_loader.specs.declared.fault.Cause.TheVariants.{Memory};
 ghost use Rattle.node_loader.specs.Keys.{of_kind, required_word, required_text, required_boolean, boolean_at, required_integer, unsigned_at, signed_at, all_keys, word_at, text_at, integer_at, number_at, text_or};
 
@@ -24,7 +25,7 @@ pub(crate) fn value_at<'a>(table: &'a Table, key: &str) -> Option<&'a Value>
 
 /// The characters at a key, however many, if the part has it.
 pub(crate) fn word_at<'a>(table: &'a Table, key: &str) -> Result<Option<&'a str>, Cause>
-    ensures { GivesAs Memory (option_map (λ t. t.now)) result (word_at key.now (table_view table.now)) }
+    ensures { result_map_both (option_map (λ t. t.now)) (λ cause. cause) result ≡ word_at key.now (table_view table.now) }
 {
     match value_at(table, key) {
         None => Ok(None),
@@ -38,7 +39,7 @@ pub(crate) fn word_at<'a>(table: &'a Table, key: &str) -> Result<Option<&'a str>
 /// The text at a key, if the part has it: fewer than 2^31 bytes.
 #[tactic(auto, unfolding(crate::specs::Keys::text_at))]
 pub(crate) fn text_at<'a>(table: &'a Table, key: &str) -> Result<Option<&'a str>, Cause>
-    ensures given { GivesAs Memory (option_map (λ t. t.now)) result (text_at key.now (table_view table.now)) }
+    ensures given { result_map_both (option_map (λ t. t.now)) (λ cause. cause) result ≡ text_at key.now (table_view table.now) }
     ensures short { IfOk result (λ t. IfSome t (λ s. length s.now < 2 ^ 31)) }
 {
     match word_at(table, key)? {
@@ -55,7 +56,7 @@ pub(crate) fn text_at<'a>(table: &'a Table, key: &str) -> Result<Option<&'a str>
 
 /// The integer at a key, if the part has it.
 pub(crate) fn integer_at(table: &Table, key: &str) -> Result<Option<i64>, Cause>
-    ensures { Gives Memory result (integer_at key.now (table_view table.now)) }
+    ensures { result ≡ integer_at key.now (table_view table.now) }
 {
     match value_at(table, key) {
         None => Ok(None),
@@ -75,7 +76,7 @@ pub(crate) fn number_at(
     low: u64,
     high: u64,
 ) -> Result<u64, Cause>
-    ensures given { Gives Memory result (number_at key.now fallback low high (table_view table.now)) }
+    ensures given { result ≡ number_at key.now fallback low high (table_view table.now) }
     ensures range { low ≤ fallback → fallback ≤ high → IfOk result (λ n. (low ≤ n) × (n ≤ high)) }
 {
     let Some(number) = integer_at(table, key)? else {
@@ -102,6 +103,7 @@ pub(crate) fn text_or(
 ) -> Result<Text, Cause>
     requires { length fallback.now < 2 ^ 31 }
     ensures given { Gives Memory result (text_or key.now fallback.now (table_view table.now)) }
+    ensures refused { IfErr (text_at key.now (table_view table.now)) (λ cause. result ≡ Err cause) }
     ensures there { IfOk result (λ t. IsSome t) }
 {
     let text = text_at(table, key)?.unwrap_or(fallback);
@@ -125,7 +127,7 @@ fn all_known(keys: &[&str], table: &Table) -> bool
 /// The part has no other keys than these.
 #[tactic(auto, using(crate::proofs::Tables::all_keys_are))]
 pub(crate) fn only(keys: &[&str], table: &Table) -> Result<(), Cause>
-    ensures { Gives Memory result (if all_keys (λ key. list_any (λ k. bytes_eq k.now key) keys.now) (table_view table.now) then Ok tt else Err Cause.UnknownKey) }
+    ensures { result ≡ (if all_keys (λ key. list_any (λ k. bytes_eq k.now key) keys.now) (table_view table.now) then Ok tt else Err Cause.UnknownKey) }
 {
     if all_known(keys, table) {
         Ok(())
@@ -137,7 +139,7 @@ pub(crate) fn only(keys: &[&str], table: &Table) -> Result<(), Cause>
 /// The characters at a key that the part must have.
 #[tactic(auto, unfolding(crate::specs::Keys::required_word))]
 pub(crate) fn required_word<'a>(table: &'a Table, key: &str) -> Result<&'a str, Cause>
-    ensures { GivesAs Memory (λ t. t.now) result (required_word key.now (table_view table.now)) }
+    ensures { result_map_both (λ t. t.now) (λ cause. cause) result ≡ required_word key.now (table_view table.now) }
 {
     match word_at(table, key)? {
         Some(text) => Ok(text),
@@ -148,7 +150,7 @@ pub(crate) fn required_word<'a>(table: &'a Table, key: &str) -> Result<&'a str, 
 /// The text at a key that the part must have: fewer than 2^31 bytes.
 #[tactic(auto, unfolding(crate::specs::Keys::required_text))]
 pub(crate) fn required_text<'a>(table: &'a Table, key: &str) -> Result<&'a str, Cause>
-    ensures given { GivesAs Memory (λ t. t.now) result (required_text key.now (table_view table.now)) }
+    ensures given { result_map_both (λ t. t.now) (λ cause. cause) result ≡ required_text key.now (table_view table.now) }
     ensures short { IfOk result (λ t. length t.now < 2 ^ 31) }
 {
     match text_at(table, key)? {
@@ -159,7 +161,8 @@ pub(crate) fn required_text<'a>(table: &'a Table, key: &str) -> Result<&'a str, 
 
 /// A copy of the text at a key, or null.
 pub(crate) fn text_or_null(alloc: Global, table: &Table, key: &str) -> Result<Text, Cause>
-    ensures { Gives Memory result (text_at key.now (table_view table.now)) }
+    ensures given { Gives Memory result (text_at key.now (table_view table.now)) }
+    ensures refused { IfErr (text_at key.now (table_view table.now)) (λ cause. result ≡ Err cause) }
 {
     match text_at(table, key)? {
         Some(text) => Ok(Text::from_str(alloc, text)?),
@@ -169,7 +172,7 @@ pub(crate) fn text_or_null(alloc: Global, table: &Table, key: &str) -> Result<Te
 
 // The truth value at a key, if the part has it.
 fn truth_at(table: &Table, key: &str) -> Result<Option<bool>, Cause>
-    ensures { Gives Memory result (of_kind as_bool (get_member key.now (table_view table.now))) }
+    ensures { result ≡ of_kind as_bool (get_member key.now (table_view table.now)) }
 {
     match value_at(table, key) {
         None => Ok(None),
@@ -183,7 +186,7 @@ fn truth_at(table: &Table, key: &str) -> Result<Option<bool>, Cause>
 /// The truth value at a key that the part must have.
 #[tactic(auto, unfolding(crate::specs::Keys::required_boolean))]
 pub(crate) fn required_boolean(table: &Table, key: &str) -> Result<bool, Cause>
-    ensures { Gives Memory result (required_boolean key.now (table_view table.now)) }
+    ensures { result ≡ required_boolean key.now (table_view table.now) }
 {
     match truth_at(table, key)? {
         Some(truth) => Ok(truth),
@@ -194,7 +197,7 @@ pub(crate) fn required_boolean(table: &Table, key: &str) -> Result<bool, Cause>
 /// The truth value at a key, or false.
 #[tactic(auto, unfolding(crate::specs::Keys::boolean_at))]
 pub(crate) fn boolean_at(table: &Table, key: &str) -> Result<bool, Cause>
-    ensures { Gives Memory result (boolean_at key.now (table_view table.now)) }
+    ensures { result ≡ boolean_at key.now (table_view table.now) }
 {
     Ok(truth_at(table, key)?.unwrap_or(false))
 }
@@ -202,7 +205,7 @@ pub(crate) fn boolean_at(table: &Table, key: &str) -> Result<bool, Cause>
 /// The integer at a key that the part must have.
 #[tactic(auto, unfolding(crate::specs::Keys::required_integer))]
 pub(crate) fn required_integer(table: &Table, key: &str) -> Result<i64, Cause>
-    ensures { Gives Memory result (required_integer key.now (table_view table.now)) }
+    ensures { result ≡ required_integer key.now (table_view table.now) }
 {
     match integer_at(table, key)? {
         Some(number) => Ok(number),
@@ -213,7 +216,7 @@ pub(crate) fn required_integer(table: &Table, key: &str) -> Result<i64, Cause>
 /// The number at a key that the part must have, up to the highest.
 #[tactic(auto, unfolding(crate::specs::Keys::unsigned_at))]
 pub(crate) fn unsigned_at(table: &Table, key: &str, high: u64) -> Result<u64, Cause>
-    ensures given { Gives Memory result (unsigned_at key.now high (table_view table.now)) }
+    ensures given { result ≡ unsigned_at key.now high (table_view table.now) }
     ensures range { IfOk result (λ n. n ≤ high) }
 {
     let number = required_integer(table, key)?;
@@ -231,7 +234,7 @@ pub(crate) fn unsigned_at(table: &Table, key: &str, high: u64) -> Result<u64, Ca
 /// The integer at a key that the part must have, within its range.
 #[tactic(auto, unfolding(crate::specs::Keys::signed_at))]
 pub(crate) fn signed_at(table: &Table, key: &str, low: i64, high: i64) -> Result<i64, Cause>
-    ensures given { Gives Memory result (signed_at key.now low high (table_view table.now)) }
+    ensures given { result ≡ signed_at key.now low high (table_view table.now) }
     ensures range { IfOk result (λ n. (low ≤ℤ n) × (n ≤ℤ high)) }
 {
     let number = required_integer(table, key)?;

@@ -1,13 +1,14 @@
 //! An entry of the list `node`: the node, and the references that come with it.
 
-ghost use Rattle.std.specs.Prelude.{◌≡◌, ◌≤◌, true, IfOk};
+ghost use Rattle.std.specs.Prelude.{◌≡◌, ◌≤◌, true, codes, None, Err, IfErr, IfOk, IfSome};
 ghost use Rattle.toml.specs.Data.{as_table};
 ghost use Rattle.toml.specs.View.{table_view, view};
 ghost use Rattle.ua_space.specs.Variables.{is_of};
 ghost use Rattle.ua_space.specs.declared.node.ValueRank.TheVariants as ranks;
 ghost use Rattle.ua_types.specs.Answers.{Gives};
+ghost use Rattle.node_loader.specs.declared.fault.Cause.TheVariants as Cause;
 ghost use Rattle.node_loader.specs.declared.fault.Cause.TheVariants.{Memory};
-ghost use Rattle.node_loader.specs.Keys.{only};
+ghost use Rattle.node_loader.specs.Keys.{only, required_word};
 ghost use Rattle.ua_values.specs.DataValues.{value_since};
 ghost use Rattle.ua_values.specs.ValueTypes.{type_number};
 ghost use Rattle.node_loader.specs.Node.{class_of, keys_of, names_of, place_of, parent_triple, definition_triple, entry_from, type_at, variable_with, variable_of, object_of, variable_node_of, object_type_of, variable_type_of, reference_type_of, data_type_of, kind_of, rest_of, node_of, entry_of};
@@ -36,7 +37,7 @@ pub(crate) struct Setting {
 // The class that a word names.
 #[tactic(auto, unfolding(crate::specs::Node::class_of))]
 fn class_of(word: &str) -> Result<NodeClass, Cause>
-    ensures { Gives Memory result (class_of word.now) }
+    ensures { result ≡ class_of word.now }
 {
     if word == "Object" {
         return Ok(NodeClass::Object);
@@ -61,7 +62,7 @@ fn class_of(word: &str) -> Result<NodeClass, Cause>
 
 // The part has no other keys than those of its class.
 fn known(class: NodeClass, table: &Table) -> Result<(), Cause>
-    ensures { Gives Memory result (only (keys_of class) (table_view table.now)) }
+    ensures { result ≡ only (keys_of class) (table_view table.now) }
 {
     match class {
         NodeClass::Object => only(
@@ -217,7 +218,7 @@ struct Kind {
 
 #[tactic(auto, unfolding(crate::specs::Node::type_at))]
 fn type_at(table: &Table) -> Result<ValueType, Cause>
-    ensures { Gives Memory result (type_at (table_view table.now)) }
+    ensures { result ≡ type_at (table_view table.now) }
 {
     let word = required_word(table, "type")?;
     type_of(word)
@@ -280,7 +281,7 @@ fn variable_node_in(alloc: Global, setting: &Setting, table: &Table) -> Result<K
 
 #[tactic(auto, unfolding(crate::specs::Node::object_type_of))]
 fn object_type_in(table: &Table) -> Result<Kind, Cause>
-    ensures { Gives Memory result (object_type_of (table_view table.now)) }
+    ensures { result ≡ object_type_of (table_view table.now) }
 {
     let is_abstract = boolean_at(table, "abstract")?;
     Ok(Kind {
@@ -291,7 +292,7 @@ fn object_type_in(table: &Table) -> Result<Kind, Cause>
 
 #[tactic(auto, unfolding(crate::specs::Node::variable_type_of))]
 fn variable_type_in(table: &Table) -> Result<Kind, Cause>
-    ensures { Gives Memory result (variable_type_of (table_view table.now)) }
+    ensures { result ≡ variable_type_of (table_view table.now) }
 {
     let value_type = type_at(table)?;
     let is_abstract = boolean_at(table, "abstract")?;
@@ -327,7 +328,7 @@ fn reference_type_in(alloc: Global, table: &Table) -> Result<Kind, Cause>
 
 #[tactic(auto, unfolding(crate::specs::Node::data_type_of))]
 fn data_type_in(table: &Table) -> Result<Kind, Cause>
-    ensures { Gives Memory result (data_type_of (table_view table.now)) }
+    ensures { result ≡ data_type_of (table_view table.now) }
 {
     let is_abstract = boolean_at(table, "abstract")?;
     Ok(Kind {
@@ -445,7 +446,8 @@ fn rest_in(
     table: &Table,
 ) -> Result<Entry, Cause>
     requires { id.namespace ≤ setting.now.highest }
-    ensures { Gives Memory result (rest_of setting.now part id class (table_view table.now)) }
+    ensures given { Gives Memory result (rest_of setting.now part id class (table_view table.now)) }
+    ensures refused { IfErr (only (keys_of class) (table_view table.now)) (λ cause. result ≡ Err cause) }
 {
     known(class, table)?;
     let names = names_in(alloc, setting.highest, id.namespace, table)?;
@@ -457,7 +459,8 @@ fn rest_in(
 // A node: its id and its class before the rest.
 #[tactic(auto, unfolding(crate::specs::Node::node_of))]
 fn node_in(alloc: Global, setting: &Setting, part: Part, table: &Table) -> Result<Entry, Cause>
-    ensures { Gives Memory result (node_of setting.now part (table_view table.now)) }
+    ensures given { Gives Memory result (node_of setting.now part (table_view table.now)) }
+    ensures refused { IfErr (required_word (codes "id") (table_view table.now)) (λ cause. result ≡ Err cause) }
 {
     let id = id_at(alloc, setting.highest, table, "id")?;
     let class = class_of(required_word(table, "class")?)?;
@@ -471,7 +474,9 @@ pub(crate) fn entry_at(
     part: Part,
     value: &Value,
 ) -> Result<Entry, Cause>
-    ensures { Gives Memory result (entry_of setting.now part (as_table (view value.now))) }
+    ensures given { Gives Memory result (entry_of setting.now part (as_table (view value.now))) }
+    ensures refused { as_table (view value.now) ≡ None → result ≡ Err Cause.WrongKind }
+    ensures id { IfSome (as_table (view value.now)) (λ ms. IfErr (required_word (codes "id") ms) (λ cause. result ≡ Err cause)) }
 {
     match value.as_table() {
         Some(table) => node_in(alloc, setting, part, table),

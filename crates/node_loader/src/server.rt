@@ -1,6 +1,6 @@
 //! The table `server`: the configuration, key by key.
 
-ghost use Rattle.std.specs.Prelude.{◌≡◌, ◌≤◌, length, is_some, IfOk};
+ghost use Rattle.std.specs.Prelude.{◌≡◌, ◌≤◌, length, is_some, Err, IfOk, IfErr};
 ghost use Rattle.std.specs.List.{list_all};
 ghost use Rattle.toml.specs.Data.{as_str};
 ghost use Rattle.std.specs.Vec.{vec_len};
@@ -87,7 +87,7 @@ fn texts_at(alloc: Global, table: &Table, key: &str, most: usize) -> Result<Vec<
 // The eight bytes that hex digits spell, or the default.
 #[tactic(auto, unfolding(crate::specs::Server::duration_at))]
 fn duration_at(table: &Table, key: &str, fallback: [u8; 8]) -> Result<Duration, Cause>
-    ensures { Gives Memory result (duration_at key.now fallback (table_view table.now)) }
+    ensures { result ≡ duration_at key.now fallback (table_view table.now) }
 {
     let Some(text) = word_at(table, key)? else {
         return Ok(Duration(fallback));
@@ -136,7 +136,7 @@ struct Sizes {
 
 #[tactic(auto, unfolding(crate::specs::Server::sizes_of))]
 fn sizes_in(table: &Table) -> Result<Sizes, Cause>
-    ensures given { Gives Memory result (sizes_of (table_view table.now)) }
+    ensures given { result ≡ sizes_of (table_view table.now) }
     ensures ranges { IfOk result (λ s. AreSizes s) }
 {
     let receive_size = number_at(table, "receive_size", 65536, 1024, 1048576)? as u32;
@@ -165,7 +165,7 @@ struct Tables {
 
 #[tactic(auto, unfolding(crate::specs::Server::tables_of))]
 fn tables_in(table: &Table) -> Result<Tables, Cause>
-    ensures given { Gives Memory result (tables_of (table_view table.now)) }
+    ensures given { result ≡ tables_of (table_view table.now) }
     ensures ranges { IfOk result (λ s. AreTables s) }
 {
     let connections = number_at(table, "connections", 100, 1, 10000)? as u32;
@@ -193,7 +193,7 @@ struct Messages {
 
 #[tactic(auto, unfolding(crate::specs::Server::messages_of))]
 fn messages_in(table: &Table) -> Result<Messages, Cause>
-    ensures given { Gives Memory result (messages_of (table_view table.now)) }
+    ensures given { result ≡ messages_of (table_view table.now) }
     ensures ranges { IfOk result (λ s. AreMessages s) }
 {
     let publish_queue = number_at(table, "publish_queue", 10, 1, 100000)? as u32;
@@ -219,7 +219,7 @@ struct Pages {
 
 #[tactic(auto, unfolding(crate::specs::Server::pages_of))]
 fn pages_in(table: &Table) -> Result<Pages, Cause>
-    ensures given { Gives Memory result (pages_of (table_view table.now)) }
+    ensures given { result ≡ pages_of (table_view table.now) }
     ensures ranges { IfOk result (λ s. ArePages s) }
 {
     let references = number_at(table, "references", 1000, 1, 100000)? as u32;
@@ -243,7 +243,7 @@ struct Times {
 
 #[tactic(auto, unfolding(crate::specs::Server::times_of))]
 fn times_in(table: &Table) -> Result<Times, Cause>
-    ensures given { Gives Memory result (times_of (table_view table.now)) }
+    ensures given { result ≡ times_of (table_view table.now) }
     ensures ranges { IfOk result (λ s. AreTimes s) }
 {
     let session_time = number_at(table, "session_time", 600000000, 1, 1000000000000000)?;
@@ -264,7 +264,7 @@ struct Durations {
 
 #[tactic(auto, unfolding(crate::specs::Server::durations_of))]
 fn durations_in(table: &Table) -> Result<Durations, Cause>
-    ensures { Gives Memory result (durations_of (table_view table.now)) }
+    ensures { result ≡ durations_of (table_view table.now) }
 {
     let session_duration = duration_at(
         table,
@@ -287,7 +287,8 @@ fn durations_in(table: &Table) -> Result<Durations, Cause>
 /// The configuration that the table `server` says.
 #[tactic(auto, unfolding(crate::specs::Server::server_of))]
 pub(crate) fn server(alloc: Global, table: &Table) -> Result<Config, Cause>
-    ensures { Gives Memory result (server_of (table_view table.now)) }
+    ensures given { Gives Memory result (server_of (table_view table.now)) }
+    ensures refused { IfErr (only server_keys (table_view table.now)) (λ cause. result ≡ Err cause) }
 {
     known(table)?;
     let names = names_in(alloc, table)?;
@@ -332,7 +333,7 @@ pub(crate) fn server(alloc: Global, table: &Table) -> Result<Config, Cause>
 
 // The keys of the table, in the order in which they are judged.
 fn known(table: &Table) -> Result<(), Cause>
-    ensures { Gives Memory result (only server_keys (table_view table.now)) }
+    ensures { result ≡ only server_keys (table_view table.now) }
 {
     only(
         &[

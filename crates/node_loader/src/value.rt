@@ -1,10 +1,11 @@
 //! Values in a file: what is read as a value of each type.
 
-ghost use Rattle.std.specs.Prelude.{◌≡◌};
+ghost use Rattle.std.specs.Prelude.{◌≡◌, Err, IfErr};
 ghost use Rattle.hex.specs.Hex.{decode_of};
 ghost use Rattle.toml.specs.View.{table_view};
 ghost use Rattle.ua_types.specs.Answers.{Gives};
 ghost use Rattle.node_loader.specs.declared.fault.Cause.TheVariants.{Memory};
+ghost use Rattle.node_loader.specs.Keys.{required_word};
 ghost use Rattle.node_loader.specs.Value.{type_of, bytes_of, guid_at, bytes_at, text_value, value_of};
 
 use crate::fault::Cause;
@@ -19,14 +20,14 @@ use ua_values::{Content, ValueType, Variant};
 
 /// The type that a word names.
 pub(crate) fn type_of(word: &str) -> Result<ValueType, Cause>
-    ensures { Gives Memory result (type_of word.now) }
+    ensures { result ≡ type_of word.now }
 {
     ValueType::named(word).ok_or(Cause::OutOfRange)
 }
 
 #[tactic(auto, unfolding(crate::specs::Value::guid_at))]
 fn guid_at(table: &Table, key: &str) -> Result<Guid, Cause>
-    ensures { Gives Memory result (guid_at key.now (table_view table.now)) }
+    ensures { result ≡ guid_at key.now (table_view table.now) }
 {
     let text = required_word(table, key)?;
     Guid::parse(text).ok_or(Cause::OutOfRange)
@@ -51,7 +52,8 @@ fn bytes_of(alloc: Global, digits: &str) -> Result<ByteString, Cause>
 
 #[tactic(auto, unfolding(crate::specs::Value::bytes_at))]
 fn bytes_at(alloc: Global, table: &Table, key: &str) -> Result<ByteString, Cause>
-    ensures { Gives Memory result (bytes_at key.now (table_view table.now)) }
+    ensures given { Gives Memory result (bytes_at key.now (table_view table.now)) }
+    ensures refused { IfErr (required_word key.now (table_view table.now)) (λ cause. result ≡ Err cause) }
 {
     let digits = required_word(table, key)?;
     bytes_of(alloc, digits)
@@ -59,7 +61,8 @@ fn bytes_at(alloc: Global, table: &Table, key: &str) -> Result<ByteString, Cause
 
 #[tactic(auto, unfolding(crate::specs::Value::text_value))]
 fn text_value(alloc: Global, table: &Table) -> Result<Text, Cause>
-    ensures { Gives Memory result (text_value (table_view table.now)) }
+    ensures given { Gives Memory result (text_value (table_view table.now)) }
+    ensures refused { IfErr (text_value (table_view table.now)) (λ cause. result ≡ Err cause) }
 {
     let text = required_text(table, "value")?;
     Ok(Text::from_str(alloc, text)?)

@@ -37,7 +37,7 @@ move_text fired = row_text fired.row ++ codes " " ++ state_text fired.before.sta
 
 -- `Kk Ll`, the counters after the row
 abbrev pub counters_text : Fired → List ℕ
-counters_text fired = codes "K" ++ decimal fired.after.keep ++ codes " L" ++ decimal fired.after.life
+counters_text fired = codes "K" ++ decimal fired.after.keep_alive ++ codes " L" ++ decimal fired.after.lifetime
 
 -- `EVENT SUB ROW OLD -> NEW Kk Ll`, the other rows, and the end of the line
 unfoldable pub row_line : ℕ → Fired → List ℕ

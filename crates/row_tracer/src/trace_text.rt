@@ -63,9 +63,9 @@ fn append_move(out: &mut String, fired: &Fired) -> Result<(), AllocError>
 fn append_counters(out: &mut String, fired: &Fired) -> Result<(), AllocError>
     ensures { OnOk result (string_bytes out.new ≡ string_bytes out.old ++ counters_text fired.now) }
 {
-    let keep = fired.after.keep;
-    let life = fired.after.life;
-    write!(out, "K{keep} L{life}")
+    let keep_alive = fired.after.keep_alive;
+    let lifetime = fired.after.lifetime;
+    write!(out, "K{keep_alive} L{lifetime}")
 }
 
 /// Adds the line of a row that fired at the event of this number. At an `Err` a part of it may be there.

@@ -10,7 +10,7 @@ use Rattle.scenario_text.specs.declared.fault.Cause.{Cause}
 use Rattle.scenario_text.specs.declared.fault.Cause.TheVariants.{Limit, Memory}
 use Rattle.scenario_text.specs.declared.scenario.Line.{Line}
 use Rattle.scenario_text.specs.declared.statement.Statement.{Statement}
-use Rattle.scenario_events.specs.Members.{Turns, turn_of}
+use Rattle.scenario_events.specs.Members.{Assembles, assembled_of}
 use Rattle.scenario_events.specs.Assembly.{Puts, event_limit, group_of, preceded, in_line, groups_from, joined}
 use Rattle.scenario_events.specs.declared.assembler.Assembler.{Assembler}
 use Rattle.scenario_events.specs.declared.assembler.Member.{Member}
@@ -29,46 +29,46 @@ regroup front group (Ok groups) = ap Ok (sym (append_assoc front group (flat_map
 regroup front group (Err fault) = refl
 
 pub goes_on : (fault : Option AsmFault) (a after : Assembler) (member : Member) (events new : List Event) (l : Line) (ls : List Line) (total : Result (List Event) AsmFault)
-    → turn_of a l.statement ≡ Ok (member, after) → new ≡ events ++ group_of after.cut member → length events + length (group_of after.cut member) ≤ event_limit
+    → assembled_of a l.statement ≡ Ok (member, after) → new ≡ events ++ group_of after.cut member → length events + length (group_of after.cut member) ≤ event_limit
     → behind_events events (groups_from fault a (length events) (l ∷ ls)) ≡ total → behind_events new (groups_from fault after (length new) ls) ≡ total
 unfolding groups_from
-goes_on fault a after member events new l ls total turn put few so_far =
+goes_on fault a after member events new l ls total assembled put few so_far =
     let fits : nat_lt event_limit (length events + length (group_of after.cut member)) ≡ false = grind (arith, nat_tests) in
     let count : length events + length (group_of after.cut member) ≡ length (events ++ group_of after.cut member) = sym (length-append events (group_of after.cut member)) in
     let one : behind_events events (groups_from fault a (length events) (l ∷ ls)) ≡ behind_events (events ++ group_of after.cut member) (groups_from fault after (length (events ++ group_of after.cut member)) ls) =
-    rw (turn, fits, count) (regroup events (group_of after.cut member) (groups_from fault after (length (events ++ group_of after.cut member)) ls)) in
+    rw (assembled, fits, count) (regroup events (group_of after.cut member) (groups_from fault after (length (events ++ group_of after.cut member)) ls)) in
     rw put (sym one ∙ so_far)
 
 pub fails : (fault : Option AsmFault) (a : Assembler) (events : List Event) (l : Line) (ls : List Line) (cause : Cause) (total : Result (List Event) AsmFault)
-    → turn_of a l.statement ≡ Err cause → behind_events events (groups_from fault a (length events) (l ∷ ls)) ≡ total → total ≡ Err (record { cause = cause; line = l.number })
+    → assembled_of a l.statement ≡ Err cause → behind_events events (groups_from fault a (length events) (l ∷ ls)) ≡ total → total ≡ Err (record { cause = cause; line = l.number })
 unfolding groups_from
-fails fault a events l ls cause total turn so_far =
-    let one : behind_events events (groups_from fault a (length events) (l ∷ ls)) ≡ Err (record { cause = cause; line = l.number }) = rw turn refl in
+fails fault a events l ls cause total assembled so_far =
+    let one : behind_events events (groups_from fault a (length events) (l ∷ ls)) ≡ Err (record { cause = cause; line = l.number }) = rw assembled refl in
     sym so_far ∙ one
 
 pub exceeds : (fault : Option AsmFault) (a after : Assembler) (member : Member) (events : List Event) (l : Line) (ls : List Line) (total : Result (List Event) AsmFault)
-    → turn_of a l.statement ≡ Ok (member, after) → event_limit < length events + length (group_of after.cut member)
+    → assembled_of a l.statement ≡ Ok (member, after) → event_limit < length events + length (group_of after.cut member)
     → behind_events events (groups_from fault a (length events) (l ∷ ls)) ≡ total → total ≡ Err (record { cause = Limit; line = l.number })
 unfolding groups_from
-exceeds fault a after member events l ls total turn many so_far =
+exceeds fault a after member events l ls total assembled many so_far =
     let full : nat_lt event_limit (length events + length (group_of after.cut member)) ≡ true = grind (arith, nat_tests) in
-    let one : behind_events events (groups_from fault a (length events) (l ∷ ls)) ≡ Err (record { cause = Limit; line = l.number }) = rw (turn, full) refl in
+    let one : behind_events events (groups_from fault a (length events) (l ∷ ls)) ≡ Err (record { cause = Limit; line = l.number }) = rw (assembled, full) refl in
     sym so_far ∙ one
 
 -- ---- a line's outcome
 
-pub taken : (r : Result Member Cause) (a after : Assembler) (statement : Statement) (number : ℕ) (m : Member) → Turns Memory r after (turn_of a statement)
-    → Ok m ≡ in_line number r → turn_of a statement ≡ Ok (m, after)
-taken (Ok y) a after statement number m turn is = let same : m ≡ y = cc in rw same turn
-taken (Err e) a after statement number m turn is = absurd cc
+pub taken : (r : Result Member Cause) (a after : Assembler) (statement : Statement) (number : ℕ) (m : Member) → Assembles Memory r after (assembled_of a statement)
+    → Ok m ≡ in_line number r → assembled_of a statement ≡ Ok (m, after)
+taken (Ok y) a after statement number m assembled is = let same : m ≡ y = cc in rw same assembled
+taken (Err e) a after statement number m assembled is = absurd cc
 
-pub refused : (r : Result Member Cause) (a after : Assembler) (statement : Statement) (number : ℕ) (f : AsmFault) → Turns Memory r after (turn_of a statement)
-    → Err f ≡ in_line number r → f.cause ≢ Memory → (turn_of a statement ≡ Err f.cause) × (f ≡ record { cause = f.cause; line = number })
-refused (Ok y) a after statement number f turn is other = absurd cc
-refused (Err e) a after statement number f turn is other =
+pub refused : (r : Result Member Cause) (a after : Assembler) (statement : Statement) (number : ℕ) (f : AsmFault) → Assembles Memory r after (assembled_of a statement)
+    → Err f ≡ in_line number r → f.cause ≢ Memory → (assembled_of a statement ≡ Err f.cause) × (f ≡ record { cause = f.cause; line = number })
+refused (Ok y) a after statement number f assembled is other = absurd cc
+refused (Err e) a after statement number f assembled is other =
     let whole : f ≡ record { cause = e; line = number } = cc in
     let cause : f.cause ≡ e = ap (λ (g : AsmFault). g.cause) whole in
-    let said : turn_of a statement ≡ Err e = turn (λ memory. other (cause ∙ memory)) in
+    let said : assembled_of a statement ≡ Err e = assembled (λ memory. other (cause ∙ memory)) in
     (said ∙ ap Err (sym cause), whole ∙ ap (λ (g : Cause). record { cause = g; line = number }) (sym cause))
 
 pub put_well : (r : Result (Unit {0}) Cause) (old new group : List Event) (number : ℕ) (u : Unit {0}) → Puts r old new group → Ok u ≡ in_line number r

@@ -20,7 +20,7 @@ use Rattle.scenario_events.specs.Runs.{run_of, request_run, no_reason}
 use Rattle.scenario_events.specs.Pieces.{pieces_of}
 use Rattle.scenario_events.proofs.Pieces.{some_piece}
 use Rattle.scenario_events.specs.Sendings.{Sending, room_of, no_client, new_client, header_of, after_request, opened, hello_of, opening_of, closing_of, service_of}
-use Rattle.scenario_events.specs.Members.{client_of, sending, opening_turn, service_turn, channels_after, with_session, turn_of, nothing_sent}
+use Rattle.scenario_events.specs.Members.{client_of, sending, assembled_opening, assembled_service, channels_after, with_session, assembled_of, nothing_sent}
 use Rattle.scenario_events.specs.Reading.{IsCounted, AllCounted, AfterCounted}
 use Rattle.scenario_events.specs.declared.assembler.Assembler.{Assembler}
 use Rattle.scenario_events.specs.declared.clients.Client.{Client}
@@ -124,35 +124,35 @@ channels_counted : (a : Assembler) (request : ChannelRequest) → AllCounted a �
 channels_counted a Issue w = let s = sequence_number_small a.channels in omega arith
 channels_counted a Renew w = w.channels
 
-opening_turn_counted : (a : Assembler) (connection : ℕ) (request : ChannelRequest) → AllCounted a → AfterCounted (opening_turn a connection request)
-unfolding opening_turn
-opening_turn_counted a connection request w =
+assembled_opening_counted : (a : Assembler) (connection : ℕ) (request : ChannelRequest) → AllCounted a → AfterCounted (assembled_opening a connection request)
+unfolding assembled_opening
+assembled_opening_counted a connection request w =
     let number = channels_after a request in
     let l = channels_counted a request w in
     sent_counted (record a { channels = number }) connection (opening_of (client_of a connection) number request) (record { clients = w.clients; channels = l })
     (opening_counted (client_of a connection) number request l (w.clients connection))
 
-service_turn_counted : (a : Assembler) (connection : ℕ) (body : List ℕ) → AllCounted a → AfterCounted (service_turn a connection body)
-unfolding service_turn
-service_turn_counted a connection body w =
+assembled_service_counted : (a : Assembler) (connection : ℕ) (body : List ℕ) → AllCounted a → AfterCounted (assembled_service a connection body)
+unfolding assembled_service
+assembled_service_counted a connection body w =
     sent_counted (record a { is_aborting = false }) connection (service_of a.is_aborting a.chunk (client_of a connection) body) (record { clients = w.clients; channels = w.channels })
     (service_counted a.is_aborting a.chunk (client_of a connection) body (w.clients connection))
 
-pub turn_counted : (a : Assembler) (statement : Statement) → AllCounted a → AfterCounted (turn_of a statement)
-unfolding turn_of
-turn_counted a (statements.Open connection key) w = record { clients = put_counted a.clients connection (new_client key) (new_counted key) w.clients; channels = w.channels }
-turn_counted a (statements.Hello connection url) w = sent_counted a connection (hello_of (client_of a connection) url) w (hello_counted (client_of a connection) url (w.clients connection))
-turn_counted a (statements.OpenChannel connection request) w = opening_turn_counted a connection request w
-turn_counted a (statements.CloseChannel connection) w = sent_counted a connection (closing_of (client_of a connection)) w (closing_counted (client_of a connection) (w.clients connection))
-turn_counted a (statements.Gone connection) w = record { clients = taken_counted a.clients connection w.clients; channels = w.channels }
-turn_counted a (statements.Tick now) w = w
-turn_counted a (statements.Raw connection bytes) w = w
-turn_counted a (statements.Cut size) w = record { clients = w.clients; channels = w.channels }
-turn_counted a (statements.Chunk size) w = record { clients = w.clients; channels = w.channels }
-turn_counted a statements.Abort w = record { clients = w.clients; channels = w.channels }
-turn_counted a (statements.GetEndpoints connection) w = service_turn_counted a connection _ w
-turn_counted a (statements.CreateSession connection) w = service_turn_counted (with_session a connection) connection _ (record { clients = w.clients; channels = w.channels })
-turn_counted a (statements.Ask connection session request) w = service_turn_counted a connection _ w
+pub assembled_counted : (a : Assembler) (statement : Statement) → AllCounted a → AfterCounted (assembled_of a statement)
+unfolding assembled_of
+assembled_counted a (statements.Open connection key) w = record { clients = put_counted a.clients connection (new_client key) (new_counted key) w.clients; channels = w.channels }
+assembled_counted a (statements.Hello connection url) w = sent_counted a connection (hello_of (client_of a connection) url) w (hello_counted (client_of a connection) url (w.clients connection))
+assembled_counted a (statements.OpenChannel connection request) w = assembled_opening_counted a connection request w
+assembled_counted a (statements.CloseChannel connection) w = sent_counted a connection (closing_of (client_of a connection)) w (closing_counted (client_of a connection) (w.clients connection))
+assembled_counted a (statements.Gone connection) w = record { clients = taken_counted a.clients connection w.clients; channels = w.channels }
+assembled_counted a (statements.Tick now) w = w
+assembled_counted a (statements.Raw connection bytes) w = w
+assembled_counted a (statements.Cut size) w = record { clients = w.clients; channels = w.channels }
+assembled_counted a (statements.Chunk size) w = record { clients = w.clients; channels = w.channels }
+assembled_counted a statements.Abort w = record { clients = w.clients; channels = w.channels }
+assembled_counted a (statements.GetEndpoints connection) w = assembled_service_counted a connection _ w
+assembled_counted a (statements.CreateSession connection) w = assembled_service_counted (with_session a connection) connection _ (record { clients = w.clients; channels = w.channels })
+assembled_counted a (statements.Ask connection session request) w = assembled_service_counted a connection _ w
 
 pub nothing_counted : AllCounted nothing_sent
 nothing_counted = record {

@@ -39,7 +39,7 @@ use Rattle.scenario_text.specs.declared.fault.Cause.TheVariants.{Limit}
 use Rattle.scenario_text.specs.declared.statement.Statement.TheVariants as statements
 use Rattle.scenario_requests.specs.Messages.{opening_body, closing_body}
 use Rattle.scenario_requests.specs.Structures.{plain_request}
-use Rattle.scenario_events.specs.Members.{client_of, channels_after, sent_on, sending, opening_turn, turn_of}
+use Rattle.scenario_events.specs.Members.{client_of, channels_after, sent_on, sending, assembled_opening, assembled_of}
 use Rattle.scenario_events.specs.Reading.{IsAmple, SendsFrame, hello_said, opening_said, closing_said, IsCounted, AllCounted}
 use Rattle.ua_channel.specs.SequenceNumbers.{sequence_number_after}
 use Rattle.scenario_events.specs.Sendings.{body_limit, limited, after_request, named_channel, opened, hello_of, opening_of, closing_of}
@@ -187,8 +187,8 @@ unfolding closing_body close_secure_channel_request_encoding request_header_enco
 closing_short handle = omega arith
 
 pub hello_read : (limit : ℕ) (a : Assembler) (connection : ℕ) (url : Option (List ℕ)) → IsAmple limit → IfSome url IsUtf8
-    → IfOk (turn_of a (statements.Hello connection url)) (SendsFrame limit connection message.Hello hello_reading (hello_said url))
-unfolding turn_of hello_of
+    → IfOk (assembled_of a (statements.Hello connection url)) (SendsFrame limit connection message.Hello hello_reading (hello_said url))
+unfolding assembled_of hello_of
 hello_read limit a connection url ample utf8 =
     let body = hello_encoding (hello_said url).0 in
     sent_if (nat_lt body_limit (length body)) limit connection a message.Hello hello_reading (hello_said url) [] body (client_of a connection) ample (omega arith) refl
@@ -199,8 +199,8 @@ named_small client Issue w = omega arith
 named_small client Renew w = w.channel_id
 
 pub opening_read : (limit : ℕ) (a : Assembler) (connection : ℕ) (request : ChannelRequest) → IsAmple limit → AllCounted a
-    → IsOkAnd (turn_of a (statements.OpenChannel connection request)) (SendsFrame limit connection message.OpenSecureChannel opening_header_reading (opening_said (client_of a connection) request))
-unfolding turn_of opening_turn opening_of
+    → IsOkAnd (assembled_of a (statements.OpenChannel connection request)) (SendsFrame limit connection message.OpenSecureChannel opening_header_reading (opening_said (client_of a connection) request))
+unfolding assembled_of assembled_opening opening_of
 opening_read limit a connection request ample w =
     let client = client_of a connection in
     let number = channels_after a request in
@@ -213,8 +213,8 @@ opening_read limit a connection request ample w =
     (fields_again named client.sequence_number client.request_id security_policy_none said.1 (named_small client request counted) (omega (arith, counted.sequence_number)) counted.request_id policy_again)
 
 pub closing_read : (limit : ℕ) (a : Assembler) (connection : ℕ) → IsAmple limit → AllCounted a
-    → IsOkAnd (turn_of a (statements.CloseChannel connection)) (SendsFrame limit connection message.CloseSecureChannel chunk_header_reading (closing_said (client_of a connection)))
-unfolding turn_of closing_of
+    → IsOkAnd (assembled_of a (statements.CloseChannel connection)) (SendsFrame limit connection message.CloseSecureChannel chunk_header_reading (closing_said (client_of a connection)))
+unfolding assembled_of closing_of
 closing_read limit a connection ample w =
     let client = client_of a connection in
     let said = closing_said client in

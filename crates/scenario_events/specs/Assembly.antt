@@ -8,7 +8,7 @@ use Rattle.scenario_text.specs.declared.fault.AsmFault.{AsmFault}
 use Rattle.scenario_text.specs.declared.fault.Cause.{Cause}
 use Rattle.scenario_text.specs.declared.fault.Cause.TheVariants.{Limit, Memory}
 use Rattle.scenario_text.specs.declared.scenario.Line.{Line}
-use Rattle.scenario_events.specs.Members.{Turn, nothing_sent, turn_of}
+use Rattle.scenario_events.specs.Members.{Assembled, nothing_sent, assembled_of}
 use Rattle.scenario_events.specs.Pieces.{pieces_of}
 use Rattle.scenario_events.specs.declared.assembler.Assembler.{Assembler}
 use Rattle.scenario_events.specs.declared.assembler.Member.{Member}
@@ -43,9 +43,9 @@ abbrev pub with_group : ℕ → ℕ → List Event → (ℕ → Result (List (Li
 with_group count number group others =
     if nat_lt event_limit (count + length group) then in_line number (Err Limit) else preceded group (others (count + length group))
 
-abbrev pub on_turn : ℕ → ℕ → Result Turn Cause → (Assembler → ℕ → Result (List (List Event)) AsmFault) → Result (List (List Event)) AsmFault
-on_turn count number (Err cause) others = in_line number (Err cause)
-on_turn count number (Ok turn) others = with_group count number (group_of turn.1.cut turn.0) (others turn.1)
+abbrev pub on_assembled : ℕ → ℕ → Result Assembled Cause → (Assembler → ℕ → Result (List (List Event)) AsmFault) → Result (List (List Event)) AsmFault
+on_assembled count number (Err cause) others = in_line number (Err cause)
+on_assembled count number (Ok assembled) others = with_group count number (group_of assembled.1.cut assembled.0) (others assembled.1)
 
 abbrev pub no_groups : Option AsmFault → Result (List (List Event)) AsmFault
 no_groups None = Ok []
@@ -54,7 +54,7 @@ no_groups (Some fault) = Err fault
 -- The groups of these lines behind so many events. Limits are judged line by line, so they come before a later bad line.
 unfoldable pub groups_from : Option AsmFault → Assembler → ℕ → List Line → Result (List (List Event)) AsmFault
 groups_from fault a count [] = no_groups fault
-groups_from fault a count (l ∷ ls) = on_turn count l.number (turn_of a l.statement) (λ after so_many. groups_from fault after so_many ls)
+groups_from fault a count (l ∷ ls) = on_assembled count l.number (assembled_of a l.statement) (λ after so_many. groups_from fault after so_many ls)
 
 -- one group for each line that says something, in their order
 abbrev pub groups_of : List ℕ → Result (List (List Event)) AsmFault

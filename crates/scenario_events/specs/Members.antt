@@ -25,8 +25,8 @@ abbrev pub nothing_sent : Assembler
 nothing_sent = record { clients = empty; channels = 0; sessions = []; cut = 0; chunk = 0; is_aborting = false }
 
 -- what a line comes to, and what is so after it
-abbrev pub Turn : Type 0
-Turn = Member × Assembler
+abbrev pub Assembled : Type 0
+Assembled = Member × Assembler
 
 abbrev pub client_of : Assembler → ℕ → Client
 client_of a connection = unwrap_or (get a.clients connection) no_client
@@ -35,10 +35,10 @@ abbrev pub with_client : Assembler → ℕ → Client → Assembler
 with_client a connection client = record a { clients = insert a.clients connection client }
 
 -- a client sends bytes
-abbrev pub sent_on : Assembler → ℕ → Sending → Turn
+abbrev pub sent_on : Assembler → ℕ → Sending → Assembled
 sent_on a connection s = (Stream connection s.0, with_client a connection s.1)
 
-unfoldable pub sending : Assembler → ℕ → Result Sending Cause → Result Turn Cause
+unfoldable pub sending : Assembler → ℕ → Result Sending Cause → Result Assembled Cause
 sending a connection said = do
   s ← said
   Ok (sent_on a connection s)
@@ -50,8 +50,8 @@ abbrev pub channels_after : Assembler → ChannelRequest → ℕ
 channels_after a Issue = sequence_number_after a.channels
 channels_after a Renew = a.channels
 
-unfoldable pub opening_turn : Assembler → ℕ → ChannelRequest → Result Turn Cause
-opening_turn a connection request =
+unfoldable pub assembled_opening : Assembler → ℕ → ChannelRequest → Result Assembled Cause
+assembled_opening a connection request =
     let number = channels_after a request in
     sending (record a { channels = number }) connection (opening_of (client_of a connection) number request)
 
@@ -71,33 +71,33 @@ with_session a connection =
     record a { sessions = a.sessions ++ record { key = (client_of a connection).key; number = sequence_number_after (length a.sessions) } ∷ [] }
 
 -- a request with this body, aborted where that was said
-unfoldable pub service_turn : Assembler → ℕ → List ℕ → Result Turn Cause
-service_turn a connection body =
+unfoldable pub assembled_service : Assembler → ℕ → List ℕ → Result Assembled Cause
+assembled_service a connection body =
     sending (record a { is_aborting = false }) connection (service_of a.is_aborting a.chunk (client_of a connection) body)
 
 -- ---- lines
 
-unfoldable pub turn_of : Assembler → Statement → Result Turn Cause
-turn_of a (statements.Open connection key) = Ok (Own (events.Opened connection key), with_client a connection (new_client key))
-turn_of a (statements.Hello connection url) = sending a connection (hello_of (client_of a connection) url)
-turn_of a (statements.OpenChannel connection request) = opening_turn a connection request
-turn_of a (statements.CloseChannel connection) = sending a connection (closing_of (client_of a connection))
-turn_of a (statements.Gone connection) = Ok (Own (events.Gone connection), record a { clients = remove a.clients connection })
-turn_of a (statements.Tick now) = Ok (Own (events.Tick now), a)
-turn_of a (statements.Raw connection bytes) = Ok (Stream connection bytes, a)
-turn_of a (statements.Cut size) = Ok (Nothing, record a { cut = size })
-turn_of a (statements.Chunk size) = Ok (Nothing, record a { chunk = size })
-turn_of a statements.Abort = Ok (Nothing, record a { is_aborting = true })
-turn_of a (statements.GetEndpoints connection) =
-    service_turn a connection (endpoints_body (plain_request (numeric_id 0 0) (client_of a connection).request_id))
-turn_of a (statements.CreateSession connection) =
-    service_turn (with_session a connection) connection (create_session_body (plain_request (numeric_id 0 0) (client_of a connection).request_id))
-turn_of a (statements.Ask connection session request) =
-    service_turn a connection (request_body (plain_request (token_at a session) (client_of a connection).request_id) request)
+unfoldable pub assembled_of : Assembler → Statement → Result Assembled Cause
+assembled_of a (statements.Open connection key) = Ok (Own (events.Opened connection key), with_client a connection (new_client key))
+assembled_of a (statements.Hello connection url) = sending a connection (hello_of (client_of a connection) url)
+assembled_of a (statements.OpenChannel connection request) = assembled_opening a connection request
+assembled_of a (statements.CloseChannel connection) = sending a connection (closing_of (client_of a connection))
+assembled_of a (statements.Gone connection) = Ok (Own (events.Gone connection), record a { clients = remove a.clients connection })
+assembled_of a (statements.Tick now) = Ok (Own (events.Tick now), a)
+assembled_of a (statements.Raw connection bytes) = Ok (Stream connection bytes, a)
+assembled_of a (statements.Cut size) = Ok (Nothing, record a { cut = size })
+assembled_of a (statements.Chunk size) = Ok (Nothing, record a { chunk = size })
+assembled_of a statements.Abort = Ok (Nothing, record a { is_aborting = true })
+assembled_of a (statements.GetEndpoints connection) =
+    assembled_service a connection (endpoints_body (plain_request (numeric_id 0 0) (client_of a connection).request_id))
+assembled_of a (statements.CreateSession connection) =
+    assembled_service (with_session a connection) connection (create_session_body (plain_request (numeric_id 0 0) (client_of a connection).request_id))
+assembled_of a (statements.Ask connection session request) =
+    assembled_service a connection (request_body (plain_request (token_at a session) (client_of a connection).request_id) request)
 
 -- ---- words of the contracts
 
 -- What a call gave, and the state after it, are what is said, unless memory ran out.
-abbrev pub Turns : {A S E : Type 0} → E → Result A E → S → Result (A × S) E → Type 0
-Turns memory (Ok x) new said = said ≡ Ok (x, new)
-Turns memory (Err e) new said = e ≢ memory → said ≡ Err e
+abbrev pub Assembles : {A S E : Type 0} → E → Result A E → S → Result (A × S) E → Type 0
+Assembles memory (Ok x) new said = said ≡ Ok (x, new)
+Assembles memory (Err e) new said = e ≢ memory → said ≡ Err e

@@ -15,7 +15,7 @@ use Rattle.scenario_text.specs.declared.choices.ChannelRequest.{ChannelRequest}
 use Rattle.scenario_text.specs.declared.fault.Cause.{Cause}
 use Rattle.scenario_requests.specs.Messages.{opening_body, closing_body}
 use Rattle.scenario_requests.specs.Structures.{plain_request}
-use Rattle.scenario_events.specs.Members.{Turn, client_of}
+use Rattle.scenario_events.specs.Members.{Assembled, client_of}
 use Rattle.scenario_events.specs.Runs.{request_run}
 use Rattle.scenario_events.specs.Sendings.{body_limit, header_of, named_channel}
 use Rattle.scenario_events.specs.declared.assembler.Assembler.{Assembler}
@@ -42,10 +42,10 @@ pub record IsAmple (limit : ℕ) : Type 0 where
 
 -- What a line comes to: bytes of this connection that are one frame, in one chunk and with nothing behind it,
 -- whose body is read as this, and then these bytes.
-pub record SendsFrame {A : Type 0} (limit connection : ℕ) (message_type : MessageType) (reading : Reading A) (said : A × List ℕ) (turn : Turn) : Type 0 where
+pub record SendsFrame {A : Type 0} (limit connection : ℕ) (message_type : MessageType) (reading : Reading A) (said : A × List ℕ) (assembled : Assembled) : Type 0 where
   pub bytes : List ℕ
   pub body : List ℕ
-  pub sent : turn.0 ≡ Stream connection bytes
+  pub sent : assembled.0 ≡ Stream connection bytes
   pub framed : frames limit bytes
       ≡ record { frames = record { message_type = message_type; chunk_type = Final; body = body } ∷ []; end = Rest [] }
   pub read : reading body ≡ Ok said
@@ -86,6 +86,6 @@ pub record AllCounted (a : Assembler) : Type 0 where
   pub channels : a.channels < 2 ^ 32
 
 -- so it is after a line
-abbrev pub AfterCounted : Result Turn Cause → Type 0
-AfterCounted (Ok turn) = AllCounted turn.1
+abbrev pub AfterCounted : Result Assembled Cause → Type 0
+AfterCounted (Ok assembled) = AllCounted assembled.1
 AfterCounted (Err cause) = Unit {0}

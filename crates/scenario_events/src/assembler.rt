@@ -6,7 +6,7 @@ ghost use Rattle.scenario_text.specs.declared.fault.Cause.TheVariants.{Memory};
 ghost use Rattle.std.specs.Option.{option_copied};
 ghost use Rattle.ua_channel.specs.SequenceNumbers.{sequence_number_after as sequence_number_after_spec};
 ghost use Rattle.scenario_text.specs.declared.statement.Statement.TheVariants.{GetEndpoints, CreateSession, Ask};
-ghost use Rattle.scenario_events.specs.Members.{Turns, nothing_sent, client_of as client_of_spec, sending, channels_after as channels_after_spec, opening_turn, token_in as token_in_spec, token_at as token_at_spec, with_session, service_turn, turn_of};
+ghost use Rattle.scenario_events.specs.Members.{Assembles, nothing_sent, client_of as client_of_spec, sending, channels_after as channels_after_spec, assembled_opening, token_in as token_in_spec, token_at as token_at_spec, with_session, assembled_service, assembled_of};
 
 use crate::clients::{Client, closing, hello, new_client, opening, service};
 use scenario_requests::{create_session_body, endpoints_body, request_body, request_header};
@@ -92,7 +92,7 @@ impl Assembler {
     // A client has sent this.
     #[tactic(auto, unfolding(crate::specs::Members::sending))]
     fn sent(&mut self, connection: u64, sent: (Vec<u8>, Client)) -> Result<Member, Cause>
-        ensures { Turns Memory result self.new (sending self.old connection (Ok (sent.0.items, sent.1))) }
+        ensures { Assembles Memory result self.new (sending self.old connection (Ok (sent.0.items, sent.1))) }
     {
         let (bytes, client) = sent;
         self.clients.insert(connection, client)?;
@@ -112,14 +112,14 @@ impl Assembler {
     }
 
     // A channel or a token is asked for.
-    #[tactic(auto, unfolding(crate::specs::Members::opening_turn, crate::specs::Members::sending))]
+    #[tactic(auto, unfolding(crate::specs::Members::assembled_opening, crate::specs::Members::sending))]
     fn open_channel(
         &mut self,
         alloc: Global,
         connection: u64,
         request: ChannelRequest,
     ) -> Result<Member, Cause>
-        ensures { Turns Memory result self.new (opening_turn self.old connection request) }
+        ensures { Assembles Memory result self.new (assembled_opening self.old connection request) }
     {
         let number = self.channels_after(request);
         let sent = opening(alloc, &self.client_of(connection), number, request)?;
@@ -139,9 +139,9 @@ impl Assembler {
     }
 
     // A request with this body.
-    #[tactic(auto, unfolding(crate::specs::Members::service_turn, crate::specs::Members::sending))]
+    #[tactic(auto, unfolding(crate::specs::Members::assembled_service, crate::specs::Members::sending))]
     fn serve(&mut self, alloc: Global, connection: u64, body: Vec<u8>) -> Result<Member, Cause>
-        ensures { Turns Memory result self.new (service_turn self.old connection body.items) }
+        ensures { Assembles Memory result self.new (assembled_service self.old connection body.items) }
     {
         let client = self.client_of(connection);
         let sent = service(alloc, self.is_aborting, self.chunk, &client, body)?;
@@ -171,9 +171,9 @@ impl Assembler {
     }
 
     // GetEndpoints.
-    #[tactic(auto, unfolding(crate::specs::Members::turn_of))]
+    #[tactic(auto, unfolding(crate::specs::Members::assembled_of))]
     fn endpoints(&mut self, alloc: Global, connection: u64) -> Result<Member, Cause>
-        ensures { Turns Memory result self.new (turn_of self.old (GetEndpoints connection)) }
+        ensures { Assembles Memory result self.new (assembled_of self.old (GetEndpoints connection)) }
     {
         let handle = self.client_of(connection).request_id;
         let body = endpoints_body(alloc, request_header(NodeId::null(), handle))?;
@@ -181,9 +181,9 @@ impl Assembler {
     }
 
     // CreateSession.
-    #[tactic(auto, unfolding(crate::specs::Members::turn_of))]
+    #[tactic(auto, unfolding(crate::specs::Members::assembled_of))]
     fn create_session(&mut self, alloc: Global, connection: u64) -> Result<Member, Cause>
-        ensures { Turns Memory result self.new (turn_of self.old (CreateSession connection)) }
+        ensures { Assembles Memory result self.new (assembled_of self.old (CreateSession connection)) }
     {
         let handle = self.client_of(connection).request_id;
         self.add_session(connection)?;
@@ -192,7 +192,7 @@ impl Assembler {
     }
 
     // What a session asks.
-    #[tactic(auto, unfolding(crate::specs::Members::turn_of))]
+    #[tactic(auto, unfolding(crate::specs::Members::assembled_of))]
     fn ask(
         &mut self,
         alloc: Global,
@@ -200,7 +200,7 @@ impl Assembler {
         session: u64,
         request: Request,
     ) -> Result<Member, Cause>
-        ensures { Turns Memory result self.new (turn_of self.old (Ask connection session request)) }
+        ensures { Assembles Memory result self.new (assembled_of self.old (Ask connection session request)) }
     {
         let handle = self.client_of(connection).request_id;
         let token = self.token_at(alloc, session)?;
@@ -210,9 +210,9 @@ impl Assembler {
 
     /// What a statement comes to. The only cause but `Memory` is `Limit`, where a body is too long. At an
     /// `Err` nothing is said of what is so after it.
-    #[tactic(auto, unfolding(crate::specs::Members::turn_of, crate::specs::Members::sending))]
+    #[tactic(auto, unfolding(crate::specs::Members::assembled_of, crate::specs::Members::sending))]
     pub fn take(&mut self, alloc: Global, statement: Statement) -> Result<Member, Cause>
-        ensures { Turns Memory result self.new (turn_of self.old statement) }
+        ensures { Assembles Memory result self.new (assembled_of self.old statement) }
     {
         match statement {
             Statement::Open { connection, key } => {

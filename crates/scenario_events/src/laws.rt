@@ -9,7 +9,7 @@ ghost use Rattle.ua_channel.specs.Headers.{IsWritable, chunk_header_reading, ope
 ghost use Rattle.ua_channel.specs.declared.headers.ChunkHeader.{ChunkHeader};
 ghost use Rattle.scenario_events.specs.Pieces.{pieces_of};
 ghost use Rattle.scenario_events.specs.Reading.{IsReadAgain, IsAmple, SendsFrame, hello_said, opening_said, closing_said, AllCounted, AfterCounted};
-ghost use Rattle.scenario_events.specs.Members.{nothing_sent, client_of, turn_of};
+ghost use Rattle.scenario_events.specs.Members.{nothing_sent, client_of, assembled_of};
 ghost use Rattle.scenario_events.specs.declared.assembler.Assembler.{Assembler};
 ghost use Rattle.scenario_text.specs.declared.choices.ChannelRequest.{ChannelRequest};
 ghost use Rattle.scenario_text.specs.declared.statement.Statement.{Statement};
@@ -31,17 +31,17 @@ pub fn requests_are_read_again()
 /// its Hello, the others as the client's numbers and the body of the request. Only a URL can be too long to be sent.
 pub fn channels_are_read_again()
     ensures hello { (limit : ℕ) (a : Assembler) (connection : ℕ) (url : Option (List ℕ)) → IsAmple limit → IfSome url IsUtf8 →
-        IfOk (turn_of a (statements.Hello connection url)) (SendsFrame limit connection Hello hello_reading (hello_said url)) }
+        IfOk (assembled_of a (statements.Hello connection url)) (SendsFrame limit connection Hello hello_reading (hello_said url)) }
     ensures opening { (limit : ℕ) (a : Assembler) (connection : ℕ) (request : ChannelRequest) → IsAmple limit → AllCounted a →
-        IsOkAnd (turn_of a (statements.OpenChannel connection request))
+        IsOkAnd (assembled_of a (statements.OpenChannel connection request))
         (SendsFrame limit connection OpenSecureChannel opening_header_reading (opening_said (client_of a connection) request)) }
     ensures closing { (limit : ℕ) (a : Assembler) (connection : ℕ) → IsAmple limit → AllCounted a →
-        IsOkAnd (turn_of a (statements.CloseChannel connection))
+        IsOkAnd (assembled_of a (statements.CloseChannel connection))
         (SendsFrame limit connection CloseSecureChannel chunk_header_reading (closing_said (client_of a connection))) }
 {}
 
 /// Whatever lines come, the next chunk of each client has a header that can be written.
 pub fn headers_are_writable()
     ensures first { AllCounted nothing_sent }
-    ensures next { (a : Assembler) (statement : Statement) → AllCounted a → AfterCounted (turn_of a statement) }
+    ensures next { (a : Assembler) (statement : Statement) → AllCounted a → AfterCounted (assembled_of a statement) }
 {}

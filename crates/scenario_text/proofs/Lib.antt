@@ -1,3 +1,4 @@
 pub mod Spaces
 pub mod Entries
 pub mod Lines
+pub mod Fronts

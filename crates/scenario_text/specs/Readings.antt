@@ -1,5 +1,5 @@
 -- What reading gives: a value and the rest of the line, or what is wrong with the first bad word.
-use Rattle.std.specs.Prelude.{◌≡◌, ◌≢◌, ℕ, List, Option, Some, None, Result, Ok, Err}
+use Rattle.std.specs.Prelude.{◌≡◌, ◌≢◌, ℕ, List, Result, Ok, Err}
 use Rattle.scenario_text.specs.declared.fault.Cause.{Cause}
 use Rattle.scenario_text.specs.declared.fault.Cause.TheVariants.{Memory}
 
@@ -29,6 +29,16 @@ judged (Ok x) line = Ok (x, line)
 judged (Err e) line = Err e
 
 -- ---- words of the contracts
+
+-- what a function that takes no memory returned, and the line left after it, are what reading gives
+abbrev pub Finds : {A : Type 0} → Result A Cause → List ℕ → Result (A × List ℕ) Cause → Type 0
+Finds (Ok v) rest reading = reading ≡ Ok (v, rest)
+Finds (Err e) rest reading = reading ≡ Err e
+
+-- what it returned, seen by a view, and the line left after it
+abbrev pub FindsAs : {A B : Type 0} → (A → B) → Result A Cause → List ℕ → Result (B × List ℕ) Cause → Type 0
+FindsAs view (Ok v) rest reading = reading ≡ Ok (view v, rest)
+FindsAs view (Err e) rest reading = reading ≡ Err e
 
 -- What a function returned, and the line left after it, are what reading gives, unless memory ran out.
 abbrev pub Reads : {A : Type 0} → Result A Cause → List ℕ → Result (A × List ℕ) Cause → Type 0

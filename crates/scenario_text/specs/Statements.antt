@@ -1,5 +1,5 @@
 -- What a line says, and what is known after it.
-use Rattle.std.specs.Prelude.{ℕ, ◌+◌, ◌-◌, ◌^◌, List, Bool, true, ◌&&◌, nat_lt, nat_le, min, Option, Some, None, is_some, Result, Ok, Err, if◌then◌else◌}
+use Rattle.std.specs.Prelude.{ℕ, ◌+◌, ◌-◌, ◌^◌, List, Bool, true, false, ◌&&◌, nat_lt, nat_le, min, Option, Some, None, is_some, Result, Ok, Err, if◌then◌else◌}
 use Rattle.std.specs.FinMap.{empty, get, insert, remove}
 use Rattle.scenario_text.specs.Choices.{channel_request_reading, subscriptions_reading, publishing_reading}
 use Rattle.scenario_text.specs.Entries.{entries_reading, while_more}
@@ -48,6 +48,33 @@ unfoldable pub session_reading : Known → Reading ℕ
 session_reading known = do
   session ← long_number_reading
   judged (if nat_lt 0 session && nat_le session known.sessions then Ok session else Err NoConnection)
+
+-- who does what a verb says: the connection, which Open opens, and the session where one asks
+abbrev pub asker_reading : Known → Verb → Reading (Unit {0})
+asker_reading known verbs.Open = do
+  connection ← new_connection_reading known
+  done tt
+asker_reading known verbs.Tick = done tt
+asker_reading known verbs.Cut = done tt
+asker_reading known verbs.Chunk = done tt
+asker_reading known verbs.Abort = done tt
+asker_reading known (verbs.Ask verb) = do
+  connection ← connection_reading known
+  session ← session_reading known
+  done tt
+asker_reading known _ = do
+  connection ← connection_reading known
+  done tt
+
+-- what a line begins with: its verb, and who does it
+abbrev pub front : Known → Reading (Unit {0})
+front known = do
+  t ← word
+  verb ← judged (verb_of t)
+  asker_reading known verb
+
+unfoldable pub front_reading : Known → Reading (Unit {0})
+front_reading known = while_more (front known) tt
 
 -- ---- what a line says
 
@@ -157,6 +184,27 @@ statement_reading known (verbs.Ask verb) = do
   session ← session_reading known
   request ← request_reading verb
   done (statements.Ask connection session request)
+
+-- the statements without texts, bytes and lists
+abbrev pub takes_no_memory : Verb → Bool
+takes_no_memory verbs.Open = true
+takes_no_memory verbs.CloseChannel = true
+takes_no_memory verbs.Gone = true
+takes_no_memory verbs.Tick = true
+takes_no_memory verbs.Cut = true
+takes_no_memory verbs.Chunk = true
+takes_no_memory verbs.Abort = true
+takes_no_memory verbs.GetEndpoints = true
+takes_no_memory verbs.CreateSession = true
+takes_no_memory _ = false
+
+abbrev pub is_spared_by : Result (Verb × List ℕ) Cause → Bool
+is_spared_by (Ok read) = takes_no_memory read.0
+is_spared_by (Err e) = true
+
+-- the line has such a verb, a bad one, or none
+unfoldable pub is_spared : List ℕ → Bool
+is_spared line = is_spared_by ((word >>= λ t. judged (verb_of t)) line)
 
 -- the words of a line that isn't blank
 abbrev pub said : Known → Reading (Option Statement)

@@ -1,13 +1,14 @@
 //! What the lines before a line have opened and made.
 
-ghost use Rattle.std.specs.Prelude.{◌≡◌, IfOk, OnOk, OnErr};
+ghost use Rattle.std.specs.Prelude.{◌≡◌, true, Err, IfErr, OnOk, OnErr};
 ghost use Rattle.ua_types.specs.Answers.{Gives};
-ghost use Rattle.scenario_text.specs.Readings.{Reads};
+ghost use Rattle.scenario_text.specs.Readings.{Finds, Reads};
 ghost use Rattle.scenario_text.specs.declared.fault.Cause.TheVariants.{Memory};
-ghost use Rattle.scenario_text.specs.Statements.{nothing_known, is_above_all, connection_reading, new_connection_reading, session_reading, request_reading, statement_reading, line_reading, statement_of, after, after_line};
+ghost use Rattle.scenario_text.specs.Statements.{nothing_known, is_above_all, connection_reading, new_connection_reading, session_reading, asker_reading, front_reading, takes_no_memory, is_spared, request_reading, statement_reading, line_reading, statement_of, after, after_line};
 
 use crate::choices::{ChannelRequest, Publishing, Subscriptions};
 use crate::fault::Cause;
+use crate::numbers::{long_number, moment};
 use crate::open_connections::OpenConnections;
 use crate::phrases::Phrase;
 use crate::requests::{
@@ -18,7 +19,7 @@ use crate::values::{key, octets};
 use crate::verbs::{RequestVerb, Verb, verb_of};
 use crate::words::Words;
 use std::alloc::{AllocError, Global};
-use ua_types::{Listed, Moment, Text};
+use ua_types::{Listed, Text};
 
 /// What the words of a line are judged against: which connections are open there, and which sessions
 /// were made.
@@ -125,10 +126,10 @@ impl Known {
 
     // A connection that is open.
     #[tactic(auto, unfolding(crate::specs::Statements::connection_reading))]
-    fn connection(&self, alloc: Global, words: &mut Words<'_>) -> Result<u64, Cause>
-        ensures { Reads result words.new (connection_reading self.now words.old) }
+    fn connection(&self, words: &mut Words<'_>) -> Result<u64, Cause>
+        ensures { Finds result words.new (connection_reading self.now words.old) }
     {
-        let connection = u64::read(alloc, words)?;
+        let connection = long_number(words)?;
         if self.connections.contains(connection) {
             Ok(connection)
         } else {
@@ -138,10 +139,10 @@ impl Known {
 
     // A connection that can be opened.
     #[tactic(auto, unfolding(crate::specs::Statements::new_connection_reading))]
-    fn new_connection(&self, alloc: Global, words: &mut Words<'_>) -> Result<u64, Cause>
-        ensures { Reads result words.new (new_connection_reading self.now words.old) }
+    fn new_connection(&self, words: &mut Words<'_>) -> Result<u64, Cause>
+        ensures { Finds result words.new (new_connection_reading self.now words.old) }
     {
-        let connection = u64::read(alloc, words)?;
+        let connection = long_number(words)?;
         if self.is_new(connection) {
             Ok(connection)
         } else {
@@ -151,10 +152,10 @@ impl Known {
 
     // A session that was made.
     #[tactic(auto, unfolding(crate::specs::Statements::session_reading))]
-    fn session(&self, alloc: Global, words: &mut Words<'_>) -> Result<u64, Cause>
-        ensures { Reads result words.new (session_reading self.now words.old) }
+    fn session(&self, words: &mut Words<'_>) -> Result<u64, Cause>
+        ensures { Finds result words.new (session_reading self.now words.old) }
     {
-        let session = u64::read(alloc, words)?;
+        let session = long_number(words)?;
         if 0 < session && session <= self.sessions {
             Ok(session)
         } else {
@@ -169,59 +170,63 @@ impl Known {
         verb: Verb,
         words: &mut Words<'_>,
     ) -> Result<Statement, Cause>
-        ensures { Reads result words.new (statement_reading self.now verb words.old) }
+        ensures read { Reads result words.new (statement_reading self.now verb words.old) }
+        ensures spared { takes_no_memory verb ≡ true → Finds result words.new (statement_reading self.now verb words.old) }
+        ensures asker { IfErr (asker_reading self.now verb words.old) (λ cause. result ≡ Err cause) }
     {
         match verb {
             Verb::Open => Ok(Statement::Open {
-                connection: self.new_connection(alloc, words)?,
+                connection: self.new_connection(words)?,
                 key: key(words)?,
             }),
             Verb::Hello => Ok(Statement::Hello {
-                connection: self.connection(alloc, words)?,
+                connection: self.connection(words)?,
                 url: Text::read(alloc, words)?,
             }),
             Verb::OpenChannel => Ok(Statement::OpenChannel {
-                connection: self.connection(alloc, words)?,
+                connection: self.connection(words)?,
                 request: ChannelRequest::read(alloc, words)?,
             }),
             Verb::CloseChannel => Ok(Statement::CloseChannel {
-                connection: self.connection(alloc, words)?,
+                connection: self.connection(words)?,
             }),
             Verb::Gone => Ok(Statement::Gone {
-                connection: self.connection(alloc, words)?,
+                connection: self.connection(words)?,
             }),
             Verb::Tick => Ok(Statement::Tick {
-                now: Moment::read(alloc, words)?,
+                now: moment(words)?,
             }),
             Verb::Raw => Ok(Statement::Raw {
-                connection: self.connection(alloc, words)?,
+                connection: self.connection(words)?,
                 bytes: Listed::from_vec(octets(alloc, words)?),
             }),
             Verb::Cut => Ok(Statement::Cut {
-                size: u64::read(alloc, words)?,
+                size: long_number(words)?,
             }),
             Verb::Chunk => Ok(Statement::Chunk {
-                size: u64::read(alloc, words)?,
+                size: long_number(words)?,
             }),
             Verb::Abort => Ok(Statement::Abort),
             Verb::GetEndpoints => Ok(Statement::GetEndpoints {
-                connection: self.connection(alloc, words)?,
+                connection: self.connection(words)?,
             }),
             Verb::CreateSession => Ok(Statement::CreateSession {
-                connection: self.connection(alloc, words)?,
+                connection: self.connection(words)?,
             }),
             Verb::Ask(verb) => Ok(Statement::Ask {
-                connection: self.connection(alloc, words)?,
-                session: self.session(alloc, words)?,
+                connection: self.connection(words)?,
+                session: self.session(words)?,
                 request: request(alloc, verb, words)?,
             }),
         }
     }
 
     // What the words of a line say, if there are any.
-    #[tactic(auto, unfolding(crate::specs::Statements::line_reading))]
+    #[tactic(auto, unfolding(crate::specs::Statements::line_reading, crate::specs::Statements::front_reading, crate::specs::Statements::is_spared))]
     fn line(&self, alloc: Global, words: &mut Words<'_>) -> Result<Option<Statement>, Cause>
-        ensures { Reads result words.new (line_reading self.now words.old) }
+        ensures read { Reads result words.new (line_reading self.now words.old) }
+        ensures spared { is_spared words.old ≡ true → Finds result words.new (line_reading self.now words.old) }
+        ensures front { IfErr (front_reading self.now words.old) (λ cause. result ≡ Err cause) }
     {
         if !words.has_more() {
             return Ok(None);
@@ -234,10 +239,13 @@ impl Known {
 
     /// What a line says, judged against what is known; none where it is blank or a comment.
     ///
-    /// The cause is that of the leftmost bad word.
+    /// The cause is that of the leftmost bad word. A line whose verb says nothing of any length takes no memory, and
+    /// the verb, the connection and the session of any other are judged however little memory there is.
     #[tactic(auto, unfolding(crate::specs::Statements::statement_of))]
     pub fn read(&self, alloc: Global, line: &str) -> Result<Option<Statement>, Cause>
-        ensures { Gives Memory result (statement_of self.now line.now) }
+        ensures given { Gives Memory result (statement_of self.now line.now) }
+        ensures spared { is_spared line.now ≡ true → result ≡ statement_of self.now line.now }
+        ensures front { IfErr (front_reading self.now line.now) (λ cause. result ≡ Err cause) }
     {
         let mut words = Words::new(line);
         self.line(alloc, &mut words)

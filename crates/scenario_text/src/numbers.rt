@@ -2,7 +2,7 @@
 
 ghost use Rattle.std.specs.Prelude.{◌≡◌, ◌^◌, ◌<◌, ◌≤◌, ◌≤ℤ◌, pos, neg_ℤ, IfSome, IfOk};
 ghost use Rattle.ua_types.specs.Answers.{Gives};
-ghost use Rattle.scenario_text.specs.Readings.{Reads};
+ghost use Rattle.scenario_text.specs.Readings.{Finds};
 ghost use Rattle.scenario_text.specs.declared.fault.Cause.TheVariants.{Memory};
 ghost use Rattle.scenario_text.specs.Numbers.{signed_of, truth_of, named_id, unsigned_reading, signed_reading, byte_reading, number_reading, long_number_reading, signed_number_reading, moment_reading, truth_reading, id_reading};
 
@@ -59,7 +59,7 @@ pub(crate) fn named_id(alloc: Global, cause: Cause, text: &str) -> Result<NodeId
 
 #[tactic(auto, unfolding(crate::specs::Numbers::unsigned_reading))]
 fn unsigned(words: &mut Words<'_>, highest: u64) -> Result<u64, Cause>
-    ensures read { Reads result words.new (unsigned_reading highest words.old) }
+    ensures read { Finds result words.new (unsigned_reading highest words.old) }
     ensures fits { IfOk result (λ n. n ≤ highest) }
 {
     match decimal_up_to(highest, words.word()?) {
@@ -72,7 +72,7 @@ fn unsigned(words: &mut Words<'_>, highest: u64) -> Result<u64, Cause>
 fn signed_within(words: &mut Words<'_>, lowest: u64, highest: u64) -> Result<i64, Cause>
     requires lowest { lowest ≤ 2 ^ 63 }
     requires highest { highest < 2 ^ 63 }
-    ensures read { Reads result words.new (signed_reading lowest highest words.old) }
+    ensures read { Finds result words.new (signed_reading lowest highest words.old) }
     ensures low { IfOk result (λ z. neg_ℤ (pos lowest) ≤ℤ z) }
     ensures high { IfOk result (λ z. z ≤ℤ pos highest) }
 {
@@ -100,12 +100,19 @@ impl Phrase for u32 {
     }
 }
 
+/// A UInt64. Takes no memory.
+#[tactic(auto, unfolding(crate::specs::Numbers::long_number_reading))]
+pub(crate) fn long_number(words: &mut Words<'_>) -> Result<u64, Cause>
+    ensures { Finds result words.new (long_number_reading words.old) }
+{
+    unsigned(words, u64::MAX)
+}
+
 impl Phrase for u64 {
     ghost reading = { long_number_reading };
 
-    #[tactic(auto, unfolding(crate::specs::Numbers::long_number_reading))]
     fn read(_alloc: Global, words: &mut Words<'_>) -> Result<u64, Cause> {
-        unsigned(words, u64::MAX)
+        long_number(words)
     }
 }
 
@@ -118,12 +125,19 @@ impl Phrase for i32 {
     }
 }
 
+/// A moment in steps of 100 ns. Takes no memory.
+#[tactic(auto, unfolding(crate::specs::Numbers::moment_reading))]
+pub(crate) fn moment(words: &mut Words<'_>) -> Result<Moment, Cause>
+    ensures { Finds result words.new (moment_reading words.old) }
+{
+    Ok(Moment(signed_within(words, 1 << 63, (1 << 63) - 1)?))
+}
+
 impl Phrase for Moment {
     ghost reading = { moment_reading };
 
-    #[tactic(auto, unfolding(crate::specs::Numbers::moment_reading))]
     fn read(_alloc: Global, words: &mut Words<'_>) -> Result<Moment, Cause> {
-        Ok(Moment(signed_within(words, 1 << 63, (1 << 63) - 1)?))
+        moment(words)
     }
 }
 

@@ -3,7 +3,7 @@
 ghost use Rattle.std.specs.Prelude.{◌≡◌, Some, Ok};
 ghost use Rattle.hex.specs.Hex.{decode_of, decode_sized};
 ghost use Rattle.ua_types.specs.Answers.{Gives, GivesAs};
-ghost use Rattle.scenario_text.specs.Readings.{Reads, ReadsAs};
+ghost use Rattle.scenario_text.specs.Readings.{Finds, ReadsAs};
 ghost use Rattle.scenario_text.specs.declared.fault.Cause.TheVariants.{Memory, Value};
 ghost use Rattle.scenario_text.specs.Values.{key_of, key_reading, octets_of, octets_reading, text_reading, value_of, value_reading};
 
@@ -36,7 +36,7 @@ pub(crate) fn octets(alloc: Global, words: &mut Words<'_>) -> Result<Vec<u8>, Ca
 
 // The key that 64 hex digits stand for.
 fn key_of(digits: &str) -> Result<[u8; 32], Cause>
-    ensures { Gives Memory result (key_of (decode_sized digits.now 32)) }
+    ensures { result ≡ key_of (decode_sized digits.now 32) }
 {
     let mut key = [0u8; 32];
     match hex::decode_to_slice(digits, &mut key) {
@@ -48,7 +48,7 @@ fn key_of(digits: &str) -> Result<[u8; 32], Cause>
 /// The next word as a connection's key: 32 bytes in hex digits.
 #[tactic(auto, unfolding(crate::specs::Values::key_reading))]
 pub(crate) fn key(words: &mut Words<'_>) -> Result<[u8; 32], Cause>
-    ensures { Reads result words.new (key_reading words.old) }
+    ensures { Finds result words.new (key_reading words.old) }
 {
     key_of(words.word()?)
 }

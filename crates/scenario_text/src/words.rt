@@ -1,7 +1,7 @@
 //! The words of a line.
 
 ghost use Rattle.std.specs.Prelude.{◌≡◌, ◌≤◌, length, option_map};
-ghost use Rattle.scenario_text.specs.Readings.{Reads, ReadsAs};
+ghost use Rattle.scenario_text.specs.Readings.{Finds, FindsAs};
 ghost use Rattle.scenario_text.specs.Words.{FoundAs, past_spaces, has, ends, is_apart, quoted, whole, bare, word_at, next_word, has_more, spelled, word, text, end_of_line};
 
 use crate::fault::Cause;
@@ -134,7 +134,7 @@ impl<'a> Words<'a> {
     /// The next word without its quotes, and whether it stands in quotes. None where the line ends.
     #[tactic(auto, unfolding(crate::specs::Words::next_word))]
     pub fn next_word(&mut self) -> Result<Option<(&'a str, bool)>, Cause>
-        ensures { ReadsAs (λ w. option_map (λ s. (s.0.now, s.1)) w) result self.new (next_word self.old) }
+        ensures { FindsAs (λ w. option_map (λ s. (s.0.now, s.1)) w) result self.new (next_word self.old) }
     {
         let (word, rest) = word_at(past_spaces(self.rest))?;
         self.rest = rest;
@@ -144,7 +144,7 @@ impl<'a> Words<'a> {
     /// The next word, which has to be there, and whether it stands in quotes.
     #[tactic(auto, unfolding(crate::specs::Words::spelled))]
     pub fn spelled(&mut self) -> Result<(&'a str, bool), Cause>
-        ensures { ReadsAs (λ s. (s.0.now, s.1)) result self.new (spelled self.old) }
+        ensures { FindsAs (λ s. (s.0.now, s.1)) result self.new (spelled self.old) }
     {
         match self.next_word()? {
             Some(word) => Ok(word),
@@ -155,7 +155,7 @@ impl<'a> Words<'a> {
     /// The next word, quoted or not.
     #[tactic(auto, unfolding(crate::specs::Words::word))]
     pub fn word(&mut self) -> Result<&'a str, Cause>
-        ensures { ReadsAs (λ w. w.now) result self.new (word self.old) }
+        ensures { FindsAs (λ w. w.now) result self.new (word self.old) }
     {
         let (word, _) = self.spelled()?;
         Ok(word)
@@ -164,7 +164,7 @@ impl<'a> Words<'a> {
     /// The next word, which has to be quoted.
     #[tactic(auto, unfolding(crate::specs::Words::text))]
     pub fn text(&mut self) -> Result<&'a str, Cause>
-        ensures { ReadsAs (λ w. w.now) result self.new (text self.old) }
+        ensures { FindsAs (λ w. w.now) result self.new (text self.old) }
     {
         let (word, is_quoted) = self.spelled()?;
         if is_quoted {
@@ -177,7 +177,7 @@ impl<'a> Words<'a> {
     /// Nothing more may follow.
     #[tactic(auto, unfolding(crate::specs::Words::end_of_line))]
     pub fn end(&self) -> Result<(), Cause>
-        ensures { Reads result self.now (end_of_line self.now) }
+        ensures { Finds result self.now (end_of_line self.now) }
     {
         if self.has_more() {
             Err(Cause::Word)

@@ -30,7 +30,7 @@ use Rattle.server_messages.specs.declared.reply.Reply.{Reply}
 use Rattle.server_messages.specs.declared.setting.Setting.{Setting}
 use Rattle.server_connections.specs.Coherent.{IsAgreed}
 use Rattle.server_connections.specs.Delivering.{too_large_sent, reply_sent}
-use Rattle.server_connections.specs.Turns.{Sent, sent_nothing, sent_or, opening_body, opening_sent, granted}
+use Rattle.server_connections.specs.Reactions.{Sent, sent_nothing, sent_or, opening_body, opening_sent, granted}
 use Rattle.ua_channel.specs.Openings.{is_policy_none, opening_request_of, renewal_of}
 use Rattle.ua_channel.specs.Acceptance.{admission_of, with_unfinished, message_taken, close_taken, renewal_taken, request_taken, opening_by, opening_taken, taken_by_type, is_error, comes_by_channel, acceptance_of, kept_refusal, unless_refused, take_of}
 

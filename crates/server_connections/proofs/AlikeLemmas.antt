@@ -8,9 +8,9 @@ use Rattle.ua_tcp.specs.declared.frame.FrameFault.{FrameFault}
 use Rattle.server_messages.specs.declared.reply.Reply.{Reply}
 use Rattle.server_messages.specs.declared.setting.Setting.{Setting}
 use Rattle.server_connections.specs.Apart.{SeesAlike, is_on, is_for}
-use Rattle.server_connections.specs.Connecting.{Taking, turned, taking_by, taking_of, break_by, break_of}
+use Rattle.server_connections.specs.Connecting.{Taking, reacted, taking_by, taking_of, break_by, break_of}
 use Rattle.server_connections.specs.Delivering.{Delivery, reply_sent, said_by, delivered_to, delivered, delivery_of}
-use Rattle.server_connections.specs.Turns.{Counted, counted, sends, turn_of, fault_turn}
+use Rattle.server_connections.specs.Reactions.{Counted, counted, sends, reaction_of, fault_reaction}
 use Rattle.server_connections.specs.declared.connection.Connection.{Connection}
 use Rattle.server_connections.specs.declared.connection.Phase.{Phase}
 use Rattle.server_connections.specs.declared.connection.Phase.TheVariants.{Greeting, Talking, Closed}
@@ -25,22 +25,22 @@ pub record TakesAlike (conn : ℕ) (s t : Taking) : Type 0 where
   pub outs : s.outs ≡ t.outs
   pub asked : s.asked ≡ t.asked
 
-turned_alike : (conn : ℕ) (a b : Connections) (connection : Connection) (x y : Counted) → x ≡ y → TakesAlike conn (turned a conn connection x) (turned b conn connection y)
-turned_alike conn a b connection x y e = record {
+reacted_alike : (conn : ℕ) (a b : Connections) (connection : Connection) (x y : Counted) → x ≡ y → TakesAlike conn (reacted a conn connection x) (reacted b conn connection y)
+reacted_alike conn a b connection x y e = record {
   sees = record {
-    known = get_inserted a.known conn (record connection { phase = x.turn.phase })
-        ∙ ap (λ (c : Counted). let after : Connection = record connection { phase = c.turn.phase } in Some after) e
-        ∙ sym (get_inserted b.known conn (record connection { phase = y.turn.phase }));
+    known = get_inserted a.known conn (record connection { phase = x.reaction.phase })
+        ∙ ap (λ (c : Counted). let after : Connection = record connection { phase = c.reaction.phase } in Some after) e
+        ∙ sym (get_inserted b.known conn (record connection { phase = y.reaction.phase }));
     channels = ap (λ (c : Counted). c.channels) e;
   };
-  outs = ap (λ (c : Counted). c.turn.outs) e;
-  asked = ap (λ (c : Counted). c.turn.asked) e;
+  outs = ap (λ (c : Counted). c.reaction.outs) e;
+  asked = ap (λ (c : Counted). c.reaction.asked) e;
 }
 
 taking_by_alike : (setting : Setting) (conn : ℕ) (a b : Connections) (frame : Frame) (found : Option Connection) → SeesAlike conn a b → TakesAlike conn (taking_by setting conn a frame found) (taking_by setting conn b frame found)
 taking_by_alike setting conn a b frame None p = record { sees = p; outs = refl; asked = refl }
 taking_by_alike setting conn a b frame (Some connection) p =
-    turned_alike conn a b connection _ _ (ap (λ (n : ℕ). turn_of setting n conn connection.key frame connection.phase) p.channels)
+    reacted_alike conn a b connection _ _ (ap (λ (n : ℕ). reaction_of setting n conn connection.key frame connection.phase) p.channels)
 
 pub taking_alike : (setting : Setting) (conn : ℕ) (a b : Connections) (frame : Frame) → SeesAlike conn a b → TakesAlike conn (taking_of setting conn a frame) (taking_of setting conn b frame)
 unfolding taking_of
@@ -51,7 +51,7 @@ taking_alike setting conn a b frame p =
 break_by_alike : (conn : ℕ) (a b : Connections) (fault : FrameFault) (found : Option Connection) → SeesAlike conn a b → TakesAlike conn (break_by conn a fault found) (break_by conn b fault found)
 break_by_alike conn a b fault None p = record { sees = p; outs = refl; asked = refl }
 break_by_alike conn a b fault (Some connection) p =
-    turned_alike conn a b connection _ _ (ap (λ (n : ℕ). counted n (fault_turn conn fault)) p.channels)
+    reacted_alike conn a b connection _ _ (ap (λ (n : ℕ). counted n (fault_reaction conn fault)) p.channels)
 
 pub break_alike : (conn : ℕ) (a b : Connections) (fault : FrameFault) → SeesAlike conn a b → TakesAlike conn (break_of conn a fault) (break_of conn b fault)
 unfolding break_of

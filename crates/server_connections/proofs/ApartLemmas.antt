@@ -16,8 +16,8 @@ use Rattle.server_connections.specs.declared.connection.Connection.{Connection}
 use Rattle.server_connections.specs.declared.connection.Phase.{Phase}
 use Rattle.server_connections.specs.declared.connection.Phase.TheVariants.{Greeting, Talking, Closed}
 use Rattle.server_connections.specs.declared.connections.Connections.{Connections}
-use Rattle.server_connections.specs.Turns.{Counted, Sent, sent_nothing, sent_or, fault_turn, turn_of}
-use Rattle.server_connections.specs.Connecting.{turned, taking_by, taking_of, break_by, break_of}
+use Rattle.server_connections.specs.Reactions.{Counted, Sent, sent_nothing, sent_or, fault_reaction, reaction_of}
+use Rattle.server_connections.specs.Connecting.{reacted, taking_by, taking_of, break_by, break_of}
 use Rattle.server_connections.specs.Delivering.{said_by, too_large_sent, reply_sent, delivered_to, delivered, delivery_of}
 use Rattle.server_connections.specs.Apart.{unsent_channel, unsent_phase, unsent, with_known, KeepsOthers}
 use Rattle.server_connections.proofs.CoherentLemmas.{at_insert_at}
@@ -26,11 +26,11 @@ use Rattle.ua_types.proofs.NumberMaps.{get_inserted}
 
 -- ---- frames
 
-turned_apart : (conn : ℕ) (connections : Connections) (connection : Connection) (c : Counted) → get connections.known conn ≡ Some connection → KeepsOthers conn connections (turned connections conn connection c).connections
-turned_apart conn connections connection c e = record {
+reacted_apart : (conn : ℕ) (connections : Connections) (connection : Connection) (c : Counted) → get connections.known conn ≡ Some connection → KeepsOthers conn connections (reacted connections conn connection c).connections
+reacted_apart conn connections connection c e = record {
   rest = refl;
-  known = ap is_some (get_inserted connections.known conn (record connection { phase = c.turn.phase })) ∙ sym (ap is_some e);
-  others = λ other apart. ap unsent (get_inserted_elsewhere connections.known conn (record connection { phase = c.turn.phase }) other apart);
+  known = ap is_some (get_inserted connections.known conn (record connection { phase = c.reaction.phase })) ∙ sym (ap is_some e);
+  others = λ other apart. ap unsent (get_inserted_elsewhere connections.known conn (record connection { phase = c.reaction.phase }) other apart);
 }
 
 same_apart : (conn : ℕ) (connections : Connections) → KeepsOthers conn connections connections
@@ -39,7 +39,7 @@ same_apart conn connections = record { rest = refl; known = refl; others = λ ot
 taking_by_apart : (setting : Setting) (conn : ℕ) (connections : Connections) (frame : Frame) (found : Option Connection) → get connections.known conn ≡ found → KeepsOthers conn connections (taking_by setting conn connections frame found).connections
 taking_by_apart setting conn connections frame None e = same_apart conn connections
 taking_by_apart setting conn connections frame (Some connection) e =
-    turned_apart conn connections connection (turn_of setting connections.channels conn connection.key frame connection.phase) e
+    reacted_apart conn connections connection (reaction_of setting connections.channels conn connection.key frame connection.phase) e
 
 pub taking_apart : (setting : Setting) (conn : ℕ) (connections : Connections) (frame : Frame) → KeepsOthers conn connections (taking_of setting conn connections frame).connections
 unfolding taking_of
@@ -47,7 +47,7 @@ taking_apart setting conn connections frame = taking_by_apart setting conn conne
 
 break_by_apart : (conn : ℕ) (connections : Connections) (fault : FrameFault) (found : Option Connection) → get connections.known conn ≡ found → KeepsOthers conn connections (break_by conn connections fault found).connections
 break_by_apart conn connections fault None e = same_apart conn connections
-break_by_apart conn connections fault (Some connection) e = turned_apart conn connections connection (record { turn = fault_turn conn fault; channels = connections.channels }) e
+break_by_apart conn connections fault (Some connection) e = reacted_apart conn connections connection (record { reaction = fault_reaction conn fault; channels = connections.channels }) e
 
 pub break_apart : (conn : ℕ) (connections : Connections) (fault : FrameFault) → KeepsOthers conn connections (break_of conn connections fault).connections
 unfolding break_of

@@ -29,8 +29,8 @@ use Rattle.server_connections.specs.declared.connection.Phase.{Phase}
 use Rattle.server_connections.specs.declared.connection.Phase.TheVariants.{Greeting, Talking, Closed}
 use Rattle.server_connections.specs.declared.connections.Connections.{Connections}
 use Rattle.server_messages.specs.declared.out.Out.{Out}
-use Rattle.server_connections.specs.Turns.{Turn, turn, Counted, greeted, first_turn, granted, opening_turn, taken_turn, later_turn, turn_of, fault_turn}
-use Rattle.server_connections.specs.Connecting.{Taking, is_known, is_new, is_above_all, known_as, gone, with_phase, turned, taking_by, taking_of, break_by, break_of}
+use Rattle.server_connections.specs.Reactions.{Reaction, reaction, Counted, greeted, first_reaction, granted, opening_reaction, taken_reaction, later_reaction, reaction_of, fault_reaction}
+use Rattle.server_connections.specs.Connecting.{Taking, is_known, is_new, is_above_all, known_as, gone, with_phase, reacted, taking_by, taking_of, break_by, break_of}
 use Rattle.server_connections.specs.Delivering.{Delivery, said_by, reply_sent, delivered_on, delivered_to, delivered, delivery_of}
 use Rattle.server_connections.specs.Coherent.{IsAgreed, IsAgreedIn, IsAgreedAt, AreAgreed, is_talking, has_channel, Talks, IsFresh, is_going_on, is_open_at, is_open}
 use Rattle.server_connections.proofs.AgreedLemmas.{of_unchanged, of_taken, good_frame, IsGood, reply_unchanged, granted_unchanged}
@@ -79,23 +79,23 @@ Fits conn phase outcome.Nothing = is_talking phase ≡ true
 Fits conn phase outcome.Closed = phase ≡ Closed
 Fits conn phase (outcome.Request request) = (request.conn ≡ conn) × (is_talking phase ≡ true)
 
-pub record IsRight (config : Configuration) (conn : ℕ) (t : Turn) : Type 0 where
+pub record IsRight (config : Configuration) (conn : ℕ) (t : Reaction) : Type 0 where
   pub agreed : IsAgreedIn config t.phase
   pub fits : Fits conn t.phase t.asked
 
 module _ (config : Configuration) (conn : ℕ) where
-  right_if : (b : Bool) (x y : Turn) → IsRight config conn x → IsRight config conn y → IsRight config conn (cond b x y)
+  right_if : (b : Bool) (x y : Reaction) → IsRight config conn x → IsRight config conn y → IsRight config conn (cond b x y)
   right_if true x y p q = p
   right_if false x y p q = q
 
-  right_counted : (b : Bool) (x y : Counted) → IsRight config conn x.turn → IsRight config conn y.turn → IsRight config conn (cond b x y).turn
+  right_counted : (b : Bool) (x y : Counted) → IsRight config conn x.reaction → IsRight config conn y.reaction → IsRight config conn (cond b x y).reaction
   right_counted true x y p q = p
   right_counted false x y p q = q
 
-  right_closed : (outs : List Out) → IsRight config conn (turn Closed outs outcome.Closed)
+  right_closed : (outs : List Out) → IsRight config conn (reaction Closed outs outcome.Closed)
   right_closed outs = record { agreed = tt; fits = refl }
 
-  right_talking : (s : ChannelState) (outs : List Out) → IsAgreed config s → IsRight config conn (turn (Talking s) outs outcome.Nothing)
+  right_talking : (s : ChannelState) (outs : List Out) → IsAgreed config s → IsRight config conn (reaction (Talking s) outs outcome.Nothing)
   right_talking s outs p = record { agreed = p; fits = refl }
 
   right_greeted : (r : Result Agreement Status) → IsGood (limits_of config) r → IsRight config conn (greeted conn r)
@@ -103,24 +103,24 @@ module _ (config : Configuration) (conn : ℕ) where
   right_greeted (Err code) p = right_closed _
 
 module _ (setting : Setting) (conn : ℕ) (ranges : AreInRange (limits_of setting.config)) where
-  right_first : (frame : Frame) → IsRight setting.config conn (first_turn setting conn frame)
-  unfolding first_turn
+  right_first : (frame : Frame) → IsRight setting.config conn (first_reaction setting conn frame)
+  unfolding first_reaction
   right_first frame =
       right_if setting.config conn (is_error frame.message_type) _ _ (right_closed setting.config conn _)
       (right_greeted setting.config conn (outcome_of_frame (limits_of setting.config) frame) (good_frame (limits_of setting.config) frame ranges))
 
   right_granted : (s : ChannelState) (id handle number : ℕ) (outs : List Out) → IsAgreed setting.config s →
-      IsRight setting.config conn (turn (Talking (granted setting s id handle number).channel) outs outcome.Nothing)
+      IsRight setting.config conn (reaction (Talking (granted setting s id handle number).channel) outs outcome.Nothing)
   right_granted s id handle number outs p =
       right_talking setting.config conn _ outs (of_unchanged setting.config s _ (granted_unchanged setting s id handle number) p)
 
-  right_opening : (channels : ℕ) (s : ChannelState) (id handle : ℕ) (renew : Bool) → IsAgreed setting.config s → IsRight setting.config conn (opening_turn setting channels conn s id handle renew).turn
-  unfolding opening_turn
+  right_opening : (channels : ℕ) (s : ChannelState) (id handle : ℕ) (renew : Bool) → IsAgreed setting.config s → IsRight setting.config conn (opening_reaction setting channels conn s id handle renew).reaction
+  unfolding opening_reaction
   right_opening channels s id handle renew p =
       right_counted setting.config conn renew _ _ (right_granted s id handle (written_id s.channel_id) _ p)
       (right_counted setting.config conn _ _ _ (right_closed setting.config conn _) (right_granted s id handle _ _ p))
 
-  right_taken : (channels : ℕ) (key : List ℕ) (s : ChannelState) (r : Result Taken Status) → IsAgreed setting.config s → IsRight setting.config conn (taken_turn setting channels conn key s r).turn
+  right_taken : (channels : ℕ) (key : List ℕ) (s : ChannelState) (r : Result Taken Status) → IsAgreed setting.config s → IsRight setting.config conn (taken_reaction setting channels conn key s r).reaction
   right_taken channels key s (Ok taken.Nothing) p = right_talking setting.config conn s [] p
   right_taken channels key s (Ok (taken.Aborted id)) p = right_talking setting.config conn s [] p
   right_taken channels key s (Ok taken.Closed) p = right_closed setting.config conn _
@@ -128,13 +128,13 @@ module _ (setting : Setting) (conn : ℕ) (ranges : AreInRange (limits_of settin
   right_taken channels key s (Ok (taken.Request id body)) p = record { agreed = p; fits = (refl, refl) }
   right_taken channels key s (Err code) p = right_closed setting.config conn _
 
-  right_turn : (channels : ℕ) (key : List ℕ) (frame : Frame) (phase : Phase) → IsAgreedIn setting.config phase → IsRight setting.config conn (turn_of setting channels conn key frame phase).turn
-  unfolding later_turn
-  right_turn channels key frame Greeting p = right_first frame
-  right_turn channels key frame (Talking s) p = right_taken channels key (take_of s frame).state (take_of s frame).answer (of_taken setting.config s frame p)
-  right_turn channels key frame Closed p = right_closed setting.config conn []
+  right_reaction : (channels : ℕ) (key : List ℕ) (frame : Frame) (phase : Phase) → IsAgreedIn setting.config phase → IsRight setting.config conn (reaction_of setting channels conn key frame phase).reaction
+  unfolding later_reaction
+  right_reaction channels key frame Greeting p = right_first frame
+  right_reaction channels key frame (Talking s) p = right_taken channels key (take_of s frame).state (take_of s frame).answer (of_taken setting.config s frame p)
+  right_reaction channels key frame Closed p = right_closed setting.config conn []
 
-right_fault : (config : Configuration) (conn : ℕ) (fault : FrameFault) → IsRight config conn (fault_turn conn fault)
+right_fault : (config : Configuration) (conn : ℕ) (fault : FrameFault) → IsRight config conn (fault_reaction conn fault)
 right_fault config conn Letters = right_closed config conn _
 right_fault config conn Size = right_closed config conn _
 right_fault config conn Failed = right_closed config conn _
@@ -175,21 +175,21 @@ fits_at conn connections connection phase outcome.Closed f =
     ap is_open_at (get_inserted connections.known conn (record connection { phase = phase })) ∙ ap is_going_on f
 fits_at conn connections connection phase (outcome.Request request) f = (f.0, talks_at connections conn connection phase f.1)
 
-turned_right : (config : Configuration) (conn : ℕ) (connections : Connections) (connection : Connection) (c : Counted) → get connections.known conn ≡ Some connection → AreAgreed config connections → IsRight config conn c.turn →
-    IsTakenRight config conn connections (turned connections conn connection c)
-turned_right config conn connections connection c found p r = record {
-  agreed = λ q. at_insert (IsAgreedAt config) connections.known conn (record connection { phase = c.turn.phase }) q r.agreed (p q);
-  others = λ other apart talks. ap has_channel (get_inserted_elsewhere connections.known conn (record connection { phase = c.turn.phase }) other apart) ∙ talks;
-  opened = λ other apart. ap is_open_at (get_inserted_elsewhere connections.known conn (record connection { phase = c.turn.phase }) other apart);
-  fits = fits_at conn (record connections { channels = c.channels }) connection c.turn.phase c.turn.asked r.fits;
-  fresh = λ f. fresh_at connections conn connection (record connection { phase = c.turn.phase }) found f;
+reacted_right : (config : Configuration) (conn : ℕ) (connections : Connections) (connection : Connection) (c : Counted) → get connections.known conn ≡ Some connection → AreAgreed config connections → IsRight config conn c.reaction →
+    IsTakenRight config conn connections (reacted connections conn connection c)
+reacted_right config conn connections connection c found p r = record {
+  agreed = λ q. at_insert (IsAgreedAt config) connections.known conn (record connection { phase = c.reaction.phase }) q r.agreed (p q);
+  others = λ other apart talks. ap has_channel (get_inserted_elsewhere connections.known conn (record connection { phase = c.reaction.phase }) other apart) ∙ talks;
+  opened = λ other apart. ap is_open_at (get_inserted_elsewhere connections.known conn (record connection { phase = c.reaction.phase }) other apart);
+  fits = fits_at conn (record connections { channels = c.channels }) connection c.reaction.phase c.reaction.asked r.fits;
+  fresh = λ f. fresh_at connections conn connection (record connection { phase = c.reaction.phase }) found f;
 }
 
 found_right : (setting : Setting) (conn : ℕ) (connections : Connections) (frame : Frame) (found : Option Connection) → get connections.known conn ≡ found → AreInRange (limits_of setting.config) → AreAgreed setting.config connections →
     IsAgreedAt setting.config found → IsTakenRight setting.config conn connections (taking_by setting conn connections frame found)
 found_right setting conn connections frame None e ranges p a = record { agreed = p; others = λ other apart talks. talks; opened = λ other apart. refl; fits = ap is_open_at e; fresh = λ f. f }
 found_right setting conn connections frame (Some connection) e ranges p a =
-    turned_right setting.config conn connections connection _ e p (right_turn setting conn ranges connections.channels connection.key frame connection.phase a)
+    reacted_right setting.config conn connections connection _ e p (right_reaction setting conn ranges connections.channels connection.key frame connection.phase a)
 
 pub taken_right : (setting : Setting) (conn : ℕ) (connections : Connections) (frame : Frame) → AreInRange (limits_of setting.config) → AreAgreed setting.config connections →
     IsTakenRight setting.config conn connections (taking_of setting conn connections frame)
@@ -199,14 +199,14 @@ taken_right setting conn connections frame ranges p = found_right setting conn c
 broken_by_right : (config : Configuration) (conn : ℕ) (connections : Connections) (fault : FrameFault) (found : Option Connection) → get connections.known conn ≡ found → AreAgreed config connections →
     IsTakenRight config conn connections (break_by conn connections fault found)
 broken_by_right config conn connections fault None e p = record { agreed = p; others = λ other apart talks. talks; opened = λ other apart. refl; fits = ap is_open_at e; fresh = λ f. f }
-broken_by_right config conn connections fault (Some connection) e p = turned_right config conn connections connection _ e p (right_fault config conn fault)
+broken_by_right config conn connections fault (Some connection) e p = reacted_right config conn connections connection _ e p (right_fault config conn fault)
 
 pub broken_right : (config : Configuration) (conn : ℕ) (connections : Connections) (fault : FrameFault) → AreAgreed config connections → IsTakenRight config conn connections (break_of conn connections fault)
 unfolding break_of
 broken_right config conn connections fault p = broken_by_right config conn connections fault (get connections.known conn) refl p
 
 -- a fault closes the connection
-broken_phase : (conn : ℕ) (fault : FrameFault) → (fault_turn conn fault).phase ≡ Closed
+broken_phase : (conn : ℕ) (fault : FrameFault) → (fault_reaction conn fault).phase ≡ Closed
 broken_phase conn Letters = refl
 broken_phase conn Size = refl
 broken_phase conn Failed = refl
@@ -214,7 +214,7 @@ broken_phase conn Failed = refl
 closes_by : (conn : ℕ) (connections : Connections) (fault : FrameFault) (found : Option Connection) → get connections.known conn ≡ found → is_open (break_by conn connections fault found).connections conn ≡ false
 closes_by conn connections fault None e = ap is_open_at e
 closes_by conn connections fault (Some connection) e =
-    ap is_open_at (get_inserted connections.known conn (record connection { phase = (fault_turn conn fault).phase })) ∙ ap is_going_on (broken_phase conn fault)
+    ap is_open_at (get_inserted connections.known conn (record connection { phase = (fault_reaction conn fault).phase })) ∙ ap is_going_on (broken_phase conn fault)
 
 pub broken_closes : (conn : ℕ) (connections : Connections) (fault : FrameFault) → is_open (break_of conn connections fault).connections conn ≡ false
 unfolding break_of

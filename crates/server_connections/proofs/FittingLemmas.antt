@@ -23,7 +23,7 @@ use Rattle.server_connections.specs.Coherent.{IsAgreedIn, IsAgreedAt, AlwaysFitI
 use Rattle.server_connections.specs.declared.connection.Connection.{Connection}
 use Rattle.server_connections.specs.declared.connection.Phase.{Phase}
 use Rattle.server_connections.specs.declared.connection.Phase.TheVariants.{Greeting, Talking, Closed}
-use Rattle.server_connections.specs.Turns.{opening_body}
+use Rattle.server_connections.specs.Reactions.{opening_body}
 
 fault_length : (handle : ℕ) (code : Status) (clock : Moment) → length (fault_body handle code clock) ≡ 28
 unfolding node_id_encoding service_fault_encoding response_header_encoding moment_encoding signed_encoding number_encoding status_encoding diagnostic_info_encoding array_encoding extension_object_encoding

@@ -4,3 +4,4 @@ pub mod ApartLemmas
 pub mod FittingLemmas
 pub mod NumberingLemmas
 pub mod AlikeLemmas
+pub mod LentLemmas

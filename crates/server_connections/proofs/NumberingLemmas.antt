@@ -31,8 +31,8 @@ use Rattle.ua_channel.specs.Acceptance.{admission_of, with_unfinished, message_t
 use Rattle.server_messages.specs.declared.setting.Setting.{Setting}
 use Rattle.server_connections.specs.Apart.{unsent_phase, unsent}
 use Rattle.server_connections.specs.Coherent.{number_in, number_at, AreNumbered}
-use Rattle.server_connections.specs.Connecting.{known_as, gone, turned, taking_by, taking_of, break_by, break_of}
-use Rattle.server_connections.specs.Turns.{Turn, turn, Counted, counted, Sent, sent_nothing, sent_or, greeted, first_turn, opening_body, opening_sent, granted, opening_turn, taken_turn, later_turn, turn_of, fault_turn}
+use Rattle.server_connections.specs.Connecting.{known_as, gone, reacted, taking_by, taking_of, break_by, break_of}
+use Rattle.server_connections.specs.Reactions.{Reaction, reaction, Counted, counted, Sent, sent_nothing, sent_or, greeted, first_reaction, opening_body, opening_sent, granted, opening_reaction, taken_reaction, later_reaction, reaction_of, fault_reaction}
 use Rattle.server_connections.specs.declared.connection.Connection.{Connection}
 use Rattle.server_connections.specs.declared.connection.Phase.{Phase}
 use Rattle.server_connections.specs.declared.connection.Phase.TheVariants.{Greeting, Talking, Closed}
@@ -140,20 +140,20 @@ renews_by s None t p = p
 take_renews : (s : ChannelState) (f : Frame) → Renews s.channel_id (take_of s f).answer
 take_renews s f = renews_by s s.refused (acceptance_of s f) (accepted_renews s f)
 
--- ---- the number that a turn leaves
+-- ---- the number that a reaction leaves
 
 -- no fewer channels were opened, and the connection's channel has its number or a new one
 record Numbers (channels : ℕ) (old : Option ℕ) (c : Counted) : Type 0 where
   rises : channels ≤ c.channels
-  number : (n : ℕ) → number_in c.turn.phase ≡ Some n → (old ≡ Some n) ⊎ ((channels < n) × (n ≤ c.channels))
+  number : (n : ℕ) → number_in c.reaction.phase ≡ Some n → (old ≡ Some n) ⊎ ((channels < n) × (n ≤ c.channels))
 
 none_some : (n : ℕ) → None ≡ Some n → ⊥
 none_some n e = false≢true (ap is_some e)
 
-numbers_none : (channels : ℕ) (old : Option ℕ) (t : Turn) → number_in t.phase ≡ None → Numbers channels old (counted channels t)
+numbers_none : (channels : ℕ) (old : Option ℕ) (t : Reaction) → number_in t.phase ≡ None → Numbers channels old (counted channels t)
 numbers_none channels old t e = record { rises = omega arith; number = λ n f. absurd (none_some n (sym e ∙ f)) }
 
-numbers_kept : (channels : ℕ) (old : Option ℕ) (t : Turn) → number_in t.phase ≡ old → Numbers channels old (counted channels t)
+numbers_kept : (channels : ℕ) (old : Option ℕ) (t : Reaction) → number_in t.phase ≡ old → Numbers channels old (counted channels t)
 numbers_kept channels old t e = record { rises = omega arith; number = λ n f. inl (sym e ∙ f) }
 
 numbers_if : (channels : ℕ) (old : Option ℕ) (b : Bool) (x y : Counted) → (b ≡ true → Numbers channels old x) → Numbers channels old y → Numbers channels old (cond b x y)
@@ -202,8 +202,8 @@ or_new None number n e = inr (sym (ap (λ (x : Option ℕ). unwrap x) e))
 or_new (Some k) number n e = inl e
 
 module _ (setting : Setting) (conn : ℕ) where
-  opening_numbers : (channels : ℕ) (s : ChannelState) (id handle : ℕ) (renew : Bool) → (renew ≡ true → is_opened s.channel_id ≡ true) → Numbers channels s.channel_id (opening_turn setting channels conn s id handle renew)
-  unfolding opening_turn
+  opening_numbers : (channels : ℕ) (s : ChannelState) (id handle : ℕ) (renew : Bool) → (renew ≡ true → is_opened s.channel_id ≡ true) → Numbers channels s.channel_id (opening_reaction setting channels conn s id handle renew)
+  unfolding opening_reaction
   opening_numbers channels s id handle renew f =
       numbers_if channels s.channel_id renew _ _
       (λ r. numbers_kept channels s.channel_id _ (granted_number setting s id handle (written_id s.channel_id) ∙ or_same s.channel_id (written_id s.channel_id) (f r)))
@@ -217,15 +217,15 @@ module _ (setting : Setting) (conn : ℕ) where
       new channels s n (inl e) = inl e
       new channels s n (inr e) = inr (omega (arith, e), omega (arith, e))
 
-  taken_numbers : (channels : ℕ) (key : List ℕ) (old : Option ℕ) (s : ChannelState) (a : Result Taken Status) → s.channel_id ≡ old → Renews old a → Numbers channels old (taken_turn setting channels conn key s a)
+  taken_numbers : (channels : ℕ) (key : List ℕ) (old : Option ℕ) (s : ChannelState) (a : Result Taken Status) → s.channel_id ≡ old → Renews old a → Numbers channels old (taken_reaction setting channels conn key s a)
   taken_numbers channels key old s (Ok taken.Nothing) e r = numbers_kept channels old _ e
   taken_numbers channels key old s (Ok (taken.Aborted id)) e r = numbers_kept channels old _ e
   taken_numbers channels key old s (Ok taken.Closed) e r = numbers_none channels old _ refl
   taken_numbers channels key old s (Ok (taken.Opening id handle true)) e r =
-      subst (λ (o : Option ℕ). Numbers channels o (opening_turn setting channels conn s id handle true)) e
+      subst (λ (o : Option ℕ). Numbers channels o (opening_reaction setting channels conn s id handle true)) e
       (opening_numbers channels s id handle true (λ t. subst (λ (o : Option ℕ). is_opened o ≡ true) (sym e) r))
   taken_numbers channels key old s (Ok (taken.Opening id handle false)) e r =
-      subst (λ (o : Option ℕ). Numbers channels o (opening_turn setting channels conn s id handle false)) e
+      subst (λ (o : Option ℕ). Numbers channels o (opening_reaction setting channels conn s id handle false)) e
       (opening_numbers channels s id handle false (λ t. absurd (false≢true t)))
   taken_numbers channels key old s (Ok (taken.Request id body)) e r = numbers_kept channels old _ e
   taken_numbers channels key old s (Err code) e r = numbers_none channels old _ refl
@@ -234,23 +234,23 @@ module _ (setting : Setting) (conn : ℕ) where
   greeted_numbers channels old (Ok agreed) = numbers_none channels old _ refl
   greeted_numbers channels old (Err code) = numbers_none channels old _ refl
 
-  first_if : (channels : ℕ) (old : Option ℕ) (b : Bool) (x y : Turn) → Numbers channels old (counted channels x) → Numbers channels old (counted channels y) → Numbers channels old (counted channels (cond b x y))
+  first_if : (channels : ℕ) (old : Option ℕ) (b : Bool) (x y : Reaction) → Numbers channels old (counted channels x) → Numbers channels old (counted channels y) → Numbers channels old (counted channels (cond b x y))
   first_if channels old true x y p q = p
   first_if channels old false x y p q = q
 
-  first_numbers : (channels : ℕ) (old : Option ℕ) (frame : Frame) → Numbers channels old (counted channels (first_turn setting conn frame))
-  unfolding first_turn
+  first_numbers : (channels : ℕ) (old : Option ℕ) (frame : Frame) → Numbers channels old (counted channels (first_reaction setting conn frame))
+  unfolding first_reaction
   first_numbers channels old frame =
       first_if channels old (is_error frame.message_type) _ _ (numbers_none channels old _ refl) (greeted_numbers channels old (outcome_of_frame (limits_of setting.config) frame))
 
-  turn_numbers : (channels : ℕ) (key : List ℕ) (frame : Frame) (phase : Phase) → Numbers channels (number_in phase) (turn_of setting channels conn key frame phase)
-  unfolding later_turn
-  turn_numbers channels key frame Greeting = first_numbers channels None frame
-  turn_numbers channels key frame (Talking s) =
+  reaction_numbers : (channels : ℕ) (key : List ℕ) (frame : Frame) (phase : Phase) → Numbers channels (number_in phase) (reaction_of setting channels conn key frame phase)
+  unfolding later_reaction
+  reaction_numbers channels key frame Greeting = first_numbers channels None frame
+  reaction_numbers channels key frame (Talking s) =
       taken_numbers channels key s.channel_id (take_of s frame).state (take_of s frame).answer (take_number s frame) (take_renews s frame)
-  turn_numbers channels key frame Closed = numbers_none channels None _ refl
+  reaction_numbers channels key frame Closed = numbers_none channels None _ refl
 
-fault_numbers : (channels conn : ℕ) (old : Option ℕ) (fault : FrameFault) → Numbers channels old (counted channels (fault_turn conn fault))
+fault_numbers : (channels conn : ℕ) (old : Option ℕ) (fault : FrameFault) → Numbers channels old (counted channels (fault_reaction conn fault))
 fault_numbers channels conn old Letters = numbers_none channels old _ refl
 fault_numbers channels conn old Size = numbers_none channels old _ refl
 fault_numbers channels conn old Failed = numbers_none channels old _ refl
@@ -264,26 +264,26 @@ numbered connections conn = number_at (get connections.known conn)
 abbrev Was : ℕ → Connections → ℕ → ℕ → ℕ → Type 0
 Was conn connections channels q n = (numbered connections q ≡ Some n) ⊎ ((q ≡ conn) × (connections.channels < n) × (n ≤ channels))
 
-turned_numbers : (conn : ℕ) (connections : Connections) (connection : Connection) (c : Counted) → get connections.known conn ≡ Some connection → Numbers connections.channels (number_in connection.phase) c → AreNumbered connections →
-    AreNumbered (turned connections conn connection c).connections
-turned_numbers conn connections connection c found m p = record { counted = counts; distinct = differ }
+reacted_numbers : (conn : ℕ) (connections : Connections) (connection : Connection) (c : Counted) → get connections.known conn ≡ Some connection → Numbers connections.channels (number_in connection.phase) c → AreNumbered connections →
+    AreNumbered (reacted connections conn connection c).connections
+reacted_numbers conn connections connection c found m p = record { counted = counts; distinct = differ }
   where
-    was : (q n : ℕ) → numbered (turned connections conn connection c).connections q ≡ Some n → Was conn connections c.channels q n
-    was q n = at_insert_at (λ (o : Option Connection). number_at o ≡ Some n → Was conn connections c.channels q n) connections.known conn (record connection { phase = c.turn.phase }) q
+    was : (q n : ℕ) → numbered (reacted connections conn connection c).connections q ≡ Some n → Was conn connections c.channels q n
+    was q n = at_insert_at (λ (o : Option Connection). number_at o ≡ Some n → Was conn connections c.channels q n) connections.known conn (record connection { phase = c.reaction.phase }) q
         (λ same e. here same (m.number n e)) (λ e. inl e)
       where
         here : q ≡ conn → (number_in connection.phase ≡ Some n) ⊎ ((connections.channels < n) × (n ≤ c.channels)) → Was conn connections c.channels q n
         here same (inl e) = inl (ap (numbered connections) same ∙ ap number_at found ∙ e)
         here same (inr e) = inr (same, e.0, e.1)
 
-    counts : (q n : ℕ) → numbered (turned connections conn connection c).connections q ≡ Some n → n ≤ c.channels
+    counts : (q n : ℕ) → numbered (reacted connections conn connection c).connections q ≡ Some n → n ≤ c.channels
     counts q n e = by (was q n e)
       where
         by : Was conn connections c.channels q n → n ≤ c.channels
         by (inl f) = omega (arith, p.counted q n f, m.rises)
         by (inr f) = f.2
 
-    differ : (q r n : ℕ) → numbered (turned connections conn connection c).connections q ≡ Some n → numbered (turned connections conn connection c).connections r ≡ Some n → q ≡ r
+    differ : (q r n : ℕ) → numbered (reacted connections conn connection c).connections q ≡ Some n → numbered (reacted connections conn connection c).connections r ≡ Some n → q ≡ r
     differ q r n e f = by (was q n e) (was r n f)
       where
         by : Was conn connections c.channels q n → Was conn connections c.channels r n → q ≡ r
@@ -296,7 +296,7 @@ taking_numbers_by : (setting : Setting) (conn : ℕ) (connections : Connections)
     AreNumbered (taking_by setting conn connections frame found).connections
 taking_numbers_by setting conn connections frame None e p = p
 taking_numbers_by setting conn connections frame (Some connection) e p =
-    turned_numbers conn connections connection _ e (turn_numbers setting conn connections.channels connection.key frame connection.phase) p
+    reacted_numbers conn connections connection _ e (reaction_numbers setting conn connections.channels connection.key frame connection.phase) p
 
 pub taking_numbers : (setting : Setting) (conn : ℕ) (connections : Connections) (frame : Frame) → AreNumbered connections → AreNumbered (taking_of setting conn connections frame).connections
 unfolding taking_of
@@ -305,7 +305,7 @@ taking_numbers setting conn connections frame p = taking_numbers_by setting conn
 break_numbers_by : (conn : ℕ) (connections : Connections) (fault : FrameFault) (found : Option Connection) → get connections.known conn ≡ found → AreNumbered connections → AreNumbered (break_by conn connections fault found).connections
 break_numbers_by conn connections fault None e p = p
 break_numbers_by conn connections fault (Some connection) e p =
-    turned_numbers conn connections connection (counted connections.channels (fault_turn conn fault)) e (fault_numbers connections.channels conn (number_in connection.phase) fault) p
+    reacted_numbers conn connections connection (counted connections.channels (fault_reaction conn fault)) e (fault_numbers connections.channels conn (number_in connection.phase) fault) p
 
 pub break_numbers : (conn : ℕ) (connections : Connections) (fault : FrameFault) → AreNumbered connections → AreNumbered (break_of conn connections fault).connections
 unfolding break_of

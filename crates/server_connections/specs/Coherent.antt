@@ -8,7 +8,7 @@ use Rattle.ua_messages.specs.ServiceFaults.{fault_body}
 use Rattle.ua_tcp.specs.Agreements.{IsAgreement, limits_of}
 use Rattle.ua_channel.specs.Cutting.{send_of, send_opening_of}
 use Rattle.server_messages.specs.declared.setting.Setting.{Setting}
-use Rattle.server_connections.specs.Turns.{opening_body}
+use Rattle.server_connections.specs.Reactions.{opening_body}
 use Rattle.ua_channel.specs.ChannelStates.{ChannelState}
 use Rattle.ua_channel.specs.Messages.{AreWithinLimits}
 use Rattle.server_connections.specs.declared.connection.Connection.{Connection}

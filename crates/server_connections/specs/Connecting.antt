@@ -11,7 +11,7 @@ use Rattle.server_connections.specs.declared.connection.Connection.{Connection}
 use Rattle.server_connections.specs.declared.connection.Phase.{Phase}
 use Rattle.server_connections.specs.declared.connection.Phase.TheVariants.{Greeting, Closed}
 use Rattle.server_messages.specs.declared.out.Out.{Out}
-use Rattle.server_connections.specs.Turns.{Counted, counted, refusal, turn_of, fault_turn}
+use Rattle.server_connections.specs.Reactions.{Counted, counted, refusal, reaction_of, fault_reaction}
 pub use Rattle.server_connections.specs.declared.connections.Connections.{Connections}
 
 abbrev pub no_connections : Connections
@@ -71,14 +71,14 @@ taking connections outs asked = record { connections = connections; outs = outs;
 abbrev pub taking_after : List Out → Taking → Taking
 taking_after outs t = taking t.connections (outs ++ t.outs) t.asked
 
-abbrev pub turned : Connections → ℕ → Connection → Counted → Taking
-turned connections conn connection c =
-    taking (with_phase (record connections { channels = c.channels }) conn connection c.turn.phase) c.turn.outs c.turn.asked
+abbrev pub reacted : Connections → ℕ → Connection → Counted → Taking
+reacted connections conn connection c =
+    taking (with_phase (record connections { channels = c.channels }) conn connection c.reaction.phase) c.reaction.outs c.reaction.asked
 
 abbrev pub taking_by : Setting → ℕ → Connections → Frame → Option Connection → Taking
 taking_by setting conn connections frame None = taking connections [] outcome.Closed
 taking_by setting conn connections frame (Some connection) =
-    turned connections conn connection (turn_of setting connections.channels conn connection.key frame connection.phase)
+    reacted connections conn connection (reaction_of setting connections.channels conn connection.key frame connection.phase)
 
 -- what a frame does on a connection
 unfoldable pub taking_of : Setting → ℕ → Connections → Frame → Taking
@@ -86,7 +86,7 @@ taking_of setting conn connections frame = taking_by setting conn connections fr
 
 abbrev pub break_by : ℕ → Connections → FrameFault → Option Connection → Taking
 break_by conn connections fault None = taking connections [] outcome.Closed
-break_by conn connections fault (Some connection) = turned connections conn connection (counted connections.channels (fault_turn conn fault))
+break_by conn connections fault (Some connection) = reacted connections conn connection (counted connections.channels (fault_reaction conn fault))
 
 -- what is no frame ends the connection
 unfoldable pub break_of : ℕ → Connections → FrameFault → Taking

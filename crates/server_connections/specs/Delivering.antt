@@ -13,7 +13,7 @@ use Rattle.server_connections.specs.declared.connection.Phase.{Phase}
 use Rattle.server_connections.specs.declared.connection.Phase.TheVariants.{Talking}
 use Rattle.server_connections.specs.declared.connections.Connections.{Connections}
 use Rattle.server_messages.specs.declared.out.Out.{Out}
-use Rattle.server_connections.specs.Turns.{Sent, sent_nothing, sent_or, sends}
+use Rattle.server_connections.specs.Reactions.{Sent, sent_nothing, sent_or, sends}
 use Rattle.server_connections.specs.Connecting.{with_phase}
 
 -- a fault in the place of a reply that is too large for the client

@@ -1,4 +1,4 @@
-pub mod Turns
+pub mod Reactions
 pub mod Connecting
 pub mod Delivering
 pub mod Coherent

@@ -7,8 +7,8 @@ ghost use Rattle.server_connections.specs.Delivering.{sending, sending_after, de
 
 use crate::connection::{Connection, Phase};
 use crate::frame_outcome::FrameOutcome;
+use crate::reactions::{Sender, break_off, frame_reaction, put_refusal};
 use crate::sending::say;
-use crate::turns::{Sender, break_off, frame_turn, put_refusal};
 use server_messages::{Out, Reply, Setting};
 use std::alloc::{AllocError, Global};
 use std::mem;
@@ -96,7 +96,7 @@ impl Connections {
     }
 
     /// Does what a frame asks for, up to a request, and says what is left to do.
-    #[tactic(auto, using(ua_types::proofs::NumberMaps::insert_removed), unfolding(crate::specs::Connecting::taking_of))]
+    #[tactic(auto, unfolding(crate::specs::Connecting::taking_of))]
     pub fn take(
         &mut self,
         alloc: Global,
@@ -108,12 +108,12 @@ impl Connections {
         ensures { IfOk result (λ asked. taking self.new outs.new asked
             ≡ taking_after outs.old (taking_of setting.now conn self.old frame.now)) }
     {
-        let Some(mut connection) = self.known.remove(conn) else {
+        let Some(connection) = self.known.get_mut(conn) else {
             return Ok(FrameOutcome::Closed);
         };
         let phase = mem::replace(&mut connection.phase, Phase::Closed);
         let key = connection.key;
-        let turned = frame_turn(
+        let reacted = frame_reaction(
             alloc,
             setting,
             &mut self.channels,
@@ -122,13 +122,12 @@ impl Connections {
             frame,
             outs,
         )?;
-        connection.phase = turned.phase;
-        self.known.insert(conn, connection)?;
-        Ok(turned.asked)
+        connection.phase = reacted.phase;
+        Ok(reacted.asked)
     }
 
     /// Closes a connection on which comes what can be no frame.
-    #[tactic(auto, using(ua_types::proofs::NumberMaps::insert_removed), unfolding(crate::specs::Connecting::break_of))]
+    #[tactic(auto, unfolding(crate::specs::Connecting::break_of))]
     pub fn break_off(
         &mut self,
         alloc: Global,
@@ -139,16 +138,16 @@ impl Connections {
         ensures connections { OnOk result (self.new ≡ (break_of conn self.old fault).connections) }
         ensures outs { OnOk result (outs.new ≡ outs.old ++ (break_of conn self.old fault).outs) }
     {
-        let Some(mut connection) = self.known.remove(conn) else {
+        let Some(connection) = self.known.get_mut(conn) else {
             return Ok(());
         };
-        let turned = break_off(alloc, conn, fault, outs)?;
-        connection.phase = turned.phase;
-        self.known.insert(conn, connection)
+        let reacted = break_off(alloc, conn, fault, outs)?;
+        connection.phase = reacted.phase;
+        Ok(())
     }
 
     // Sends one reply.
-    #[tactic(auto, using(ua_types::proofs::NumberMaps::insert_removed), unfolding(crate::specs::Delivering::delivered))]
+    #[tactic(auto, unfolding(crate::specs::Delivering::delivered))]
     fn deliver_one(
         &mut self,
         alloc: Global,
@@ -159,12 +158,10 @@ impl Connections {
         ensures { OnOk result (sending self.new outs.new
             ≡ sending_after outs.old (delivered setting.now self.old reply.now)) }
     {
-        let Some(mut connection) = self.known.remove(reply.conn) else {
+        let Some(connection) = self.known.get_mut(reply.conn) else {
             return Ok(());
         };
-        let phase = mem::replace(&mut connection.phase, Phase::Closed);
-        connection.phase = say(alloc, setting, phase, reply, outs)?;
-        self.known.insert(reply.conn, connection)
+        say(alloc, setting, &mut connection.phase, reply, outs)
     }
 
     /// Sends replies, each on the connection that its request came by.

@@ -7,7 +7,7 @@
 //! services, nor of the bytes of a frame that is still to come: framers are kept beside, in a
 //! [`ua_types::Numbered`] of their own.
 //!
-//! Read [`Connections`] first. `specs/Turns` defines what a frame does to its connection,
+//! Read [`Connections`] first. `specs/Reactions` defines what a frame does to its connection,
 //! `Connecting` what frames, openings and endings do to all of them, `Delivering` how replies are
 //! sent, and `Coherent` what holds of the connections of every server.
 #![tactic(auto)]
@@ -15,8 +15,8 @@
 mod connection;
 mod connections;
 mod frame_outcome;
+mod reactions;
 mod sending;
-mod turns;
 
 pub use connection::{Connection, Phase};
 pub use connections::Connections;

@@ -1,10 +1,10 @@
 //! How a reply is sent.
 
-ghost use Rattle.std.specs.Prelude.{◌≡◌, ◌++◌, IfOk};
+ghost use Rattle.std.specs.Prelude.{◌≡◌, ◌++◌, IfOk, OnOk};
 ghost use Rattle.server_connections.specs.Delivering.{too_large_sent, reply_sent, said_by, said, said_after};
 
 use crate::connection::Phase;
-use crate::turns::send_all;
+use crate::reactions::send_all;
 use bytes::Bytes;
 use server_messages::{Out, Reply, Setting};
 use std::alloc::{AllocError, Global};
@@ -53,19 +53,18 @@ fn reply_chunks(
 pub(crate) fn say(
     alloc: Global,
     setting: &Setting,
-    phase: Phase,
+    phase: &mut Phase,
     reply: &Reply,
     outs: &mut Listed<Out>,
-) -> Result<Phase, AllocError>
-    ensures { IfOk result (λ after. said after outs.new ≡ said_after outs.old (said_by setting.now reply.now phase)) }
+) -> Result<(), AllocError>
+    ensures { OnOk result (said phase.new outs.new ≡ said_after outs.old (said_by setting.now reply.now phase.old)) }
 {
     match phase {
-        Phase::Greeting => Ok(Phase::Greeting),
-        Phase::Talking(mut channel) => {
-            let chunks = reply_chunks(alloc, &mut channel, reply, setting.clock)?;
-            send_all(reply.conn, chunks, outs)?;
-            Ok(Phase::Talking(channel))
+        Phase::Greeting => Ok(()),
+        Phase::Talking(channel) => {
+            let chunks = reply_chunks(alloc, channel, reply, setting.clock)?;
+            send_all(reply.conn, chunks, outs)
         }
-        Phase::Closed => Ok(Phase::Closed),
+        Phase::Closed => Ok(()),
     }
 }

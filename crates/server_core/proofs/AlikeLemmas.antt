@@ -21,7 +21,7 @@ use Rattle.server_connections.proofs.AlikeLemmas.{TakesAlike, taking_alike, brea
 use Rattle.ua_services.specs.declared.services.Services.{Services}
 use Rattle.ua_services.specs.Services.{serving_of}
 use Rattle.server_core.specs.Apart.{IsAlike, IsAlikeTo, is_heard, heard}
-use Rattle.server_core.specs.Effects.{Effect, Do, Lost, doing, losing, acting}
+use Rattle.server_core.specs.Effects.{Effect, Do, Lost, doing, losing, occurring}
 use Rattle.server_core.specs.Handling.{asked_for, handled_by, handled, broken}
 use Rattle.server_core.specs.Stepping.{with_held, fed_to, fed}
 use Rattle.server_core.specs.World.{World, Core}
@@ -67,8 +67,8 @@ module _ (conn : ℕ) (setting : Setting) (services : Services) where
       let d = delivery_alike setting conn a b s.replies p in
       record {
         state = record { setting = refl; sees = d.sees; services = refl };
-        effects = both_filtered (is_heard conn) (doing outs) (doing outs) (acting s.acts ++ (doing da.outs ++ losing da.lost)) (acting s.acts ++ (doing db.outs ++ losing db.lost)) refl
-            (both_filtered (is_heard conn) (acting s.acts) (acting s.acts) (doing da.outs ++ losing da.lost) (doing db.outs ++ losing db.lost) refl
+        effects = both_filtered (is_heard conn) (doing outs) (doing outs) (occurring s.occurrences ++ (doing da.outs ++ losing da.lost)) (occurring s.occurrences ++ (doing db.outs ++ losing db.lost)) refl
+            (both_filtered (is_heard conn) (occurring s.occurrences) (occurring s.occurrences) (doing da.outs ++ losing da.lost) (doing db.outs ++ losing db.lost) refl
             (both_filtered (is_heard conn) (doing da.outs) (doing db.outs) (losing da.lost) (losing db.lost)
             (heard_out conn da.outs ∙ ap doing d.outs ∙ sym (heard_out conn db.outs))
             (heard_lost conn da.lost ∙ ap losing d.lost ∙ sym (heard_lost conn db.lost))));

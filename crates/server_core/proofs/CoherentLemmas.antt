@@ -31,14 +31,14 @@ use Rattle.ua_types.proofs.NumberMaps.{same_number, numbers_same}
 use Rattle.ua_services.specs.declared.services.Services.{Services}
 use Rattle.ua_space.specs.Nodes.{SpaceState}
 use Rattle.ua_services.specs.Owing.{OwesOnly, ServesOnly}
-use Rattle.ua_services.specs.Serving.{Act, Serving}
+use Rattle.ua_services.specs.Serving.{Occurrence, Serving}
 use Rattle.ua_services.specs.Services.{serving_of, ticking_of, forgotten}
 use Rattle.ua_services.proofs.OwingLemmas.{serving_only, ticking_only, forgotten_only, owes_more}
 use Rattle.server_connections.proofs.ApartLemmas.{delivery_apart}
 use Rattle.server_connections.proofs.FittingLemmas.{fits_at}
 use Rattle.server_connections.proofs.NumberingLemmas.{taking_numbers, break_numbers, sent_numbers, opened_numbers, gone_numbers}
 use Rattle.server_core.specs.Coherent.{IsSound, IsCoherent, AnswersFit, lost_of, LosesNone, reached, IfRuns}
-use Rattle.server_core.specs.Effects.{Effect, Do, Acted, Lost, doing, acting, losing, effects_of}
+use Rattle.server_core.specs.Effects.{Effect, Do, Occurred, Lost, doing, occurring, losing, effects_of}
 use Rattle.server_core.specs.Handling.{answered, asked_for, handled, broken, ticked_core}
 use Rattle.server_core.specs.Stepping as stepping
 use Rattle.server_core.specs.Stepping.{Served, served, with_held, fed_to, fed, step_of}
@@ -56,7 +56,7 @@ use Rattle.server_core.proofs.RoomLemmas.{fed_room, greeted_room, forgotten_room
 lost_of-append : (xs ys : List Effect) → lost_of (xs ++ ys) ≡ lost_of xs ++ lost_of ys
 lost_of-append [] ys = refl
 lost_of-append (Do out ∷ xs) ys = lost_of-append xs ys
-lost_of-append (Acted act ∷ xs) ys = lost_of-append xs ys
+lost_of-append (Occurred occurrence ∷ xs) ys = lost_of-append xs ys
 lost_of-append (Lost reply ∷ xs) ys = ap (λ (rs : List Reply). reply ∷ rs) (lost_of-append xs ys)
 
 loses_none_both : (xs ys : List Effect) → LosesNone xs → LosesNone ys → LosesNone (xs ++ ys)
@@ -66,13 +66,13 @@ doing_loses_none : (outs : List Out) → LosesNone (doing outs)
 doing_loses_none [] = refl
 doing_loses_none (out ∷ outs) = doing_loses_none outs
 
-acting_loses_none : (acts : List Act) → LosesNone (acting acts)
+acting_loses_none : (occurrences : List Occurrence) → LosesNone (occurring occurrences)
 acting_loses_none [] = refl
-acting_loses_none (act ∷ acts) = acting_loses_none acts
+acting_loses_none (occurrence ∷ occurrences) = acting_loses_none occurrences
 
-effects_lose_none : (acts : List Act) (d : Delivery) → d.lost ≡ [] → LosesNone (effects_of acts d)
-effects_lose_none acts d e =
-    loses_none_both (acting acts) (doing d.outs ++ losing d.lost) (acting_loses_none acts)
+effects_lose_none : (occurrences : List Occurrence) (d : Delivery) → d.lost ≡ [] → LosesNone (effects_of occurrences d)
+effects_lose_none occurrences d e =
+    loses_none_both (occurring occurrences) (doing d.outs ++ losing d.lost) (acting_loses_none occurrences)
     (loses_none_both (doing d.outs) (losing d.lost) (doing_loses_none d.outs) (ap (λ (rs : List Reply). lost_of (losing rs)) e))
 
 -- ---- requests, frames and ticks
@@ -85,7 +85,7 @@ answered_right core outs s ranges agreed fresh numbered only =
     let right : IsDelivered core.setting.config core.connections d = delivered_right core.setting core.connections s.replies agreed only.replies in (
       record { ranges = ranges; agreed = right.agreed; owed = owes_more (Talks core.connections) (Talks d.connections) right.talks s.state only.state; fresh = right.fresh fresh; numbered = sent_numbers core.connections d.connections (delivery_apart core.setting core.connections s.replies) numbered },
       right.opened,
-      loses_none_both (doing outs) (effects_of s.acts d) (doing_loses_none outs) (effects_lose_none s.acts d right.lost),
+      loses_none_both (doing outs) (effects_of s.occurrences d) (doing_loses_none outs) (effects_lose_none s.occurrences d right.lost),
     )
 
 -- a connection is forgotten, and all others talk as they did

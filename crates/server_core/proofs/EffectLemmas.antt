@@ -7,10 +7,10 @@ use Rattle.server_messages.specs.declared.fired.Fired.{Fired}
 use Rattle.server_messages.specs.declared.reply.Reply.{Reply}
 use Rattle.server_messages.specs.declared.out.Out.{Out}
 use Rattle.server_connections.specs.Delivering.{Delivery}
-use Rattle.ua_services.specs.Serving.{Act, Fire, Spent, rows_of, is_spent}
+use Rattle.ua_services.specs.Serving.{Occurrence, Fire, Spent, rows_of, is_spent}
 use Rattle.ua_tcp.specs.Pieces.{Done, after_outs, and_then}
 use Rattle.server_core.specs.declared.out.Step.{Step}
-use Rattle.server_core.specs.Effects.{Effect, Do, Acted, Lost, doing, acting, losing, effects_of, outs_of, fired_of, is_spending, are_spent, step, shown, after_step}
+use Rattle.server_core.specs.Effects.{Effect, Do, Occurred, Lost, doing, occurring, losing, effects_of, outs_of, fired_of, is_spending, are_spent, step, shown, after_step}
 use Rattle.server_messages.specs.declared.halt.Halt.{Halt}
 use Rattle.server_messages.specs.declared.halt.Halt.TheVariants.{Memory, Exhausted}
 use Rattle.server_core.specs.Handling.{Doing, doing_so, doing_after, Shows, Handles}
@@ -21,25 +21,25 @@ use Rattle.server_core.specs.World.{Core}
 pub outs_of-append : (xs ys : List Effect) → outs_of (xs ++ ys) ≡ outs_of xs ++ outs_of ys
 outs_of-append [] ys = refl
 outs_of-append (Do out ∷ xs) ys = ap (λ (os : List Out). out ∷ os) (outs_of-append xs ys)
-outs_of-append (Acted act ∷ xs) ys = outs_of-append xs ys
+outs_of-append (Occurred occurrence ∷ xs) ys = outs_of-append xs ys
 outs_of-append (Lost reply ∷ xs) ys = outs_of-append xs ys
 
 outs_of_doing : (outs : List Out) → outs_of (doing outs) ≡ outs
 outs_of_doing [] = refl
 outs_of_doing (out ∷ outs) = ap (λ (os : List Out). out ∷ os) (outs_of_doing outs)
 
-outs_of_acting : (acts : List Act) → outs_of (acting acts) ≡ []
+outs_of_acting : (occurrences : List Occurrence) → outs_of (occurring occurrences) ≡ []
 outs_of_acting [] = refl
-outs_of_acting (act ∷ acts) = outs_of_acting acts
+outs_of_acting (occurrence ∷ occurrences) = outs_of_acting occurrences
 
 outs_of_losing : (replies : List Reply) → outs_of (losing replies) ≡ []
 outs_of_losing [] = refl
 outs_of_losing (reply ∷ replies) = outs_of_losing replies
 
-outs_of_effects : (acts : List Act) (d : Delivery) → outs_of (effects_of acts d) ≡ d.outs
-outs_of_effects acts d =
-    outs_of-append (acting acts) (doing d.outs ++ losing d.lost)
-    ∙ ap (λ (os : List Out). os ++ outs_of (doing d.outs ++ losing d.lost)) (outs_of_acting acts)
+outs_of_effects : (occurrences : List Occurrence) (d : Delivery) → outs_of (effects_of occurrences d) ≡ d.outs
+outs_of_effects occurrences d =
+    outs_of-append (occurring occurrences) (doing d.outs ++ losing d.lost)
+    ∙ ap (λ (os : List Out). os ++ outs_of (doing d.outs ++ losing d.lost)) (outs_of_acting occurrences)
     ∙ outs_of-append (doing d.outs) (losing d.lost)
     ∙ ap (λ (os : List Out). os ++ outs_of (losing d.lost)) (outs_of_doing d.outs)
     ∙ ap (λ (os : List Out). d.outs ++ os) (outs_of_losing d.lost)
@@ -50,31 +50,31 @@ outs_of_effects acts d =
 pub fired_of-append : (xs ys : List Effect) → fired_of (xs ++ ys) ≡ fired_of xs ++ fired_of ys
 fired_of-append [] ys = refl
 fired_of-append (Do out ∷ xs) ys = fired_of-append xs ys
-fired_of-append (Acted (Fire fired) ∷ xs) ys = ap (λ (fs : List Fired). fired ∷ fs) (fired_of-append xs ys)
-fired_of-append (Acted Spent ∷ xs) ys = fired_of-append xs ys
+fired_of-append (Occurred (Fire fired) ∷ xs) ys = ap (λ (fs : List Fired). fired ∷ fs) (fired_of-append xs ys)
+fired_of-append (Occurred Spent ∷ xs) ys = fired_of-append xs ys
 fired_of-append (Lost reply ∷ xs) ys = fired_of-append xs ys
 
 pub fired_of_doing : (outs : List Out) → fired_of (doing outs) ≡ []
 fired_of_doing [] = refl
 fired_of_doing (out ∷ outs) = fired_of_doing outs
 
-fired_of_acting : (acts : List Act) → fired_of (acting acts) ≡ rows_of acts
+fired_of_acting : (occurrences : List Occurrence) → fired_of (occurring occurrences) ≡ rows_of occurrences
 fired_of_acting [] = refl
-fired_of_acting (Fire fired ∷ acts) = ap (λ (fs : List Fired). fired ∷ fs) (fired_of_acting acts)
-fired_of_acting (Spent ∷ acts) = fired_of_acting acts
+fired_of_acting (Fire fired ∷ occurrences) = ap (λ (fs : List Fired). fired ∷ fs) (fired_of_acting occurrences)
+fired_of_acting (Spent ∷ occurrences) = fired_of_acting occurrences
 
 fired_of_losing : (replies : List Reply) → fired_of (losing replies) ≡ []
 fired_of_losing [] = refl
 fired_of_losing (reply ∷ replies) = fired_of_losing replies
 
-pub fired_of_effects : (acts : List Act) (d : Delivery) → fired_of (effects_of acts d) ≡ rows_of acts
-fired_of_effects acts d =
-    fired_of-append (acting acts) (doing d.outs ++ losing d.lost)
-    ∙ ap (λ (fs : List Fired). fs ++ fired_of (doing d.outs ++ losing d.lost)) (fired_of_acting acts)
-    ∙ ap (λ (fs : List Fired). rows_of acts ++ fs)
+pub fired_of_effects : (occurrences : List Occurrence) (d : Delivery) → fired_of (effects_of occurrences d) ≡ rows_of occurrences
+fired_of_effects occurrences d =
+    fired_of-append (occurring occurrences) (doing d.outs ++ losing d.lost)
+    ∙ ap (λ (fs : List Fired). fs ++ fired_of (doing d.outs ++ losing d.lost)) (fired_of_acting occurrences)
+    ∙ ap (λ (fs : List Fired). rows_of occurrences ++ fs)
     (fired_of-append (doing d.outs) (losing d.lost)
     ∙ ap (λ (fs : List Fired). fs ++ fired_of (losing d.lost)) (fired_of_doing d.outs) ∙ fired_of_losing d.lost)
-    ∙ append-nil (rows_of acts)
+    ∙ append-nil (rows_of occurrences)
 
 -- ---- both
 
@@ -84,8 +84,8 @@ two {os} {ps} {rs} {qs} e f = ap (λ (x : List Out). step x rs) e ∙ ap (λ (x 
 pub shown_doing : (outs : List Out) → shown (doing outs) ≡ step outs []
 shown_doing outs = two (outs_of_doing outs) (fired_of_doing outs)
 
-pub shown_effects : (acts : List Act) (d : Delivery) → shown (effects_of acts d) ≡ step d.outs (rows_of acts)
-shown_effects acts d = two (outs_of_effects acts d) (fired_of_effects acts d)
+pub shown_effects : (occurrences : List Occurrence) (d : Delivery) → shown (effects_of occurrences d) ≡ step d.outs (rows_of occurrences)
+shown_effects occurrences d = two (outs_of_effects occurrences d) (fired_of_effects occurrences d)
 
 pub after_doing : (before : Step) (outs : List Out) → after_step before (doing outs) ≡ step (before.outs ++ outs) before.rows
 after_doing before outs =
@@ -97,12 +97,12 @@ after_both before xs ys =
     (ap (λ (fs : List Fired). before.rows ++ fs) (fired_of-append xs ys) ∙ sym (append_assoc before.rows (fired_of xs) (fired_of ys)))
 
 -- what was served, and sent after these outs
-pub after_answered : (before : Step) (outs : List Out) (acts : List Act) (d : Delivery) →
-    after_step before (doing outs ++ effects_of acts d) ≡ step (before.outs ++ outs ++ d.outs) (before.rows ++ rows_of acts)
-after_answered before outs acts d =
-    after_both before (doing outs) (effects_of acts d)
-    ∙ ap (λ (s : Step). after_step s (effects_of acts d)) (after_doing before outs)
-    ∙ two (ap (λ (os : List Out). before.outs ++ outs ++ os) (outs_of_effects acts d)) (ap (λ (fs : List Fired). before.rows ++ fs) (fired_of_effects acts d))
+pub after_answered : (before : Step) (outs : List Out) (occurrences : List Occurrence) (d : Delivery) →
+    after_step before (doing outs ++ effects_of occurrences d) ≡ step (before.outs ++ outs ++ d.outs) (before.rows ++ rows_of occurrences)
+after_answered before outs occurrences d =
+    after_both before (doing outs) (effects_of occurrences d)
+    ∙ ap (λ (s : Step). after_step s (effects_of occurrences d)) (after_doing before outs)
+    ∙ two (ap (λ (os : List Out). before.outs ++ outs ++ os) (outs_of_effects occurrences d)) (ap (λ (fs : List Fired). before.rows ++ fs) (fired_of_effects occurrences d))
 
 -- ---- spent serials
 
@@ -122,15 +122,15 @@ pub spent_behind : (xs ys : List Effect) → are_spent ys ≡ true → are_spent
 spent_behind [] ys e = e
 spent_behind (x ∷ xs) ys e = or_true (is_spending x) _ (spent_behind xs ys e)
 
-spent_acting : (acts : List Act) → are_spent (acting acts) ≡ list_any is_spent acts
+spent_acting : (occurrences : List Occurrence) → are_spent (occurring occurrences) ≡ list_any is_spent occurrences
 spent_acting [] = refl
-spent_acting (act ∷ acts) = ap (λ b. is_spent act || b) (spent_acting acts)
+spent_acting (occurrence ∷ occurrences) = ap (λ b. is_spent occurrence || b) (spent_acting occurrences)
 
-pub spent_effects : (acts : List Act) (d : Delivery) → list_any is_spent acts ≡ true → are_spent (effects_of acts d) ≡ true
-spent_effects acts d e = spent_before (acting acts) (doing d.outs ++ losing d.lost) (spent_acting acts ∙ e)
+pub spent_effects : (occurrences : List Occurrence) (d : Delivery) → list_any is_spent occurrences ≡ true → are_spent (effects_of occurrences d) ≡ true
+spent_effects occurrences d e = spent_before (occurring occurrences) (doing d.outs ++ losing d.lost) (spent_acting occurrences ∙ e)
 
-pub spent_answered : (outs : List Out) (acts : List Act) (d : Delivery) → list_any is_spent acts ≡ true → are_spent (doing outs ++ effects_of acts d) ≡ true
-spent_answered outs acts d e = spent_behind (doing outs) (effects_of acts d) (spent_effects acts d e)
+pub spent_answered : (outs : List Out) (occurrences : List Occurrence) (d : Delivery) → list_any is_spent occurrences ≡ true → are_spent (doing outs ++ effects_of occurrences d) ≡ true
+spent_answered outs occurrences d e = spent_behind (doing outs) (effects_of occurrences d) (spent_effects occurrences d e)
 
 -- ---- one thing done after another, as the code has it
 

@@ -1,8 +1,9 @@
 -- What the code does about a frame and a piece is what is said of it.
-use Rattle.std.proofs.Common.{◌≡◌, ℕ, Bool, true, false, cond, List, [], ◌++◌, Option, Some, None, refl, sym, ◌∙◌, ap}
+use Rattle.std.proofs.Common.{◌≡◌, ℕ, Bool, true, false, cond, if◌then◌else◌, List, [], ◌++◌, Option, Some, None, refl, sym, ◌∙◌, ap}
 use Rattle.std.proofs.lemmas.Bool.{false≢true}
 use Rattle.std.specs.Ordering.{nat_cmp}
-use Rattle.std.specs.FinMap.{FinMap, get, remove}
+use Rattle.std.specs.FinMap.{FinMap, get, insert, remove}
+use Rattle.ua_types.proofs.NumberMaps.{insert_removed, remove_given}
 use Rattle.ua_tcp.specs.Feeding.{Framing, framed_of}
 use Rattle.ua_tcp.specs.Frames.{End, Rest, Broken, held_at, fault_at}
 use Rattle.ua_tcp.specs.Pieces.{Done, Stepped, and_then, all_handled, refused_if, at_end}
@@ -25,7 +26,7 @@ use Rattle.ua_services.specs.Services.{serving_of}
 use Rattle.server_core.specs.declared.out.Step.{Step}
 use Rattle.server_core.specs.Effects.{Effect, step, shown}
 use Rattle.server_core.specs.Handling.{Doing, doing_so, doing_after, Shows, asked_for, answered, handled, broken}
-use Rattle.server_core.specs.Stepping.{with_held, framers_kept, fed_to, fed}
+use Rattle.server_core.specs.Stepping.{with_held, fed_to, fed}
 use Rattle.server_core.specs.World.{Core, World}
 use Rattle.server_core.proofs.EffectLemmas.{after_answered}
 
@@ -48,7 +49,7 @@ sent_shows core before between s state served replies connections outs rows e g 
     ap (λ (x : Sending). shape core x.connections state (step x.outs rows)) f'
     ∙ ap (λ (fs : List Fired). shape core d.connections state (step (before.outs ++ between ++ d.outs) fs)) h
     ∙ ap (λ (x : Given). shape core d.connections x.state (step (before.outs ++ between ++ d.outs) (before.rows ++ x.served.rows))) e
-    ∙ ap (shape core d.connections s.state) (sym (after_answered before between s.acts d))
+    ∙ ap (shape core d.connections s.state) (sym (after_answered before between s.occurrences d))
 
 pub request_shows : (conn : ℕ) (core : Core) (frame : Frame) (before : Step) (after outs : List Out) (rows : List Fired) (found : FrameOutcome) (request : Request) (connections connections' : Connections) (state : Services) (served : Served) (replies : List Reply) →
     taking connections after found ≡ taking_after before.outs (taking_of core.setting conn core.connections frame) → found ≡ outcome.Request request →
@@ -78,12 +79,22 @@ ends_by : (conn : ℕ) (core : Core) (effects : List Effect) (b : Bool) (fault :
 ends_by conn core effects true fault = broken_ends conn core fault
 ends_by conn core effects false fault = refl
 
+-- a connection that goes on keeps its framer
+abbrev pub framers_kept : Bool → ℕ → Framing → FinMap nat_cmp Framing → FinMap nat_cmp Framing
+framers_kept goes_on conn framing framers = if goes_on then insert framers conn framing else framers
+
 -- a connection that goes on has bytes to hold
 held_if : (conn limit : ℕ) (framers : FinMap nat_cmp Framing) (end : End) (d : Done Core Effect) (b : Bool) → b ≡ (and_then d (refused_if (broken conn) (fault_at end))).goes_on →
     with_held conn limit (cond b (held_at end) None) framers ≡ framers_kept b conn (record { limit = limit; held = held_at end }) framers
 held_if conn limit framers (Rest bytes) d true e = refl
 held_if conn limit framers (Broken fault) d true e = absurd (false≢true (sym (ends_by conn d.state d.outs d.goes_on fault) ∙ sym e))
 held_if conn limit framers end d false e = refl
+
+-- a framer that was changed in its place, and dropped there where the connection doesn't go on
+pub kept_in_place : (b : Bool) (conn : ℕ) (framing : Framing) (framers lent left : FinMap nat_cmp Framing) → lent ≡ insert framers conn framing → left ≡ (if b then lent else remove lent conn)
+    → framers_kept b conn framing (remove framers conn) ≡ left
+kept_in_place true conn framing framers lent left back is = insert_removed framers conn framing ∙ sym back ∙ sym is
+kept_in_place false conn framing framers lent left back is = sym (remove_given framers conn framing) ∙ ap (λ m. remove m conn) (sym back) ∙ sym is
 
 pub piece_shows : (world : World) (conn : ℕ) (piece : List ℕ) (framing : Framing) (core : Core) (done : Step) (b : Bool) → get world.framers conn ≡ Some framing →
     (let framed = framed_of framing.limit framing.held piece in

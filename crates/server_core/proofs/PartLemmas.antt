@@ -13,8 +13,8 @@ use Rattle.ua_channel.specs.declared.taken.Taken.TheVariants as taken
 use Rattle.ua_channel.specs.ChannelStates.{ChannelState}
 use Rattle.ua_channel.specs.Acceptance.{take_of}
 use Rattle.server_messages.specs.declared.setting.Setting.{Setting}
-use Rattle.server_connections.specs.Connecting.{taking_by, taking_of, turned}
-use Rattle.server_connections.specs.Turns.{Counted, counted, turn, taken_turn, later_turn, turn_of}
+use Rattle.server_connections.specs.Connecting.{taking_by, taking_of, reacted}
+use Rattle.server_connections.specs.Reactions.{Counted, counted, reaction, taken_reaction, later_reaction, reaction_of}
 use Rattle.server_connections.specs.declared.frame_outcome.FrameOutcome.TheVariants as outcome
 use Rattle.server_connections.specs.declared.connection.Connection.{Connection}
 use Rattle.server_connections.specs.declared.connection.Phase.{Phase}
@@ -29,12 +29,12 @@ use Rattle.server_core.proofs.ApartLemmas.{fed_apart}
 
 -- ---- a frame
 
--- a turn that says nothing and asks for nothing, and leaves some channel
+-- a reaction that says nothing and asks for nothing, and leaves some channel
 record IsQuiet (channels : ℕ) (c : Counted) : Type 0 where
   s : ChannelState
-  is : c ≡ counted channels (turn (Talking s) [] outcome.Nothing)
+  is : c ≡ counted channels (reaction (Talking s) [] outcome.Nothing)
 
-quiet_taken : (setting : Setting) (channels conn : ℕ) (key : List ℕ) (s : ChannelState) (answer : Result Taken Status) → is_part_taken answer ≡ true → IsQuiet channels (taken_turn setting channels conn key s answer)
+quiet_taken : (setting : Setting) (channels conn : ℕ) (key : List ℕ) (s : ChannelState) (answer : Result Taken Status) → is_part_taken answer ≡ true → IsQuiet channels (taken_reaction setting channels conn key s answer)
 quiet_taken setting channels conn key s (Ok taken.Nothing) h = record { s = s; is = refl }
 quiet_taken setting channels conn key s (Ok (taken.Aborted id)) h = record { s = s; is = refl }
 quiet_taken setting channels conn key s (Ok taken.Closed) h = absurd (false≢true h)
@@ -42,11 +42,11 @@ quiet_taken setting channels conn key s (Ok (taken.Opening id handle renew)) h =
 quiet_taken setting channels conn key s (Ok (taken.Request id body)) h = absurd (false≢true h)
 quiet_taken setting channels conn key s (Err code) h = absurd (false≢true h)
 
-quiet_turn : (setting : Setting) (channels conn : ℕ) (key : List ℕ) (frame : Frame) (phase : Phase) → is_part_in phase frame ≡ true → IsQuiet channels (turn_of setting channels conn key frame phase)
-unfolding later_turn
-quiet_turn setting channels conn key frame Greeting h = absurd (false≢true h)
-quiet_turn setting channels conn key frame (Talking s) h = quiet_taken setting channels conn key (take_of s frame).state (take_of s frame).answer h
-quiet_turn setting channels conn key frame Closed h = absurd (false≢true h)
+quiet_reaction : (setting : Setting) (channels conn : ℕ) (key : List ℕ) (frame : Frame) (phase : Phase) → is_part_in phase frame ≡ true → IsQuiet channels (reaction_of setting channels conn key frame phase)
+unfolding later_reaction
+quiet_reaction setting channels conn key frame Greeting h = absurd (false≢true h)
+quiet_reaction setting channels conn key frame (Talking s) h = quiet_taken setting channels conn key (take_of s frame).state (take_of s frame).answer h
+quiet_reaction setting channels conn key frame Closed h = absurd (false≢true h)
 
 -- nothing is done, and nothing but the connection is another
 record Quiet (conn : ℕ) (old : Core) (d : Done Core Effect) : Type 0 where
@@ -57,10 +57,10 @@ record Quiet (conn : ℕ) (old : Core) (d : Done Core Effect) : Type 0 where
 quiet_same : (conn : ℕ) (core : Core) → Quiet conn core (record { state = core; outs = []; goes_on = true })
 quiet_same conn core = record { rest = refl; others = λ other apart. refl; effects = refl }
 
-quiet_placed : (conn : ℕ) (core : Core) (connection : Connection) (c : Counted) → IsQuiet core.connections.channels c → Quiet conn core (handled_by conn core (turned core.connections conn connection c))
+quiet_placed : (conn : ℕ) (core : Core) (connection : Connection) (c : Counted) → IsQuiet core.connections.channels c → Quiet conn core (handled_by conn core (reacted core.connections conn connection c))
 quiet_placed conn core connection c q =
-    let d : Counted → Done Core Effect = λ x. handled_by conn core (turned core.connections conn connection x) in
-    let quiet : Counted = counted core.connections.channels (turn (Talking q.s) [] outcome.Nothing) in
+    let d : Counted → Done Core Effect = λ x. handled_by conn core (reacted core.connections conn connection x) in
+    let quiet : Counted = counted core.connections.channels (reaction (Talking q.s) [] outcome.Nothing) in
     let p : Quiet conn core (d quiet) = record {
       rest = refl;
       others = λ other apart. get_inserted_elsewhere core.connections.known conn (record connection { phase = Talking q.s }) other apart;
@@ -71,7 +71,7 @@ quiet_placed conn core connection c q =
 quiet_found : (conn : ℕ) (core : Core) (frame : Frame) (found : Option Connection) → is_part_of found frame ≡ true → Quiet conn core (handled_by conn core (taking_by core.setting conn core.connections frame found))
 quiet_found conn core frame None h = absurd (false≢true h)
 quiet_found conn core frame (Some connection) h =
-    quiet_placed conn core connection _ (quiet_turn core.setting core.connections.channels conn connection.key frame connection.phase h)
+    quiet_placed conn core connection _ (quiet_reaction core.setting core.connections.channels conn connection.key frame connection.phase h)
 
 quiet_handled : (conn : ℕ) (core : Core) (frame : Frame) → is_part_of (get core.connections.known conn) frame ≡ true → Quiet conn core (handled conn core frame)
 unfolding handled taking_of

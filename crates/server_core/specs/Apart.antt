@@ -13,7 +13,7 @@ use Rattle.ua_channel.specs.Acceptance.{take_of}
 use Rattle.server_connections.specs.declared.connection.Connection.{Connection}
 use Rattle.server_connections.specs.declared.connection.Phase.{Phase}
 use Rattle.server_connections.specs.declared.connection.Phase.TheVariants.{Talking}
-use Rattle.server_core.specs.Effects.{Effect, Do, Acted, Lost}
+use Rattle.server_core.specs.Effects.{Effect, Do, Occurred, Lost}
 use Rattle.server_core.specs.Handling.{handled}
 use Rattle.server_core.specs.World.{World, Core}
 
@@ -86,7 +86,7 @@ pub record IsAlike (conn : ℕ) (a b : Core) : Type 0 where
 -- what of some effects is sent on a connection, and what else was done
 abbrev pub is_heard : ℕ → Effect → Bool
 is_heard conn (Do out) = is_on conn out
-is_heard conn (Acted act) = true
+is_heard conn (Occurred occurrence) = true
 is_heard conn (Lost reply) = is_for conn reply
 
 abbrev pub heard : ℕ → List Effect → List Effect

@@ -8,7 +8,7 @@ use Rattle.ua_space.specs.Nodes.{SpaceState}
 use Rattle.server_connections.specs.Coherent.{AreAgreed, Talks, IsFresh, AreNumbered, is_open, AlwaysFitAt}
 use Rattle.ua_services.specs.Owing.{OwesOnly}
 use Rattle.server_core.specs.declared.event.Event.{Event}
-use Rattle.server_core.specs.Effects.{Effect, Do, Acted, Lost}
+use Rattle.server_core.specs.Effects.{Effect, Do, Occurred, Lost}
 use Rattle.server_core.specs.Running.{Running, run_of}
 use Rattle.server_core.specs.World.{World, Core, opening}
 
@@ -35,7 +35,7 @@ AnswersFit world = (conn : ℕ) → AlwaysFitAt (get world.core.connections.know
 abbrev pub lost_of : List Effect → List Reply
 lost_of [] = []
 lost_of (Do out ∷ effects) = lost_of effects
-lost_of (Acted act ∷ effects) = lost_of effects
+lost_of (Occurred occurrence ∷ effects) = lost_of effects
 lost_of (Lost reply ∷ effects) = reply ∷ lost_of effects
 
 abbrev pub LosesNone : List Effect → Type 0

@@ -5,47 +5,47 @@ use Rattle.server_messages.specs.declared.fired.Fired.{Fired}
 use Rattle.server_messages.specs.declared.reply.Reply.{Reply}
 use Rattle.server_messages.specs.declared.out.Out.{Out}
 use Rattle.server_connections.specs.Delivering.{Delivery}
-use Rattle.ua_services.specs.Serving.{Act, Fire, Spent, is_spent}
+use Rattle.ua_services.specs.Serving.{Occurrence, Fire, Spent, is_spent}
 use Rattle.server_core.specs.declared.out.Step.{Step}
 
 -- An out is to be done. The others are said of the server beside: what a service did beside its replies, and a reply whose
 -- connection was not open, which the law `loses_no_reply` shows never to come
 pub data Effect : Type 0 where
   Do : Out → Effect
-  Acted : Act → Effect
+  Occurred : Occurrence → Effect
   Lost : Reply → Effect
 
 abbrev pub doing : List Out → List Effect
 doing outs = map Do outs
 
-abbrev pub acting : List Act → List Effect
-acting acts = map Acted acts
+abbrev pub occurring : List Occurrence → List Effect
+occurring occurrences = map Occurred occurrences
 
 abbrev pub losing : List Reply → List Effect
 losing replies = map Lost replies
 
 -- what is served, and what is sent of it
-abbrev pub effects_of : List Act → Delivery → List Effect
-effects_of acts d = acting acts ++ (doing d.outs ++ losing d.lost)
+abbrev pub effects_of : List Occurrence → Delivery → List Effect
+effects_of occurrences d = occurring occurrences ++ (doing d.outs ++ losing d.lost)
 
 -- ---- projections
 
 abbrev pub outs_of : List Effect → List Out
 outs_of [] = []
 outs_of (Do out ∷ effects) = out ∷ outs_of effects
-outs_of (Acted act ∷ effects) = outs_of effects
+outs_of (Occurred occurrence ∷ effects) = outs_of effects
 outs_of (Lost reply ∷ effects) = outs_of effects
 
 -- the rows of the subscriptions' state table that fired
 abbrev pub fired_of : List Effect → List Fired
 fired_of [] = []
 fired_of (Do out ∷ effects) = fired_of effects
-fired_of (Acted (Fire fired) ∷ effects) = fired ∷ fired_of effects
-fired_of (Acted Spent ∷ effects) = fired_of effects
+fired_of (Occurred (Fire fired) ∷ effects) = fired ∷ fired_of effects
+fired_of (Occurred Spent ∷ effects) = fired_of effects
 fired_of (Lost reply ∷ effects) = fired_of effects
 
 abbrev pub is_spending : Effect → Bool
-is_spending (Acted act) = is_spent act
+is_spending (Occurred occurrence) = is_spent occurrence
 is_spending effect = false
 
 -- a serial of 64 bits has passed its last value

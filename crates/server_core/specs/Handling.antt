@@ -29,7 +29,7 @@ closed_on conn core = record core { services = forgotten core.services conn }
 abbrev pub answered : Core → List Out → Serving → Done Core Effect
 answered core outs s =
     let d = delivery_of core.setting core.connections s.replies in
-    done (record core { connections = d.connections; services = s.state }) (doing outs ++ effects_of s.acts d) true
+    done (record core { connections = d.connections; services = s.state }) (doing outs ++ effects_of s.occurrences d) true
 
 -- what is left to do about a frame, after these outs
 abbrev pub asked_for : ℕ → Core → List Out → FrameOutcome → Done Core Effect

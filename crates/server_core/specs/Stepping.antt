@@ -1,5 +1,5 @@
 -- One event.
-use Rattle.std.specs.Prelude.{◌≡◌, ⊤, ℕ, Bool, true, not, nat_lt, List, [], ◌++◌, Option, Some, None, Result, Ok, Err, is_some, if◌then◌else◌}
+use Rattle.std.specs.Prelude.{◌≡◌, ⊤, ℕ, Bool, true, not, nat_lt, List, [], ◌++◌, Option, Some, None, Result, Ok, Err, is_some}
 use Rattle.std.specs.Ordering.{nat_cmp}
 use Rattle.std.specs.FinMap.{FinMap, get, insert, remove, len}
 use Rattle.ua_types.specs.Answers as answers
@@ -113,9 +113,6 @@ takes_no_memory world (Gone conn) = true
 takes_no_memory world (Tick now) = is_idle (setting_at world.core (later world.core.setting.clock now)) world.core.services
 
 -- ---- what the code gives of it
-
-abbrev pub framers_kept : Bool → ℕ → Framing → FinMap nat_cmp Framing → FinMap nat_cmp Framing
-framers_kept goes_on conn framing framers = if goes_on then insert framers conn framing else framers
 
 abbrev pub Feeds : Result Step Halt → World → Served → Type 0
 Feeds (Ok given) new said = (said.world ≡ new) × (shown said.effects ≡ given)

@@ -3,7 +3,7 @@
 ghost use Rattle.std.specs.Prelude.{◌≡◌, [], true, false, None, Err, IsOk, OnOk};
 ghost use Rattle.std.specs.FinMap.{get};
 ghost use Rattle.server_connections.specs.Connecting.{is_new, is_known};
-ghost use Rattle.server_core.specs.Stepping.{Feeds, fed, framers_kept, greeted, has_room as has_room_spec, opened, step_of, Matches, takes_no_memory};
+ghost use Rattle.server_core.specs.Stepping.{Feeds, fed, greeted, has_room as has_room_spec, opened, step_of, Matches, takes_no_memory};
 ghost use Rattle.server_core.specs.declared.out.StepFault.TheVariants as step_fault;
 
 use crate::event::Event;
@@ -25,16 +25,6 @@ pub struct World {
 }
 
 impl World {
-    // A connection that goes on keeps its framer.
-    fn keep(&mut self, conn: u64, framer: Framer, goes_on: bool) -> Result<(), AllocError>
-        ensures { OnOk result (self.new ≡ record self.old { framers = framers_kept goes_on conn framer self.old.framers }) }
-    {
-        if goes_on {
-            self.framers.insert(conn, framer)?;
-        }
-        Ok(())
-    }
-
     // Takes a piece of a connection's stream. One that is closed takes nothing, and no memory.
     #[tactic(auto, unfolding(crate::specs::Stepping::fed))]
     fn feed(&mut self, alloc: Global, conn: u64, piece: &[u8]) -> Result<Step, Halt>
@@ -42,12 +32,14 @@ impl World {
         ensures closed { get self.old.framers conn ≡ None → IsOk result }
     {
         let mut step = Step::new(alloc);
-        let Some(mut framer) = self.framers.remove(conn) else {
+        let Some(framer) = self.framers.get_mut(conn) else {
             return Ok(step);
         };
         let fed = framer.feed(alloc, piece)?;
         let goes_on = self.core.finish(alloc, conn, &fed, &mut step)?;
-        self.keep(conn, framer, goes_on)?;
+        if !goes_on {
+            self.framers.remove(conn);
+        }
         Ok(step)
     }
 

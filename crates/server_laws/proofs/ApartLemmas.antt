@@ -88,14 +88,14 @@ use Rattle.ua_services.specs.Read.{read_listed, read_timed, read_meaning}
 use Rattle.ua_services.specs.Republish.{republish_answer, republish_meaning}
 use Rattle.ua_services.specs.Services.{call_of, picked_of_subscriptions, picked_of_items, picked, serving_by, serving_of, ticking_of}
 use Rattle.ua_services.specs.declared.services.Services.{Services}
-use Rattle.ua_services.specs.Serving.{Act, Serving, reply_of, faulted, served_by}
+use Rattle.ua_services.specs.Serving.{Occurrence, Serving, reply_of, faulted, served_by}
 use Rattle.ua_services.specs.SessionServing.{spent_by, taken, with_sessions}
 use Rattle.ua_services.specs.SetMonitoringMode.{items_moded, set_monitoring_mode_meaning}
 use Rattle.ua_services.specs.SetPublishingMode.{set_publishing_listed, set_publishing_mode_meaning}
 use Rattle.ua_services.specs.StatusResults.{statuses_body}
 use Rattle.ua_services.specs.SubServing.{world_at, called, no_reply, told_alone, nothing_done, session_over, timed_out}
 use Rattle.ua_services.specs.Write.{sampled, write_listed, write_meaning}
-use Rattle.ua_services.specs.declared.call.Call.{Call}
+use Rattle.ua_services.specs.declared.caller.Caller.{Caller}
 use Rattle.ua_services.specs.declared.history_read.Wanted.{Wanted}
 use Rattle.server_laws.proofs.MovingLemmas.{Asks, created_asks, modified_asks, moded_asks, deleted_asks, items_left}
 use Rattle.server_laws.proofs.OtherSessions.{IsFresh, Keeps, unchanged, sessions_stay, named_given, fresh_after, ticked_fresh, activate_header, close_header, find_leaves, activate_leaves, close_leaves, create_stays, points_stay, stay_behind}
@@ -171,206 +171,206 @@ either : (session : ℕ) (state : Services) (b : Bool) (x y : Serving) → Apart
 either session state true x y p q = p
 either session state false x y p q = q
 
-by_fields : {A : Type 0} (session : ℕ) (meaning : Setting → Call → A → Services → Serving) (setting : Setting) (call : Call) (state : Services) (r : Result A TakeFault) →
-    ((request : A) → r ≡ Ok request → KeepsRest session state (meaning setting call request state).state) → Apart session state (served_by meaning setting call state r)
-by_fields session meaning setting call state (Ok request) f = record { stays = f request refl }
-by_fields session meaning setting call state (Err fault) f = record { stays = none_stays session state }
+by_fields : {A : Type 0} (session : ℕ) (meaning : Setting → Caller → A → Services → Serving) (setting : Setting) (caller : Caller) (state : Services) (r : Result A TakeFault) →
+    ((request : A) → r ≡ Ok request → KeepsRest session state (meaning setting caller request state).state) → Apart session state (served_by meaning setting caller state r)
+by_fields session meaning setting caller state (Ok request) f = record { stays = f request refl }
+by_fields session meaning setting caller state (Err fault) f = record { stays = none_stays session state }
 
 -- ---- sessions
 
 abbrev NamesIn : ℕ → Services → NodeId → Type 0
 NamesIn session state token = IfSome (named state.sessions token) (λ (n : Named). n.number ≡ session)
 
-taken_stays : {A : Type 0} (session : ℕ) (call : Call) (state : Services) (clock : Moment) (acts : List Act) (body : A → List ℕ) (answer : Result A Status) (sessions : SessionsState) →
-    Keeps session state.sessions sessions → KeepsRest session state (taken state call clock acts body answer sessions).state
-taken_stays session call state clock acts body (Ok x) sessions p = nothing_stays session state sessions p
-taken_stays session call state clock acts body (Err code) sessions p = nothing_stays session state sessions p
+taken_stays : {A : Type 0} (session : ℕ) (caller : Caller) (state : Services) (clock : Moment) (occurrences : List Occurrence) (body : A → List ℕ) (answer : Result A Status) (sessions : SessionsState) →
+    Keeps session state.sessions sessions → KeepsRest session state (taken state caller clock occurrences body answer sessions).state
+taken_stays session caller state clock occurrences body (Ok x) sessions p = nothing_stays session state sessions p
+taken_stays session caller state clock occurrences body (Err code) sessions p = nothing_stays session state sessions p
 
-create_session_stays : (session : ℕ) (setting : Setting) (call : Call) (state : Services) (request : CreateSessionRequest) → KeepsRest session state (create_session_meaning setting call request state).state
-create_session_stays session setting call state request =
-    let s = create_of state.sessions call.conn call.key in
-    taken_stays session call state setting.clock (spent_by state.sessions) (create_session_body setting call) s.answer s.state (create_stays session state.sessions call.conn call.key)
+create_session_stays : (session : ℕ) (setting : Setting) (caller : Caller) (state : Services) (request : CreateSessionRequest) → KeepsRest session state (create_session_meaning setting caller request state).state
+create_session_stays session setting caller state request =
+    let s = create_of state.sessions caller.conn caller.key in
+    taken_stays session caller state setting.clock (spent_by state.sessions) (create_session_body setting caller) s.answer s.state (create_stays session state.sessions caller.conn caller.key)
 
-activate_session_stays : (session : ℕ) (setting : Setting) (call : Call) (state : Services) (request : ActivateSessionRequest) → NamesIn session state request.request_header.authentication_token →
-    KeepsRest session state (activate_session_meaning setting call request state).state
-activate_session_stays session setting call state request only =
+activate_session_stays : (session : ℕ) (setting : Setting) (caller : Caller) (state : Services) (request : ActivateSessionRequest) → NamesIn session state request.request_header.authentication_token →
+    KeepsRest session state (activate_session_meaning setting caller request state).state
+activate_session_stays session setting caller state request only =
     let token = request.request_header.authentication_token in
     let is_free = is_anonymous request.user_identity_token in
-    let s = activate_of state.sessions token call.conn call.key is_free in
-    taken_stays session call state setting.clock (spent_by state.sessions) (activate_session_body setting call) s.answer s.state
-    (activate_leaves session state.sessions token call.conn call.key is_free only).stay
+    let s = activate_of state.sessions token caller.conn caller.key is_free in
+    taken_stays session caller state setting.clock (spent_by state.sessions) (activate_session_body setting caller) s.answer s.state
+    (activate_leaves session state.sessions token caller.conn caller.key is_free only).stay
 
-closed_stays : (session : ℕ) (setting : Setting) (call : Call) (deleting : Bool) (state : Services) (from : CameBy state.subs state.items) (answer : Result ℕ Status) (sessions : SessionsState) →
-    sessions.made ≡ state.sessions.made → Keeps session state.sessions sessions → IfOk answer (λ number. number ≡ session) → KeepsRest session state (closed_by setting call deleting state answer sessions).state
-closed_stays session setting call deleting state from (Ok number) sessions made p is =
+closed_stays : (session : ℕ) (setting : Setting) (caller : Caller) (deleting : Bool) (state : Services) (from : CameBy state.subs state.items) (answer : Result ℕ Status) (sessions : SessionsState) →
+    sessions.made ≡ state.sessions.made → Keeps session state.sessions sessions → IfOk answer (λ number. number ≡ session) → KeepsRest session state (closed_by setting caller deleting state answer sessions).state
+closed_stays session setting caller deleting state from (Ok number) sessions made p is =
     let open_state = with_sessions state sessions in
     later_stays session state sessions (session_over setting deleting number open_state).state made p
     (told_stays session open_state from (session_ended number deleting (world_at setting open_state)) (Move.EndSession setting.clock number deleting) (λ so_far replies. refl) is)
-closed_stays session setting call deleting state from (Err code) sessions made p is = nothing_stays session state sessions p
+closed_stays session setting caller deleting state from (Err code) sessions made p is = nothing_stays session state sessions p
 
-close_session_stays : (session : ℕ) (setting : Setting) (call : Call) (state : Services) (from : CameBy state.subs state.items) (request : CloseSessionRequest) → NamesIn session state request.request_header.authentication_token →
-    KeepsRest session state (close_session_meaning setting call request state).state
-close_session_stays session setting call state from request only =
-    let s = close_of state.sessions request.request_header.authentication_token call.conn in
-    let h = close_leaves session state.sessions request.request_header.authentication_token call.conn only in
-    closed_stays session setting call request.delete_subscriptions state from s.answer s.state h.made h.stay h.answer
+close_session_stays : (session : ℕ) (setting : Setting) (caller : Caller) (state : Services) (from : CameBy state.subs state.items) (request : CloseSessionRequest) → NamesIn session state request.request_header.authentication_token →
+    KeepsRest session state (close_session_meaning setting caller request state).state
+close_session_stays session setting caller state from request only =
+    let s = close_of state.sessions request.request_header.authentication_token caller.conn in
+    let h = close_leaves session state.sessions request.request_header.authentication_token caller.conn only in
+    closed_stays session setting caller request.delete_subscriptions state from s.answer s.state h.made h.stay h.answer
 
 -- ---- every service of a session
 
-if_found_stays : (session : ℕ) (serve : ℕ → Services → Serving) (setting : Setting) (call : Call) (state : Services) (answer : Result ℕ Status) (sessions : SessionsState) →
+if_found_stays : (session : ℕ) (serve : ℕ → Services → Serving) (setting : Setting) (caller : Caller) (state : Services) (answer : Result ℕ Status) (sessions : SessionsState) →
     sessions.made ≡ state.sessions.made → Keeps session state.sessions sessions → IfOk answer (λ number. number ≡ session) →
-    KeepsRest session (with_sessions state sessions) (serve session (with_sessions state sessions)).state → KeepsRest session state (if_found serve setting call state answer sessions).state
-if_found_stays session serve setting call state (Ok number) sessions made p is q =
+    KeepsRest session (with_sessions state sessions) (serve session (with_sessions state sessions)).state → KeepsRest session state (if_found serve setting caller state answer sessions).state
+if_found_stays session serve setting caller state (Ok number) sessions made p is q =
     subst (λ (n : ℕ). KeepsRest session state (serve n (with_sessions state sessions)).state) (sym is) (later_stays session state sessions (serve session (with_sessions state sessions)).state made p q)
-if_found_stays session serve setting call state (Err code) sessions made p is q = nothing_stays session state sessions p
+if_found_stays session serve setting caller state (Err code) sessions made p is q = nothing_stays session state sessions p
 
-by_session : {A : Type 0} (session : ℕ) (meaning : Setting → Call → ℕ → A → Services → Serving) (setting : Setting) (call : Call) (token : NodeId) (state : Services) (from : CameBy state.subs state.items) → NamesIn session state token →
-    ((request : A) (after : Services) → CameBy after.subs after.items → KeepsRest session after (meaning setting call session request after).state) → (r : Result A TakeFault) → Apart session state (served_in_session meaning setting call token state r)
-by_session session meaning setting call token state from only f (Ok request) =
-    let s = find_of state.sessions token call.conn in
-    let h = find_leaves session state.sessions token call.conn only in
-    record { stays = if_found_stays session (λ number. meaning setting call number request) setting call state s.answer s.state h.made h.stay h.answer (f request (with_sessions state s.state) from) }
-by_session session meaning setting call token state from only f (Err fault) = record { stays = none_stays session state }
+by_session : {A : Type 0} (session : ℕ) (meaning : Setting → Caller → ℕ → A → Services → Serving) (setting : Setting) (caller : Caller) (token : NodeId) (state : Services) (from : CameBy state.subs state.items) → NamesIn session state token →
+    ((request : A) (after : Services) → CameBy after.subs after.items → KeepsRest session after (meaning setting caller session request after).state) → (r : Result A TakeFault) → Apart session state (served_in_session meaning setting caller token state r)
+by_session session meaning setting caller token state from only f (Ok request) =
+    let s = find_of state.sessions token caller.conn in
+    let h = find_leaves session state.sessions token caller.conn only in
+    record { stays = if_found_stays session (λ number. meaning setting caller number request) setting caller state s.answer s.state h.made h.stay h.answer (f request (with_sessions state s.state) from) }
+by_session session meaning setting caller token state from only f (Err fault) = record { stays = none_stays session state }
 
 -- ---- nodes
 
-read_listed_stays : (session : ℕ) (setting : Setting) (call : Call) (state : Services) (timestamps : Timestamps) (r : Result (List ReadValueId) Status) → KeepsRest session state (read_listed setting call state timestamps r).state
-read_listed_stays session setting call state timestamps (Ok nodes) = none_stays session state
-read_listed_stays session setting call state timestamps (Err code) = none_stays session state
+read_listed_stays : (session : ℕ) (setting : Setting) (caller : Caller) (state : Services) (timestamps : Timestamps) (r : Result (List ReadValueId) Status) → KeepsRest session state (read_listed setting caller state timestamps r).state
+read_listed_stays session setting caller state timestamps (Ok nodes) = none_stays session state
+read_listed_stays session setting caller state timestamps (Err code) = none_stays session state
 
-read_timed_stays : (session : ℕ) (setting : Setting) (call : Call) (state : Services) (nodes : Option (List ReadValueId)) (choice : Option Timestamps) → KeepsRest session state (read_timed setting call state nodes choice).state
-read_timed_stays session setting call state nodes None = none_stays session state
-read_timed_stays session setting call state nodes (Some timestamps) = read_listed_stays session setting call state timestamps (operations_of setting.config nodes)
+read_timed_stays : (session : ℕ) (setting : Setting) (caller : Caller) (state : Services) (nodes : Option (List ReadValueId)) (choice : Option Timestamps) → KeepsRest session state (read_timed setting caller state nodes choice).state
+read_timed_stays session setting caller state nodes None = none_stays session state
+read_timed_stays session setting caller state nodes (Some timestamps) = read_listed_stays session setting caller state timestamps (operations_of setting.config nodes)
 
-read_stays : (session : ℕ) (setting : Setting) (call : Call) (request : ReadRequest) (state : Services) → KeepsRest session state (read_meaning setting call session request state).state
-read_stays session setting call request state = read_timed_stays session setting call state request.nodes_to_read (timestamps_of request.timestamps_to_return)
+read_stays : (session : ℕ) (setting : Setting) (caller : Caller) (request : ReadRequest) (state : Services) → KeepsRest session state (read_meaning setting caller session request state).state
+read_stays session setting caller request state = read_timed_stays session setting caller state request.nodes_to_read (timestamps_of request.timestamps_to_return)
 
-paged_stays : {R : Type 0} (session : ℕ) (encoding : R → List ℕ) (setting : Setting) (call : Call) (type_id : ℕ) (state : Services) (all : AllDone R) → KeepsRest session state (paged encoding setting call session type_id state all).state
-paged_stays session encoding setting call type_id state all = nothing_stays session state (with_points state.sessions session all.points) (points_stay session state.sessions all.points)
+paged_stays : {R : Type 0} (session : ℕ) (encoding : R → List ℕ) (setting : Setting) (caller : Caller) (type_id : ℕ) (state : Services) (all : AllDone R) → KeepsRest session state (paged encoding setting caller session type_id state all).state
+paged_stays session encoding setting caller type_id state all = nothing_stays session state (with_points state.sessions session all.points) (points_stay session state.sessions all.points)
 
-browse_listed_stays : (session : ℕ) (setting : Setting) (call : Call) (requested : ℕ) (state : Services) (r : Result (List BrowseDescription) Status) → KeepsRest session state (browse_listed setting call session requested state r).state
-browse_listed_stays session setting call requested state (Ok descriptions) =
-    paged_stays session browse_result_encoding setting call BROWSE_RESPONSE state
+browse_listed_stays : (session : ℕ) (setting : Setting) (caller : Caller) (requested : ℕ) (state : Services) (r : Result (List BrowseDescription) Status) → KeepsRest session state (browse_listed setting caller session requested state r).state
+browse_listed_stays session setting caller requested state (Ok descriptions) =
+    paged_stays session browse_result_encoding setting caller BROWSE_RESPONSE state
     (all_done (λ points d. browse_told (browse_of state.space points (page_size setting.config.references requested) d)) (points_of state.sessions session) descriptions)
-browse_listed_stays session setting call requested state (Err code) = none_stays session state
+browse_listed_stays session setting caller requested state (Err code) = none_stays session state
 
-browse_stays : (session : ℕ) (setting : Setting) (call : Call) (request : BrowseRequest) (state : Services) → KeepsRest session state (browse_meaning setting call session request state).state
-browse_stays session setting call request state =
-    let listed : Apart session state (browse_listed setting call session request.requested_max_references_per_node state (operations_of setting.config request.nodes_to_browse)) =
-    record { stays = browse_listed_stays session setting call request.requested_max_references_per_node state (operations_of setting.config request.nodes_to_browse) } in
-    let one : Apart session state (browse_meaning setting call session request state) = either session state (not (is_null_id request.view_id)) _ _ (record { stays = none_stays session state }) listed in
+browse_stays : (session : ℕ) (setting : Setting) (caller : Caller) (request : BrowseRequest) (state : Services) → KeepsRest session state (browse_meaning setting caller session request state).state
+browse_stays session setting caller request state =
+    let listed : Apart session state (browse_listed setting caller session request.requested_max_references_per_node state (operations_of setting.config request.nodes_to_browse)) =
+    record { stays = browse_listed_stays session setting caller request.requested_max_references_per_node state (operations_of setting.config request.nodes_to_browse) } in
+    let one : Apart session state (browse_meaning setting caller session request state) = either session state (not (is_null_id request.view_id)) _ _ (record { stays = none_stays session state }) listed in
     one.stays
 
-browse_next_listed_stays : (session : ℕ) (setting : Setting) (call : Call) (is_release : Bool) (state : Services) (r : Result (List (Option (List ℕ))) Status) → KeepsRest session state (browse_next_listed setting call session is_release state r).state
-browse_next_listed_stays session setting call is_release state (Ok named) =
-    paged_stays session browse_result_encoding setting call BROWSE_NEXT_RESPONSE state
+browse_next_listed_stays : (session : ℕ) (setting : Setting) (caller : Caller) (is_release : Bool) (state : Services) (r : Result (List (Option (List ℕ))) Status) → KeepsRest session state (browse_next_listed setting caller session is_release state r).state
+browse_next_listed_stays session setting caller is_release state (Ok named) =
+    paged_stays session browse_result_encoding setting caller BROWSE_NEXT_RESPONSE state
     (all_done (λ points bytes. browse_told (go_on_of state.space is_release points bytes)) (points_of state.sessions session) named)
-browse_next_listed_stays session setting call is_release state (Err code) = none_stays session state
+browse_next_listed_stays session setting caller is_release state (Err code) = none_stays session state
 
-browse_next_stays : (session : ℕ) (setting : Setting) (call : Call) (request : BrowseNextRequest) (state : Services) → KeepsRest session state (browse_next_meaning setting call session request state).state
-browse_next_stays session setting call request state =
-    browse_next_listed_stays session setting call request.release_continuation_points state (operations_of setting.config request.continuation_points)
+browse_next_stays : (session : ℕ) (setting : Setting) (caller : Caller) (request : BrowseNextRequest) (state : Services) → KeepsRest session state (browse_next_meaning setting caller session request state).state
+browse_next_stays session setting caller request state =
+    browse_next_listed_stays session setting caller request.release_continuation_points state (operations_of setting.config request.continuation_points)
 
-history_ranged_stays : (session : ℕ) (setting : Setting) (call : Call) (request : HistoryReadRequest) (state : Services) (times : Timestamps) (nodes : List HistoryReadValueId) (r : Result RawRange Status) →
-    KeepsRest session state (history_ranged setting call session request state times nodes r).state
-history_ranged_stays session setting call request state times nodes (Ok range) =
+history_ranged_stays : (session : ℕ) (setting : Setting) (caller : Caller) (request : HistoryReadRequest) (state : Services) (times : Timestamps) (nodes : List HistoryReadValueId) (r : Result RawRange Status) →
+    KeepsRest session state (history_ranged setting caller session request state times nodes r).state
+history_ranged_stays session setting caller request state times nodes (Ok range) =
     let wanted : Wanted = record { timestamps = times; is_release = request.release_continuation_points; range = range } in
-    paged_stays session history_read_result_encoding setting call HISTORY_READ_RESPONSE state
+    paged_stays session history_read_result_encoding setting caller HISTORY_READ_RESPONSE state
     (all_done (λ points asked. node_read state.history state.space.nodes wanted points asked) (points_of state.sessions session) nodes)
-history_ranged_stays session setting call request state times nodes (Err code) = none_stays session state
+history_ranged_stays session setting caller request state times nodes (Err code) = none_stays session state
 
-history_listed_stays : (session : ℕ) (setting : Setting) (call : Call) (request : HistoryReadRequest) (state : Services) (times : Timestamps) (r : Result (List HistoryReadValueId) Status) →
-    KeepsRest session state (history_listed setting call session request state times r).state
-history_listed_stays session setting call request state times (Ok nodes) = history_ranged_stays session setting call request state times nodes (details_judged setting.config request.history_read_details)
-history_listed_stays session setting call request state times (Err code) = none_stays session state
+history_listed_stays : (session : ℕ) (setting : Setting) (caller : Caller) (request : HistoryReadRequest) (state : Services) (times : Timestamps) (r : Result (List HistoryReadValueId) Status) →
+    KeepsRest session state (history_listed setting caller session request state times r).state
+history_listed_stays session setting caller request state times (Ok nodes) = history_ranged_stays session setting caller request state times nodes (details_judged setting.config request.history_read_details)
+history_listed_stays session setting caller request state times (Err code) = none_stays session state
 
-history_timed_stays : (session : ℕ) (setting : Setting) (call : Call) (request : HistoryReadRequest) (state : Services) (choice : Option Timestamps) → KeepsRest session state (history_timed setting call session request state choice).state
-history_timed_stays session setting call request state None = none_stays session state
-history_timed_stays session setting call request state (Some times) = history_listed_stays session setting call request state times (operations_of setting.config request.nodes_to_read)
+history_timed_stays : (session : ℕ) (setting : Setting) (caller : Caller) (request : HistoryReadRequest) (state : Services) (choice : Option Timestamps) → KeepsRest session state (history_timed setting caller session request state choice).state
+history_timed_stays session setting caller request state None = none_stays session state
+history_timed_stays session setting caller request state (Some times) = history_listed_stays session setting caller request state times (operations_of setting.config request.nodes_to_read)
 
-history_read_stays : (session : ℕ) (setting : Setting) (call : Call) (request : HistoryReadRequest) (state : Services) → KeepsRest session state (history_read_meaning setting call session request state).state
-history_read_stays session setting call request state = history_timed_stays session setting call request state (some_times (timestamps_of request.timestamps_to_return))
+history_read_stays : (session : ℕ) (setting : Setting) (caller : Caller) (request : HistoryReadRequest) (state : Services) → KeepsRest session state (history_read_meaning setting caller session request state).state
+history_read_stays session setting caller request state = history_timed_stays session setting caller request state (some_times (timestamps_of request.timestamps_to_return))
 
 -- ---- subscriptions
 
-create_subscription_stays : (session : ℕ) (setting : Setting) (call : Call) (request : CreateSubscriptionRequest) (state : Services) → CameBy state.subs state.items → KeepsRest session state (create_subscription_meaning setting call session request state).state
-create_subscription_stays session setting call request state from =
-    one_stays session state from (λ answer. reply_of call (create_subscription_body setting call answer) ∷ []) (created session (settings_asked request) request.publishing_enabled state.subs state.items setting.clock)
+create_subscription_stays : (session : ℕ) (setting : Setting) (caller : Caller) (request : CreateSubscriptionRequest) (state : Services) → CameBy state.subs state.items → KeepsRest session state (create_subscription_meaning setting caller session request state).state
+create_subscription_stays session setting caller request state from =
+    one_stays session state from (λ answer. reply_of caller (create_subscription_body setting caller answer) ∷ []) (created session (settings_asked request) request.publishing_enabled state.subs state.items setting.clock)
     (Move.Create setting.clock session (settings_asked request) request.publishing_enabled) (λ so_far replies. refl) refl
 
-modify_subscription_stays : (session : ℕ) (setting : Setting) (call : Call) (request : ModifySubscriptionRequest) (state : Services) → CameBy state.subs state.items → KeepsRest session state (modify_subscription_meaning setting call session request state).state
-modify_subscription_stays session setting call request state from =
-    one_stays session state from (λ answer. reply_of call (modify_subscription_body setting call answer) ∷ []) (said state.subs (modified session request.subscription_id (settings_wanted request) (world_at setting state)))
+modify_subscription_stays : (session : ℕ) (setting : Setting) (caller : Caller) (request : ModifySubscriptionRequest) (state : Services) → CameBy state.subs state.items → KeepsRest session state (modify_subscription_meaning setting caller session request state).state
+modify_subscription_stays session setting caller request state from =
+    one_stays session state from (λ answer. reply_of caller (modify_subscription_body setting caller answer) ∷ []) (said state.subs (modified session request.subscription_id (settings_wanted request) (world_at setting state)))
     (Move.Modify setting.clock session request.subscription_id (settings_wanted request)) (λ so_far replies. refl) refl
 
-publishing_listed_stays : (session : ℕ) (setting : Setting) (call : Call) (enabled : Bool) (state : Services) (from : CameBy state.subs state.items) (r : Result (List ℕ) Status) → KeepsRest session state (set_publishing_listed setting call session enabled state r).state
-publishing_listed_stays session setting call enabled state from (Ok numbers) =
-    one_stays session state from (λ statuses. reply_of call (statuses_body SET_PUBLISHING_MODE_RESPONSE setting call statuses) ∷ []) (said state.subs (named_all session (sub_call.SetMode enabled) (world_at setting state) numbers))
+publishing_listed_stays : (session : ℕ) (setting : Setting) (caller : Caller) (enabled : Bool) (state : Services) (from : CameBy state.subs state.items) (r : Result (List ℕ) Status) → KeepsRest session state (set_publishing_listed setting caller session enabled state r).state
+publishing_listed_stays session setting caller enabled state from (Ok numbers) =
+    one_stays session state from (λ statuses. reply_of caller (statuses_body SET_PUBLISHING_MODE_RESPONSE setting caller statuses) ∷ []) (said state.subs (named_all session (sub_call.SetMode enabled) (world_at setting state) numbers))
     (Move.SetMode setting.clock session numbers enabled) (λ so_far replies. refl) refl
-publishing_listed_stays session setting call enabled state from (Err code) = none_stays session state
+publishing_listed_stays session setting caller enabled state from (Err code) = none_stays session state
 
-set_publishing_mode_stays : (session : ℕ) (setting : Setting) (call : Call) (request : SetPublishingModeRequest) (state : Services) → CameBy state.subs state.items → KeepsRest session state (set_publishing_mode_meaning setting call session request state).state
-set_publishing_mode_stays session setting call request state from = publishing_listed_stays session setting call request.publishing_enabled state from (operations_of setting.config request.subscription_ids)
+set_publishing_mode_stays : (session : ℕ) (setting : Setting) (caller : Caller) (request : SetPublishingModeRequest) (state : Services) → CameBy state.subs state.items → KeepsRest session state (set_publishing_mode_meaning setting caller session request state).state
+set_publishing_mode_stays session setting caller request state from = publishing_listed_stays session setting caller request.publishing_enabled state from (operations_of setting.config request.subscription_ids)
 
-subscriptions_deleted_stay : (session : ℕ) (setting : Setting) (call : Call) (state : Services) (from : CameBy state.subs state.items) (r : Result (List ℕ) Status) → KeepsRest session state (delete_subscriptions_listed setting call session state r).state
-subscriptions_deleted_stay session setting call state from (Ok numbers) =
-    one_stays session state from (λ statuses. reply_of call (statuses_body DELETE_SUBSCRIPTIONS_RESPONSE setting call statuses) ∷ []) (said state.subs (deleted session (world_at setting state) numbers))
+subscriptions_deleted_stay : (session : ℕ) (setting : Setting) (caller : Caller) (state : Services) (from : CameBy state.subs state.items) (r : Result (List ℕ) Status) → KeepsRest session state (delete_subscriptions_listed setting caller session state r).state
+subscriptions_deleted_stay session setting caller state from (Ok numbers) =
+    one_stays session state from (λ statuses. reply_of caller (statuses_body DELETE_SUBSCRIPTIONS_RESPONSE setting caller statuses) ∷ []) (said state.subs (deleted session (world_at setting state) numbers))
     (Move.Delete setting.clock session numbers) (λ so_far replies. refl) refl
-subscriptions_deleted_stay session setting call state from (Err code) = none_stays session state
+subscriptions_deleted_stay session setting caller state from (Err code) = none_stays session state
 
-delete_subscriptions_stays : (session : ℕ) (setting : Setting) (call : Call) (request : DeleteSubscriptionsRequest) (state : Services) → CameBy state.subs state.items → KeepsRest session state (delete_subscriptions_meaning setting call session request state).state
-delete_subscriptions_stays session setting call request state from = subscriptions_deleted_stay session setting call state from (operations_of setting.config request.subscription_ids)
+delete_subscriptions_stays : (session : ℕ) (setting : Setting) (caller : Caller) (request : DeleteSubscriptionsRequest) (state : Services) → CameBy state.subs state.items → KeepsRest session state (delete_subscriptions_meaning setting caller session request state).state
+delete_subscriptions_stays session setting caller request state from = subscriptions_deleted_stay session setting caller state from (operations_of setting.config request.subscription_ids)
 
-publish_stays : (session : ℕ) (setting : Setting) (call : Call) (request : PublishRequest) (state : Services) → CameBy state.subs state.items → KeepsRest session state (publish_meaning setting call session request state).state
-publish_stays session setting call request state from =
+publish_stays : (session : ℕ) (setting : Setting) (caller : Caller) (request : PublishRequest) (state : Services) → CameBy state.subs state.items → KeepsRest session state (publish_meaning setting caller session request state).state
+publish_stays session setting caller request state from =
     let acks = acknowledged_in request.subscription_acknowledgements in
-    let w = published session (publish_call call) acks (world_at setting state) in
-    let told_so : Apart session state (told_alone state w) = record { stays = told_stays session state from w (Move.Publish setting.clock session (publish_call call) acks) (λ so_far replies. refl) refl } in
-    let one : Apart session state (publish_meaning setting call session request state) = either session state (nat_lt setting.config.operations (length acks)) _ _ (record { stays = none_stays session state }) told_so in
+    let w = published session (publish_call caller) acks (world_at setting state) in
+    let told_so : Apart session state (told_alone state w) = record { stays = told_stays session state from w (Move.Publish setting.clock session (publish_call caller) acks) (λ so_far replies. refl) refl } in
+    let one : Apart session state (publish_meaning setting caller session request state) = either session state (nat_lt setting.config.operations (length acks)) _ _ (record { stays = none_stays session state }) told_so in
     one.stays
 
-republish_stays : (session : ℕ) (setting : Setting) (call : Call) (request : RepublishRequest) (state : Services) → CameBy state.subs state.items → KeepsRest session state (republish_meaning setting call session request state).state
-republish_stays session setting call request state from =
-    one_stays session state from (λ answer. reply_of call (republish_answer setting call answer) ∷ []) (said state.subs (republished session request.subscription_id request.retransmit_sequence_number (world_at setting state)))
+republish_stays : (session : ℕ) (setting : Setting) (caller : Caller) (request : RepublishRequest) (state : Services) → CameBy state.subs state.items → KeepsRest session state (republish_meaning setting caller session request state).state
+republish_stays session setting caller request state from =
+    one_stays session state from (λ answer. reply_of caller (republish_answer setting caller answer) ∷ []) (said state.subs (republished session request.subscription_id request.retransmit_sequence_number (world_at setting state)))
     (Move.Republish setting.clock session request.subscription_id request.retransmit_sequence_number) (λ so_far replies. refl) refl
 
 -- ---- monitored items
 
-module _ (session : ℕ) (setting : Setting) (call : Call) (number : ℕ) (state : Services) (from : CameBy state.subs state.items) (items_done : Itemed) (asks : Asks number state.items items_done.items) where
-  found_stays : (found : Option Vars) → vars_found number state.items state.subs.table ≡ found → is_own state.subs.table session number ≡ true → KeepsRest session state (items_called_by setting call number state items_done found).state
+module _ (session : ℕ) (setting : Setting) (caller : Caller) (number : ℕ) (state : Services) (from : CameBy state.subs state.items) (items_done : Itemed) (asks : Asks number state.items items_done.items) where
+  found_stays : (found : Option Vars) → vars_found number state.items state.subs.table ≡ found → is_own state.subs.table session number ≡ true → KeepsRest session state (items_called_by setting caller number state items_done found).state
   found_stays None e own = none_stays session state
   found_stays (Some before) e own = record {
     sessions = unchanged session state.sessions;
-    rest = subst (StaysIn session state) (items_left setting call number state items_done asks before e from.rows from.came.replied) (call_stays session state from (Move.Items setting.clock number asks.asked) own);
+    rest = subst (StaysIn session state) (items_left setting caller number state items_done asks before e from.rows from.came.replied) (call_stays session state from (Move.Items setting.clock number asks.asked) own);
   }
 
-  own_stays : (own : Bool) → is_own state.subs.table session number ≡ own → KeepsRest session state (items_called_by setting call number state items_done (cond own (vars_found number state.items state.subs.table) None)).state
+  own_stays : (own : Bool) → is_own state.subs.table session number ≡ own → KeepsRest session state (items_called_by setting caller number state items_done (cond own (vars_found number state.items state.subs.table) None)).state
   own_stays true e = found_stays (vars_found number state.items state.subs.table) refl e
   own_stays false e = none_stays session state
 
-  items_stay : KeepsRest session state (items_called_by setting call number state items_done (own_vars session number state)).state
+  items_stay : KeepsRest session state (items_called_by setting caller number state items_done (own_vars session number state)).state
   items_stay = own_stays (is_own state.subs.table session number) refl
 
 -- ---- all services but Write
 
-module _ (session : ℕ) (setting : Setting) (call : Call) (token : NodeId) (body : List ℕ) (state : Services) (from : CameBy state.subs state.items) (only : NamesIn session state token) where
-  of_subscriptions_stay : (id : ℕ) → Apart session state (picked_of_subscriptions setting call token body state id)
+module _ (session : ℕ) (setting : Setting) (caller : Caller) (token : NodeId) (body : List ℕ) (state : Services) (from : CameBy state.subs state.items) (only : NamesIn session state token) where
+  of_subscriptions_stay : (id : ℕ) → Apart session state (picked_of_subscriptions setting caller token body state id)
   of_subscriptions_stay id =
-      let last : Apart session state (faulted state call status.BAD_SERVICE_UNSUPPORTED setting.clock) = record { stays = none_stays session state } in
-      either session state _ _ _ (by_session session create_subscription_meaning setting call token state from only (create_subscription_stays session setting call) (message_of create_subscription_request_reading body))
-      (either session state _ _ _ (by_session session modify_subscription_meaning setting call token state from only (modify_subscription_stays session setting call) (message_of modify_subscription_request_reading body))
-      (either session state _ _ _ (by_session session set_publishing_mode_meaning setting call token state from only (set_publishing_mode_stays session setting call) (message_of set_publishing_mode_request_reading body))
-      (either session state _ _ _ (by_session session delete_subscriptions_meaning setting call token state from only (delete_subscriptions_stays session setting call) (message_of delete_subscriptions_request_reading body))
-      (either session state _ _ _ (by_session session publish_meaning setting call token state from only (publish_stays session setting call) (message_of publish_request_reading body))
-      (either session state _ _ _ (by_session session republish_meaning setting call token state from only (republish_stays session setting call) (message_of republish_request_reading body))
+      let last : Apart session state (faulted state caller status.BAD_SERVICE_UNSUPPORTED setting.clock) = record { stays = none_stays session state } in
+      either session state _ _ _ (by_session session create_subscription_meaning setting caller token state from only (create_subscription_stays session setting caller) (message_of create_subscription_request_reading body))
+      (either session state _ _ _ (by_session session modify_subscription_meaning setting caller token state from only (modify_subscription_stays session setting caller) (message_of modify_subscription_request_reading body))
+      (either session state _ _ _ (by_session session set_publishing_mode_meaning setting caller token state from only (set_publishing_mode_stays session setting caller) (message_of set_publishing_mode_request_reading body))
+      (either session state _ _ _ (by_session session delete_subscriptions_meaning setting caller token state from only (delete_subscriptions_stays session setting caller) (message_of delete_subscriptions_request_reading body))
+      (either session state _ _ _ (by_session session publish_meaning setting caller token state from only (publish_stays session setting caller) (message_of publish_request_reading body))
+      (either session state _ _ _ (by_session session republish_meaning setting caller token state from only (republish_stays session setting caller) (message_of republish_request_reading body))
       last)))))
 
-  of_items_stay : (id : ℕ) → Apart session state (picked_of_items setting call token body state id)
+  of_items_stay : (id : ℕ) → Apart session state (picked_of_items setting caller token body state id)
   of_items_stay id =
-      either session state _ _ _ (by_session session create_monitored_items_meaning setting call token state from only (λ request after came. items_stay session setting call request.subscription_id after came (items_created setting call request after) (created_asks setting call request after)) (message_of create_monitored_items_request_reading body))
-      (either session state _ _ _ (by_session session modify_monitored_items_meaning setting call token state from only (λ request after came. items_stay session setting call request.subscription_id after came (items_modified setting call request after) (modified_asks setting call request after)) (message_of modify_monitored_items_request_reading body))
-      (either session state _ _ _ (by_session session set_monitoring_mode_meaning setting call token state from only (λ request after came. items_stay session setting call request.subscription_id after came (items_moded setting call request after) (moded_asks setting call request after)) (message_of set_monitoring_mode_request_reading body))
-      (either session state _ _ _ (by_session session delete_monitored_items_meaning setting call token state from only (λ request after came. items_stay session setting call request.subscription_id after came (items_deleted setting call request after) (deleted_asks setting call request after)) (message_of delete_monitored_items_request_reading body))
+      either session state _ _ _ (by_session session create_monitored_items_meaning setting caller token state from only (λ request after came. items_stay session setting caller request.subscription_id after came (items_created setting caller request after) (created_asks setting caller request after)) (message_of create_monitored_items_request_reading body))
+      (either session state _ _ _ (by_session session modify_monitored_items_meaning setting caller token state from only (λ request after came. items_stay session setting caller request.subscription_id after came (items_modified setting caller request after) (modified_asks setting caller request after)) (message_of modify_monitored_items_request_reading body))
+      (either session state _ _ _ (by_session session set_monitoring_mode_meaning setting caller token state from only (λ request after came. items_stay session setting caller request.subscription_id after came (items_moded setting caller request after) (moded_asks setting caller request after)) (message_of set_monitoring_mode_request_reading body))
+      (either session state _ _ _ (by_session session delete_monitored_items_meaning setting caller token state from only (λ request after came. items_stay session setting caller request.subscription_id after came (items_deleted setting caller request after) (deleted_asks setting caller request after)) (message_of delete_monitored_items_request_reading body))
       (of_subscriptions_stay id))))
 
   -- where the type isn't that of a Write
@@ -381,30 +381,30 @@ module _ (session : ℕ) (setting : Setting) (call : Call) (token : NodeId) (bod
   picked_stays : (id : ℕ) → (id == WRITE_REQUEST) ≡ false →
       ((request : ActivateSessionRequest) → message_of activate_session_request_reading body ≡ Ok request → NamesIn session state request.request_header.authentication_token) →
       ((request : CloseSessionRequest) → message_of close_session_request_reading body ≡ Ok request → NamesIn session state request.request_header.authentication_token) →
-      Apart session state (picked setting call token body state id)
+      Apart session state (picked setting caller token body state id)
   picked_stays id other activating closing =
-      either session state _ _ _ (by_fields session get_endpoints_meaning setting call state (message_of get_endpoints_request_reading body) (λ request e. none_stays session state))
-      (either session state _ _ _ (by_fields session create_session_meaning setting call state (message_of create_session_request_reading body) (λ request e. create_session_stays session setting call state request))
-      (either session state _ _ _ (by_fields session activate_session_meaning setting call state (message_of activate_session_request_reading body) (λ request e. activate_session_stays session setting call state request (activating request e)))
-      (either session state _ _ _ (by_fields session close_session_meaning setting call state (message_of close_session_request_reading body) (λ request e. close_session_stays session setting call state from request (closing request e)))
-      (either session state _ _ _ (by_session session read_meaning setting call token state from only (λ request after came. read_stays session setting call request after) (message_of read_request_reading body))
+      either session state _ _ _ (by_fields session get_endpoints_meaning setting caller state (message_of get_endpoints_request_reading body) (λ request e. none_stays session state))
+      (either session state _ _ _ (by_fields session create_session_meaning setting caller state (message_of create_session_request_reading body) (λ request e. create_session_stays session setting caller state request))
+      (either session state _ _ _ (by_fields session activate_session_meaning setting caller state (message_of activate_session_request_reading body) (λ request e. activate_session_stays session setting caller state request (activating request e)))
+      (either session state _ _ _ (by_fields session close_session_meaning setting caller state (message_of close_session_request_reading body) (λ request e. close_session_stays session setting caller state from request (closing request e)))
+      (either session state _ _ _ (by_session session read_meaning setting caller token state from only (λ request after came. read_stays session setting caller request after) (message_of read_request_reading body))
       (unless_write (id == WRITE_REQUEST) _ _ other
-      (either session state _ _ _ (by_session session browse_meaning setting call token state from only (λ request after came. browse_stays session setting call request after) (message_of browse_request_reading body))
-      (either session state _ _ _ (by_session session browse_next_meaning setting call token state from only (λ request after came. browse_next_stays session setting call request after) (message_of browse_next_request_reading body))
-      (either session state _ _ _ (by_session session history_read_meaning setting call token state from only (λ request after came. history_read_stays session setting call request after) (message_of history_read_request_reading body))
+      (either session state _ _ _ (by_session session browse_meaning setting caller token state from only (λ request after came. browse_stays session setting caller request after) (message_of browse_request_reading body))
+      (either session state _ _ _ (by_session session browse_next_meaning setting caller token state from only (λ request after came. browse_next_stays session setting caller request after) (message_of browse_next_request_reading body))
+      (either session state _ _ _ (by_session session history_read_meaning setting caller token state from only (λ request after came. history_read_stays session setting caller request after) (message_of history_read_request_reading body))
       (of_items_stay id)))))))))
 
 -- ---- Write
 
-write_shown : (session : ℕ) (setting : Setting) (call : Call) (state : Services) (sessions : SessionsState) → Keeps session state.sessions sessions → (r : Result (List WriteValue) Status) →
-    KeepsShown session (accepted_listed setting state r) state (write_listed setting call (with_sessions state sessions) r).state
-write_shown session setting call state sessions p (Ok values) = record { sessions = p; subs = refl; items = refl }
-write_shown session setting call state sessions p (Err code) = none_shown session state sessions p
+write_shown : (session : ℕ) (setting : Setting) (caller : Caller) (state : Services) (sessions : SessionsState) → Keeps session state.sessions sessions → (r : Result (List WriteValue) Status) →
+    KeepsShown session (accepted_listed setting state r) state (write_listed setting caller (with_sessions state sessions) r).state
+write_shown session setting caller state sessions p (Ok values) = record { sessions = p; subs = refl; items = refl }
+write_shown session setting caller state sessions p (Err code) = none_shown session state sessions p
 
-write_found : (session : ℕ) (setting : Setting) (call : Call) (state : Services) (write : WriteRequest) (answer : Result ℕ Status) (sessions : SessionsState) → Keeps session state.sessions sessions →
-    KeepsShown session (accepted_found setting state write answer) state (if_found (λ number. write_meaning setting call number write) setting call state answer sessions).state
-write_found session setting call state write (Ok number) sessions p = write_shown session setting call state sessions p (operations_of setting.config write.nodes_to_write)
-write_found session setting call state write (Err code) sessions p = none_shown session state sessions p
+write_found : (session : ℕ) (setting : Setting) (caller : Caller) (state : Services) (write : WriteRequest) (answer : Result ℕ Status) (sessions : SessionsState) → Keeps session state.sessions sessions →
+    KeepsShown session (accepted_found setting state write answer) state (if_found (λ number. write_meaning setting caller number write) setting caller state answer sessions).state
+write_found session setting caller state write (Ok number) sessions p = write_shown session setting caller state sessions p (operations_of setting.config write.nodes_to_write)
+write_found session setting caller state write (Err code) sessions p = none_shown session state sessions p
 
 -- ---- all services
 

@@ -93,16 +93,16 @@ use Rattle.ua_services.specs.Read.{read_listed, read_timed, read_meaning}
 use Rattle.ua_services.specs.Republish.{republish_answer, republish_meaning}
 use Rattle.ua_services.specs.Services.{call_of, picked_of_subscriptions, picked_of_items, picked, serving_by, serving_of, ticking_of, forgotten}
 use Rattle.ua_services.specs.declared.services.Services.{Services}
-use Rattle.ua_services.specs.Serving.{Act, Serving, rows_of, reply_of, answered, faulted, served_by}
+use Rattle.ua_services.specs.Serving.{Occurrence, Serving, rows_of, reply_of, answered, faulted, served_by}
 use Rattle.ua_services.specs.SessionServing.{spent_by, taken, with_sessions}
 use Rattle.ua_services.specs.SetMonitoringMode.{moded_all, moded_listed, items_moded, set_monitoring_mode_meaning}
 use Rattle.ua_services.specs.SetPublishingMode.{set_publishing_listed, set_publishing_mode_meaning}
 use Rattle.ua_services.specs.StatusResults.{statuses_body}
 use Rattle.ua_services.specs.SubServing.{world_at, called, no_reply, told_alone, nothing_done, and_then, session_over, timed_out, all_timed_out, timers_met}
 use Rattle.ua_services.specs.Write.{with_written, write_listed, write_meaning}
-use Rattle.ua_services.specs.declared.call.Call.{Call}
+use Rattle.ua_services.specs.declared.caller.Caller.{Caller}
 use Rattle.ua_services.specs.declared.history_read.Wanted.{Wanted}
-use Rattle.ua_services.proofs.SubLemmas.{rows_joined, no_rows, rows_of_turn}
+use Rattle.ua_services.proofs.SubLemmas.{rows_joined, no_rows, rows_of_round}
 
 -- ---- no call, one call, and calls behind others
 
@@ -178,19 +178,19 @@ pub goes_on : (before after : Services) (rows : List Fired) (given : List Reply)
 goes_on before after rows given p so_far replies = let w = p so_far replies in record { moves = w.moves; replied = replies ++ w.answers; left = w.left }
 
 said_at : {A : Type 0} (state : Services) (own : A → List Reply) (s : Said A) (so_far : List Fired) (replies : List Reply) →
-    ran_by (ran_at state so_far replies) s ≡ ran_at (called state own s).state (so_far ++ rows_of (called state own s).acts) (replies ++ s.outcome.world.turn.replies)
+    ran_by (ran_at state so_far replies) s ≡ ran_at (called state own s).state (so_far ++ rows_of (called state own s).occurrences) (replies ++ s.outcome.world.round.replies)
 said_at state own s so_far replies =
-    let turn = s.outcome.world.turn in
-    ap (λ (rows : List Fired). ran_at (called state own s).state (so_far ++ rows) (replies ++ turn.replies)) (sym (rows_of_turn state.subs.halted turn))
+    let round = s.outcome.world.round in
+    ap (λ (rows : List Fired). ran_at (called state own s).state (so_far ++ rows) (replies ++ round.replies)) (sym (rows_of_round state.subs.halted round))
 
 -- one call of the subscriptions
 one_call : {A : Type 0} (state : Services) (own : A → List Reply) (s : Said A) (move : Move) →
     ((so_far : List Fired) (replies : List Reply) → moved (ran_at state so_far replies) move ≡ ran_by (ran_at state so_far replies) s) → ComesOnBy state (called state own s)
 one_call state own s move f so_far replies = record {
   moves = move ∷ [];
-  answers = s.outcome.world.turn.replies;
+  answers = s.outcome.world.round.replies;
   left = f so_far replies ∙ said_at state own s so_far replies;
-  among = stand_behind (own s.outcome.answer) s.outcome.world.turn.replies;
+  among = stand_behind (own s.outcome.answer) s.outcome.world.round.replies;
 }
 
 told_call : (state : Services) (w : World) (move : Move) →
@@ -201,8 +201,8 @@ told_call state w move f = one_call state no_reply (told state.subs w) move f
 then_on : (state : Services) (s : Serving) (more : Services → Serving) → ComesOnBy state s → ((mid : Services) → ComesOnBy mid (more mid)) → ComesOnBy state (and_then s more)
 then_on state s more p f =
     let t = more s.state in
-    subst (λ (rows : List Fired). ComesOnWith state t.state rows (s.replies ++ t.replies)) (sym (rows_joined s.acts t.acts))
-    (then_with state s.state t.state (rows_of s.acts) (rows_of t.acts) s.replies t.replies p (f s.state))
+    subst (λ (rows : List Fired). ComesOnWith state t.state rows (s.replies ++ t.replies)) (sym (rows_joined s.occurrences t.occurrences))
+    (then_with state s.state t.state (rows_of s.occurrences) (rows_of t.occurrences) s.replies t.replies p (f s.state))
 
 -- the same, where the serving is seen to be one of two
 record IsOn (state : Services) (s : Serving) : Type 0 where
@@ -212,30 +212,30 @@ either : (state : Services) (b : Bool) (x y : Serving) → IsOn state x → IsOn
 either state true x y p q = p
 either state false x y p q = q
 
-by_fields : {A : Type 0} (meaning : Setting → Call → A → Services → Serving) (setting : Setting) (call : Call) (state : Services) →
-    ((request : A) → ComesOnBy state (meaning setting call request state)) → (r : Result A TakeFault) → IsOn state (served_by meaning setting call state r)
-by_fields meaning setting call state f (Ok request) = record { goes = f request }
-by_fields meaning setting call state f (Err fault) = record { goes = still state }
+by_fields : {A : Type 0} (meaning : Setting → Caller → A → Services → Serving) (setting : Setting) (caller : Caller) (state : Services) →
+    ((request : A) → ComesOnBy state (meaning setting caller request state)) → (r : Result A TakeFault) → IsOn state (served_by meaning setting caller state r)
+by_fields meaning setting caller state f (Ok request) = record { goes = f request }
+by_fields meaning setting caller state f (Err fault) = record { goes = still state }
 
 -- ---- sessions
 
-taken_on : {A : Type 0} (call : Call) (state : Services) (clock : Moment) (acts : List Act) (body : A → List ℕ) → rows_of acts ≡ [] → (answer : Result A Status) (sessions : SessionsState) →
-    ComesOnBy state (taken state call clock acts body answer sessions)
-taken_on call state clock acts body e (Ok x) sessions = subst (λ (rows : List Fired). ComesOnWith state (with_sessions state sessions) rows (reply_of call (body x) ∷ [])) (sym e) (still state)
-taken_on call state clock acts body e (Err code) sessions = still state
+taken_on : {A : Type 0} (caller : Caller) (state : Services) (clock : Moment) (occurrences : List Occurrence) (body : A → List ℕ) → rows_of occurrences ≡ [] → (answer : Result A Status) (sessions : SessionsState) →
+    ComesOnBy state (taken state caller clock occurrences body answer sessions)
+taken_on caller state clock occurrences body e (Ok x) sessions = subst (λ (rows : List Fired). ComesOnWith state (with_sessions state sessions) rows (reply_of caller (body x) ∷ [])) (sym e) (still state)
+taken_on caller state clock occurrences body e (Err code) sessions = still state
 
 no_rows_spent : (sessions : SessionsState) → rows_of (spent_by sessions) ≡ []
 no_rows_spent sessions = no_rows (is_spent sessions)
 
-create_session_on : (setting : Setting) (call : Call) (state : Services) (request : CreateSessionRequest) → ComesOnBy state (create_session_meaning setting call request state)
-create_session_on setting call state request =
-    let s = create_of state.sessions call.conn call.key in
-    taken_on call state setting.clock (spent_by state.sessions) (create_session_body setting call) (no_rows_spent state.sessions) s.answer s.state
+create_session_on : (setting : Setting) (caller : Caller) (state : Services) (request : CreateSessionRequest) → ComesOnBy state (create_session_meaning setting caller request state)
+create_session_on setting caller state request =
+    let s = create_of state.sessions caller.conn caller.key in
+    taken_on caller state setting.clock (spent_by state.sessions) (create_session_body setting caller) (no_rows_spent state.sessions) s.answer s.state
 
-activate_session_on : (setting : Setting) (call : Call) (state : Services) (request : ActivateSessionRequest) → ComesOnBy state (activate_session_meaning setting call request state)
-activate_session_on setting call state request =
-    let s = activate_of state.sessions request.request_header.authentication_token call.conn call.key (is_anonymous request.user_identity_token) in
-    taken_on call state setting.clock (spent_by state.sessions) (activate_session_body setting call) (no_rows_spent state.sessions) s.answer s.state
+activate_session_on : (setting : Setting) (caller : Caller) (state : Services) (request : ActivateSessionRequest) → ComesOnBy state (activate_session_meaning setting caller request state)
+activate_session_on setting caller state request =
+    let s = activate_of state.sessions request.request_header.authentication_token caller.conn caller.key (is_anonymous request.user_identity_token) in
+    taken_on caller state setting.clock (spent_by state.sessions) (activate_session_body setting caller) (no_rows_spent state.sessions) s.answer s.state
 
 over_on : (setting : Setting) (deleting : Bool) (number : ℕ) (state : Services) → ComesOnBy state (session_over setting deleting number state)
 over_on setting deleting number state =
@@ -247,41 +247,41 @@ all_timed_out_on setting state [] s p = p
 all_timed_out_on setting state (number ∷ numbers) s p =
     all_timed_out_on setting state numbers (timed_out setting s number) (then_on state s (session_over setting false number) p (over_on setting false number))
 
-closed_on : (setting : Setting) (call : Call) (deleting : Bool) (state : Services) (answer : Result ℕ Status) (sessions : SessionsState) → ComesOnBy state (closed_by setting call deleting state answer sessions)
-closed_on setting call deleting state (Ok number) sessions =
-    then_on (with_sessions state sessions) (session_over setting deleting number (with_sessions state sessions)) (λ (after : Services). answered after call (close_session_body setting call))
+closed_on : (setting : Setting) (caller : Caller) (deleting : Bool) (state : Services) (answer : Result ℕ Status) (sessions : SessionsState) → ComesOnBy state (closed_by setting caller deleting state answer sessions)
+closed_on setting caller deleting state (Ok number) sessions =
+    then_on (with_sessions state sessions) (session_over setting deleting number (with_sessions state sessions)) (λ (after : Services). answered after caller (close_session_body setting caller))
     (over_on setting deleting number (with_sessions state sessions)) (λ (after : Services). still after)
-closed_on setting call deleting state (Err code) sessions = still state
+closed_on setting caller deleting state (Err code) sessions = still state
 
-close_session_on : (setting : Setting) (call : Call) (state : Services) (request : CloseSessionRequest) → ComesOnBy state (close_session_meaning setting call request state)
-close_session_on setting call state request =
-    let s = close_of state.sessions request.request_header.authentication_token call.conn in
-    closed_on setting call request.delete_subscriptions state s.answer s.state
+close_session_on : (setting : Setting) (caller : Caller) (state : Services) (request : CloseSessionRequest) → ComesOnBy state (close_session_meaning setting caller request state)
+close_session_on setting caller state request =
+    let s = close_of state.sessions request.request_header.authentication_token caller.conn in
+    closed_on setting caller request.delete_subscriptions state s.answer s.state
 
-if_found_on : (serve : ℕ → Services → Serving) (setting : Setting) (call : Call) (state : Services) → ((number : ℕ) (after : Services) → ComesOnBy after (serve number after)) → (answer : Result ℕ Status) (sessions : SessionsState) →
-    ComesOnBy state (if_found serve setting call state answer sessions)
-if_found_on serve setting call state f (Ok number) sessions = f number (with_sessions state sessions)
-if_found_on serve setting call state f (Err code) sessions = still state
+if_found_on : (serve : ℕ → Services → Serving) (setting : Setting) (caller : Caller) (state : Services) → ((number : ℕ) (after : Services) → ComesOnBy after (serve number after)) → (answer : Result ℕ Status) (sessions : SessionsState) →
+    ComesOnBy state (if_found serve setting caller state answer sessions)
+if_found_on serve setting caller state f (Ok number) sessions = f number (with_sessions state sessions)
+if_found_on serve setting caller state f (Err code) sessions = still state
 
-by_session : {A : Type 0} (meaning : Setting → Call → ℕ → A → Services → Serving) (setting : Setting) (call : Call) (token : NodeId) (state : Services) →
-    ((number : ℕ) (request : A) (after : Services) → ComesOnBy after (meaning setting call number request after)) → (r : Result A TakeFault) → IsOn state (served_in_session meaning setting call token state r)
-by_session meaning setting call token state f (Ok request) =
-    let s = find_of state.sessions token call.conn in
-    record { goes = if_found_on (λ number. meaning setting call number request) setting call state (λ number. f number request) s.answer s.state }
-by_session meaning setting call token state f (Err fault) = record { goes = still state }
+by_session : {A : Type 0} (meaning : Setting → Caller → ℕ → A → Services → Serving) (setting : Setting) (caller : Caller) (token : NodeId) (state : Services) →
+    ((number : ℕ) (request : A) (after : Services) → ComesOnBy after (meaning setting caller number request after)) → (r : Result A TakeFault) → IsOn state (served_in_session meaning setting caller token state r)
+by_session meaning setting caller token state f (Ok request) =
+    let s = find_of state.sessions token caller.conn in
+    record { goes = if_found_on (λ number. meaning setting caller number request) setting caller state (λ number. f number request) s.answer s.state }
+by_session meaning setting caller token state f (Err fault) = record { goes = still state }
 
 -- ---- nodes
 
-read_listed_on : (setting : Setting) (call : Call) (state : Services) (timestamps : Timestamps) (r : Result (List ReadValueId) Status) → ComesOnBy state (read_listed setting call state timestamps r)
-read_listed_on setting call state timestamps (Ok nodes) = still state
-read_listed_on setting call state timestamps (Err code) = still state
+read_listed_on : (setting : Setting) (caller : Caller) (state : Services) (timestamps : Timestamps) (r : Result (List ReadValueId) Status) → ComesOnBy state (read_listed setting caller state timestamps r)
+read_listed_on setting caller state timestamps (Ok nodes) = still state
+read_listed_on setting caller state timestamps (Err code) = still state
 
-read_timed_on : (setting : Setting) (call : Call) (state : Services) (nodes : Option (List ReadValueId)) (choice : Option Timestamps) → ComesOnBy state (read_timed setting call state nodes choice)
-read_timed_on setting call state nodes None = still state
-read_timed_on setting call state nodes (Some timestamps) = read_listed_on setting call state timestamps (operations_of setting.config nodes)
+read_timed_on : (setting : Setting) (caller : Caller) (state : Services) (nodes : Option (List ReadValueId)) (choice : Option Timestamps) → ComesOnBy state (read_timed setting caller state nodes choice)
+read_timed_on setting caller state nodes None = still state
+read_timed_on setting caller state nodes (Some timestamps) = read_listed_on setting caller state timestamps (operations_of setting.config nodes)
 
-read_on : (setting : Setting) (call : Call) (session : ℕ) (request : ReadRequest) (state : Services) → ComesOnBy state (read_meaning setting call session request state)
-read_on setting call session request state = read_timed_on setting call state request.nodes_to_read (timestamps_of request.timestamps_to_return)
+read_on : (setting : Setting) (caller : Caller) (session : ℕ) (request : ReadRequest) (state : Services) → ComesOnBy state (read_meaning setting caller session request state)
+read_on setting caller session request state = read_timed_on setting caller state request.nodes_to_read (timestamps_of request.timestamps_to_return)
 
 -- what is written is shown to the items
 shown_on : (state : Services) (writing : Writing) {given : List Reply} → ComesOnWith state (with_written state writing) [] given
@@ -292,102 +292,102 @@ shown_on state writing so_far replies = record {
   among = tt;
 }
 
-write_listed_on : (setting : Setting) (call : Call) (state : Services) (r : Result (List WriteValue) Status) → ComesOnBy state (write_listed setting call state r)
-write_listed_on setting call state (Ok values) = shown_on state (write_of setting.clock state.space.nodes values)
-write_listed_on setting call state (Err code) = still state
+write_listed_on : (setting : Setting) (caller : Caller) (state : Services) (r : Result (List WriteValue) Status) → ComesOnBy state (write_listed setting caller state r)
+write_listed_on setting caller state (Ok values) = shown_on state (write_of setting.clock state.space.nodes values)
+write_listed_on setting caller state (Err code) = still state
 
-write_on : (setting : Setting) (call : Call) (session : ℕ) (request : WriteRequest) (state : Services) → ComesOnBy state (write_meaning setting call session request state)
-write_on setting call session request state = write_listed_on setting call state (operations_of setting.config request.nodes_to_write)
+write_on : (setting : Setting) (caller : Caller) (session : ℕ) (request : WriteRequest) (state : Services) → ComesOnBy state (write_meaning setting caller session request state)
+write_on setting caller session request state = write_listed_on setting caller state (operations_of setting.config request.nodes_to_write)
 
 -- a page is no call
-paged_on : {R : Type 0} (encoding : R → List ℕ) (setting : Setting) (call : Call) (session type_id : ℕ) (state : Services) (all : AllDone R) → ComesOnBy state (paged encoding setting call session type_id state all)
-paged_on encoding setting call session type_id state all =
-    subst (λ (rows : List Fired). ComesOnWith state (with_sessions state (with_points state.sessions session all.points)) rows (paged encoding setting call session type_id state all).replies) (sym (no_rows (is_overspent all.points))) (still state)
+paged_on : {R : Type 0} (encoding : R → List ℕ) (setting : Setting) (caller : Caller) (session type_id : ℕ) (state : Services) (all : AllDone R) → ComesOnBy state (paged encoding setting caller session type_id state all)
+paged_on encoding setting caller session type_id state all =
+    subst (λ (rows : List Fired). ComesOnWith state (with_sessions state (with_points state.sessions session all.points)) rows (paged encoding setting caller session type_id state all).replies) (sym (no_rows (is_overspent all.points))) (still state)
 
-browse_listed_on : (setting : Setting) (call : Call) (session requested : ℕ) (state : Services) (r : Result (List BrowseDescription) Status) → ComesOnBy state (browse_listed setting call session requested state r)
-browse_listed_on setting call session requested state (Ok descriptions) =
-    paged_on browse_result_encoding setting call session BROWSE_RESPONSE state
+browse_listed_on : (setting : Setting) (caller : Caller) (session requested : ℕ) (state : Services) (r : Result (List BrowseDescription) Status) → ComesOnBy state (browse_listed setting caller session requested state r)
+browse_listed_on setting caller session requested state (Ok descriptions) =
+    paged_on browse_result_encoding setting caller session BROWSE_RESPONSE state
     (all_done (λ points d. browse_told (browse_of state.space points (page_size setting.config.references requested) d)) (points_of state.sessions session) descriptions)
-browse_listed_on setting call session requested state (Err code) = still state
+browse_listed_on setting caller session requested state (Err code) = still state
 
-browse_on : (setting : Setting) (call : Call) (session : ℕ) (request : BrowseRequest) (state : Services) → ComesOnBy state (browse_meaning setting call session request state)
-browse_on setting call session request state =
-    let listed : IsOn state (browse_listed setting call session request.requested_max_references_per_node state (operations_of setting.config request.nodes_to_browse)) =
-    record { goes = browse_listed_on setting call session request.requested_max_references_per_node state (operations_of setting.config request.nodes_to_browse) } in
-    let one : IsOn state (browse_meaning setting call session request state) = either state (not (is_null_id request.view_id)) _ _ (record { goes = still state }) listed in
+browse_on : (setting : Setting) (caller : Caller) (session : ℕ) (request : BrowseRequest) (state : Services) → ComesOnBy state (browse_meaning setting caller session request state)
+browse_on setting caller session request state =
+    let listed : IsOn state (browse_listed setting caller session request.requested_max_references_per_node state (operations_of setting.config request.nodes_to_browse)) =
+    record { goes = browse_listed_on setting caller session request.requested_max_references_per_node state (operations_of setting.config request.nodes_to_browse) } in
+    let one : IsOn state (browse_meaning setting caller session request state) = either state (not (is_null_id request.view_id)) _ _ (record { goes = still state }) listed in
     one.goes
 
-browse_next_listed_on : (setting : Setting) (call : Call) (session : ℕ) (is_release : Bool) (state : Services) (r : Result (List (Option (List ℕ))) Status) → ComesOnBy state (browse_next_listed setting call session is_release state r)
-browse_next_listed_on setting call session is_release state (Ok named) =
-    paged_on browse_result_encoding setting call session BROWSE_NEXT_RESPONSE state
+browse_next_listed_on : (setting : Setting) (caller : Caller) (session : ℕ) (is_release : Bool) (state : Services) (r : Result (List (Option (List ℕ))) Status) → ComesOnBy state (browse_next_listed setting caller session is_release state r)
+browse_next_listed_on setting caller session is_release state (Ok named) =
+    paged_on browse_result_encoding setting caller session BROWSE_NEXT_RESPONSE state
     (all_done (λ points bytes. browse_told (go_on_of state.space is_release points bytes)) (points_of state.sessions session) named)
-browse_next_listed_on setting call session is_release state (Err code) = still state
+browse_next_listed_on setting caller session is_release state (Err code) = still state
 
-browse_next_on : (setting : Setting) (call : Call) (session : ℕ) (request : BrowseNextRequest) (state : Services) → ComesOnBy state (browse_next_meaning setting call session request state)
-browse_next_on setting call session request state =
-    browse_next_listed_on setting call session request.release_continuation_points state (operations_of setting.config request.continuation_points)
+browse_next_on : (setting : Setting) (caller : Caller) (session : ℕ) (request : BrowseNextRequest) (state : Services) → ComesOnBy state (browse_next_meaning setting caller session request state)
+browse_next_on setting caller session request state =
+    browse_next_listed_on setting caller session request.release_continuation_points state (operations_of setting.config request.continuation_points)
 
-history_ranged_on : (setting : Setting) (call : Call) (session : ℕ) (request : HistoryReadRequest) (state : Services) (times : Timestamps) (nodes : List HistoryReadValueId) (r : Result RawRange Status) →
-    ComesOnBy state (history_ranged setting call session request state times nodes r)
-history_ranged_on setting call session request state times nodes (Ok range) =
+history_ranged_on : (setting : Setting) (caller : Caller) (session : ℕ) (request : HistoryReadRequest) (state : Services) (times : Timestamps) (nodes : List HistoryReadValueId) (r : Result RawRange Status) →
+    ComesOnBy state (history_ranged setting caller session request state times nodes r)
+history_ranged_on setting caller session request state times nodes (Ok range) =
     let wanted : Wanted = record { timestamps = times; is_release = request.release_continuation_points; range = range } in
-    paged_on history_read_result_encoding setting call session HISTORY_READ_RESPONSE state
+    paged_on history_read_result_encoding setting caller session HISTORY_READ_RESPONSE state
     (all_done (λ points asked. node_read state.history state.space.nodes wanted points asked) (points_of state.sessions session) nodes)
-history_ranged_on setting call session request state times nodes (Err code) = still state
+history_ranged_on setting caller session request state times nodes (Err code) = still state
 
-history_listed_on : (setting : Setting) (call : Call) (session : ℕ) (request : HistoryReadRequest) (state : Services) (times : Timestamps) (r : Result (List HistoryReadValueId) Status) →
-    ComesOnBy state (history_listed setting call session request state times r)
-history_listed_on setting call session request state times (Ok nodes) = history_ranged_on setting call session request state times nodes (details_judged setting.config request.history_read_details)
-history_listed_on setting call session request state times (Err code) = still state
+history_listed_on : (setting : Setting) (caller : Caller) (session : ℕ) (request : HistoryReadRequest) (state : Services) (times : Timestamps) (r : Result (List HistoryReadValueId) Status) →
+    ComesOnBy state (history_listed setting caller session request state times r)
+history_listed_on setting caller session request state times (Ok nodes) = history_ranged_on setting caller session request state times nodes (details_judged setting.config request.history_read_details)
+history_listed_on setting caller session request state times (Err code) = still state
 
-history_timed_on : (setting : Setting) (call : Call) (session : ℕ) (request : HistoryReadRequest) (state : Services) (choice : Option Timestamps) → ComesOnBy state (history_timed setting call session request state choice)
-history_timed_on setting call session request state None = still state
-history_timed_on setting call session request state (Some times) = history_listed_on setting call session request state times (operations_of setting.config request.nodes_to_read)
+history_timed_on : (setting : Setting) (caller : Caller) (session : ℕ) (request : HistoryReadRequest) (state : Services) (choice : Option Timestamps) → ComesOnBy state (history_timed setting caller session request state choice)
+history_timed_on setting caller session request state None = still state
+history_timed_on setting caller session request state (Some times) = history_listed_on setting caller session request state times (operations_of setting.config request.nodes_to_read)
 
-history_read_on : (setting : Setting) (call : Call) (session : ℕ) (request : HistoryReadRequest) (state : Services) → ComesOnBy state (history_read_meaning setting call session request state)
-history_read_on setting call session request state = history_timed_on setting call session request state (some_times (timestamps_of request.timestamps_to_return))
+history_read_on : (setting : Setting) (caller : Caller) (session : ℕ) (request : HistoryReadRequest) (state : Services) → ComesOnBy state (history_read_meaning setting caller session request state)
+history_read_on setting caller session request state = history_timed_on setting caller session request state (some_times (timestamps_of request.timestamps_to_return))
 
 -- ---- subscriptions
 
-create_subscription_on : (setting : Setting) (call : Call) (session : ℕ) (request : CreateSubscriptionRequest) (state : Services) → ComesOnBy state (create_subscription_meaning setting call session request state)
-create_subscription_on setting call session request state =
-    one_call state (λ answer. reply_of call (create_subscription_body setting call answer) ∷ []) (created session (settings_asked request) request.publishing_enabled state.subs state.items setting.clock)
+create_subscription_on : (setting : Setting) (caller : Caller) (session : ℕ) (request : CreateSubscriptionRequest) (state : Services) → ComesOnBy state (create_subscription_meaning setting caller session request state)
+create_subscription_on setting caller session request state =
+    one_call state (λ answer. reply_of caller (create_subscription_body setting caller answer) ∷ []) (created session (settings_asked request) request.publishing_enabled state.subs state.items setting.clock)
     (Move.Create setting.clock session (settings_asked request) request.publishing_enabled) (λ so_far replies. refl)
 
-modify_subscription_on : (setting : Setting) (call : Call) (session : ℕ) (request : ModifySubscriptionRequest) (state : Services) → ComesOnBy state (modify_subscription_meaning setting call session request state)
-modify_subscription_on setting call session request state =
-    one_call state (λ answer. reply_of call (modify_subscription_body setting call answer) ∷ []) (said state.subs (modified session request.subscription_id (settings_wanted request) (world_at setting state)))
+modify_subscription_on : (setting : Setting) (caller : Caller) (session : ℕ) (request : ModifySubscriptionRequest) (state : Services) → ComesOnBy state (modify_subscription_meaning setting caller session request state)
+modify_subscription_on setting caller session request state =
+    one_call state (λ answer. reply_of caller (modify_subscription_body setting caller answer) ∷ []) (said state.subs (modified session request.subscription_id (settings_wanted request) (world_at setting state)))
     (Move.Modify setting.clock session request.subscription_id (settings_wanted request)) (λ so_far replies. refl)
 
-publishing_listed_on : (setting : Setting) (call : Call) (session : ℕ) (enabled : Bool) (state : Services) (r : Result (List ℕ) Status) → ComesOnBy state (set_publishing_listed setting call session enabled state r)
-publishing_listed_on setting call session enabled state (Ok numbers) =
-    one_call state (λ statuses. reply_of call (statuses_body SET_PUBLISHING_MODE_RESPONSE setting call statuses) ∷ []) (said state.subs (named_all session (sub_call.SetMode enabled) (world_at setting state) numbers))
+publishing_listed_on : (setting : Setting) (caller : Caller) (session : ℕ) (enabled : Bool) (state : Services) (r : Result (List ℕ) Status) → ComesOnBy state (set_publishing_listed setting caller session enabled state r)
+publishing_listed_on setting caller session enabled state (Ok numbers) =
+    one_call state (λ statuses. reply_of caller (statuses_body SET_PUBLISHING_MODE_RESPONSE setting caller statuses) ∷ []) (said state.subs (named_all session (sub_call.SetMode enabled) (world_at setting state) numbers))
     (Move.SetMode setting.clock session numbers enabled) (λ so_far replies. refl)
-publishing_listed_on setting call session enabled state (Err code) = still state
+publishing_listed_on setting caller session enabled state (Err code) = still state
 
-set_publishing_mode_on : (setting : Setting) (call : Call) (session : ℕ) (request : SetPublishingModeRequest) (state : Services) → ComesOnBy state (set_publishing_mode_meaning setting call session request state)
-set_publishing_mode_on setting call session request state = publishing_listed_on setting call session request.publishing_enabled state (operations_of setting.config request.subscription_ids)
+set_publishing_mode_on : (setting : Setting) (caller : Caller) (session : ℕ) (request : SetPublishingModeRequest) (state : Services) → ComesOnBy state (set_publishing_mode_meaning setting caller session request state)
+set_publishing_mode_on setting caller session request state = publishing_listed_on setting caller session request.publishing_enabled state (operations_of setting.config request.subscription_ids)
 
-subscriptions_deleted_on : (setting : Setting) (call : Call) (session : ℕ) (state : Services) (r : Result (List ℕ) Status) → ComesOnBy state (delete_subscriptions_listed setting call session state r)
-subscriptions_deleted_on setting call session state (Ok numbers) =
-    one_call state (λ statuses. reply_of call (statuses_body DELETE_SUBSCRIPTIONS_RESPONSE setting call statuses) ∷ []) (said state.subs (deleted session (world_at setting state) numbers))
+subscriptions_deleted_on : (setting : Setting) (caller : Caller) (session : ℕ) (state : Services) (r : Result (List ℕ) Status) → ComesOnBy state (delete_subscriptions_listed setting caller session state r)
+subscriptions_deleted_on setting caller session state (Ok numbers) =
+    one_call state (λ statuses. reply_of caller (statuses_body DELETE_SUBSCRIPTIONS_RESPONSE setting caller statuses) ∷ []) (said state.subs (deleted session (world_at setting state) numbers))
     (Move.Delete setting.clock session numbers) (λ so_far replies. refl)
-subscriptions_deleted_on setting call session state (Err code) = still state
+subscriptions_deleted_on setting caller session state (Err code) = still state
 
-delete_subscriptions_on : (setting : Setting) (call : Call) (session : ℕ) (request : DeleteSubscriptionsRequest) (state : Services) → ComesOnBy state (delete_subscriptions_meaning setting call session request state)
-delete_subscriptions_on setting call session request state = subscriptions_deleted_on setting call session state (operations_of setting.config request.subscription_ids)
+delete_subscriptions_on : (setting : Setting) (caller : Caller) (session : ℕ) (request : DeleteSubscriptionsRequest) (state : Services) → ComesOnBy state (delete_subscriptions_meaning setting caller session request state)
+delete_subscriptions_on setting caller session request state = subscriptions_deleted_on setting caller session state (operations_of setting.config request.subscription_ids)
 
-publish_on : (setting : Setting) (call : Call) (session : ℕ) (request : PublishRequest) (state : Services) → ComesOnBy state (publish_meaning setting call session request state)
-publish_on setting call session request state =
+publish_on : (setting : Setting) (caller : Caller) (session : ℕ) (request : PublishRequest) (state : Services) → ComesOnBy state (publish_meaning setting caller session request state)
+publish_on setting caller session request state =
     let acks = acknowledged_in request.subscription_acknowledgements in
-    let told_so : IsOn state (told_alone state (published session (publish_call call) acks (world_at setting state))) =
-    record { goes = told_call state (published session (publish_call call) acks (world_at setting state)) (Move.Publish setting.clock session (publish_call call) acks) (λ so_far replies. refl) } in
-    let one : IsOn state (publish_meaning setting call session request state) = either state (nat_lt setting.config.operations (length acks)) _ _ (record { goes = still state }) told_so in
+    let told_so : IsOn state (told_alone state (published session (publish_call caller) acks (world_at setting state))) =
+    record { goes = told_call state (published session (publish_call caller) acks (world_at setting state)) (Move.Publish setting.clock session (publish_call caller) acks) (λ so_far replies. refl) } in
+    let one : IsOn state (publish_meaning setting caller session request state) = either state (nat_lt setting.config.operations (length acks)) _ _ (record { goes = still state }) told_so in
     one.goes
 
-republish_on : (setting : Setting) (call : Call) (session : ℕ) (request : RepublishRequest) (state : Services) → ComesOnBy state (republish_meaning setting call session request state)
-republish_on setting call session request state =
-    one_call state (λ answer. reply_of call (republish_answer setting call answer) ∷ []) (said state.subs (republished session request.subscription_id request.retransmit_sequence_number (world_at setting state)))
+republish_on : (setting : Setting) (caller : Caller) (session : ℕ) (request : RepublishRequest) (state : Services) → ComesOnBy state (republish_meaning setting caller session request state)
+republish_on setting caller session request state =
+    one_call state (λ answer. reply_of caller (republish_answer setting caller answer) ∷ []) (said state.subs (republished session request.subscription_id request.retransmit_sequence_number (world_at setting state)))
     (Move.Republish setting.clock session request.subscription_id request.retransmit_sequence_number) (λ so_far replies. refl)
 
 -- ---- monitored items
@@ -401,115 +401,115 @@ pub record Asks (number : ℕ) (before after : ItemsState) : Type 0 where
 asks_none : (number : ℕ) (items : ItemsState) → Asks number items items
 asks_none number items = record { asked = ItemsCall.Delete []; same = refl }
 
-create_listed_asks : (setting : Setting) (call : Call) (number : ℕ) (state : Services) (times : Timestamps) (r : Result (List MonitoredItemCreateRequest) Status) → Asks number state.items (create_listed setting call number state times r).items
-create_listed_asks setting call number state times (Ok requests) = record { asked = ItemsCall.Create state.space.nodes setting.clock times requests; same = refl }
-create_listed_asks setting call number state times (Err code) = asks_none number state.items
+create_listed_asks : (setting : Setting) (caller : Caller) (number : ℕ) (state : Services) (times : Timestamps) (r : Result (List MonitoredItemCreateRequest) Status) → Asks number state.items (create_listed setting caller number state times r).items
+create_listed_asks setting caller number state times (Ok requests) = record { asked = ItemsCall.Create state.space.nodes setting.clock times requests; same = refl }
+create_listed_asks setting caller number state times (Err code) = asks_none number state.items
 
-create_timed_asks : (setting : Setting) (call : Call) (number : ℕ) (state : Services) (requests : Option (List MonitoredItemCreateRequest)) (choice : Option Timestamps) →
-    Asks number state.items (create_timed setting call number state requests choice).items
-create_timed_asks setting call number state requests None = asks_none number state.items
-create_timed_asks setting call number state requests (Some times) = create_listed_asks setting call number state times (operations_of setting.config requests)
+create_timed_asks : (setting : Setting) (caller : Caller) (number : ℕ) (state : Services) (requests : Option (List MonitoredItemCreateRequest)) (choice : Option Timestamps) →
+    Asks number state.items (create_timed setting caller number state requests choice).items
+create_timed_asks setting caller number state requests None = asks_none number state.items
+create_timed_asks setting caller number state requests (Some times) = create_listed_asks setting caller number state times (operations_of setting.config requests)
 
-pub created_asks : (setting : Setting) (call : Call) (request : CreateMonitoredItemsRequest) (state : Services) → Asks request.subscription_id state.items (items_created setting call request state).items
+pub created_asks : (setting : Setting) (caller : Caller) (request : CreateMonitoredItemsRequest) (state : Services) → Asks request.subscription_id state.items (items_created setting caller request state).items
 unfolding items_created
-created_asks setting call request state = create_timed_asks setting call request.subscription_id state request.items_to_create (timestamps_of request.timestamps_to_return)
+created_asks setting caller request state = create_timed_asks setting caller request.subscription_id state request.items_to_create (timestamps_of request.timestamps_to_return)
 
-modify_listed_asks : (setting : Setting) (call : Call) (number : ℕ) (state : Services) (times : Timestamps) (r : Result (List MonitoredItemModifyRequest) Status) → Asks number state.items (modify_listed setting call number state times r).items
-modify_listed_asks setting call number state times (Ok requests) = record { asked = ItemsCall.Modify times requests; same = refl }
-modify_listed_asks setting call number state times (Err code) = asks_none number state.items
+modify_listed_asks : (setting : Setting) (caller : Caller) (number : ℕ) (state : Services) (times : Timestamps) (r : Result (List MonitoredItemModifyRequest) Status) → Asks number state.items (modify_listed setting caller number state times r).items
+modify_listed_asks setting caller number state times (Ok requests) = record { asked = ItemsCall.Modify times requests; same = refl }
+modify_listed_asks setting caller number state times (Err code) = asks_none number state.items
 
-modify_timed_asks : (setting : Setting) (call : Call) (number : ℕ) (state : Services) (requests : Option (List MonitoredItemModifyRequest)) (choice : Option Timestamps) →
-    Asks number state.items (modify_timed setting call number state requests choice).items
-modify_timed_asks setting call number state requests None = asks_none number state.items
-modify_timed_asks setting call number state requests (Some times) = modify_listed_asks setting call number state times (operations_of setting.config requests)
+modify_timed_asks : (setting : Setting) (caller : Caller) (number : ℕ) (state : Services) (requests : Option (List MonitoredItemModifyRequest)) (choice : Option Timestamps) →
+    Asks number state.items (modify_timed setting caller number state requests choice).items
+modify_timed_asks setting caller number state requests None = asks_none number state.items
+modify_timed_asks setting caller number state requests (Some times) = modify_listed_asks setting caller number state times (operations_of setting.config requests)
 
-pub modified_asks : (setting : Setting) (call : Call) (request : ModifyMonitoredItemsRequest) (state : Services) → Asks request.subscription_id state.items (items_modified setting call request state).items
+pub modified_asks : (setting : Setting) (caller : Caller) (request : ModifyMonitoredItemsRequest) (state : Services) → Asks request.subscription_id state.items (items_modified setting caller request state).items
 unfolding items_modified
-modified_asks setting call request state = modify_timed_asks setting call request.subscription_id state request.items_to_modify (timestamps_of request.timestamps_to_return)
+modified_asks setting caller request state = modify_timed_asks setting caller request.subscription_id state request.items_to_modify (timestamps_of request.timestamps_to_return)
 
-moded_all_asks : (setting : Setting) (call : Call) (number : ℕ) (state : Services) (numbers : List ℕ) (choice : Option Mode) → Asks number state.items (moded_all setting call number state numbers choice).items
-moded_all_asks setting call number state numbers None = asks_none number state.items
-moded_all_asks setting call number state numbers (Some mode) = record { asked = ItemsCall.SetMode state.space.nodes setting.clock mode numbers; same = refl }
+moded_all_asks : (setting : Setting) (caller : Caller) (number : ℕ) (state : Services) (numbers : List ℕ) (choice : Option Mode) → Asks number state.items (moded_all setting caller number state numbers choice).items
+moded_all_asks setting caller number state numbers None = asks_none number state.items
+moded_all_asks setting caller number state numbers (Some mode) = record { asked = ItemsCall.SetMode state.space.nodes setting.clock mode numbers; same = refl }
 
-moded_listed_asks : (setting : Setting) (call : Call) (number : ℕ) (state : Services) (choice : Option Mode) (r : Result (List ℕ) Status) → Asks number state.items (moded_listed setting call number state choice r).items
-moded_listed_asks setting call number state choice (Ok numbers) = moded_all_asks setting call number state numbers choice
-moded_listed_asks setting call number state choice (Err code) = asks_none number state.items
+moded_listed_asks : (setting : Setting) (caller : Caller) (number : ℕ) (state : Services) (choice : Option Mode) (r : Result (List ℕ) Status) → Asks number state.items (moded_listed setting caller number state choice r).items
+moded_listed_asks setting caller number state choice (Ok numbers) = moded_all_asks setting caller number state numbers choice
+moded_listed_asks setting caller number state choice (Err code) = asks_none number state.items
 
-pub moded_asks : (setting : Setting) (call : Call) (request : SetMonitoringModeRequest) (state : Services) → Asks request.subscription_id state.items (items_moded setting call request state).items
+pub moded_asks : (setting : Setting) (caller : Caller) (request : SetMonitoringModeRequest) (state : Services) → Asks request.subscription_id state.items (items_moded setting caller request state).items
 unfolding items_moded
-moded_asks setting call request state = moded_listed_asks setting call request.subscription_id state (mode_numbered request.monitoring_mode) (operations_of setting.config request.monitored_item_ids)
+moded_asks setting caller request state = moded_listed_asks setting caller request.subscription_id state (mode_numbered request.monitoring_mode) (operations_of setting.config request.monitored_item_ids)
 
-deleted_listed_asks : (setting : Setting) (call : Call) (number : ℕ) (state : Services) (r : Result (List ℕ) Status) → Asks number state.items (deleted_listed setting call number state r).items
-deleted_listed_asks setting call number state (Ok numbers) = record { asked = ItemsCall.Delete numbers; same = refl }
-deleted_listed_asks setting call number state (Err code) = asks_none number state.items
+deleted_listed_asks : (setting : Setting) (caller : Caller) (number : ℕ) (state : Services) (r : Result (List ℕ) Status) → Asks number state.items (deleted_listed setting caller number state r).items
+deleted_listed_asks setting caller number state (Ok numbers) = record { asked = ItemsCall.Delete numbers; same = refl }
+deleted_listed_asks setting caller number state (Err code) = asks_none number state.items
 
-pub deleted_asks : (setting : Setting) (call : Call) (request : DeleteMonitoredItemsRequest) (state : Services) → Asks request.subscription_id state.items (items_deleted setting call request state).items
+pub deleted_asks : (setting : Setting) (caller : Caller) (request : DeleteMonitoredItemsRequest) (state : Services) → Asks request.subscription_id state.items (items_deleted setting caller request state).items
 unfolding items_deleted
-deleted_asks setting call request state = deleted_listed_asks setting call request.subscription_id state (operations_of setting.config request.monitored_item_ids)
+deleted_asks setting caller request state = deleted_listed_asks setting caller request.subscription_id state (operations_of setting.config request.monitored_item_ids)
 
-module _ (setting : Setting) (call : Call) (number : ℕ) (state : Services) (done : Itemed) (asks : Asks number state.items done.items) where
+module _ (setting : Setting) (caller : Caller) (number : ℕ) (state : Services) (done : Itemed) (asks : Asks number state.items done.items) where
   abbrev fires : ItemsState → Vars → Said (Unit {0})
   fires items before = told state.subs (met (world_of state.subs items setting.clock) number (sub_call.Items before))
 
   -- what its call leaves
   pub items_left : (before : Vars) → vars_found number state.items state.subs.table ≡ Some before → (so_far : List Fired) (replies : List Reply) →
-      (let s = items_called_by setting call number state done (Some before) in
-      moved (ran_at state so_far replies) (Move.Items setting.clock number asks.asked) ≡ ran_at s.state (so_far ++ rows_of s.acts) (replies ++ (fires done.items before).outcome.world.turn.replies))
+      (let s = items_called_by setting caller number state done (Some before) in
+      moved (ran_at state so_far replies) (Move.Items setting.clock number asks.asked) ≡ ran_at s.state (so_far ++ rows_of s.occurrences) (replies ++ (fires done.items before).outcome.world.round.replies))
   items_left before e so_far replies =
       let from = ran_at state so_far replies in
       ap (items_ran setting.clock number asks.asked from) e
       ∙ ap (λ (items : ItemsState). ran_by from (fires items before)) asks.same
-      ∙ said_at (with_items state done.items) (λ (x : Unit {0}). reply_of call done.body ∷ []) (fires done.items before) so_far replies
+      ∙ said_at (with_items state done.items) (λ (x : Unit {0}). reply_of caller done.body ∷ []) (fires done.items before) so_far replies
 
-  found_on : (found : Option Vars) → vars_found number state.items state.subs.table ≡ found → ComesOnBy state (items_called_by setting call number state done found)
+  found_on : (found : Option Vars) → vars_found number state.items state.subs.table ≡ found → ComesOnBy state (items_called_by setting caller number state done found)
   found_on None e so_far replies = still state so_far replies
   found_on (Some before) e so_far replies = record {
     moves = Move.Items setting.clock number asks.asked ∷ [];
-    answers = (fires done.items before).outcome.world.turn.replies;
+    answers = (fires done.items before).outcome.world.round.replies;
     left = items_left before e so_far replies;
-    among = stand_behind (reply_of call done.body ∷ []) (fires done.items before).outcome.world.turn.replies;
+    among = stand_behind (reply_of caller done.body ∷ []) (fires done.items before).outcome.world.round.replies;
   }
 
-  own_on : (own : Bool) → ComesOnBy state (items_called_by setting call number state done (cond own (vars_found number state.items state.subs.table) None))
+  own_on : (own : Bool) → ComesOnBy state (items_called_by setting caller number state done (cond own (vars_found number state.items state.subs.table) None))
   own_on true = found_on (vars_found number state.items state.subs.table) refl
   own_on false = still state
 
-  items_on : (session : ℕ) → ComesOnBy state (items_called_by setting call number state done (own_vars session number state))
+  items_on : (session : ℕ) → ComesOnBy state (items_called_by setting caller number state done (own_vars session number state))
   items_on session = own_on (is_own state.subs.table session number)
 
 -- ---- all services
 
-of_subscriptions_on : (setting : Setting) (call : Call) (token : NodeId) (body : List ℕ) (state : Services) (id : ℕ) → IsOn state (picked_of_subscriptions setting call token body state id)
-of_subscriptions_on setting call token body state id =
-    let last : IsOn state (faulted state call status.BAD_SERVICE_UNSUPPORTED setting.clock) = record { goes = still state } in
-    either state _ _ _ (by_session create_subscription_meaning setting call token state (create_subscription_on setting call) (message_of create_subscription_request_reading body))
-    (either state _ _ _ (by_session modify_subscription_meaning setting call token state (modify_subscription_on setting call) (message_of modify_subscription_request_reading body))
-    (either state _ _ _ (by_session set_publishing_mode_meaning setting call token state (set_publishing_mode_on setting call) (message_of set_publishing_mode_request_reading body))
-    (either state _ _ _ (by_session delete_subscriptions_meaning setting call token state (delete_subscriptions_on setting call) (message_of delete_subscriptions_request_reading body))
-    (either state _ _ _ (by_session publish_meaning setting call token state (publish_on setting call) (message_of publish_request_reading body))
-    (either state _ _ _ (by_session republish_meaning setting call token state (republish_on setting call) (message_of republish_request_reading body))
+of_subscriptions_on : (setting : Setting) (caller : Caller) (token : NodeId) (body : List ℕ) (state : Services) (id : ℕ) → IsOn state (picked_of_subscriptions setting caller token body state id)
+of_subscriptions_on setting caller token body state id =
+    let last : IsOn state (faulted state caller status.BAD_SERVICE_UNSUPPORTED setting.clock) = record { goes = still state } in
+    either state _ _ _ (by_session create_subscription_meaning setting caller token state (create_subscription_on setting caller) (message_of create_subscription_request_reading body))
+    (either state _ _ _ (by_session modify_subscription_meaning setting caller token state (modify_subscription_on setting caller) (message_of modify_subscription_request_reading body))
+    (either state _ _ _ (by_session set_publishing_mode_meaning setting caller token state (set_publishing_mode_on setting caller) (message_of set_publishing_mode_request_reading body))
+    (either state _ _ _ (by_session delete_subscriptions_meaning setting caller token state (delete_subscriptions_on setting caller) (message_of delete_subscriptions_request_reading body))
+    (either state _ _ _ (by_session publish_meaning setting caller token state (publish_on setting caller) (message_of publish_request_reading body))
+    (either state _ _ _ (by_session republish_meaning setting caller token state (republish_on setting caller) (message_of republish_request_reading body))
     last)))))
 
-of_items_on : (setting : Setting) (call : Call) (token : NodeId) (body : List ℕ) (state : Services) (id : ℕ) → IsOn state (picked_of_items setting call token body state id)
-of_items_on setting call token body state id =
-    either state _ _ _ (by_session create_monitored_items_meaning setting call token state (λ session request after. items_on setting call request.subscription_id after (items_created setting call request after) (created_asks setting call request after) session) (message_of create_monitored_items_request_reading body))
-    (either state _ _ _ (by_session modify_monitored_items_meaning setting call token state (λ session request after. items_on setting call request.subscription_id after (items_modified setting call request after) (modified_asks setting call request after) session) (message_of modify_monitored_items_request_reading body))
-    (either state _ _ _ (by_session set_monitoring_mode_meaning setting call token state (λ session request after. items_on setting call request.subscription_id after (items_moded setting call request after) (moded_asks setting call request after) session) (message_of set_monitoring_mode_request_reading body))
-    (either state _ _ _ (by_session delete_monitored_items_meaning setting call token state (λ session request after. items_on setting call request.subscription_id after (items_deleted setting call request after) (deleted_asks setting call request after) session) (message_of delete_monitored_items_request_reading body))
-    (of_subscriptions_on setting call token body state id))))
+of_items_on : (setting : Setting) (caller : Caller) (token : NodeId) (body : List ℕ) (state : Services) (id : ℕ) → IsOn state (picked_of_items setting caller token body state id)
+of_items_on setting caller token body state id =
+    either state _ _ _ (by_session create_monitored_items_meaning setting caller token state (λ session request after. items_on setting caller request.subscription_id after (items_created setting caller request after) (created_asks setting caller request after) session) (message_of create_monitored_items_request_reading body))
+    (either state _ _ _ (by_session modify_monitored_items_meaning setting caller token state (λ session request after. items_on setting caller request.subscription_id after (items_modified setting caller request after) (modified_asks setting caller request after) session) (message_of modify_monitored_items_request_reading body))
+    (either state _ _ _ (by_session set_monitoring_mode_meaning setting caller token state (λ session request after. items_on setting caller request.subscription_id after (items_moded setting caller request after) (moded_asks setting caller request after) session) (message_of set_monitoring_mode_request_reading body))
+    (either state _ _ _ (by_session delete_monitored_items_meaning setting caller token state (λ session request after. items_on setting caller request.subscription_id after (items_deleted setting caller request after) (deleted_asks setting caller request after) session) (message_of delete_monitored_items_request_reading body))
+    (of_subscriptions_on setting caller token body state id))))
 
-picked_on : (setting : Setting) (call : Call) (token : NodeId) (body : List ℕ) (state : Services) (id : ℕ) → IsOn state (picked setting call token body state id)
-picked_on setting call token body state id =
-    either state _ _ _ (by_fields get_endpoints_meaning setting call state (λ request. still state) (message_of get_endpoints_request_reading body))
-    (either state _ _ _ (by_fields create_session_meaning setting call state (create_session_on setting call state) (message_of create_session_request_reading body))
-    (either state _ _ _ (by_fields activate_session_meaning setting call state (activate_session_on setting call state) (message_of activate_session_request_reading body))
-    (either state _ _ _ (by_fields close_session_meaning setting call state (close_session_on setting call state) (message_of close_session_request_reading body))
-    (either state _ _ _ (by_session read_meaning setting call token state (read_on setting call) (message_of read_request_reading body))
-    (either state _ _ _ (by_session write_meaning setting call token state (write_on setting call) (message_of write_request_reading body))
-    (either state _ _ _ (by_session browse_meaning setting call token state (browse_on setting call) (message_of browse_request_reading body))
-    (either state _ _ _ (by_session browse_next_meaning setting call token state (browse_next_on setting call) (message_of browse_next_request_reading body))
-    (either state _ _ _ (by_session history_read_meaning setting call token state (history_read_on setting call) (message_of history_read_request_reading body))
-    (of_items_on setting call token body state id)))))))))
+picked_on : (setting : Setting) (caller : Caller) (token : NodeId) (body : List ℕ) (state : Services) (id : ℕ) → IsOn state (picked setting caller token body state id)
+picked_on setting caller token body state id =
+    either state _ _ _ (by_fields get_endpoints_meaning setting caller state (λ request. still state) (message_of get_endpoints_request_reading body))
+    (either state _ _ _ (by_fields create_session_meaning setting caller state (create_session_on setting caller state) (message_of create_session_request_reading body))
+    (either state _ _ _ (by_fields activate_session_meaning setting caller state (activate_session_on setting caller state) (message_of activate_session_request_reading body))
+    (either state _ _ _ (by_fields close_session_meaning setting caller state (close_session_on setting caller state) (message_of close_session_request_reading body))
+    (either state _ _ _ (by_session read_meaning setting caller token state (read_on setting caller) (message_of read_request_reading body))
+    (either state _ _ _ (by_session write_meaning setting caller token state (write_on setting caller) (message_of write_request_reading body))
+    (either state _ _ _ (by_session browse_meaning setting caller token state (browse_on setting caller) (message_of browse_request_reading body))
+    (either state _ _ _ (by_session browse_next_meaning setting caller token state (browse_next_on setting caller) (message_of browse_next_request_reading body))
+    (either state _ _ _ (by_session history_read_meaning setting caller token state (history_read_on setting caller) (message_of history_read_request_reading body))
+    (of_items_on setting caller token body state id)))))))))
 
 by_header : (setting : Setting) (request : Request) (state : Services) (id : Result ℕ TakeFault) (header : Result RequestHeader TakeFault) → ComesOnBy state (serving_by setting request state id header)
 by_header setting request state (Ok id) (Ok header) = (picked_on setting (call_of request header.request_handle) header.authentication_token request.body state id).goes

@@ -81,11 +81,11 @@ and_then_goes before mid after xs ys p q = record {
   fresh = λ from fresh. q.fresh (came_on before mid xs p.goes from) (p.fresh from fresh);
 }
 
-serving_goes : (setting : Setting) (request : Request) (services : Services) → (let s = serving_of setting request services in Goes services s.state (rows_of s.acts))
-serving_goes setting request services = let s = serving_of setting request services in record { goes = goes_on services s.state (rows_of s.acts) s.replies (serving_on setting request services); fresh = λ from fresh. stays_fresh setting request services from fresh }
+serving_goes : (setting : Setting) (request : Request) (services : Services) → (let s = serving_of setting request services in Goes services s.state (rows_of s.occurrences))
+serving_goes setting request services = let s = serving_of setting request services in record { goes = goes_on services s.state (rows_of s.occurrences) s.replies (serving_on setting request services); fresh = λ from fresh. stays_fresh setting request services from fresh }
 
-ticking_goes : (setting : Setting) (services : Services) → (let s = ticking_of setting services in Goes services s.state (rows_of s.acts))
-ticking_goes setting services = let s = ticking_of setting services in record { goes = goes_on services s.state (rows_of s.acts) s.replies (ticking_on setting services); fresh = λ from fresh. tick_fresh setting services fresh }
+ticking_goes : (setting : Setting) (services : Services) → (let s = ticking_of setting services in Goes services s.state (rows_of s.occurrences))
+ticking_goes setting services = let s = ticking_of setting services in record { goes = goes_on services s.state (rows_of s.occurrences) s.replies (ticking_on setting services); fresh = λ from fresh. tick_fresh setting services fresh }
 
 forgetting : (services : Services) (conn : ℕ) → Goes services (forgotten services conn) []
 forgetting services conn = record { goes = forgotten_on services conn; fresh = λ from fresh. fresh }
@@ -101,11 +101,11 @@ both_go : (before mid after : Services) (xs ys : List Effect) → Goes before mi
 both_go before mid after xs ys p q =
     subst (λ (rows : List Fired). Goes before after rows) (sym (fired_of-append xs ys)) (and_then_goes before mid after (fired_of xs) (fired_of ys) p q)
 
-answered_goes : (core : Core) (outs : List Out) (before : Services) (s : Serving) → Goes before s.state (rows_of s.acts) → (let d = answered core outs s in Goes before d.state.services (fired_of d.outs))
+answered_goes : (core : Core) (outs : List Out) (before : Services) (s : Serving) → Goes before s.state (rows_of s.occurrences) → (let d = answered core outs s in Goes before d.state.services (fired_of d.outs))
 answered_goes core outs before s p =
     let d = delivery_of core.setting core.connections s.replies in
-    both_go before before s.state (doing outs) (effects_of s.acts d) (no_rows before (doing outs) (fired_of_doing outs))
-    (subst (λ (rows : List Fired). Goes before s.state rows) (sym (fired_of_effects s.acts d)) p)
+    both_go before before s.state (doing outs) (effects_of s.occurrences d) (no_rows before (doing outs) (fired_of_doing outs))
+    (subst (λ (rows : List Fired). Goes before s.state rows) (sym (fired_of_effects s.occurrences d)) p)
 
 forgotten_goes : (services : Services) (conn : ℕ) (outs : List Out) → Goes services (forgotten services conn) (fired_of (doing outs))
 forgotten_goes services conn outs =

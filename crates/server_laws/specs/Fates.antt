@@ -4,10 +4,10 @@ use Rattle.ua_types.specs.Configuration.{Configuration}
 use Rattle.ua_space.specs.Nodes.{SpaceState}
 use Rattle.ua_values.specs.declared.data_value.DataValue.{DataValue}
 use Rattle.ua_item_queue.specs.Fates.{AccountEntry, waiting}
-use Rattle.ua_item_queue.specs.ItemQueue.{Deed}
+use Rattle.ua_item_queue.specs.ItemQueue.{QueueMove}
 use Rattle.ua_monitored_items.specs.Moves as item_moves
 use Rattle.ua_monitored_items.specs.Moves.{queue_at}
-use Rattle.subscription_laws.specs.Fates.{deeds_at, account_at}
+use Rattle.subscription_laws.specs.Fates.{queue_moves_at, account_at}
 use Rattle.subscription_laws.specs.ItemCalls.{item_calls}
 use Rattle.subscription_laws.specs.Runs.{Move}
 use Rattle.ua_services.specs.declared.services.Services.{Services}
@@ -40,8 +40,8 @@ first_item_calls config n calls = item_calls config (first_calls n calls)
 
 -- all that the first n events did with the queue of the item of a number, and the account of all values that it ever queued,
 -- oldest first, each with its fate and its mark
-abbrev pub deeds_after : Configuration → List (List Move) → ℕ → ℕ → List (Deed DataValue)
-deeds_after config calls n number = deeds_at config (first_calls n calls) number
+abbrev pub queue_moves_after : Configuration → List (List Move) → ℕ → ℕ → List (QueueMove DataValue)
+queue_moves_after config calls n number = queue_moves_at config (first_calls n calls) number
 
 abbrev pub account_of_first : Configuration → List (List Move) → ℕ → ℕ → List (AccountEntry DataValue)
 account_of_first config calls n number = account_at config (first_calls n calls) number

@@ -41,4 +41,4 @@ ComesOnWith before after rows given = (so_far : List Fired) (replies : List Repl
 
 -- and so they come from a serving, with its rows and replies
 abbrev pub ComesOnBy : Services → Serving → Type 0
-ComesOnBy state s = ComesOnWith state s.state (rows_of s.acts) s.replies
+ComesOnBy state s = ComesOnWith state s.state (rows_of s.occurrences) s.replies

@@ -20,7 +20,7 @@ use Rattle.server_core.specs.declared.parts.Core.{Core}
 
 -- a serving goes on by calls, from where earlier ones led, and each message that these make is brought by a reply of its own
 pub record BringsItsMessages (from : Ran) (s : Serving) : Type 0 where
-  pub went : let state : Services = s.state in WentOn from state.subs state.items (rows_of s.acts) s.replies
+  pub went : let state : Services = s.state in WentOn from state.subs state.items (rows_of s.occurrences) s.replies
   pub brought : AreBrought s.replies (run_made from went.moves)
 
 -- so it is with the next request, whatever it asks, and with the next tick, whenever it comes
@@ -32,6 +32,6 @@ pub record BringsMessages (from : Ran) (world : World) : Type 0 where
 pub record SendsReplies (core : Core) : Type 0 where
   pub frames : (conn : ℕ) (frame : Frame) (request : Request) → let t = taking_of core.setting conn core.connections frame in t.asked ≡ outcome.Request request →
       let s = serving_of core.setting request core.services in
-      (handled conn core frame).outs ≡ doing t.outs ++ effects_of s.acts (delivery_of core.setting t.connections s.replies)
+      (handled conn core frame).outs ≡ doing t.outs ++ effects_of s.occurrences (delivery_of core.setting t.connections s.replies)
   pub ticks : (clock : Moment) → let s = ticking_of (setting_at core clock) core.services in
-      (ticked_core core clock).outs ≡ effects_of s.acts (delivery_of (setting_at core clock) core.connections s.replies)
+      (ticked_core core clock).outs ≡ effects_of s.occurrences (delivery_of (setting_at core clock) core.connections s.replies)

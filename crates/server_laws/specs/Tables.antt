@@ -46,10 +46,10 @@ NoneWaitsBesideARequest t = (number session : ℕ) (s : Subscription) → subscr
 -- the life counter of each subscription was last set to its lifetime count, and lacks of it one for each timer since
 abbrev pub LivesCountTimers : List Fired → TableState → Type 0
 LivesCountTimers rows t = (number : ℕ) (s : Subscription) → subscription_at number t.subscriptions ≡ Some s →
-    (life_at number rows ≡ s.life_count) × (s.life + (counts_at number rows).started ≡ s.life_count)
+    (life_at number rows ≡ s.lifetime_count) × (s.lifetime + (counts_at number rows).started ≡ s.lifetime_count)
 
 -- the timers of each subscription that found a request, since it sent a message, or one of them found none, or its counts
 -- were set, are fewer than its keep-alive count
 abbrev pub NoKeepAliveIsSkipped : List Fired → TableState → Type 0
 NoKeepAliveIsSkipped rows t = (number : ℕ) (s : Subscription) → subscription_at number t.subscriptions ≡ Some s →
-    (counts_at number rows).answerable < s.keep_count
+    (counts_at number rows).answerable < s.keep_alive_count

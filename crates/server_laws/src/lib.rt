@@ -13,14 +13,14 @@ ghost use Rattle.ua_types.specs.Configuration.{Configuration};
 ghost use Rattle.server_messages.specs.declared.request.Request.{Request};
 ghost use Rattle.server_messages.specs.declared.setting.Setting.{Setting};
 ghost use Rattle.ua_space.specs.Nodes.{SpaceState};
-ghost use Rattle.ua_item_queue.specs.Fates.{GoesOn, IsInOrder, TellsLosses};
+ghost use Rattle.ua_item_queue.specs.Fates.{GoesOn, IsInOrder, LossesAreMarked};
 ghost use Rattle.ua_item_queue.specs.Sendings.{values_of, sampled_by, sent_of};
 ghost use Rattle.subscription_laws.specs.Answering.{AreBrought};
-ghost use Rattle.subscription_laws.specs.Fates.{AreCaused, HaveTheirCauses, TellsEachLoss};
+ghost use Rattle.subscription_laws.specs.Fates.{AreCaused, HaveTheirCauses, EachLossIsMarked};
 ghost use Rattle.subscription_laws.specs.Histories.{AreLawful};
 ghost use Rattle.subscription_laws.specs.Messaging.{run_made};
 ghost use Rattle.subscription_laws.specs.Runs.{start, run};
-ghost use Rattle.subscription_laws.specs.Tellings.{all_taken, AreTold, entries_told};
+ghost use Rattle.subscription_laws.specs.MessageContents.{all_taken, AreMadeOf, entries_sent};
 ghost use Rattle.ua_services.specs.Services.{serving_of, ticking_of, forgotten};
 ghost use Rattle.ua_services.specs.declared.services.Services.{Services};
 ghost use Rattle.server_core.specs.Coherent.{reached, IfRuns};
@@ -29,7 +29,7 @@ ghost use Rattle.server_laws.specs.Messages.{MakesMessages};
 ghost use Rattle.server_laws.specs.Moving.{ComesOn, ComesOnBy};
 ghost use Rattle.server_laws.specs.Replying.{BringsMessages, SendsReplies};
 ghost use Rattle.server_laws.specs.SessionsApart.{KeepsSessionsApart, ServesByFrames};
-ghost use Rattle.server_laws.specs.Fates.{CallsOf, reached_at, first_calls, first_item_calls, deeds_after, account_of_first, HoldsWhatWaits};
+ghost use Rattle.server_laws.specs.Fates.{CallsOf, reached_at, first_calls, first_item_calls, queue_moves_after, account_of_first, HoldsWhatWaits};
 ghost use Rattle.server_laws.specs.Tables.{rows_of_run, IfShown, ComesByCalls, StaysSteady, NoneWaitsBesideARequest, LivesCountTimers, NoKeepAliveIsSkipped};
 ghost use Rattle.server_core.specs.declared.parts.Core.{Core};
 
@@ -134,7 +134,7 @@ pub fn events_come_to_calls()
 /// cleared that a smaller queue holds.
 pub fn values_have_one_fate()
     ensures all { (config : Configuration) (space : SpaceState) (events : List Event) (c : CallsOf config space events) (n number : ℕ) →
-        values_of (account_of_first config c.calls n number) ≡ sampled_by (deeds_after config c.calls n number) }
+        values_of (account_of_first config c.calls n number) ≡ sampled_by (queue_moves_after config c.calls n number) }
     ensures waiting { (config : Configuration) (space : SpaceState) (events : List Event) (c : CallsOf config space events) (n number : ℕ) →
         IfRuns (HoldsWhatWaits (account_of_first config c.calls n number) number) (reached_at config space events n).server }
     ensures ordered { (config : Configuration) (space : SpaceState) (events : List Event) (c : CallsOf config space events) (n number : ℕ) →
@@ -144,7 +144,7 @@ pub fn values_have_one_fate()
     ensures caused { (config : Configuration) (space : SpaceState) (events : List Event) (c : CallsOf config space events) (n number : ℕ) →
         AreCaused config (first_item_calls config n c.calls) number }
     ensures within { (config : Configuration) (space : SpaceState) (events : List Event) (c : CallsOf config space events) (n number : ℕ) →
-        HaveTheirCauses (deeds_after config c.calls n number) }
+        HaveTheirCauses (queue_moves_after config c.calls n number) }
 {}
 
 /// Whatever happens, no value of an item is lost in silence. Where the queue holds more than one value, each
@@ -154,9 +154,9 @@ pub fn values_have_one_fate()
 /// only.
 pub fn no_value_is_lost_in_silence()
     ensures told { (config : Configuration) (space : SpaceState) (events : List Event) (c : CallsOf config space events) (n number : ℕ) →
-        TellsLosses (account_of_first config c.calls n number) }
+        LossesAreMarked (account_of_first config c.calls n number) }
     ensures at_once { (config : Configuration) (space : SpaceState) (events : List Event) (c : CallsOf config space events) (n number : ℕ) →
-        TellsEachLoss (deeds_after config c.calls n number) }
+        EachLossIsMarked (queue_moves_after config c.calls n number) }
 {}
 
 /// Whatever happens, each value that was sent stands in one message that a row made, with its mark. The
@@ -165,9 +165,9 @@ pub fn no_value_is_lost_in_silence()
 /// values of its account that were sent, in the order of sampling.
 pub fn sent_values_stand_in_messages()
     ensures told { (config : Configuration) (space : SpaceState) (events : List Event) (c : CallsOf config space events) (n : ℕ) →
-        AreTold (run_made (start config) (first_calls n c.calls)) (all_taken config (first_calls n c.calls)) }
+        AreMadeOf (run_made (start config) (first_calls n c.calls)) (all_taken config (first_calls n c.calls)) }
     ensures sent { (config : Configuration) (space : SpaceState) (events : List Event) (c : CallsOf config space events) (n number : ℕ) →
-        entries_told number (all_taken config (first_calls n c.calls)) ≡ sent_of (account_of_first config c.calls n number) }
+        entries_sent number (all_taken config (first_calls n c.calls)) ≡ sent_of (account_of_first config c.calls n number) }
 {}
 
 /// Whatever happens, each message that a row makes answers a Publish request, one message a request, in the

@@ -47,7 +47,7 @@ fn is_sent(step: &Step, bytes: &[u8]) -> bool {
 // Whether the one subscription stands in Normal, with both of its counters at their counts.
 fn is_normal(server: &Server) -> bool {
     let is_normal = match server.vars(1) {
-        Some(vars) => vars.state == State::Normal && vars.keep == 2 && vars.life == 6,
+        Some(vars) => vars.state == State::Normal && vars.keep_alive == 2 && vars.lifetime == 6,
         None => false,
     };
     is_normal && server.vars(2).is_none()

@@ -1,74 +1,112 @@
--- Sockets that are taken out, and put back as they were.
-use Rattle.std.proofs.Common.{◌≡◌, ℕ, List, true, false, cond, Bool, Option, Some, None, refl, sym, ap, ◌∙◌, subst}
+-- Sockets that are changed in their places.
+use Rattle.std.proofs.Common.{◌≡◌, ℕ, suc, ◌+◌, ◌<◌, List, [], ◌∷◌, ◌++◌, ◌≤◌, length, drop, true, false, Bool, ◌||◌, Option, Some, None, Result, Ok, Err, OnOk, slice_index_or, refl, sym, ap, ◌∙◌, subst, arith}
+use lib.Seq.{drop-cons}
+use Rattle.std.proofs.lemmas.List.{drop_all}
 use Rattle.socket_peers.specs.declared.peer.Heard.{Heard}
-use Rattle.socket_peers.specs.Peer.{PeerState, Reads, Writes}
-use Rattle.socket_peers.specs.Peers.{PeersState, at, with_peer, ReadsBy, ReadsAt, WritesBy, WritesAt, WritesIf, WritesAll}
-use Rattle.socket_peers.proofs.PeerLemmas.{writes_none, writes_trans}
-use Rattle.std.specs.Ordering.{nat_cmp, eq_by_cmp}
-use Rattle.std.specs.Cmp.{nat_cmp_total}
-use Rattle.std.specs.FinMap.{FinMap, get, insert, remove, get-insert, get-remove, same_map, nat_cmp-IsAntisymmetric}
-use Rattle.ua_types.proofs.NumberMaps.{same_number}
+use Rattle.socket_peers.specs.Socket.{Calls}
+use Rattle.socket_peers.specs.Peer.{PeerState, awake_if, departs, departed, is_over, Reads, Flushes}
+use Rattle.socket_peers.specs.Peers.{PeersState, at, with_woken_if, listed_if, woken_if, ready, reported, reported_by, is_true_of, changed_by, touching, touching_by, Departs, ReadsBy, ReadsAt, FlushesBy, FlushesAt, FlushesEach, LooksBy, LooksAt}
+use Rattle.std.specs.Ordering.{nat_cmp}
+use Rattle.std.specs.FinMap.{FinMap, insert}
+use Rattle.ua_types.proofs.NumberMaps.{insert_same}
 
-module _ {V : Type 0} where
-  same_there : (m : FinMap nat_cmp V) (k q : ℕ) (v : V) (b : Bool) → eq_by_cmp nat_cmp q k ≡ b → get m k ≡ Some v → cond b (Some v) (get m q) ≡ get m q
-  same_there m k q v true e h = sym h ∙ ap (get m) (sym (same_number q k e))
-  same_there m k q v false e h = refl
+-- two facts of what went well
+pub both_ok : {X E : Type 0} (A B C : Type 0) (r : Result X E) → OnOk r A → OnOk r B → (A → B → C) → OnOk r C
+both_ok A B C (Ok x) a b f = f a b
+both_ok A B C (Err e) a b f = tt
 
-  once : (b : Bool) (w v : Option V) (x : Option V) → cond b w (cond b v x) ≡ cond b w x
-  once true w v x = refl
-  once false w v x = refl
+module _ {S : Type 0} where
+  -- a socket that was changed in its place, and is on the list of those to be looked at where this says so
+  pub woken_back : (is_woken : Bool) (old : PeersState S) (number : ℕ) (peer after : PeerState S) (connected : FinMap nat_cmp (PeerState S)) (awake : List ℕ)
+      → connected ≡ insert old.connected number after → awake ≡ listed_if is_woken old.awake number peer → after ≡ woken_if is_woken peer
+      → record { connected = connected; last = old.last; awake = awake; touched = old.touched } ≡ with_woken_if is_woken old number peer
+  woken_back is_woken old number peer after connected awake e list woken =
+      let there : connected ≡ insert old.connected number (woken_if is_woken peer) = e ∙ ap (insert old.connected number) woken in
+      ap (λ m. record old { connected = m; awake = awake }) there ∙ ap (λ l. record old { connected = insert old.connected number (woken_if is_woken peer); awake = l }) list
 
-  -- what is taken out and put back is there as before
-  pub put_back : (m : FinMap nat_cmp V) (k : ℕ) (v : V) → get m k ≡ Some v → insert (remove m k) k v ≡ m
-  put_back m k v h = same_map nat_cmp_total nat_cmp-IsAntisymmetric _ _ (λ q.
-      get-insert nat_cmp_total (remove m k) k v q ∙ ap (cond (eq_by_cmp nat_cmp q k) (Some v)) (get-remove nat_cmp_total m k q)
-      ∙ once (eq_by_cmp nat_cmp q k) (Some v) _ (get m q) ∙ same_there m k q v (eq_by_cmp nat_cmp q k) refl h)
+  -- it was reported as ready
+  pub reported_back : (old now : PeersState S) (number : ℕ) (is_writable : Bool) (peer found after : PeerState S) (connected : FinMap nat_cmp (PeerState S)) (awake : List ℕ)
+      → old ≡ now → at old number ≡ Some found → peer ≡ ready is_writable found
+      → connected ≡ insert old.connected number after → awake ≡ listed_if true old.awake number peer → after ≡ woken_if true peer
+      → record { connected = connected; last = old.last; awake = awake; touched = old.touched } ≡ reported now number is_writable
+  reported_back old now number is_writable peer found after connected awake same is e back list woken =
+      subst (λ p. record { connected = connected; last = old.last; awake = awake; touched = old.touched } ≡ reported p number is_writable) same
+      (subst (λ o. record { connected = connected; last = old.last; awake = awake; touched = old.touched } ≡ reported_by old number is_writable o) (sym is)
+      (woken_back true old number peer after connected awake back list woken ∙ ap (with_woken_if true old number) e))
+
+  -- the server is told that its connection is no more
+  pub departed_back : (old now : PeersState S) (number : ℕ) (found after : PeerState S) (connected : FinMap nat_cmp (PeerState S)) → old ≡ now → at old number ≡ Some found → departs found ≡ true
+      → after ≡ departed found → connected ≡ insert old.connected number after → Departs number now (record old { connected = connected }) true
+  departed_back old now number found after connected same is news e back =
+      subst (λ p. Departs number p (record old { connected = connected }) true) same (
+        subst (λ o. is_true_of departs o ≡ true) (sym is) news,
+        subst (λ o. record old { connected = connected } ≡ changed_by old number departed o) (sym is) (ap (λ m. record old { connected = m }) (back ∙ ap (insert old.connected number) e)),
+      )
+
+  -- or there was nothing to tell
+  pub kept_back : (old now : PeersState S) (number : ℕ) (found : PeerState S) (connected : FinMap nat_cmp (PeerState S)) → old ≡ now → at old number ≡ Some found → departs found ≡ false
+      → connected ≡ insert old.connected number found → Departs number now (record old { connected = connected }) false
+  kept_back old now number found connected same is none back =
+      subst (λ p. Departs number p (record old { connected = connected }) false) same (
+        subst (λ o. is_true_of departs o ≡ false) (sym is) none,
+        ap (λ m. record old { connected = m }) (back ∙ insert_same old.connected number found is),
+      )
+
+  -- it is owed more, or closes, and is to be flushed
+  pub touched_back : (old now : PeersState S) (number : ℕ) (found after : PeerState S) (change : PeerState S → PeerState S) (connected : FinMap nat_cmp (PeerState S)) (touched : List ℕ)
+      → old ≡ now → at old number ≡ Some found → after ≡ change found → connected ≡ insert old.connected number after → touched ≡ old.touched ++ number ∷ []
+      → record { connected = connected; last = old.last; awake = old.awake; touched = touched } ≡ touching now number change
+  touched_back old now number found after change connected touched same is e back more =
+      subst (λ p. record old { connected = connected; touched = touched } ≡ touching p number change) same
+      (subst (λ o. record old { connected = connected; touched = touched } ≡ touching_by old number change o) (sym is)
+      (ap (λ m. record old { connected = m; touched = touched }) (back ∙ ap (insert old.connected number) e) ∙ ap (λ l. record old { connected = insert old.connected number (change found); touched = l }) more))
 
 -- ---- what one socket's part is of all
 
-module _ {S : Type 0} (remaining contents : S → Option (List ℕ)) where
-  pub read_at : (number : ℕ) (old new : PeersState S) (room : ℕ) (piece : List ℕ) (heard : Heard) (peer after : PeerState S) → at old number ≡ Some peer
-      → Reads remaining contents peer after room piece heard → new ≡ with_peer old number after → ReadsAt remaining contents number old new room piece heard
-  read_at number old new room piece heard peer after is reads e =
-      subst (λ o. ReadsBy remaining contents o number old new room piece heard) (sym is) (after, reads, e)
+module _ {S : Type 0} (remaining contents : S → Option (List ℕ)) (calls : S → Option Calls) where
+  pub read_at : (old now : PeersState S) (number room : ℕ) (piece : List ℕ) (heard : Heard) (found after : PeerState S) (connected : FinMap nat_cmp (PeerState S)) → old ≡ now → at old number ≡ Some found
+      → Reads remaining contents calls found after room piece heard → connected ≡ insert old.connected number after → ReadsAt remaining contents calls number now (record old { connected = connected }) room piece heard
+  read_at old now number room piece heard found after connected same is reads back =
+      subst (λ p. ReadsAt remaining contents calls number p (record old { connected = connected }) room piece heard) same
+      (subst (λ o. ReadsBy remaining contents calls o number old (record old { connected = connected }) room piece heard) (sym is)
+      (after, reads, ap (λ m. record old { connected = m }) back))
 
-  pub write_at : (number : ℕ) (old new : PeersState S) (peer after : PeerState S) → at old number ≡ Some peer
-      → Writes remaining contents peer after → new ≡ with_peer old number after → WritesAt remaining contents number old new
-  write_at number old new peer after is writes e = subst (λ o. WritesBy remaining contents o number old new) (sym is) (after, writes, e)
+  pub flush_at : (old now : PeersState S) (number : ℕ) (found flushed after : PeerState S) (is_interrupted is_woken : Bool) (connected : FinMap nat_cmp (PeerState S)) (awake : List ℕ) → old ≡ now → at old number ≡ Some found
+      → Flushes remaining contents calls found flushed is_interrupted → is_woken ≡ (is_interrupted || is_over flushed)
+      → connected ≡ insert old.connected number after → awake ≡ listed_if is_woken old.awake number flushed → after ≡ woken_if is_woken flushed
+      → FlushesAt remaining contents calls number now (record { connected = connected; last = old.last; awake = awake; touched = old.touched })
+  flush_at old now number found flushed after is_interrupted is_woken connected awake same is flushes why back list woken =
+      let new = record old { connected = connected; awake = awake } in
+      subst (λ p. FlushesAt remaining contents calls number p new) same
+      (subst (λ o. FlushesBy remaining contents calls o number old new) (sym is)
+      (flushed, is_interrupted, flushes, woken_back is_woken old number flushed after connected awake back list woken ∙ ap (λ w. with_woken_if w old number flushed) why))
 
-  if_none : (o : Option (PeerState S)) → WritesIf remaining contents o o
-  if_none None = tt
-  if_none (Some p) = writes_none remaining contents p
+  pub look_at : (old now : PeersState S) (number : ℕ) (found flushed after : PeerState S) (is_interrupted : Bool) (connected : FinMap nat_cmp (PeerState S)) (awake : List ℕ) → old ≡ now → at old number ≡ Some found
+      → Flushes remaining contents calls (awake_if false found) flushed is_interrupted
+      → connected ≡ insert old.connected number after → awake ≡ listed_if is_interrupted old.awake number flushed → after ≡ woken_if is_interrupted flushed
+      → LooksAt remaining contents calls number now (record { connected = connected; last = old.last; awake = awake; touched = old.touched })
+  look_at old now number found flushed after is_interrupted connected awake same is flushes back list woken =
+      let new = record old { connected = connected; awake = awake } in
+      subst (λ p. LooksAt remaining contents calls number p new) same
+      (subst (λ o. LooksBy remaining contents calls o number old new) (sym is)
+      (flushed, is_interrupted, flushes, woken_back is_interrupted old number flushed after connected awake back list woken))
 
-  if_trans : (a b c : Option (PeerState S)) → WritesIf remaining contents a b → WritesIf remaining contents b c → WritesIf remaining contents a c
-  if_trans None None None p q = tt
-  if_trans None None (Some z) p q = absurd q
-  if_trans None (Some y) c p q = absurd p
-  if_trans (Some x) None c p q = absurd p
-  if_trans (Some x) (Some y) None p q = absurd q
-  if_trans (Some x) (Some y) (Some z) p q = writes_trans remaining contents x y z p q
+  -- one more of several
+  pub next_flushed : (numbers : List ℕ) (place : ℕ) (other : ℕ) (old mid new : PeersState S) → place < length numbers → FlushesAt remaining contents calls (slice_index_or numbers place other) old mid
+      → FlushesEach remaining contents calls (drop (place + 1) numbers) mid new → FlushesEach remaining contents calls (drop place numbers) old new
+  next_flushed numbers place other old mid new lt first rest =
+      let next : place + 1 ≡ suc place = omega arith in
+      subst (λ l. FlushesEach remaining contents calls l old new) (sym (drop-cons numbers place other lt))
+      (mid, first, subst (λ n. FlushesEach remaining contents calls (drop n numbers) mid new) next rest)
 
-  pub none_written : (p : PeersState S) → WritesAll remaining contents p p
-  none_written p = record { each = λ q. if_none (at p q); last = refl }
+  touched_by : (number : ℕ) (old new : PeersState S) (o : Option (PeerState S)) → FlushesBy remaining contents calls o number old new → new.touched ≡ old.touched
+  touched_by number old new None e = ap (λ (p : PeersState S). p.touched) e
+  touched_by number old new (Some peer) (after, is_interrupted, flushes, e) = ap (λ (p : PeersState S). p.touched) e
 
-  -- at a number: the one that was written to, or another
-  at_number : (m : FinMap nat_cmp (PeerState S)) (k q : ℕ) (peer after : PeerState S) (b : Bool) → eq_by_cmp nat_cmp q k ≡ b → get m k ≡ Some peer → Writes remaining contents peer after
-      → WritesIf remaining contents (get m q) (cond b (Some after) (get m q))
-  at_number m k q peer after true e is w = subst (λ o. WritesIf remaining contents o (Some after)) (sym (ap (get m) (same_number q k e) ∙ is)) w
-  at_number m k q peer after false e is w = if_none (get m q)
+  -- a flush touches none
+  pub flush_touches_none : (number : ℕ) (old new : PeersState S) → FlushesAt remaining contents calls number old new → new.touched ≡ old.touched
+  flush_touches_none number old new h = touched_by number old new (at old number) h
 
-  one_of : (k : ℕ) (old new : PeersState S) (o : Option (PeerState S)) → at old k ≡ o → WritesBy remaining contents o k old new → WritesAll remaining contents old new
-  one_of k old new None is h = subst (WritesAll remaining contents old) (sym h) (none_written old)
-  one_of k old new (Some peer) is (after, w, e) =
-      subst (WritesAll remaining contents old) (sym e)
-      (record {
-        each = λ q. subst (WritesIf remaining contents (at old q)) (sym (get-insert nat_cmp_total old.connected k after q))
-            (at_number old.connected k q peer after (eq_by_cmp nat_cmp q k) refl is w);
-        last = refl;
-      })
-
-  pub one_written : (k : ℕ) (old new : PeersState S) → WritesAt remaining contents k old new → WritesAll remaining contents old new
-  one_written k old new w = one_of k old new (at old k) refl w
-
-  pub all_trans : (a b c : PeersState S) → WritesAll remaining contents a b → WritesAll remaining contents b c → WritesAll remaining contents a c
-  all_trans a b c p q = record { each = λ n. if_trans (at a n) (at b n) (at c n) (p.each n) (q.each n); last = q.last ∙ p.last }
+  -- all were flushed
+  pub none_left : (numbers : List ℕ) (place : ℕ) (p : PeersState S) → length numbers ≤ place → FlushesEach remaining contents calls (drop place numbers) p p
+  none_left numbers place p le = subst (λ l. FlushesEach remaining contents calls l p p) (sym (drop_all place numbers le)) refl

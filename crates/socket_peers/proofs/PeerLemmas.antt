@@ -1,12 +1,14 @@
 -- What goes out in one write, and in several.
-use Rattle.std.proofs.Common.{◌≡◌, ℕ, ◌+◌, ◌-◌, ◌<◌, List, [], ◌∷◌, ◌++◌, length, take, drop, Option, Some, None, refl, sym, ap, ◌∙◌, subst, slice_index_or, append-nil, append_assoc, take-append-drop, length-append, Bor, arith}
+use Rattle.std.proofs.Common.{◌≡◌, ℕ, ◌+◌, ◌-◌, ◌<◌, ◌≤◌, ◌==◌, ◌||◌, nat_lt, Bool, true, false, List, [], ◌∷◌, ◌++◌, length, take, drop, Option, Some, None, refl, sym, ap, ◌∙◌, subst, slice_index_or, append-nil, append_assoc, take-append-drop, length-append, Bor, arith}
 use lib.Seq.{drop-cons}
+use Rattle.std.proofs.lemmas.Bool.{true≢false, ltb-true}
 use Rattle.std.proofs.Math.Seq.{take-append_seam, take-add}
 use Rattle.std.proofs.lemmas.List.{drop-drop, length-drop}
 use Rattle.std.specs.Io.KnownBytes.{Appends, Keeps}
 use Rattle.std.proofs.KnownBytes.{Appends-nil, Appends-trans, Keeps-refl}
 use Rattle.bytes.specs.Unread.{IsChunkOf, concat_slices}
-use Rattle.socket_peers.specs.Peer.{PeerState, Writes}
+use Rattle.socket_peers.specs.Socket.{Calls}
+use Rattle.socket_peers.specs.Peer.{PeerState, is_settled, Tallies, Writes}
 
 -- some bytes at the front
 pub front_part : (xs rest all : List ℕ) → all ≡ xs ++ rest → 0 < length xs → IsChunkOf xs all
@@ -45,8 +47,38 @@ Keeps-again (Some x) None c p q = absurd p
 Keeps-again (Some x) (Some y) None p q = absurd q
 Keeps-again (Some x) (Some y) (Some z) p q = q ∙ p
 
-module _ {S : Type 0} (remaining contents : S → Option (List ℕ)) where
-  pub writes_none : (p : PeerState S) → Writes remaining contents p p
+tallies_none : {S : Type 0} (p : PeerState S) (o : Option Calls) → Tallies p p 0 o o
+tallies_none p None = tt
+tallies_none p (Some n) = (refl, refl, omega arith)
+
+tallies_trans : {S : Type 0} (a b c : PeerState S) (n : ℕ) (x y z : Option Calls) → Tallies a b 0 x y → Tallies b c n y z → Tallies a c n x z
+tallies_trans a b c n None y z p q = tt
+tallies_trans a b c n (Some x) None z p q = absurd p
+tallies_trans a b c n (Some x) (Some y) None p q = absurd q
+tallies_trans a b c n (Some x) (Some y) (Some z) (f, w, i) (f', w', i') = (omega arith, omega arith, omega arith)
+
+-- ---- a flush, write by write
+
+-- a write that leaves the stream neither full nor failed takes a byte at least
+pub one_less : (full failed : Bool) (new old done most : ℕ) → (full || failed || nat_lt new old) ≡ true → old + done ≤ most → (full || failed) ≡ false → new + (done + 1) ≤ most
+one_less true failed new old done most moves left none = absurd (true≢false none)
+one_less false true new old done most moves left none = absurd (true≢false none)
+one_less false false new old done most moves left none = let lt = ltb-true new old moves in omega arith
+
+empty_is : (n : ℕ) → n ≡ 0 → (n == 0) ≡ true
+empty_is n e = ap (λ k. k == 0) e
+
+-- after as many writes as there were bytes nothing is left, if it is neither full nor failed
+settled_by : (full failed : Bool) (n most : ℕ) → ((full || failed) ≡ false → n + most ≤ most) → (full || failed || (n == 0)) ≡ true
+settled_by true failed n most h = refl
+settled_by false true n most h = refl
+settled_by false false n most h = let fits = h refl in empty_is n (omega arith)
+
+pub settled_at_end : {S : Type 0} (p : PeerState S) (most : ℕ) → ((p.is_full || p.has_failed) ≡ false → length p.owed + most ≤ most) → is_settled p ≡ true
+settled_at_end p most h = settled_by p.is_full p.has_failed (length p.owed) most h
+
+module _ {S : Type 0} (remaining contents : S → Option (List ℕ)) (calls : S → Option Calls) where
+  pub writes_none : (p : PeerState S) → Writes remaining contents calls p p 0
   writes_none p = record {
     count = 0;
     fits = omega arith;
@@ -56,11 +88,14 @@ module _ {S : Type 0} (remaining contents : S → Option (List ℕ)) where
     closes = refl;
     ended = refl;
     gone = refl;
+    awake = refl;
     failed = λ e. e;
+    full = λ e. e;
+    tallies = tallies_none p (calls p.stream);
   }
 
-  pub writes_trans : (a b c : PeerState S) → Writes remaining contents a b → Writes remaining contents b c → Writes remaining contents a c
-  writes_trans a b c p q =
+  pub writes_trans : (a b c : PeerState S) (n : ℕ) → Writes remaining contents calls a b 0 → Writes remaining contents calls b c n → Writes remaining contents calls a c n
+  writes_trans a b c n p q =
       let rest : length b.owed ≡ length a.owed - p.count = ap length p.owed ∙ length-drop p.count a.owed in
       let fits = p.fits in
       let fits' = q.fits in
@@ -74,5 +109,8 @@ module _ {S : Type 0} (remaining contents : S → Option (List ℕ)) where
         closes = q.closes ∙ p.closes;
         ended = q.ended ∙ p.ended;
         gone = q.gone ∙ p.gone;
+        awake = q.awake ∙ p.awake;
         failed = λ e. q.failed (p.failed e);
+        full = λ e. q.full (p.full e);
+        tallies = tallies_trans a b c n (calls a.stream) (calls b.stream) (calls c.stream) p.tallies q.tallies;
       }

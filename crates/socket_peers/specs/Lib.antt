@@ -1,2 +1,3 @@
+pub mod Socket
 pub mod Peer
 pub mod Peers

@@ -1,12 +1,15 @@
 -- One socket, and the bytes that it is owed.
-use Rattle.std.specs.Prelude.{◌≡◌, ◌⊎◌, ℕ, ◌<◌, ◌≤◌, ◌==◌, ◌&&◌, ◌||◌, Bool, true, false, not, nat_lt, List, [], ◌++◌, length, take, drop, Option, refl}
+use Rattle.std.specs.Prelude.{◌≡◌, ◌⊎◌, ⊤, ℕ, ◌+◌, ◌<◌, ◌≤◌, ◌==◌, ◌&&◌, ◌||◌, Bool, true, false, not, nat_lt, List, [], ◌++◌, length, take, drop, Option, Some, None, refl}
 use Rattle.std.specs.Coded.{Coded, code_by, coded×, coded_ℕ, coded_bool, coded_list}
 use Rattle.std.specs.Io.KnownBytes.{Appends, Consumes, Keeps, IsAtEnd}
 use Rattle.socket_peers.specs.declared.peer.Heard.{Heard}
-use Rattle.socket_peers.specs.declared.peer.Heard.TheVariants.{Piece, End}
+use Rattle.socket_peers.specs.declared.peer.Heard.TheVariants.{Piece, Again, Nothing, End}
+use Rattle.socket_peers.specs.declared.socket.Missed.TheVariants.{Waits, Interrupted, Failed}
+use Rattle.socket_peers.specs.Socket.{Calls, NoneMissed, OneMissed}
 
 -- Its stream, the bytes that were sent to it and that the stream hasn't taken yet, whether nothing more is read from it, whether
--- its input is at its end, whether its stream failed, and whether the server was told that its connection is no more
+-- its input is at its end, whether its stream failed, whether the server was told that its connection is no more, whether the stream
+-- took less than there was and wasn't reported as writable since, and whether it stands on the list of those to be looked at
 pub record PeerState (S : Type 0) : Type 0 where
   pub stream : S
   pub owed : List ℕ
@@ -14,22 +17,46 @@ pub record PeerState (S : Type 0) : Type 0 where
   pub has_ended : Bool
   pub has_failed : Bool
   pub is_gone : Bool
+  pub is_full : Bool
+  pub is_awake : Bool
 
 -- nothing is read from a socket that is owed more than this
 abbrev pub most_owed : ℕ
 most_owed = 1048576
 
+abbrev pub one_if : Bool → ℕ
+one_if true = 1
+one_if false = 0
+
 module _ {S : Type 0} where
   abbrev pub peer_code : Coded S → Coded (PeerState S)
   peer_code stream =
-      code_by (S × (List ℕ × (Bool × (Bool × (Bool × Bool)))))
-      (coded× stream (coded× (coded_list coded_ℕ) (coded× coded_bool (coded× coded_bool (coded× coded_bool coded_bool)))))
-      (λ p. (p.stream, (p.owed, (p.is_closing, (p.has_ended, (p.has_failed, p.is_gone))))))
-      (λ t. record { stream = t.0; owed = t.1.0; is_closing = t.1.1.0; has_ended = t.1.1.1.0; has_failed = t.1.1.1.1.0; is_gone = t.1.1.1.1.1 })
+      code_by (S × (List ℕ × (Bool × (Bool × (Bool × (Bool × (Bool × Bool)))))))
+      (coded× stream (coded× (coded_list coded_ℕ) (coded× coded_bool (coded× coded_bool (coded× coded_bool (coded× coded_bool (coded× coded_bool coded_bool)))))))
+      (λ p. (p.stream, (p.owed, (p.is_closing, (p.has_ended, (p.has_failed, (p.is_gone, (p.is_full, p.is_awake))))))))
+      (λ t. record {
+        stream = t.0;
+        owed = t.1.0;
+        is_closing = t.1.1.0;
+        has_ended = t.1.1.1.0;
+        has_failed = t.1.1.1.1.0;
+        is_gone = t.1.1.1.1.1.0;
+        is_full = t.1.1.1.1.1.1.0;
+        is_awake = t.1.1.1.1.1.1.1;
+      })
       (λ _. refl)
 
   abbrev pub fresh : S → PeerState S
-  fresh stream = record { stream = stream; owed = []; is_closing = false; has_ended = false; has_failed = false; is_gone = false }
+  fresh stream = record {
+    stream = stream;
+    owed = [];
+    is_closing = false;
+    has_ended = false;
+    has_failed = false;
+    is_gone = false;
+    is_full = false;
+    is_awake = false;
+  }
 
   -- behind all that it is owed already
   abbrev pub owing : List ℕ → PeerState S → PeerState S
@@ -37,6 +64,14 @@ module _ {S : Type 0} where
 
   abbrev pub closing : PeerState S → PeerState S
   closing p = record p { is_closing = true }
+
+  -- it takes bytes again
+  abbrev pub writable : PeerState S → PeerState S
+  writable p = record p { is_full = false }
+
+  -- it stands on the list of those to be looked at, or doesn't
+  abbrev pub awake_if : Bool → PeerState S → PeerState S
+  awake_if is_awake p = record p { is_awake = is_awake }
 
   -- its stream failed, or it closes and has all that it was owed
   abbrev pub is_over : PeerState S → Bool
@@ -57,27 +92,50 @@ module _ {S : Type 0} where
   abbrev pub listens : PeerState S → Bool
   listens p = not p.is_closing && (not p.has_failed && not (nat_lt most_owed (length p.owed)))
 
-  -- ---- reading and writing; `remaining` are the bytes that a stream will give, and `contents` those that it took, where they are known
+  -- it is owed nothing, its stream took less than there was, or failed: nothing is to be written now
+  abbrev pub is_settled : PeerState S → Bool
+  is_settled p = p.is_full || p.has_failed || (length p.owed == 0)
 
-  module _ (remaining contents : S → Option (List ℕ)) where
+  -- Where calls are known: as many failed as say so of the peer, as many would have had to wait as made it full, and so many were
+  -- interrupted
+  abbrev pub Tallies : PeerState S → PeerState S → ℕ → Option Calls → Option Calls → Type 0
+  Tallies old new interrupted None after = ⊤
+  Tallies old new interrupted (Some before) None = ⊥
+  Tallies old new interrupted (Some before) (Some after) =
+      (after.failed + one_if old.has_failed ≡ before.failed + one_if new.has_failed)
+      × (after.waited + one_if old.is_full ≡ before.waited + one_if new.is_full)
+      × (after.interrupted ≡ before.interrupted + interrupted)
+
+  -- ---- Reading and writing; `remaining` are the bytes that a stream will give, `contents` those that it took, and `calls` those of its
+  -- calls that moved no byte, where they are known
+
+  module _ (remaining contents : S → Option (List ℕ)) (calls : S → Option Calls) where
     -- no byte moved
     abbrev pub Rests : S → S → Type 0
     Rests old new = Keeps (remaining old) (remaining new) × Keeps (contents old) (contents new)
 
     -- A read with so much room, and the piece that it gave: the next bytes of the stream, from a socket that listens. At the end of
-    -- its stream a socket closes, and one that fails is over
+    -- its stream a socket closes, and one that fails is over. Nothing comes without a call only from one that doesn't listen
     abbrev pub Reads : PeerState S → PeerState S → ℕ → List ℕ → Heard → Type 0
     Reads old new room piece Piece =
         (listens old ≡ true) × (0 < length piece) × (length piece ≤ room) × Consumes (remaining old.stream) (remaining new.stream) piece
-        × Keeps (contents old.stream) (contents new.stream) × (new ≡ record old { stream = new.stream })
+        × Keeps (contents old.stream) (contents new.stream) × NoneMissed (calls old.stream) (calls new.stream)
+        × (new ≡ record old { stream = new.stream })
     Reads old new room piece End =
-        (piece ≡ []) × ((Consumes (remaining old.stream) (remaining new.stream) [] × IsAtEnd (remaining new.stream) × Keeps (contents old.stream) (contents new.stream)
+        (piece ≡ []) × (listens old ≡ true) × ((Consumes (remaining old.stream) (remaining new.stream) [] × IsAtEnd (remaining new.stream)
+        × Keeps (contents old.stream) (contents new.stream) × NoneMissed (calls old.stream) (calls new.stream)
         × (new ≡ record old { stream = new.stream; is_closing = true; has_ended = true }))
-        ⊎ (Rests old.stream new.stream × (new ≡ record old { stream = new.stream; has_failed = true })))
-    Reads old new room piece other = (piece ≡ []) × Rests old.stream new.stream × (new ≡ record old { stream = new.stream })
+        ⊎ (Rests old.stream new.stream × OneMissed Failed (calls old.stream) (calls new.stream) × (new ≡ record old { stream = new.stream; has_failed = true })))
+    Reads old new room piece Again =
+        (piece ≡ []) × (listens old ≡ true) × Rests old.stream new.stream × OneMissed Interrupted (calls old.stream) (calls new.stream)
+        × (new ≡ record old { stream = new.stream })
+    Reads old new room piece Nothing =
+        (piece ≡ []) × (((listens old ≡ false) × (new ≡ old))
+        ⊎ ((listens old ≡ true) × Rests old.stream new.stream × OneMissed Waits (calls old.stream) (calls new.stream) × (new ≡ record old { stream = new.stream })))
 
-    -- The stream took some of the bytes that were owed, from the first on, and the others are owed still. It may have failed at it
-    pub record Writes (old new : PeerState S) : Type 0 where
+    -- The stream took some of the bytes that were owed, from the first on, and the others are owed still. It may have failed at it, or
+    -- be full now, where a call said so, and so many calls were interrupted
+    pub record Writes (old new : PeerState S) (interrupted : ℕ) : Type 0 where
       pub count : ℕ
       pub fits : count ≤ length old.owed
       pub taken : Appends (contents old.stream) (contents new.stream) (take count old.owed)
@@ -86,4 +144,11 @@ module _ {S : Type 0} where
       pub closes : new.is_closing ≡ old.is_closing
       pub ended : new.has_ended ≡ old.has_ended
       pub gone : new.is_gone ≡ old.is_gone
+      pub awake : new.is_awake ≡ old.is_awake
       pub failed : old.has_failed ≡ true → new.has_failed ≡ true
+      pub full : old.is_full ≡ true → new.is_full ≡ true
+      pub tallies : Tallies old new interrupted (calls old.stream) (calls new.stream)
+
+    -- Bytes are written until nothing is to be written now, or a call is interrupted
+    abbrev pub Flushes : PeerState S → PeerState S → Bool → Type 0
+    Flushes old new is_interrupted = Writes old new (one_if is_interrupted) × (is_interrupted ≡ false → is_settled new ≡ true)

@@ -1,30 +1,38 @@
 -- All sockets, under the numbers of their connections.
-use Rattle.std.specs.Prelude.{◌≡◌, ⊤, ℕ, ◌+◌, Bool, true, false, List, [], Option, Some, None, fold, refl}
-use Rattle.std.specs.Coded.{Coded, code_by, coded×, coded_ℕ}
+use Rattle.std.specs.Prelude.{◌≡◌, ℕ, ◌+◌, ◌^◌, ◌||◌, nat_lt, Bool, true, false, List, [], ◌∷◌, ◌++◌, Option, Some, None, if◌then◌else◌, fold, refl}
+use Rattle.std.specs.Coded.{Coded, code_by, coded×, coded_ℕ, coded_list}
 use Rattle.std.specs.FinMap.{FinMap, get, insert, remove, empty, code}
 use Rattle.std.specs.Ordering.{nat_cmp}
 use Rattle.server_messages.specs.declared.out.Out.{Out}
 use Rattle.server_messages.specs.declared.out.Out.TheVariants.{Send, Close}
 use Rattle.socket_peers.specs.declared.peer.Heard.{Heard}
 use Rattle.socket_peers.specs.declared.peer.Heard.TheVariants.{Nothing}
-use Rattle.socket_peers.specs.Peer.{PeerState, peer_code, owing, closing, fresh, departs, departed, is_done, Reads, Writes}
+use Rattle.socket_peers.specs.Socket.{Calls}
+use Rattle.socket_peers.specs.Peer.{PeerState, peer_code, owing, closing, writable, awake_if, fresh, departs, departed, is_done, is_over, Reads, Flushes}
 
--- the sockets that are connected, and the number that was given last, 0 before the first
+-- The sockets that are connected; the number that was given last, 0 before the first; the list of those to be looked at; and those
+-- that were owed something or closed since all were flushed
 pub record PeersState (S : Type 0) : Type 0 where
   pub connected : FinMap nat_cmp (PeerState S)
   pub last : ℕ
+  pub awake : List ℕ
+  pub touched : List ℕ
+
+-- the number behind this one, where 64 bits have one
+abbrev pub number_after : ℕ → Option ℕ
+number_after last = if nat_lt (last + 1) (2 ^ 64) then Some (last + 1) else None
 
 module _ {S : Type 0} where
   abbrev pub peers_code : Coded S → Coded (PeersState S)
   peers_code stream =
-      code_by (FinMap nat_cmp (PeerState S) × ℕ)
-      (coded× (code coded_ℕ (peer_code stream)) coded_ℕ)
-      (λ p. (p.connected, p.last))
-      (λ t. record { connected = t.0; last = t.1 })
+      code_by (FinMap nat_cmp (PeerState S) × (ℕ × (List ℕ × List ℕ)))
+      (coded× (code coded_ℕ (peer_code stream)) (coded× coded_ℕ (coded× (coded_list coded_ℕ) (coded_list coded_ℕ))))
+      (λ p. (p.connected, (p.last, (p.awake, p.touched))))
+      (λ t. record { connected = t.0; last = t.1.0; awake = t.1.1.0; touched = t.1.1.1 })
       (λ _. refl)
 
   abbrev pub nobody : PeersState S
-  nobody = record { connected = empty; last = 0 }
+  nobody = record { connected = empty; last = 0; awake = []; touched = [] }
 
   -- the socket under a number
   abbrev pub at : PeersState S → ℕ → Option (PeerState S)
@@ -50,7 +58,7 @@ module _ {S : Type 0} where
 
   -- a new socket gets the next number
   abbrev pub with_joined : PeersState S → S → PeersState S
-  with_joined p stream = record { connected = insert p.connected (p.last + 1) (fresh stream); last = p.last + 1 }
+  with_joined p stream = record p { connected = insert p.connected (p.last + 1) (fresh stream); last = p.last + 1 }
 
   -- a socket that is done with is let go of, and no other
   abbrev pub LetsGo : ℕ → PeersState S → PeersState S → Bool → Type 0
@@ -73,41 +81,92 @@ module _ {S : Type 0} where
   Departs number old new true = (departs_at old number ≡ true) × (new ≡ with_departed old number)
   Departs number old new false = (departs_at old number ≡ false) × (new ≡ old)
 
+  -- ---- those to be looked at
+
+  -- the list with this socket, which stands there once
+  abbrev pub listed : List ℕ → ℕ → PeerState S → List ℕ
+  listed awake number peer = if peer.is_awake then awake else awake ++ number ∷ []
+
+  abbrev pub listed_if : Bool → List ℕ → ℕ → PeerState S → List ℕ
+  listed_if true awake number peer = listed awake number peer
+  listed_if false awake number peer = awake
+
+  abbrev pub woken_if : Bool → PeerState S → PeerState S
+  woken_if true peer = awake_if true peer
+  woken_if false peer = peer
+
+  -- this socket is put back, and is to be looked at where this says so
+  abbrev pub with_woken_if : Bool → PeersState S → ℕ → PeerState S → PeersState S
+  with_woken_if is_woken p number peer =
+      record p { connected = insert p.connected number (woken_if is_woken peer); awake = listed_if is_woken p.awake number peer }
+
+  -- it was reported as ready, maybe to take bytes
+  abbrev pub ready : Bool → PeerState S → PeerState S
+  ready true peer = writable peer
+  ready false peer = peer
+
+  abbrev pub reported_by : PeersState S → ℕ → Bool → Option (PeerState S) → PeersState S
+  reported_by p number is_writable None = p
+  reported_by p number is_writable (Some peer) = with_woken_if true p number (ready is_writable peer)
+
+  -- a socket that was reported as ready is to be looked at
+  abbrev pub reported : PeersState S → ℕ → Bool → PeersState S
+  reported p number is_writable = reported_by p number is_writable (at p number)
+
   -- ---- what is to be done, each on the connection that it names
 
+  abbrev pub touching_by : PeersState S → ℕ → (PeerState S → PeerState S) → Option (PeerState S) → PeersState S
+  touching_by p number change None = p
+  touching_by p number change (Some peer) = record p { connected = insert p.connected number (change peer); touched = p.touched ++ number ∷ [] }
+
+  -- one socket is changed, if it is there, and is to be flushed
+  abbrev pub touching : PeersState S → ℕ → (PeerState S → PeerState S) → PeersState S
+  touching p number change = touching_by p number change (at p number)
+
   abbrev pub owed_out : PeersState S → Out → PeersState S
-  owed_out p (Send conn bytes) = changed p conn (owing bytes)
-  owed_out p (Close conn) = changed p conn closing
+  owed_out p (Send conn bytes) = touching p conn (owing bytes)
+  owed_out p (Close conn) = touching p conn closing
 
   abbrev pub owed_all : PeersState S → List Out → PeersState S
   owed_all p outs = fold owed_out p outs
 
   -- ---- reading and writing
 
-  module _ (remaining contents : S → Option (List ℕ)) where
+  module _ (remaining contents : S → Option (List ℕ)) (calls : S → Option Calls) where
     -- a read from the socket under this number, and nothing from one that isn't there
     abbrev pub ReadsBy : Option (PeerState S) → ℕ → PeersState S → PeersState S → ℕ → List ℕ → Heard → Type 0
     ReadsBy None number old new room piece heard = (piece ≡ []) × (heard ≡ Nothing) × (new ≡ old)
     ReadsBy (Some peer) number old new room piece heard =
-        (after : PeerState S) × Reads remaining contents peer after room piece heard × (new ≡ with_peer old number after)
+        (after : PeerState S) × Reads remaining contents calls peer after room piece heard × (new ≡ with_peer old number after)
 
     abbrev pub ReadsAt : ℕ → PeersState S → PeersState S → ℕ → List ℕ → Heard → Type 0
     ReadsAt number old new room piece heard = ReadsBy (at old number) number old new room piece heard
 
-    -- writes to the socket under this number
-    abbrev pub WritesBy : Option (PeerState S) → ℕ → PeersState S → PeersState S → Type 0
-    WritesBy None number old new = new ≡ old
-    WritesBy (Some peer) number old new = (after : PeerState S) × Writes remaining contents peer after × (new ≡ with_peer old number after)
+    -- The socket under this number is flushed. It is to be looked at where it is over now, or where a write was interrupted
+    abbrev pub FlushesBy : Option (PeerState S) → ℕ → PeersState S → PeersState S → Type 0
+    FlushesBy None number old new = new ≡ old
+    FlushesBy (Some peer) number old new =
+        (after : PeerState S) × (is_interrupted : Bool) × Flushes remaining contents calls peer after is_interrupted
+        × (new ≡ with_woken_if (is_interrupted || is_over after) old number after)
 
-    abbrev pub WritesAt : ℕ → PeersState S → PeersState S → Type 0
-    WritesAt number old new = WritesBy (at old number) number old new
+    abbrev pub FlushesAt : ℕ → PeersState S → PeersState S → Type 0
+    FlushesAt number old new = FlushesBy (at old number) number old new
 
-    -- writes to any sockets: each is owed what its stream didn't take
-    abbrev pub WritesIf : Option (PeerState S) → Option (PeerState S) → Type 0
-    WritesIf None None = ⊤
-    WritesIf (Some old) (Some new) = Writes remaining contents old new
-    WritesIf old new = ⊥
+    -- A socket is looked at: it stands on the list no more, and is flushed. Where a write was interrupted it is to be looked at again
+    abbrev pub LooksBy : Option (PeerState S) → ℕ → PeersState S → PeersState S → Type 0
+    LooksBy None number old new = new ≡ old
+    LooksBy (Some peer) number old new =
+        (after : PeerState S) × (is_interrupted : Bool) × Flushes remaining contents calls (awake_if false peer) after is_interrupted
+        × (new ≡ with_woken_if is_interrupted old number after)
 
-    pub record WritesAll (old new : PeersState S) : Type 0 where
-      pub each : (number : ℕ) → WritesIf (at old number) (at new number)
-      pub last : new.last ≡ old.last
+    abbrev pub LooksAt : ℕ → PeersState S → PeersState S → Type 0
+    LooksAt number old new = LooksBy (at old number) number old new
+
+    -- these are flushed, one after the other
+    abbrev pub FlushesEach : List ℕ → PeersState S → PeersState S → Type 0
+    FlushesEach [] old new = new ≡ old
+    FlushesEach (number ∷ numbers) old new = (mid : PeersState S) × FlushesAt number old mid × FlushesEach numbers mid new
+
+    -- each socket that was owed something or closed since this was done last is flushed
+    abbrev pub FlushesAll : PeersState S → PeersState S → Type 0
+    FlushesAll old new = (mid : PeersState S) × FlushesEach old.touched old mid × (new ≡ record mid { touched = [] })

@@ -14,4 +14,4 @@ mod socket;
 
 pub use peer::{Heard, Peer};
 pub use peers::Peers;
-pub use socket::Socket;
+pub use socket::{Missed, Socket};

@@ -1,13 +1,12 @@
 //! One socket, and the bytes that it is owed.
 
-ghost use Rattle.std.specs.Prelude.{◌≡◌, ◌<◌, ℕ, [], take, OnOk, OnErr, length};
+ghost use Rattle.std.specs.Prelude.{◌≡◌, ◌<◌, ℕ, ◌||◌, true, false, [], nat_lt, take, OnOk, OnErr, length};
 ghost use Rattle.bytes.specs.Unread.{IsChunkOf, concat_slices};
-ghost use Rattle.socket_peers.specs.Peer.{fresh, owing, closing, is_over as is_over_spec, departs as departs_spec, departed, is_done as is_done_spec, listens as listens_spec, Reads, Writes};
+ghost use Rattle.socket_peers.specs.Peer.{fresh, owing, closing, writable, awake_if, is_over as is_over_spec, departs as departs_spec, departed, is_done as is_done_spec, listens as listens_spec, one_if, Reads, Writes, Flushes};
 
-use crate::socket::Socket;
+use crate::socket::{Missed, Socket, why_missed};
 use bytes::{Buf, Bytes, BytesQueue};
 use std::alloc::{AllocFailed, Global};
-use std::io::ErrorKind;
 use std::marker::Model;
 
 /// Nothing is read from a peer that is owed more than this many bytes, until it takes some.
@@ -66,6 +65,8 @@ impl<S> Model for Peer<S> {
       has_ended = p.has_ended;
       has_failed = p.has_failed;
       is_gone = p.is_gone;
+      is_full = p.is_full;
+      is_awake = p.is_awake;
     } };
 }
 
@@ -191,19 +192,21 @@ impl<S> Peer<S> {
 
     /// The socket was reported as ready to take bytes.
     pub fn set_writable(&mut self)
-        ensures { self.new ≡ self.old }
+        ensures { self.new ≡ writable self.old }
     {
         self.is_full = false;
     }
 
     /// Whether it stands on the list of those to be looked at.
-    pub fn is_awake(&self) -> bool {
+    pub fn is_awake(&self) -> bool
+        ensures { result ≡ self.now.is_awake }
+    {
         self.is_awake
     }
 
     /// Notes whether it stands on the list of those to be looked at.
     pub fn set_awake(&mut self, is_awake: bool)
-        ensures { self.new ≡ self.old }
+        ensures { self.new ≡ awake_if is_awake self.old }
     {
         self.is_awake = is_awake;
     }
@@ -214,7 +217,7 @@ impl<S: Socket> Peer<S> {
     /// connection is no more, and the peer closes; one that failed is over.
     pub fn read(&mut self, piece: &mut Vec<u8>) -> Heard
         requires { 0 < length piece.old.items }
-        ensures { Reads S.remaining S.contents self.old self.new (length piece.old.items) piece.new.items result }
+        ensures { Reads S.remaining S.contents S.calls self.old self.new (length piece.old.items) piece.new.items result }
     {
         if !self.listens() {
             piece.clear();
@@ -233,10 +236,10 @@ impl<S: Socket> Peer<S> {
             }
             Err(error) => {
                 piece.clear();
-                match error.kind() {
-                    ErrorKind::WouldBlock => Heard::Nothing,
-                    ErrorKind::Interrupted => Heard::Again,
-                    _ => {
+                match why_missed(&error) {
+                    Missed::Waits => Heard::Nothing,
+                    Missed::Interrupted => Heard::Again,
+                    Missed::Failed => {
                         self.has_failed = true;
                         Heard::End
                     }
@@ -245,31 +248,41 @@ impl<S: Socket> Peer<S> {
         }
     }
 
-    // One write of some of the bytes that are owed.
-    fn write(&mut self, joint: &mut Vec<u8>)
-        ensures { Writes S.remaining S.contents self.old self.new }
+    // One write of some of the bytes that are owed. Says whether it was interrupted.
+    fn write(&mut self, joint: &mut Vec<u8>) -> bool
+        requires full { self.old.is_full ≡ false }
+        requires failed { self.old.has_failed ≡ false }
+        requires owed { 0 < length self.old.owed }
+        ensures writes { Writes S.remaining S.contents S.calls self.old self.new (one_if result) }
+        ensures moves { result ≡ false → (self.new.is_full || self.new.has_failed || nat_lt (length self.new.owed) (length self.old.owed)) ≡ true }
     {
         match self.stream.send(front(&self.owed, joint)) {
             Ok(0) => self.has_failed = true,
             Ok(count) => self.owed.advance(count),
-            Err(error) => match error.kind() {
-                ErrorKind::WouldBlock => self.is_full = true,
-                ErrorKind::Interrupted => {}
-                _ => self.has_failed = true,
+            Err(error) => match why_missed(&error) {
+                Missed::Waits => self.is_full = true,
+                Missed::Interrupted => return true,
+                Missed::Failed => self.has_failed = true,
             },
         }
+        false
     }
 
-    /// Writes what is owed, as much as the socket takes. `joint` is room for frames that are joined.
+    /// Writes what is owed, until all is out or the socket takes no more or fails. Says whether a write was
+    /// interrupted before that: it is then to be flushed again. `joint` is room for frames that are joined.
     #[tactic(auto, using(crate::proofs::PeerLemmas::writes_none, crate::proofs::PeerLemmas::writes_trans))]
-    pub fn flush(&mut self, joint: &mut Vec<u8>)
-        ensures { Writes S.remaining S.contents self.old self.new }
+    pub fn flush(&mut self, joint: &mut Vec<u8>) -> bool
+        ensures { Flushes S.remaining S.contents S.calls self.old self.new result }
     {
-        for _write in 0..u64::MAX {
+        // Each write takes a byte at least.
+        for _write in 0..self.owed.len() {
             if self.is_full || self.has_failed || self.owed.is_empty() {
-                return;
+                return false;
             }
-            self.write(joint);
+            if self.write(joint) {
+                return true;
+            }
         }
+        false
     }
 }

@@ -1,8 +1,8 @@
 //! All sockets, under their numbers.
 
-ghost use Rattle.std.specs.Prelude.{◌≡◌, ℕ, ◌+◌, ◌<◌, IfSome, IfOk, OnOk, length};
+ghost use Rattle.std.specs.Prelude.{◌≡◌, ℕ, ◌+◌, ◌<◌, ◌==◌, not, true, [], IfOk, OnOk, length, slice_get, Some};
 ghost use Rattle.std.specs.FinMap as map;
-ghost use Rattle.socket_peers.specs.Peers.{nobody, with_joined, owed_out, owed_all, Departs, LetsGo, ReadsAt, WritesAt, WritesAll};
+ghost use Rattle.socket_peers.specs.Peers.{nobody, number_after, with_joined, listed_if, woken_if, reported, owed_out, owed_all, Departs, LetsGo, ReadsAt, FlushesAt, LooksAt, FlushesAll};
 
 use crate::peer::{Heard, Peer};
 use crate::socket::Socket;
@@ -15,8 +15,8 @@ use ua_types::Numbered;
 /// The sockets that are connected, under the numbers of their connections, and which of them are to be
 /// looked at.
 ///
-/// Numbers count up from 1, and none is given twice. Contracts see the sockets and the number that was given
-/// last, and nothing of the lists. At an `Err`, which is want of memory, nothing is known of what is left.
+/// Numbers count up from 1, and none is given twice. Contracts see the sockets, the number that was given
+/// last, and both lists. At an `Err`, which is want of memory, nothing is known of what is left.
 #[derive(Drop)]
 pub struct Peers<S> {
     connected: Numbered<Peer<S>>,
@@ -37,7 +37,7 @@ impl<S> Model for Peers<S> {
 
     ghost coded = { peers_code S.code };
 
-    ghost view = { λ p. record { connected = p.connected; last = p.last } };
+    ghost view = { λ p. record { connected = p.connected; last = p.last; awake = p.awake.items; touched = p.touched.items } };
 }
 
 impl<S> Peers<S> {
@@ -63,41 +63,42 @@ impl<S> Peers<S> {
 
     /// The number that the next socket gets. None after the last of 64 bits.
     pub fn next(&self) -> Option<u64>
-        ensures { IfSome result (λ number. number ≡ self.now.last + 1) }
+        ensures { result ≡ number_after self.now.last }
     {
         self.last.checked_add(1)
     }
 
     /// Whether some socket is to be looked at.
-    pub fn is_any_awake(&self) -> bool {
+    pub fn is_any_awake(&self) -> bool
+        ensures { result ≡ not (length self.now.awake == 0) }
+    {
         !self.awake.is_empty()
     }
 
     /// The sockets to be looked at, with none on the list from then on.
     pub fn take_awake(&mut self, alloc: Global) -> Vec<u64>
-        ensures { self.new ≡ self.old }
+        ensures taken { result.items ≡ self.old.awake }
+        ensures none { self.new ≡ record self.old { awake = [] } }
     {
         mem::replace(&mut self.awake, Vec::new(alloc))
     }
 }
 
-// Puts a socket on the list of those to be looked at, where it doesn't stand there yet.
-fn wake<S>(awake: &mut Vec<u64>, number: u64, peer: &mut Peer<S>) -> Result<(), AllocError>
-    ensures { peer.new ≡ peer.old }
+// Puts a socket on the list of those to be looked at, where it is to be and doesn't stand there yet.
+fn wake_if<S>(
+    is_woken: bool,
+    awake: &mut Vec<u64>,
+    number: u64,
+    peer: &mut Peer<S>,
+) -> Result<(), AllocError>
+    ensures list { OnOk result (awake.new.items ≡ listed_if is_woken awake.old.items number peer.old) }
+    ensures peer { OnOk result (peer.new ≡ woken_if is_woken peer.old) }
 {
-    if !peer.is_awake() {
-        awake.push(number)?;
+    if is_woken {
+        if !peer.is_awake() {
+            awake.push(number)?;
+        }
         peer.set_awake(true);
-    }
-    Ok(())
-}
-
-// Wakes a socket that is over.
-fn wake_if_over<S>(awake: &mut Vec<u64>, number: u64, peer: &mut Peer<S>) -> Result<(), AllocError>
-    ensures { peer.new ≡ peer.old }
-{
-    if peer.is_over() {
-        wake(awake, number, peer)?;
     }
     Ok(())
 }
@@ -114,77 +115,69 @@ impl<S: Drop> Peers<S> {
 
     /// A socket was reported as ready, and is to be looked at. `is_writable` says whether it takes bytes
     /// again.
-    #[tactic(auto, using(crate::proofs::MapLemmas::put_back))]
     pub fn report(&mut self, number: u64, is_writable: bool) -> Result<(), AllocError>
-        ensures { OnOk result (self.new ≡ self.old) }
+        ensures { OnOk result (self.new ≡ reported self.old number is_writable) }
     {
-        let Some(mut peer) = self.connected.remove(number) else {
+        let Some(peer) = self.connected.get_mut(number) else {
             return Ok(());
         };
         if is_writable {
             peer.set_writable();
         }
-        wake(&mut self.awake, number, &mut peer)?;
-        self.connected.insert(number, peer)
+        wake_if(true, &mut self.awake, number, peer)
     }
 
     /// Says whether the connection of a socket is no more and the server is still to be told. It counts as told from then on:
-    /// of each connection this is said once.
-    #[tactic(auto, using(ua_types::proofs::NumberMaps::insert_removed, crate::proofs::MapLemmas::put_back))]
-    pub fn depart(&mut self, number: u64) -> Result<bool, AllocError>
-        ensures { IfOk result (Departs number self.old self.new) }
+    /// of each connection this is said once. Takes no memory.
+    pub fn depart(&mut self, number: u64) -> bool
+        ensures { Departs number self.old self.new result }
     {
-        let Some(mut peer) = self.connected.remove(number) else {
-            return Ok(false);
+        let Some(peer) = self.connected.get_mut(number) else {
+            return false;
         };
-        if peer.departs() {
-            peer.depart();
-            self.connected.insert(number, peer)?;
-            return Ok(true);
+        if !peer.departs() {
+            return false;
         }
-        self.connected.insert(number, peer)?;
-        Ok(false)
+        peer.depart();
+        true
     }
 
     /// Lets go of a socket of which the server was told that its connection is no more, once nothing is left to be written.
-    /// Says whether it did.
-    #[tactic(auto, using(crate::proofs::MapLemmas::put_back))]
-    pub fn release(&mut self, number: u64) -> Result<bool, AllocError>
-        ensures { IfOk result (LetsGo number self.old self.new) }
+    /// Says whether it did. Takes no memory.
+    pub fn release(&mut self, number: u64) -> bool
+        ensures { LetsGo number self.old self.new result }
     {
-        let Some(peer) = self.connected.remove(number) else {
-            return Ok(false);
+        let Some(peer) = self.connected.get(number) else {
+            return false;
         };
-        if peer.is_done() {
-            return Ok(true);
+        if !peer.is_done() {
+            return false;
         }
-        self.connected.insert(number, peer)?;
-        Ok(false)
+        self.connected.remove(number);
+        true
     }
 
     // Does one thing that is to be done.
-    #[tactic(auto, using(ua_types::proofs::NumberMaps::insert_removed))]
     fn owe(&mut self, out: Out) -> Result<(), AllocError>
         ensures { OnOk result (self.new ≡ owed_out self.old out) }
     {
         match out {
             Out::Send { conn, bytes } => {
-                let Some(mut peer) = self.connected.remove(conn) else {
+                let Some(peer) = self.connected.get_mut(conn) else {
                     return Ok(());
                 };
                 self.touched.push(conn)?;
                 peer.owe(bytes)?;
-                self.connected.insert(conn, peer)
             }
             Out::Close { conn } => {
-                let Some(mut peer) = self.connected.remove(conn) else {
+                let Some(peer) = self.connected.get_mut(conn) else {
                     return Ok(());
                 };
                 self.touched.push(conn)?;
                 peer.close();
-                self.connected.insert(conn, peer)
             }
         }
+        Ok(())
     }
 
     /// Owes each socket what is sent on its connection, in order, and closes those whose connections are
@@ -200,69 +193,52 @@ impl<S: Drop> Peers<S> {
 }
 
 impl<S: Socket + Drop> Peers<S> {
-    /// Reads from a socket.
-    #[tactic(auto, using(ua_types::proofs::NumberMaps::insert_removed, crate::proofs::MapLemmas::read_at))]
-    pub fn read(&mut self, number: u64, piece: &mut Vec<u8>) -> Result<Heard, AllocError>
+    /// Reads from a socket. Takes no memory.
+    pub fn read(&mut self, number: u64, piece: &mut Vec<u8>) -> Heard
         requires { 0 < length piece.old.items }
-        ensures { IfOk result (ReadsAt S.remaining S.contents number self.old self.new (length piece.old.items) piece.new.items) }
+        ensures { ReadsAt S.remaining S.contents S.calls number self.old self.new (length piece.old.items) piece.new.items result }
     {
-        let Some(mut peer) = self.connected.remove(number) else {
+        let Some(peer) = self.connected.get_mut(number) else {
             piece.clear();
-            return Ok(Heard::Nothing);
+            return Heard::Nothing;
         };
-        let heard = peer.read(piece);
-        self.connected.insert(number, peer)?;
-        Ok(heard)
+        peer.read(piece)
     }
 
-    // Writes what a socket is owed, as much as it takes. One that is over now is to be looked at.
-    #[tactic(auto, using(ua_types::proofs::NumberMaps::insert_removed, crate::proofs::MapLemmas::write_at))]
+    // Writes what a socket is owed, as much as it takes. One that is over now is to be looked at, and one of
+    // which a write was interrupted.
     fn flush(&mut self, number: u64) -> Result<(), AllocError>
-        ensures { OnOk result (WritesAt S.remaining S.contents number self.old self.new) }
+        ensures { OnOk result (FlushesAt S.remaining S.contents S.calls number self.old self.new) }
     {
-        let Some(mut peer) = self.connected.remove(number) else {
+        let Some(peer) = self.connected.get_mut(number) else {
             return Ok(());
         };
-        peer.flush(&mut self.joint);
-        wake_if_over(&mut self.awake, number, &mut peer)?;
-        self.connected.insert(number, peer)?;
-        Ok(())
+        let is_interrupted = peer.flush(&mut self.joint);
+        let is_woken = is_interrupted | peer.is_over();
+        wake_if(is_woken, &mut self.awake, number, peer)
     }
 
-    /// Writes what a socket is owed that is looked at now, and so no longer stands on the list.
-    #[tactic(auto, using(ua_types::proofs::NumberMaps::insert_removed, crate::proofs::MapLemmas::write_at))]
+    /// Writes what a socket is owed that is looked at now, and so no longer stands on the list. Where a write
+    /// was interrupted it is to be looked at again.
     pub fn look_at(&mut self, number: u64) -> Result<(), AllocError>
-        ensures { OnOk result (WritesAt S.remaining S.contents number self.old self.new) }
+        ensures { OnOk result (LooksAt S.remaining S.contents S.calls number self.old self.new) }
     {
-        let Some(mut peer) = self.connected.remove(number) else {
+        let Some(peer) = self.connected.get_mut(number) else {
             return Ok(());
         };
         peer.set_awake(false);
-        peer.flush(&mut self.joint);
-        self.connected.insert(number, peer)?;
-        Ok(())
-    }
-
-    // Flushes the socket that was noted at a place, if there is one.
-    #[tactic(auto, using(crate::proofs::MapLemmas::none_written, crate::proofs::MapLemmas::one_written))]
-    fn flush_noted(&mut self, place: usize) -> Result<(), AllocError>
-        ensures { OnOk result (WritesAll S.remaining S.contents self.old self.new) }
-    {
-        if place < self.touched.len() {
-            let number = self.touched[place];
-            self.flush(number)?;
-        }
-        Ok(())
+        let is_interrupted = peer.flush(&mut self.joint);
+        wake_if(is_interrupted, &mut self.awake, number, peer)
     }
 
     /// Writes what was owed to sockets since this was done last. Those that are over now are to be looked
-    /// at.
-    #[tactic(auto, using(crate::proofs::MapLemmas::none_written, crate::proofs::MapLemmas::all_trans))]
+    /// at, and those of which a write was interrupted.
     pub fn flush_touched(&mut self) -> Result<(), AllocError>
-        ensures { OnOk result (WritesAll S.remaining S.contents self.old self.new) }
+        ensures { OnOk result (FlushesAll S.remaining S.contents S.calls self.old self.new) }
     {
         for place in 0..self.touched.len() {
-            self.flush_noted(place)?;
+            let number = self.touched[place];
+            self.flush(number)?;
         }
         self.touched.clear();
         Ok(())

@@ -9,11 +9,17 @@ use Rattle.server_messages.specs.declared.out.Out.{Out}
 use Rattle.server_messages.specs.declared.out.Out.TheVariants.{Send, Close}
 use Rattle.server_core.specs.declared.event.Event.{Event}
 use Rattle.server_core.specs.declared.event.Event.TheVariants.{Gone}
+use Rattle.socket_peers.specs.Socket.{Calls}
 use Rattle.socket_peers.specs.Peer.{PeerState, departs, departed, is_over}
-use Rattle.socket_peers.specs.Peers.{PeersState, at, is_true_of, departs_at, with_departed, changed_by, owed_out, owed_all, LetsGo, WritesIf}
+use Rattle.socket_peers.specs.Peers.{PeersState, at, is_true_of, departs_at, with_departed, changed_by, touching_by, owed_out, owed_all, LetsGo, woken_if, FlushesBy, FlushesEach, FlushesAll}
 use Rattle.socket_server.specs.declared.serve_fault.ServeFault.{ServeFault}
-use Rattle.socket_server.specs.Telling.{Telling}
-use Rattle.socket_server.specs.Serving.{Scene, HandsIn, Fails, Releases}
+use Rattle.rand_core.specs.Stream.{Stream}
+use Rattle.socket_server.specs.Output.{EventText}
+use Rattle.socket_server.specs.Serving.{Scene, HandsIn, Fails}
+
+-- any generator: none of this depends on keys
+pub empty_stream : Stream
+empty_stream = record { u32_after = λ cs. 0; u64_after = λ cs. 0; bytes_after = λ cs n. [] }
 
 module _ {S : Type 0} where
   -- there is no such socket, or the server was told of its connection
@@ -30,15 +36,15 @@ module _ {S : Type 0} where
   put_there m k q x y true same is keeps h = keeps ∙ subst IsTold (ap (get m) (same_number q k same) ∙ is) h
   put_there m k q x y false same is keeps h = h
 
-  changed_told : (p : PeersState S) (conn q : ℕ) (f : PeerState S → PeerState S) → ((x : PeerState S) → (f x).is_gone ≡ x.is_gone) → (o : Option (PeerState S)) → at p conn ≡ o → IsTold (at p q)
-      → IsTold (at (changed_by p conn f o) q)
-  changed_told p conn q f keeps None is h = h
-  changed_told p conn q f keeps (Some x) is h =
+  touched_told : (p : PeersState S) (conn q : ℕ) (f : PeerState S → PeerState S) → ((x : PeerState S) → (f x).is_gone ≡ x.is_gone) → (o : Option (PeerState S)) → at p conn ≡ o → IsTold (at p q)
+      → IsTold (at (touching_by p conn f o) q)
+  touched_told p conn q f keeps None is h = h
+  touched_told p conn q f keeps (Some x) is h =
       subst IsTold (sym (get-insert nat_cmp_total p.connected conn (f x) q)) (put_there p.connected conn q x (f x) (eq_by_cmp nat_cmp q conn) refl is (keeps x) h)
 
   out_told : (p : PeersState S) (out : Out) (q : ℕ) → IsTold (at p q) → IsTold (at (owed_out p out) q)
-  out_told p (Send conn bytes) q h = changed_told p conn q _ (λ x. refl) (at p conn) refl h
-  out_told p (Close conn) q h = changed_told p conn q _ (λ x. refl) (at p conn) refl h
+  out_told p (Send conn bytes) q h = touched_told p conn q _ (λ x. refl) (at p conn) refl h
+  out_told p (Close conn) q h = touched_told p conn q _ (λ x. refl) (at p conn) refl h
 
   owed_told : (outs : List Out) (p : PeersState S) (q : ℕ) → IsTold (at p q) → IsTold (at (owed_all p outs) q)
   owed_told [] p q h = h
@@ -51,31 +57,40 @@ module _ {S : Type 0} where
   pub with_departed_told : (p : PeersState S) (q : ℕ) → IsTold (at (with_departed p q) q)
   with_departed_told p q = departed_told p q (at p q) refl
 
-  released_by : (conn : ℕ) (old new : PeersState S) (is_gone : Bool) → departs_at old conn ≡ false → LetsGo conn old new is_gone → departs_at new conn ≡ false
-  released_by conn old new true h (done, e) = subst (λ p. departs_at p conn ≡ false) (sym e) (ap (is_true_of departs) (get_removed old.connected conn))
-  released_by conn old new false h (not_done, e) = subst (λ p. departs_at p conn ≡ false) (sym e) h
-
   -- letting go of it leaves nothing to be told
-  pub released_told : {X : Type 0} (conn : ℕ) (old new : PeersState S) (r : Result X ServeFault) → departs_at old conn ≡ false → OnOk r (Releases conn old new) → OnOk r (departs_at new conn ≡ false)
-  released_told conn old new (Ok x) h (is_gone, lets) = released_by conn old new is_gone h lets
-  released_told conn old new (Err fault) h none = tt
+  pub released_told : (conn : ℕ) (old new : PeersState S) (is_gone : Bool) → departs_at old conn ≡ false → LetsGo conn old new is_gone → departs_at new conn ≡ false
+  released_told conn old new true h (done, e) = subst (λ p. departs_at p conn ≡ false) (sym e) (ap (is_true_of departs) (get_removed old.connected conn))
+  released_told conn old new false h (not_done, e) = subst (λ p. departs_at p conn ≡ false) (sym e) h
 
-module _ {S : Type 0} (remaining contents : S → Option (List ℕ)) (telling : Telling) where
-  written_told : (a b : Option (PeerState S)) → WritesIf remaining contents a b → IsTold a → IsTold b
-  written_told None None w h = tt
-  written_told None (Some y) w h = absurd w
-  written_told (Some x) None w h = absurd w
-  written_told (Some x) (Some y) w h = w.gone ∙ h
+module _ {S : Type 0} (remaining contents : S → Option (List ℕ)) (calls : S → Option Calls) (text : EventText) where
+  woken_keeps : (is_woken : Bool) (x y : PeerState S) → y.is_gone ≡ x.is_gone → (woken_if is_woken y).is_gone ≡ x.is_gone
+  woken_keeps true x y e = e
+  woken_keeps false x y e = e
+
+  flushed_by : (number q : ℕ) (a b : PeersState S) (o : Option (PeerState S)) → at a number ≡ o → FlushesBy remaining contents calls o number a b → IsTold (at a q) → IsTold (at b q)
+  flushed_by number q a b None is e h = subst (λ (p : PeersState S). IsTold (at p q)) (sym e) h
+  flushed_by number q a b (Some peer) is (after, is_interrupted, flushes, e) h =
+      let is_woken = is_interrupted || is_over after in
+      subst (λ (p : PeersState S). IsTold (at p q)) (sym e)
+      (subst IsTold (sym (get-insert nat_cmp_total a.connected number (woken_if is_woken after) q))
+      (put_there a.connected number q peer (woken_if is_woken after) (eq_by_cmp nat_cmp q number) refl is (woken_keeps is_woken peer after flushes.0.gone) h))
+
+  each_told : (numbers : List ℕ) (q : ℕ) (a b : PeersState S) → FlushesEach remaining contents calls numbers a b → IsTold (at a q) → IsTold (at b q)
+  each_told [] q a b e h = subst (λ (p : PeersState S). IsTold (at p q)) (sym e) h
+  each_told (number ∷ numbers) q a b (mid, first, rest) h = each_told numbers q mid b rest (flushed_by number q a mid (at a number) refl first h)
+
+  all_told : (q : ℕ) (a b : PeersState S) → FlushesAll remaining contents calls a b → IsTold (at a q) → IsTold (at b q)
+  all_told q a b (mid, each, e) h = subst (λ (p : PeersState S). IsTold (at p q)) (sym e) (each_told a.touched q a mid each h)
 
   -- the event that tells it is handed in, and so it is told
   pub handed_told : {X : Type 0} (conn : ℕ) (event : Event) (a c : Scene S) (r : Result X ServeFault) → IsTold (at a.peers conn)
-      → MatchResult r (λ _. HandsIn remaining contents telling event a c) (Fails telling event a c) → OnOk r (departs_at c.peers conn ≡ false)
-  handed_told conn event a c (Ok x) h (mid, (step, steps, owed, events, puts), writes) =
-      told_departs (at c.peers conn) (written_told (at mid conn) (at c.peers conn) (writes.each conn)
+      → MatchResult r (λ _. HandsIn remaining contents calls text event a c) (Fails text event a c) → OnOk r (departs_at c.peers conn ≡ false)
+  handed_told conn event a c (Ok x) h (mid, (step, steps, owed, events, puts, keys), writes) =
+      told_departs (at c.peers conn) (all_told conn mid c.peers writes
       (subst (λ (p : PeersState S). IsTold (at p conn)) (sym owed) (owed_told step.outs a.peers conn h)))
   handed_told conn event a c (Err fault) h fails = tt
 
   pub told_by : {X : Type 0} (conn : ℕ) (a : Scene S) (p : PeersState S) (c : Scene S) (r : Result X ServeFault) → p ≡ with_departed a.peers conn
-      → MatchResult r (λ _. HandsIn remaining contents telling (Gone conn) (record a { peers = p }) c) (Fails telling (Gone conn) (record a { peers = p }) c) → OnOk r (departs_at c.peers conn ≡ false)
+      → MatchResult r (λ _. HandsIn remaining contents calls text (Gone conn) (record a { peers = p }) c) (Fails text (Gone conn) (record a { peers = p }) c) → OnOk r (departs_at c.peers conn ≡ false)
   told_by conn a p c r e handed =
       handed_told conn (Gone conn) (record a { peers = p }) c r (subst (λ (x : PeersState S). IsTold (at x conn)) (sym e) (with_departed_told a.peers conn)) handed

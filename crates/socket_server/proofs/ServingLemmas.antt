@@ -1,6 +1,8 @@
 -- Acts, one after the other.
-use Rattle.std.proofs.Common.{◌≡◌, ℕ, ◌+◌, Bool, true, false, List, [], ◌∷◌, ◌++◌, Option, Some, None, Result, Ok, Err, MatchResult, OnOk, IfErr, refl, sym, ap, ◌∙◌, subst, inl, inr, arith}
+use Rattle.std.proofs.Common.{◌≡◌, ℕ, suc, zero, ◌+◌, ◌<◌, Bool, true, false, cond, List, [], ◌∷◌, ◌++◌, Option, Some, None, Result, Ok, Err, MatchResult, OnOk, IfErr, is_err, refl, sym, ap, ◌∙◌, subst, inl, inr, arith}
 use Rattle.std.proofs.lemmas.Bool.{true≢false}
+use Rattle.mio.specs.declared.event.event.Event as ready
+use Rattle.mio.specs.Event.{event_token}
 use Rattle.ua_types.specs.declared.moment.Moment.{Moment}
 use Rattle.server_core.specs.declared.event.Event.{Event}
 use Rattle.server_core.specs.declared.event.Event.TheVariants.{Opened, Bytes, Gone, Tick}
@@ -8,188 +10,303 @@ use Rattle.socket_peers.specs.declared.peer.Heard.{Heard}
 use Rattle.socket_peers.specs.declared.peer.Heard.TheVariants as heard
 use Rattle.socket_peers.specs.Peer.{PeerState}
 use Rattle.mio.specs.declared.net.stream.TcpStream.{TcpStream}
-use Rattle.socket_peers.specs.Peers.{PeersState, at, with_joined, with_departed, departs_at, LetsGo, ReadsBy, ReadsAt, WritesAt, WritesAll}
-use Rattle.socket_peers.proofs.MapLemmas.{none_written, one_written}
+use Rattle.socket_peers.specs.Socket.{Calls}
+use Rattle.socket_peers.specs.Peers.{PeersState, at, with_joined, with_departed, departs_at, LetsGo, reported, ReadsBy, ReadsAt}
 use Rattle.socket_server.specs.Sockets.{Sockets}
-use Rattle.socket_server.specs.Telling.{Told, Telling}
+use Rattle.socket_server.specs.Output.{Output, EventText}
 use Rattle.socket_server.specs.declared.serve_fault.ServeFault.TheVariants as serve_fault
 use Rattle.socket_server.specs.declared.serve_fault.ServeFault.{ServeFault}
-use Rattle.socket_server.specs.Serving.{State, Scene, scene, IsQuiet, Happening, Connects, Hears, Waits, Writes, Leaves, Drops, Passes, is_piece, Does, Runs, ticks, Fails, IsOutside, HandsIn, Goes, Stops, Serves, unknown, unserved, started, Releases, IsServed, IsStopped}
+use Rattle.rand_core.specs.Stream.{Stream}
+use Rattle.socket_server.specs.Serving.{State, Scene, scene, IsNextKey, IsQuiet, Happening, Connects, Reports, Gathers, Looks, Hears, Waits, Writes, Leaves, Drops, Passes, is_piece, may_be_more, Does, Runs, ticks, Fails, IsOutside, HandsIn, Goes, Stops, Serves, GivesNoMore, GoesOn, ReadsOn, Attends, AttendsEach, AttendsAll, TakesTurn, Turns, unknown, uncounted, takes_bytes, is_of_listener, reported_event, reported_events, begun, IsServed, IsStopped}
+
+-- what a call that went well says
+pub when_ok : {X E : Type 0} (r : Result X E) (P : Type 0) → is_err r ≡ false → OnOk r P → P
+when_ok (Ok x) P h p = p
+when_ok (Err e) P h p = absurd (true≢false h)
 
 ticks_append : (xs ys : List Happening) → ticks (xs ++ ys) ≡ ticks xs + ticks ys
 ticks_append [] ys = omega arith
 ticks_append (Passes now ∷ xs) ys = let e = ticks_append xs ys in omega arith
 ticks_append (Connects key ∷ xs) ys = ticks_append xs ys
+ticks_append (Reports conn is_writable ∷ xs) ys = ticks_append xs ys
+ticks_append (Gathers conns ∷ xs) ys = ticks_append xs ys
+ticks_append (Looks conn ∷ xs) ys = ticks_append xs ys
 ticks_append (Hears conn piece ∷ xs) ys = ticks_append xs ys
 ticks_append (Waits conn ∷ xs) ys = ticks_append xs ys
 ticks_append (Writes ∷ xs) ys = ticks_append xs ys
 ticks_append (Leaves conn ∷ xs) ys = ticks_append xs ys
 ticks_append (Drops conn ∷ xs) ys = ticks_append xs ys
 
-module _ {S : Type 0} (remaining contents : S → Option (List ℕ)) (telling : Telling) where
-  runs_trans : (xs ys : List Happening) (a b c : Scene S) → Runs remaining contents telling xs a b → Runs remaining contents telling ys b c → Runs remaining contents telling (xs ++ ys) a c
-  runs_trans [] ys a b c p q = subst (λ s. Runs remaining contents telling ys s c) p q
+module _ {S : Type 0} where
+  scene_path : (a b : Scene S) → a.keys ≡ b.keys → a.server ≡ b.server → a.peers ≡ b.peers → a.events ≡ b.events → a.output ≡ b.output → a ≡ b
+  scene_path a b keys server peers events output =
+      ap (λ (k : Stream). scene k a.server a.peers a.events a.output) keys
+      ∙ ap (λ (s : State). scene b.keys s a.peers a.events a.output) server
+      ∙ ap (λ (p : PeersState S). scene b.keys b.server p a.events a.output) peers
+      ∙ ap (λ (n : ℕ). scene b.keys b.server b.peers n a.output) events
+      ∙ ap (λ (o : Output). scene b.keys b.server b.peers b.events o) output
+
+module _ {S : Type 0} (remaining contents : S → Option (List ℕ)) (calls : S → Option Calls) (text : EventText) where
+  runs_trans : (xs ys : List Happening) (a b c : Scene S) → Runs remaining contents calls text xs a b → Runs remaining contents calls text ys b c → Runs remaining contents calls text (xs ++ ys) a c
+  runs_trans [] ys a b c p q = subst (λ s. Runs remaining contents calls text ys s c) p q
   runs_trans (x ∷ xs) ys a b c (mid, d, p) q = (mid, d, runs_trans xs ys mid b c p q)
 
-  pub goes_none : (a : Scene S) → Goes remaining contents telling 0 a a
+  pub goes_none : (a : Scene S) → Goes remaining contents calls text 0 a a
   goes_none a = ([], refl, refl)
 
-  pub goes_trans : (m n : ℕ) (a b c : Scene S) → Goes remaining contents telling m a b → Goes remaining contents telling n b c → Goes remaining contents telling (m + n) a c
+  pub goes_trans : (m n : ℕ) (a b c : Scene S) → Goes remaining contents calls text m a b → Goes remaining contents calls text n b c → Goes remaining contents calls text (m + n) a c
   goes_trans m n a b c (xs, t, p) (ys, u, q) =
       let e = ticks_append xs ys in
       (xs ++ ys, omega arith, runs_trans xs ys a b c p q)
 
-  pub goes_on : (a b c : Scene S) → Goes remaining contents telling 0 a b → Goes remaining contents telling 0 b c → Goes remaining contents telling 0 a c
+  pub goes_on : (a b c : Scene S) → Goes remaining contents calls text 0 a b → Goes remaining contents calls text 0 b c → Goes remaining contents calls text 0 a c
   goes_on a b c p q = goes_trans 0 0 a b c p q
 
-  pub stops_after : (m : ℕ) (a b new : Scene S) (fault : ServeFault) → Goes remaining contents telling m a b → Stops remaining contents telling b new fault → Stops remaining contents telling a new fault
+  pub stops_after : (m : ℕ) (a b new : Scene S) (fault : ServeFault) → Goes remaining contents calls text m a b → Stops remaining contents calls text b new fault → Stops remaining contents calls text a new fault
   stops_after m a b new fault p (n, mid, q, h) = (m + n, mid, goes_trans m n a b mid p q, h)
 
   -- at an event
-  pub stops_at : (event : Event) (a new : Scene S) (fault : ServeFault) → Fails telling event a new fault → Stops remaining contents telling a new fault
+  pub stops_at : (event : Event) (a new : Scene S) (fault : ServeFault) → Fails text event a new fault → Stops remaining contents calls text a new fault
   stops_at event a new fault h = (0, a, goes_none a, inr (event, h))
 
   -- between events
-  pub stops_here : (a new : Scene S) (fault : ServeFault) → IsOutside fault → new.server ≡ a.server → new.told ≡ a.told → Stops remaining contents telling a new fault
+  pub stops_here : (a new : Scene S) (fault : ServeFault) → IsOutside fault → new.server ≡ a.server → new.output ≡ a.output → Stops remaining contents calls text a new fault
   stops_here a new fault h server told = (0, a, goes_none a, inl (h, server, told))
 
   -- ---- one act, and the writes behind it
 
-  acted : (act : Happening) (a b c : Scene S) → ticks (act ∷ []) ≡ 0 → Does remaining contents telling act a b → Does remaining contents telling Writes b c → Goes remaining contents telling 0 a c
+  acted : (act : Happening) (a b c : Scene S) → ticks (act ∷ []) ≡ 0 → Does remaining contents calls text act a b → Does remaining contents calls text Writes b c → Goes remaining contents calls text 0 a c
   acted act a b c quiet d w = (act ∷ Writes ∷ [], ticks_append (act ∷ []) (Writes ∷ []) ∙ ap (λ n. n + 0) quiet, (b, d, (c, w, refl)))
 
-  pub connects : (key : List ℕ) (stream : S) (a c : Scene S) → HandsIn remaining contents telling (Opened (a.peers.last + 1) key) (record a { peers = with_joined a.peers stream }) c
-      → Goes remaining contents telling 0 a c
-  connects key stream a c (mid, takes, writes) = acted (Connects key) a (scene c.server mid c.events c.told) c refl (stream, takes) (writes, (refl, refl, refl))
+  pub connects : (key : List ℕ) (left : Stream) (stream : S) (a c : Scene S) → IsNextKey a.keys left key
+      → HandsIn remaining contents calls text (Opened (a.peers.last + 1) key) (record a { keys = left; peers = with_joined a.peers stream }) c → Goes remaining contents calls text 0 a c
+  connects key left stream a c drawn (mid, takes, writes) =
+      acted (Connects key) a (scene c.keys c.server mid c.events c.output) c refl (stream, left, drawn, takes) (writes, (refl, refl, refl, refl))
 
-  pub hears : (conn room : ℕ) (piece : List ℕ) (p : PeersState S) (a c : Scene S) → room ≡ 4096 → ReadsAt remaining contents conn a.peers p room piece heard.Piece
-      → HandsIn remaining contents telling (Bytes conn piece) (record a { peers = p }) c → Goes remaining contents telling 0 a c
+  pub hears : (conn room : ℕ) (piece : List ℕ) (p : PeersState S) (a c : Scene S) → room ≡ 4096 → ReadsAt remaining contents calls conn a.peers p room piece heard.Piece
+      → HandsIn remaining contents calls text (Bytes conn piece) (record a { peers = p }) c → Goes remaining contents calls text 0 a c
   hears conn room piece p a c size reads (mid, takes, writes) =
-      acted (Hears conn piece) a (scene c.server mid c.events c.told) c refl (p, subst (λ n. ReadsAt remaining contents conn a.peers p n piece heard.Piece) size reads, takes) (writes, (refl, refl, refl))
+      acted (Hears conn piece) a (scene c.keys c.server mid c.events c.output) c refl (p, subst (λ n. ReadsAt remaining contents calls conn a.peers p n piece heard.Piece) size reads, takes) (writes, (refl, refl, refl, refl))
 
-  none_read : (conn : ℕ) (old new : PeersState S) (o : Option (PeerState S)) (room : ℕ) (piece : List ℕ) (h : Heard) → is_piece h ≡ false → ReadsBy remaining contents o conn old new room piece h → piece ≡ []
+  none_read : (conn : ℕ) (old new : PeersState S) (o : Option (PeerState S)) (room : ℕ) (piece : List ℕ) (h : Heard) → is_piece h ≡ false → ReadsBy remaining contents calls o conn old new room piece h → piece ≡ []
   none_read conn old new None room piece h other reads = reads.0
   none_read conn old new (Some p) room piece heard.Piece other reads = absurd (true≢false other)
   none_read conn old new (Some p) room piece heard.Again other (after, reads, e) = reads.0
   none_read conn old new (Some p) room piece heard.Nothing other (after, reads, e) = reads.0
   none_read conn old new (Some p) room piece heard.End other (after, reads, e) = reads.0
 
-  pub waits : (conn room : ℕ) (h : Heard) (piece : List ℕ) (a c : Scene S) → is_piece h ≡ false → room ≡ 4096 → ReadsAt remaining contents conn a.peers c.peers room piece h → IsQuiet a c
-      → Goes remaining contents telling 0 a c
+  pub waits : (conn room : ℕ) (h : Heard) (piece : List ℕ) (a c : Scene S) → is_piece h ≡ false → room ≡ 4096 → ReadsAt remaining contents calls conn a.peers c.peers room piece h → IsQuiet a c
+      → Goes remaining contents calls text 0 a c
   waits conn room h piece a c other size reads same =
       let none = none_read conn a.peers c.peers (at a.peers conn) room piece h other reads in
-      let sized = subst (λ n. ReadsAt remaining contents conn a.peers c.peers n piece h) size reads in
-      (Waits conn ∷ [], refl, (c, (h, other, subst (λ l. ReadsAt remaining contents conn a.peers c.peers 4096 l h) none sized, same), refl))
+      let sized = subst (λ n. ReadsAt remaining contents calls conn a.peers c.peers n piece h) size reads in
+      (Waits conn ∷ [], refl, (c, (h, other, subst (λ l. ReadsAt remaining contents calls conn a.peers c.peers 4096 l h) none sized, same), refl))
 
-  pub leaves : (conn : ℕ) (a c : Scene S) → departs_at a.peers conn ≡ true → HandsIn remaining contents telling (Gone conn) (record a { peers = with_departed a.peers conn }) c
-      → Goes remaining contents telling 0 a c
-  leaves conn a c over (mid, takes, writes) = acted (Leaves conn) a (scene c.server mid c.events c.told) c refl (over, takes) (writes, (refl, refl, refl))
+  pub leaves : (conn : ℕ) (a c : Scene S) → departs_at a.peers conn ≡ true → HandsIn remaining contents calls text (Gone conn) (record a { peers = with_departed a.peers conn }) c
+      → Goes remaining contents calls text 0 a c
+  leaves conn a c over (mid, takes, writes) = acted (Leaves conn) a (scene c.keys c.server mid c.events c.output) c refl (over, takes) (writes, (refl, refl, refl, refl))
 
-  pub passes : (now : Moment) (a c : Scene S) → HandsIn remaining contents telling (Tick now) a c → Goes remaining contents telling 1 a c
-  passes now a c (mid, takes, writes) = (Passes now ∷ Writes ∷ [], refl, (scene c.server mid c.events c.told, takes, (c, (writes, (refl, refl, refl)), refl)))
+  pub passes : (now : Moment) (a c : Scene S) → HandsIn remaining contents calls text (Tick now) a c → Goes remaining contents calls text 1 a c
+  passes now a c (mid, takes, writes) = (Passes now ∷ Writes ∷ [], refl, (scene c.keys c.server mid c.events c.output, takes, (c, (writes, (refl, refl, refl, refl)), refl)))
 
-  -- writes to one socket
-  pub writes : (conn : ℕ) (a c : Scene S) → WritesAt remaining contents conn a.peers c.peers → IsQuiet a c → Goes remaining contents telling 0 a c
-  writes conn a c w same = (Writes ∷ [], refl, (c, (one_written remaining contents conn a.peers c.peers w, same), refl))
+  -- one act that moves no event
+  quiet : (act : Happening) (a c : Scene S) → ticks (act ∷ []) ≡ 0 → Does remaining contents calls text act a c → Goes remaining contents calls text 0 a c
+  quiet act a c none does = (act ∷ [], none, (c, does, refl))
+
+  pub looks : (conn : ℕ) (a c : Scene S) → Does remaining contents calls text (Looks conn) a c → Goes remaining contents calls text 0 a c
+  looks conn a c does = quiet (Looks conn) a c refl does
+
+  pub reports : (conn : ℕ) (is_writable : Bool) (a c : Scene S) → Does remaining contents calls text (Reports conn is_writable) a c → Goes remaining contents calls text 0 a c
+  reports conn is_writable a c does = quiet (Reports conn is_writable) a c refl does
+
+  pub gathers : (conns : List ℕ) (a c : Scene S) → Does remaining contents calls text (Gathers conns) a c → Goes remaining contents calls text 0 a c
+  gathers conns a c does = quiet (Gathers conns) a c refl does
+
+  -- what is as it was
+  pub goes_same : (a b : Scene S) → b ≡ a → Goes remaining contents calls text 0 a b
+  goes_same a b e = subst (λ x. Goes remaining contents calls text 0 a x) (sym e) (goes_none a)
+
+  same_scene : (a b : Scene S) → b.peers ≡ a.peers → IsQuiet a b → b ≡ a
+  same_scene a b peers (server, events, output, keys) = scene_path b a keys server peers events output
 
   -- a socket that is done with is let go of, or nothing is done
-  pub drops : (conn : ℕ) (a c : Scene S) (is_gone : Bool) → LetsGo conn a.peers c.peers is_gone → IsQuiet a c → Goes remaining contents telling 0 a c
-  drops conn a c true (done, e) same = (Drops conn ∷ [], refl, (c, (done, e, same), refl))
-  drops conn a c false (not_done, e) same =
-      (Writes ∷ [], refl, (c, (subst (λ p. WritesAll remaining contents a.peers p) (sym e) (none_written remaining contents a.peers), same), refl))
+  pub drops : (conn : ℕ) (a c : Scene S) (is_gone : Bool) → LetsGo conn a.peers c.peers is_gone → IsQuiet a c → Goes remaining contents calls text 0 a c
+  drops conn a c true (done, e) same = quiet (Drops conn) a c refl (done, e, same)
+  drops conn a c false (not_done, e) same = goes_same a c (same_scene a c e same)
 
   -- ---- what calls come to
 
-  -- the sockets have no part in it
-  fails_by : (event : Event) (a c : Scene S) (p : PeersState S) (fault : ServeFault) → Fails telling event (record a { peers = p }) c fault → Fails telling event a c fault
-  fails_by event a c p serve_fault.Port h = absurd h
-  fails_by event a c p serve_fault.Address h = absurd h
-  fails_by event a c p serve_fault.Network h = absurd h
-  fails_by event a c p (serve_fault.Step f) h = h
-  fails_by event a c p serve_fault.Trace h = h
-  fails_by event a c p serve_fault.Memory h = h
+  -- the sockets and the keys have no part in it
+  fails_from : (event : Event) (a c : Scene S) (p : PeersState S) (k : Stream) (fault : ServeFault) → Fails text event (record a { keys = k; peers = p }) c fault → Fails text event a c fault
+  fails_from event a c p k serve_fault.Port h = absurd h
+  fails_from event a c p k serve_fault.Address h = absurd h
+  fails_from event a c p k serve_fault.Network h = absurd h
+  fails_from event a c p k (serve_fault.Step f) h = h
+  fails_from event a c p k serve_fault.Trace h = h
+  fails_from event a c p k serve_fault.Memory h = h
 
   abbrev Handed : Event → Scene S → Scene S → {X : Type 0} → Result X ServeFault → Type 0
-  Handed event a c r = MatchResult r (λ _. HandsIn remaining contents telling event a c) (Fails telling event a c)
+  Handed event a c r = MatchResult r (λ _. HandsIn remaining contents calls text event a c) (Fails text event a c)
 
-  pub connect_serves : {X : Type 0} (number : ℕ) (key : List ℕ) (stream : S) (a : Scene S) (p : PeersState S) (c : Scene S) (r : Result X ServeFault) → number ≡ a.peers.last + 1
-      → p ≡ with_joined a.peers stream → Handed (Opened number key) (record a { peers = p }) c r → Serves remaining contents telling 0 a c r
-  connect_serves number key stream a p c (Ok x) n j h =
-      connects key stream a c (subst (λ k. HandsIn remaining contents telling (Opened k key) (record a { peers = with_joined a.peers stream }) c) n
-      (subst (λ q. HandsIn remaining contents telling (Opened number key) (record a { peers = q }) c) j h))
-  connect_serves number key stream a p c (Err fault) n j h = stops_at (Opened number key) a c fault (fails_by (Opened number key) a c p fault h)
+  pub connect_serves : {X : Type 0} (number : ℕ) (key : List ℕ) (left : Stream) (stream : S) (a : Scene S) (p : PeersState S) (c : Scene S) (r : Result X ServeFault) → number ≡ a.peers.last + 1
+      → p ≡ with_joined a.peers stream → IsNextKey a.keys left key → Handed (Opened number key) (record a { keys = left; peers = p }) c r → Serves remaining contents calls text 0 a c r
+  connect_serves number key left stream a p c (Ok x) n j drawn h =
+      connects key left stream a c drawn (subst (λ k. HandsIn remaining contents calls text (Opened k key) (record a { keys = left; peers = with_joined a.peers stream }) c) n
+      (subst (λ q. HandsIn remaining contents calls text (Opened number key) (record a { keys = left; peers = q }) c) j h))
+  connect_serves number key left stream a p c (Err fault) n j drawn h = stops_at (Opened number key) a c fault (fails_from (Opened number key) a c p left fault h)
 
-  pub piece_serves : (conn room : ℕ) (piece : List ℕ) (p : PeersState S) (a c : Scene S) (r : Result Bool ServeFault) → room ≡ 4096 → ReadsAt remaining contents conn a.peers p room piece heard.Piece
-      → MatchResult r (λ more. (more ≡ true) × HandsIn remaining contents telling (Bytes conn piece) (record a { peers = p }) c) (Fails telling (Bytes conn piece) (record a { peers = p }) c)
-      → Serves remaining contents telling 0 a c r
-  piece_serves conn room piece p a c (Ok x) size reads h = hears conn room piece p a c size reads h.1
-  piece_serves conn room piece p a c (Err fault) size reads h = stops_at (Bytes conn piece) a c fault (fails_by (Bytes conn piece) a c p fault h)
+  -- what a read comes to
+  abbrev Heeded : ℕ → Scene S → Scene S → Result Bool ServeFault → Type 0
+  Heeded conn a c r = MatchResult r (λ more. GoesOn remaining contents calls text conn a c more) (Stops remaining contents calls text a c)
+
+  pub piece_heeded : (conn room : ℕ) (piece : List ℕ) (p : PeersState S) (a c : Scene S) (r : Result Bool ServeFault) → room ≡ 4096 → ReadsAt remaining contents calls conn a.peers p room piece heard.Piece
+      → MatchResult r (λ more. (more ≡ true) × HandsIn remaining contents calls text (Bytes conn piece) (record a { peers = p }) c) (Fails text (Bytes conn piece) (record a { peers = p }) c)
+      → Heeded conn a c r
+  piece_heeded conn room piece p a c (Ok x) size reads (more, h) =
+      subst (GoesOn remaining contents calls text conn a c) (sym more) (hears conn room piece p a c size reads h)
+  piece_heeded conn room piece p a c (Err fault) size reads h = stops_at (Bytes conn piece) a c fault (fails_from (Bytes conn piece) a c p a.keys fault h)
+
+  pub gives_no_more : (conn room : ℕ) (h : Heard) (piece : List ℕ) (a c : Scene S) → is_piece h ≡ false → may_be_more h ≡ false → room ≡ 4096
+      → ReadsAt remaining contents calls conn a.peers c.peers room piece h → IsQuiet a c → GivesNoMore remaining contents calls text conn a c
+  gives_no_more conn room h piece a c other none size reads same =
+      let nothing = none_read conn a.peers c.peers (at a.peers conn) room piece h other reads in
+      let sized = subst (λ n. ReadsAt remaining contents calls conn a.peers c.peers n piece h) size reads in
+      (h, none, subst (λ l. ReadsAt remaining contents calls conn a.peers c.peers 4096 l h) nothing sized, same)
 
   pub gone_serves : {X : Type 0} (conn : ℕ) (a : Scene S) (p : PeersState S) (c : Scene S) (r : Result X ServeFault) → (departs_at a.peers conn ≡ true) × (p ≡ with_departed a.peers conn)
-      → Handed (Gone conn) (record a { peers = p }) c r → Serves remaining contents telling 0 a c r
-  gone_serves conn a p c (Ok x) (over, j) h = leaves conn a c over (subst (λ q. HandsIn remaining contents telling (Gone conn) (record a { peers = q }) c) j h)
-  gone_serves conn a p c (Err fault) (over, j) h = stops_at (Gone conn) a c fault (fails_by (Gone conn) a c p fault h)
+      → Handed (Gone conn) (record a { peers = p }) c r → Serves remaining contents calls text 0 a c r
+  gone_serves conn a p c (Ok x) (over, j) h = leaves conn a c over (subst (λ q. HandsIn remaining contents calls text (Gone conn) (record a { peers = q }) c) j h)
+  gone_serves conn a p c (Err fault) (over, j) h = stops_at (Gone conn) a c fault (fails_from (Gone conn) a c p a.keys fault h)
 
-  pub serves_after : {X : Type 0} (m n : ℕ) (a b c : Scene S) (r : Result X ServeFault) → Goes remaining contents telling m a b → Serves remaining contents telling n b c r → Serves remaining contents telling (m + n) a c r
+  pub serves_after : {X : Type 0} (m n : ℕ) (a b c : Scene S) (r : Result X ServeFault) → Goes remaining contents calls text m a b → Serves remaining contents calls text n b c r → Serves remaining contents calls text (m + n) a c r
   serves_after m n a b c (Ok x) p h = goes_trans m n a b c p h
   serves_after m n a b c (Err fault) p h = stops_after m a b c fault p h
 
   -- a socket is let go of where it is done with, after other acts
-  pub released_after : (conn : ℕ) (a b c : Scene S) (r : Result (Unit {0}) ServeFault) → Goes remaining contents telling 0 a b → OnOk r (Releases conn b.peers c.peers)
-      → IfErr r (λ fault. fault ≡ serve_fault.Memory) → IsQuiet b c → Serves remaining contents telling 0 a c r
-  released_after conn a b c (Ok x) p (is_gone, lets) none same = goes_on a b c p (drops conn b c is_gone lets same)
-  released_after conn a b c (Err fault) p none is same =
-      subst (λ (f : ServeFault). Stops remaining contents telling a c f) (sym is) (stops_after 0 a b c serve_fault.Memory p (stops_here b c serve_fault.Memory tt same.0 same.2))
+  pub released_after : (conn : ℕ) (a b c : Scene S) (is_gone : Bool) → Goes remaining contents calls text 0 a b → LetsGo conn b.peers c.peers is_gone → IsQuiet b c
+      → Goes remaining contents calls text 0 a c
+  released_after conn a b c is_gone p lets same = goes_on a b c p (drops conn b c is_gone lets same)
 
-  -- what is as it was
-  pub goes_same : (a b : Scene S) → b ≡ a → Goes remaining contents telling 0 a b
-  goes_same a b e = subst (λ x. Goes remaining contents telling 0 a x) (sym e) (goes_none a)
+  -- an observer that was told of a connection put nothing out
+  pub hands_in_same : (event : Event) (a : Scene S) (keys : Stream) (server : State) (p : PeersState S) (events : ℕ) (output again : Output) → again ≡ output
+      → HandsIn remaining contents calls text event a (scene keys server p events output) → HandsIn remaining contents calls text event a (scene keys server p events again)
+  hands_in_same event a keys server p events output again e h =
+      subst (λ (o : Output). HandsIn remaining contents calls text event a (scene keys server p events o)) (sym e) h
 
-  -- an observer that was told of a connection put nothing out of that
-  pub hands_in_told : (event : Event) (a : Scene S) (server : State) (p : PeersState S) (events : ℕ) (told again : Told) → again ≡ told
-      → HandsIn remaining contents telling event a (scene server p events told) → HandsIn remaining contents telling event a (scene server p events again)
-  hands_in_told event a server p events told again e h = subst (λ (t : Told). HandsIn remaining contents telling event a (scene server p events t)) (sym e) h
+  -- ---- a turn
+
+  pub no_more_goes : (conn : ℕ) (a c : Scene S) → GivesNoMore remaining contents calls text conn a c → Goes remaining contents calls text 0 a c
+  no_more_goes conn a c (heard.Piece, none, reads, same) = absurd (true≢false none)
+  no_more_goes conn a c (heard.Again, none, reads, same) = absurd (true≢false none)
+  no_more_goes conn a c (heard.Nothing, none, reads, same) = quiet (Waits conn) a c refl (heard.Nothing, refl, reads, same)
+  no_more_goes conn a c (heard.End, none, reads, same) = quiet (Waits conn) a c refl (heard.End, refl, reads, same)
+
+  reads_go : (conn : ℕ) (a c : Scene S) → ReadsOn remaining contents calls text conn a c → Goes remaining contents calls text 0 a c
+  reads_go conn a c (mid, goes, inl nothing) = goes_on a mid c goes (no_more_goes conn mid c nothing)
+  reads_go conn a c (mid, goes, inr does) = goes_on a mid c goes (reports conn false mid c does)
+
+  pub attends_go : (conn : ℕ) (a c : Scene S) → Attends remaining contents calls text conn a c → Goes remaining contents calls text 0 a c
+  attends_go conn a c (looked, read, does, reads, goes) = goes_on a looked c (looks conn a looked does) (goes_on looked read c (reads_go conn looked read reads) goes)
+
+  each_go : (conns : List ℕ) (a c : Scene S) → AttendsEach remaining contents calls text conns a c → Goes remaining contents calls text 0 a c
+  each_go [] a c e = goes_same a c e
+  each_go (conn ∷ conns) a c (mid, attends, each) = goes_on a mid c (attends_go conn a mid attends) (each_go conns mid c each)
+
+  all_go : (a c : Scene S) → AttendsAll remaining contents calls text a c → Goes remaining contents calls text 0 a c
+  all_go a c (mid, does, each) = goes_on a mid c (gathers a.peers.awake a mid does) (each_go a.peers.awake mid c each)
+
+  turn_goes : (a c : Scene S) → TakesTurn remaining contents calls text a c → Goes remaining contents calls text 1 a c
+  turn_goes a c (mid, goes, attends) = goes_trans 1 0 a mid c goes (all_go mid c attends)
+
+  pub turns_go : (n : ℕ) (a c : Scene S) → Turns remaining contents calls text n a c → Goes remaining contents calls text n a c
+  turns_go zero a c e = goes_same a c e
+  turns_go (suc n) a c (mid, turns, turn) =
+      let next : n + 1 ≡ suc n = omega arith in
+      subst (λ m. Goes remaining contents calls text m a c) next (goes_trans n 1 a mid c (turns_go n a mid turns) (turn_goes mid c turn))
+
+  pub next_turn : (n : ℕ) (a b c : Scene S) → Turns remaining contents calls text n a b → TakesTurn remaining contents calls text b c → Turns remaining contents calls text (n + 1) a c
+  next_turn n a b c turns turn =
+      let next : suc n ≡ n + 1 = omega arith in
+      subst (λ m. Turns remaining contents calls text m a c) next (b, turns, turn)
+
+  -- a socket that was attended to
+  pub attended : {X : Type 0} (conn : ℕ) (a c : Scene S) (r : Result X ServeFault)
+      → MatchResult r (λ _. Attends remaining contents calls text conn a c) (Stops remaining contents calls text a c) → Serves remaining contents calls text 0 a c r
+  attended conn a c (Ok x) h = attends_go conn a c h
+  attended conn a c (Err fault) h = h
+
+  -- after the look and the reads the server is told
+  pub attends_then : {X : Type 0} (conn : ℕ) (a looked read c : Scene S) (r : Result X ServeFault) → Does remaining contents calls text (Looks conn) a looked
+      → ReadsOn remaining contents calls text conn looked read → Serves remaining contents calls text 0 read c r
+      → MatchResult r (λ _. Attends remaining contents calls text conn a c) (Stops remaining contents calls text a c)
+  attends_then conn a looked read c (Ok x) does reads goes = (looked, read, does, reads, goes)
+  attends_then conn a looked read c (Err fault) does reads stops =
+      stops_after 0 a read c fault (goes_on a looked read (looks conn a looked does) (reads_go conn looked read reads)) stops
+
+  -- a turn ends with attending to all
+  pub turned : {X : Type 0} (a b c : Scene S) (r : Result X ServeFault) → Goes remaining contents calls text 1 a b
+      → MatchResult r (λ _. AttendsAll remaining contents calls text b c) (Stops remaining contents calls text b c)
+      → MatchResult r (λ _. TakesTurn remaining contents calls text a c) (Stops remaining contents calls text a c)
+  turned a b c (Ok x) goes attends = (b, goes, attends)
+  turned a b c (Err fault) goes stops = stops_after 1 a b c fault goes stops
+
+  -- sockets that are reported
+  reported_once : (event : ready.Event) (b : Bool) (a c : Scene S) → c.peers ≡ cond b a.peers (reported a.peers (event_token event).0 (takes_bytes event)) → IsQuiet a c
+      → Goes remaining contents calls text 0 a c
+  reported_once event true a c e same = goes_same a c (same_scene a c e same)
+  reported_once event false a c e same = reports (event_token event).0 (takes_bytes event) a c (e, same)
+
+  pub reported_go : (events : List ready.Event) (a c : Scene S) → c.peers ≡ reported_events a.peers events → IsQuiet a c → Goes remaining contents calls text 0 a c
+  reported_go [] a c e same = goes_same a c (same_scene a c e same)
+  reported_go (event ∷ rest) a c e same =
+      let mid = record a { peers = reported_event a.peers event } in
+      goes_on a mid c (reported_once event (is_of_listener event) a mid refl (refl, refl, refl, refl)) (reported_go rest mid c e same)
 
   -- ---- an observer puts all into the writer that was lent to it
 
-  does_writer : (act : Happening) (a b : Scene S) → Does remaining contents telling act a b → b.told.writer ≡ a.told.writer
-  does_writer (Connects key) a b (stream, (x, steps, owed, events, puts)) = puts.writer
-  does_writer (Hears conn piece) a b (p, reads, (x, steps, owed, events, puts)) = puts.writer
-  does_writer (Waits conn) a b (h, other, reads, (server, events, told)) = ap (λ (t : Told). t.writer) told
-  does_writer Writes a b (wrote, (server, events, told)) = ap (λ (t : Told). t.writer) told
-  does_writer (Leaves conn) a b (over, (x, steps, owed, events, puts)) = puts.writer
-  does_writer (Drops conn) a b (done, e, (server, events, told)) = ap (λ (t : Told). t.writer) told
-  does_writer (Passes now) a b (x, steps, owed, events, puts) = puts.writer
+  does_writer : (act : Happening) (a b : Scene S) → Does remaining contents calls text act a b → b.output.writer ≡ a.output.writer
+  does_writer (Connects key) a b (stream, left, drawn, (x, steps, owed, events, puts, keys)) = puts.writer
+  does_writer (Reports conn is_writable) a b (e, (server, events, output, keys)) = ap (λ (t : Output). t.writer) output
+  does_writer (Gathers conns) a b (taken, e, (server, events, output, keys)) = ap (λ (t : Output). t.writer) output
+  does_writer (Looks conn) a b (looked, (server, events, output, keys)) = ap (λ (t : Output). t.writer) output
+  does_writer (Hears conn piece) a b (p, reads, (x, steps, owed, events, puts, keys)) = puts.writer
+  does_writer (Waits conn) a b (h, other, reads, (server, events, output, keys)) = ap (λ (t : Output). t.writer) output
+  does_writer Writes a b (wrote, (server, events, output, keys)) = ap (λ (t : Output). t.writer) output
+  does_writer (Leaves conn) a b (over, (x, steps, owed, events, puts, keys)) = puts.writer
+  does_writer (Drops conn) a b (done, e, (server, events, output, keys)) = ap (λ (t : Output). t.writer) output
+  does_writer (Passes now) a b (x, steps, owed, events, puts, keys) = puts.writer
 
-  runs_writer : (acts : List Happening) (a b : Scene S) → Runs remaining contents telling acts a b → b.told.writer ≡ a.told.writer
-  runs_writer [] a b e = ap (λ (s : Scene S). s.told.writer) e
+  runs_writer : (acts : List Happening) (a b : Scene S) → Runs remaining contents calls text acts a b → b.output.writer ≡ a.output.writer
+  runs_writer [] a b e = ap (λ (s : Scene S). s.output.writer) e
   runs_writer (act ∷ acts) a b (mid, d, p) = runs_writer acts mid b p ∙ does_writer act a mid d
 
-  fails_writer : (event : Event) (a b : Scene S) (fault : ServeFault) → Fails telling event a b fault → b.told.writer ≡ a.told.writer
+  fails_writer : (event : Event) (a b : Scene S) (fault : ServeFault) → Fails text event a b fault → b.output.writer ≡ a.output.writer
   fails_writer event a b serve_fault.Port h = absurd h
   fails_writer event a b serve_fault.Address h = absurd h
   fails_writer event a b serve_fault.Network h = absurd h
-  fails_writer event a b (serve_fault.Step f) (steps, told) = ap (λ (t : Told). t.writer) told
+  fails_writer event a b (serve_fault.Step f) (steps, output) = ap (λ (t : Output). t.writer) output
   fails_writer event a b serve_fault.Trace (x, steps, part) = part.puts.writer
-  fails_writer event a b serve_fault.Memory (either, told) = ap (λ (t : Told). t.writer) told
+  fails_writer event a b serve_fault.Memory (either, output) = ap (λ (t : Output). t.writer) output
 
-  pub serves_writer : {X : Type 0} (turns : ℕ) (a b : Scene S) (r : Result X ServeFault) → Serves remaining contents telling turns a b r → b.told.writer ≡ a.told.writer
-  serves_writer turns a b (Ok x) (acts, t, p) = runs_writer acts a b p
-  serves_writer turns a b (Err fault) (n, mid, (acts, t, p), inl (h, server, told)) = ap (λ (t : Told). t.writer) told ∙ runs_writer acts a mid p
-  serves_writer turns a b (Err fault) (n, mid, (acts, t, p), inr (event, h)) = fails_writer event mid b fault h ∙ runs_writer acts a mid p
+  stops_writer : (a b : Scene S) (fault : ServeFault) → Stops remaining contents calls text a b fault → b.output.writer ≡ a.output.writer
+  stops_writer a b fault (n, mid, (acts, t, p), inl (h, server, output)) = ap (λ (t : Output). t.writer) output ∙ runs_writer acts a mid p
+  stops_writer a b fault (n, mid, (acts, t, p), inr (event, h)) = fails_writer event mid b fault h ∙ runs_writer acts a mid p
 
--- where nothing was done yet, a fault of the loop's own
-pub stopped_before : (telling : Telling) (server : State) (fault : ServeFault) (told : Told) → IsOutside fault → IsStopped telling server fault told told
-stopped_before telling server fault told h = (started server told, refl, stops_here unknown unknown telling (started server told) (started server told) fault h refl refl)
+  goes_writer : (turns : ℕ) (a b : Scene S) → Goes remaining contents calls text turns a b → b.output.writer ≡ a.output.writer
+  goes_writer turns a b (acts, t, p) = runs_writer acts a b p
 
--- a run, from a server that is known and nobody connected
-pub ran : {X : Type 0} (telling : Telling) (first server server' : State) (old : Sockets TcpStream) (peers' : PeersState TcpStream) (events' : ℕ) (told told' : Told) (turns : ℕ) (r : Result X ServeFault)
-    → server ≡ first → old ≡ unserved
-    → Serves unknown unknown telling turns (scene server old.peers old.events told) (scene server' peers' events' told') r
-    → MatchResult r (λ _. IsServed telling first turns told told') (λ fault. IsStopped telling first fault told told')
-ran telling first server server' old peers' events' told told' turns (Ok x) e f h =
-    let at = subst (λ (s : State). Goes unknown unknown telling turns (scene s old.peers old.events told) (scene server' peers' events' told')) e h in
-    (scene server' peers' events' told', refl, subst (λ (o : Sockets TcpStream). Goes unknown unknown telling turns (scene first o.peers o.events told) (scene server' peers' events' told')) f at)
-ran telling first server server' old peers' events' told told' turns (Err fault) e f h =
-    let at = subst (λ (s : State). Stops unknown unknown telling (scene s old.peers old.events told) (scene server' peers' events' told') fault) e h in
-    (scene server' peers' events' told', refl, subst (λ (o : Sockets TcpStream). Stops unknown unknown telling (scene first o.peers o.events told) (scene server' peers' events' told') fault) f at)
+  pub run_writer : {X : Type 0} (turns : ℕ) (a b : Scene S) (r : Result X ServeFault)
+      → MatchResult r (λ _. Turns remaining contents calls text turns a b) (Stops remaining contents calls text a b) → b.output.writer ≡ a.output.writer
+  run_writer turns a b (Ok x) h = goes_writer turns a b (turns_go turns a b h)
+  run_writer turns a b (Err fault) h = stops_writer a b fault h
+
+-- a run, from a server that is known
+pub ran : {X : Type 0} (text : EventText) (first server server' : State) (old new : Sockets TcpStream) (output output' : Output) (turns : ℕ) (r : Result X ServeFault) → server ≡ first
+    → MatchResult r (λ _. Turns unknown unknown uncounted text turns (begun old server output) (begun new server' output'))
+    (Stops unknown unknown uncounted text (begun old server output) (begun new server' output'))
+    → OnOk r (0 < turns)
+    → MatchResult r (λ _. IsServed text old first turns output output') (λ fault. IsStopped text old first fault output output')
+ran text first server server' old new output output' turns (Ok x) e h bounded =
+    (bounded, begun new server' output', refl, subst (λ (s : State). Turns unknown unknown uncounted text turns (begun old s output) (begun new server' output')) e h)
+ran text first server server' old new output output' turns (Err fault) e h bounded =
+    (begun new server' output', refl, subst (λ (s : State). Stops unknown unknown uncounted text (begun old s output) (begun new server' output') fault) e h)

@@ -1,6 +1,8 @@
--- What the loop hands to the server, what it keeps for each socket, and what it tells.
-use Rattle.std.specs.Prelude.{◌≡◌, ◌⊎◌, ⊤, ℕ, ◌+◌, Bool, true, false, List, [], ◌∷◌, Option, None, Result, Ok, Err, MatchResult}
+-- What the loop hands to the server, what it keeps for each socket, and what it puts out.
+use Rattle.std.specs.Prelude.{◌≡◌, ◌⊎◌, ⊤, ℕ, ◌+◌, ◌<◌, ◌==◌, ◌||◌, zero, suc, Bool, true, false, List, [], ◌∷◌, Option, None, Result, Ok, Err, MatchResult, if◌then◌else◌, fold}
 use Rattle.mio.specs.declared.net.stream.TcpStream.{TcpStream}
+use Rattle.mio.specs.declared.event.event.Event as ready
+use Rattle.mio.specs.Event.{event_token, is_writable, is_write_closed, is_error}
 use Rattle.rand_core.specs.Stream.{Stream, fill_bytes}
 use Rattle.ua_types.specs.declared.moment.Moment.{Moment}
 use Rattle.server_core.specs.declared.world.World.{World}
@@ -10,9 +12,10 @@ use Rattle.server_core.specs.declared.event.Event.TheVariants.{Opened, Bytes, Go
 use Rattle.server_core.specs.declared.out.Step.{Step}
 use Rattle.socket_peers.specs.declared.peer.Heard.{Heard}
 use Rattle.socket_peers.specs.declared.peer.Heard.TheVariants as heard
-use Rattle.socket_peers.specs.Peers.{PeersState, nobody, with_joined, with_departed, without, departs_at, is_done_at, LetsGo, owed_all, ReadsAt, WritesAll}
-use Rattle.socket_server.specs.Sockets.{Sockets}
-use Rattle.socket_server.specs.Telling.{Told, Telling, Puts, PutsPart}
+use Rattle.socket_peers.specs.Socket.{Calls}
+use Rattle.socket_peers.specs.Peers.{PeersState, with_joined, with_departed, without, departs_at, is_done_at, reported, owed_all, ReadsAt, LooksAt, FlushesAll}
+use Rattle.socket_server.specs.Sockets.{Sockets, key_stream}
+use Rattle.socket_server.specs.Output.{Output, EventText, Puts, PutsPart}
 use Rattle.socket_server.specs.declared.serve_fault.ServeFault.{ServeFault}
 use Rattle.socket_server.specs.declared.serve_fault.ServeFault.TheVariants as serve_fault
 
@@ -20,21 +23,39 @@ use Rattle.socket_server.specs.declared.serve_fault.ServeFault.TheVariants as se
 abbrev pub State : Type 0
 State = Option World
 
--- the server, the sockets, how many events the server was handed, and what was told of them
+-- the keys that connections will get, the server, the sockets, how many events the server was handed, and what was put out
 pub record Scene (S : Type 0) : Type 0 where
+  pub keys : Stream
   pub server : State
   pub peers : PeersState S
   pub events : ℕ
-  pub told : Told
+  pub output : Output
 
 abbrev pub is_piece : Heard → Bool
 is_piece heard.Piece = true
 is_piece other = false
 
--- One thing that happens: a socket connects and gets this key; a piece comes from a socket; a read from one gives nothing; sockets
--- take some of what they are owed; a connection is no more; its socket is let go of; time passes
+-- the next read may give some
+abbrev pub may_be_more : Heard → Bool
+may_be_more heard.Piece = true
+may_be_more heard.Again = true
+may_be_more other = false
+
+-- the key is what the generator gives next, 32 bytes
+abbrev pub IsNextKey : Stream → Stream → List ℕ → Type 0
+IsNextKey keys left key = (key, left) ≡ fill_bytes 32 keys
+
+abbrev pub Drawn : {G : Type 0} → (G → Stream) → G → G → List ℕ → Type 0
+Drawn stream old new key = IsNextKey (stream old) (stream new) key
+
+-- One thing that happens: a socket connects and gets this key; a socket is reported as ready, maybe to take bytes; the list of those to
+-- be looked at is taken; a socket on it is looked at, and written what it is owed; a piece comes from a socket; a read from one gives
+-- nothing; sockets take some of what they are owed; a connection is no more; its socket is let go of; time passes
 pub data Happening : Type 0 where
   Connects : List ℕ → Happening
+  Reports : ℕ → Bool → Happening
+  Gathers : List ℕ → Happening
+  Looks : ℕ → Happening
   Hears : ℕ → List ℕ → Happening
   Waits : ℕ → Happening
   Writes : Happening
@@ -43,34 +64,40 @@ pub data Happening : Type 0 where
   Passes : Moment → Happening
 
 module _ {S : Type 0} where
-  abbrev pub scene : State → PeersState S → ℕ → Told → Scene S
-  scene server peers events told = record { server = server; peers = peers; events = events; told = told }
+  abbrev pub scene : Stream → State → PeersState S → ℕ → Output → Scene S
+  scene keys server peers events output = record { keys = keys; server = server; peers = peers; events = events; output = output }
 
-  -- the server was handed nothing, and nothing was told
+  -- the server was handed nothing, no key was drawn, and nothing was put out
   abbrev pub IsQuiet : Scene S → Scene S → Type 0
-  IsQuiet old new = (new.server ≡ old.server) × (new.events ≡ old.events) × (new.told ≡ old.told)
+  IsQuiet old new = (new.server ≡ old.server) × (new.events ≡ old.events) × (new.output ≡ old.output) × (new.keys ≡ old.keys)
 
-  -- The server takes this event, which has the next number; each socket is owed what the server sends on its connection; and the rows
-  -- that fired are told
-  abbrev pub Takes : Telling → Event → Scene S → Scene S → Type 0
-  Takes telling event old new =
+  -- The server takes this event, which has the next number; each socket is owed what the server sends on its connection; and what is
+  -- put out is of the rows that fired
+  abbrev pub Takes : EventText → Event → Scene S → Scene S → Type 0
+  Takes text event old new =
       (x : Step) × StepsTo (Ok x) old.server new.server (step_on old.server event) × (new.peers ≡ owed_all old.peers x.outs)
-      × (new.events ≡ old.events + 1) × Puts old.told new.told (telling (old.events + 1) x.rows)
+      × (new.events ≡ old.events + 1) × Puts old.output new.output (text (old.events + 1) x.rows) × (new.keys ≡ old.keys)
 
-module _ {S : Type 0} (remaining contents : S → Option (List ℕ)) (telling : Telling) where
+module _ {S : Type 0} (remaining contents : S → Option (List ℕ)) (calls : S → Option Calls) (text : EventText) where
   -- What an act does. What comes from a socket is handed in as it came, in pieces of at most 4096 bytes; a socket that connects has
-  -- the next number; a connection is gone once the input of its socket is at its end, whatever the socket is still owed, or the
-  -- socket is over; and the socket is let go of after that, once it is over. What is told is of events alone
+  -- the next number, and the next key of the generator; a connection is gone once the input of its socket is at its end, whatever the
+  -- socket is still owed, or the socket is over; and the socket is let go of after that, once it is over. What is put out is of events
+  -- alone
   abbrev pub Does : Happening → Scene S → Scene S → Type 0
-  Does (Connects key) old new = (stream : S) × Takes telling (Opened (old.peers.last + 1) key) (record old { peers = with_joined old.peers stream }) new
+  Does (Connects key) old new =
+      (stream : S) × (left : Stream) × IsNextKey old.keys left key
+      × Takes text (Opened (old.peers.last + 1) key) (record old { keys = left; peers = with_joined old.peers stream }) new
+  Does (Reports conn is_writable) old new = (new.peers ≡ reported old.peers conn is_writable) × IsQuiet old new
+  Does (Gathers conns) old new = (conns ≡ old.peers.awake) × (new.peers ≡ record old.peers { awake = [] }) × IsQuiet old new
+  Does (Looks conn) old new = LooksAt remaining contents calls conn old.peers new.peers × IsQuiet old new
   Does (Hears conn piece) old new =
-      (peers : PeersState S) × ReadsAt remaining contents conn old.peers peers 4096 piece heard.Piece × Takes telling (Bytes conn piece) (record old { peers = peers }) new
+      (peers : PeersState S) × ReadsAt remaining contents calls conn old.peers peers 4096 piece heard.Piece × Takes text (Bytes conn piece) (record old { peers = peers }) new
   Does (Waits conn) old new =
-      (h : Heard) × (is_piece h ≡ false) × ReadsAt remaining contents conn old.peers new.peers 4096 [] h × IsQuiet old new
-  Does Writes old new = WritesAll remaining contents old.peers new.peers × IsQuiet old new
-  Does (Leaves conn) old new = (departs_at old.peers conn ≡ true) × Takes telling (Gone conn) (record old { peers = with_departed old.peers conn }) new
+      (h : Heard) × (is_piece h ≡ false) × ReadsAt remaining contents calls conn old.peers new.peers 4096 [] h × IsQuiet old new
+  Does Writes old new = FlushesAll remaining contents calls old.peers new.peers × IsQuiet old new
+  Does (Leaves conn) old new = (departs_at old.peers conn ≡ true) × Takes text (Gone conn) (record old { peers = with_departed old.peers conn }) new
   Does (Drops conn) old new = (is_done_at old.peers conn ≡ true) × (new.peers ≡ without old.peers conn) × IsQuiet old new
-  Does (Passes now) old new = Takes telling (Tick now) old new
+  Does (Passes now) old new = Takes text (Tick now) old new
 
   -- one act after the other
   abbrev pub Runs : List Happening → Scene S → Scene S → Type 0
@@ -89,62 +116,110 @@ IsOutside (serve_fault.Step fault) = ⊥
 IsOutside serve_fault.Trace = ⊥
 IsOutside fault = ⊤
 
-module _ {S : Type 0} (telling : Telling) where
-  -- Why an event was not handed in whole: the server didn't answer it; or of its rows a part is told, from the beginning on, and a
-  -- write failed; or there was no memory, its answer may be lost, and nothing is told of it
+module _ {S : Type 0} (text : EventText) where
+  -- Why an event was not handed in whole: the server didn't answer it; or of the text of its rows a part was put out, from the beginning
+  -- on, and a write failed; or there was no memory, its answer may be lost, and nothing is put out of it
   abbrev pub Fails : Event → Scene S → Scene S → ServeFault → Type 0
-  Fails event old new (serve_fault.Step fault) = StepsTo (Err fault) old.server new.server (step_on old.server event) × (new.told ≡ old.told)
+  Fails event old new (serve_fault.Step fault) = StepsTo (Err fault) old.server new.server (step_on old.server event) × (new.output ≡ old.output)
   Fails event old new serve_fault.Trace =
-      (x : Step) × StepsTo (Ok x) old.server new.server (step_on old.server event) × PutsPart old.told new.told (telling (old.events + 1) x.rows)
+      (x : Step) × StepsTo (Ok x) old.server new.server (step_on old.server event) × PutsPart old.output new.output (text (old.events + 1) x.rows)
   Fails event old new serve_fault.Memory =
-      ((new.server ≡ old.server) ⊎ ((x : Step) × StepsTo (Ok x) old.server new.server (step_on old.server event))) × (new.told ≡ old.told)
+      ((new.server ≡ old.server) ⊎ ((x : Step) × StepsTo (Ok x) old.server new.server (step_on old.server event))) × (new.output ≡ old.output)
   Fails event old new fault = ⊥
 
-module _ {S : Type 0} (remaining contents : S → Option (List ℕ)) (telling : Telling) where
+module _ {S : Type 0} (remaining contents : S → Option (List ℕ)) (calls : S → Option Calls) (text : EventText) where
   -- the server takes this event, and the sockets take some of what they are owed then
   abbrev pub HandsIn : Event → Scene S → Scene S → Type 0
-  HandsIn event old new = (mid : PeersState S) × Takes telling event old (scene new.server mid new.events new.told) × WritesAll remaining contents mid new.peers
+  HandsIn event old new =
+      (mid : PeersState S) × Takes text event old (scene new.keys new.server mid new.events new.output) × FlushesAll remaining contents calls mid new.peers
 
   -- some acts, and time passed so often
   abbrev pub Goes : ℕ → Scene S → Scene S → Type 0
-  Goes turns old new = (acts : List Happening) × (ticks acts ≡ turns) × Runs remaining contents telling acts old new
+  Goes turns old new = (acts : List Happening) × (ticks acts ≡ turns) × Runs remaining contents calls text acts old new
 
-  -- Some acts, and then the server is as they left it, and what they told is told; or it stopped at an event. The network fails between
-  -- events alone
+  -- Some acts, and then the server is as they left it, and what they put out is put out; or it stopped at an event. The network fails
+  -- between events alone
   abbrev pub Stops : Scene S → Scene S → ServeFault → Type 0
   Stops old new fault =
       (turns : ℕ) × (mid : Scene S) × Goes turns old mid
-      × ((IsOutside fault × (new.server ≡ mid.server) × (new.told ≡ mid.told)) ⊎ ((event : Event) × Fails telling event mid new fault))
+      × ((IsOutside fault × (new.server ≡ mid.server) × (new.output ≡ mid.output)) ⊎ ((event : Event) × Fails text event mid new fault))
 
-  -- so many turns well done, or where it stopped
+  -- acts in which time passed so often, or where it stopped
   abbrev pub Serves : {X : Type 0} → ℕ → Scene S → Scene S → Result X ServeFault → Type 0
   Serves turns old new result = MatchResult result (λ _. Goes turns old new) (Stops old new)
 
--- what comes and goes over a network is not known
+  -- ---- a turn
+
+  -- a read from this socket gave nothing, or its end
+  abbrev pub GivesNoMore : ℕ → Scene S → Scene S → Type 0
+  GivesNoMore conn old new = (h : Heard) × (may_be_more h ≡ false) × ReadsAt remaining contents calls conn old.peers new.peers 4096 [] h × IsQuiet old new
+
+  -- after this there may be more to read, or a read gave no more
+  abbrev pub GoesOn : ℕ → Scene S → Scene S → Bool → Type 0
+  GoesOn conn old new true = Goes 0 old new
+  GoesOn conn old new false = GivesNoMore conn old new
+
+  -- A socket is read from until a read gives no more, or it is reported as ready, and so is to be looked at again
+  abbrev pub ReadsOn : ℕ → Scene S → Scene S → Type 0
+  ReadsOn conn old new =
+      (mid : Scene S) × Goes 0 old mid × (GivesNoMore conn mid new ⊎ Does remaining contents calls text (Reports conn false) mid new)
+
+  -- a socket is looked at, then read from, and then the server is told if its connection is no more
+  abbrev pub Attends : ℕ → Scene S → Scene S → Type 0
+  Attends conn old new =
+      (looked : Scene S) × (read : Scene S) × Does remaining contents calls text (Looks conn) old looked × ReadsOn conn looked read × Goes 0 read new
+
+  abbrev pub AttendsEach : List ℕ → Scene S → Scene S → Type 0
+  AttendsEach [] old new = new ≡ old
+  AttendsEach (conn ∷ conns) old new = (mid : Scene S) × Attends conn old mid × AttendsEach conns mid new
+
+  -- each socket that is to be looked at is attended to, once
+  abbrev pub AttendsAll : Scene S → Scene S → Type 0
+  AttendsAll old new =
+      (mid : Scene S) × Does remaining contents calls text (Gathers old.peers.awake) old mid × AttendsEach old.peers.awake mid new
+
+  -- Sockets are reported, the server is told the time, once, and who has connected is taken in. And then each that is to be looked at is
+  -- attended to
+  abbrev pub TakesTurn : Scene S → Scene S → Type 0
+  TakesTurn old new = (mid : Scene S) × Goes 1 old mid × AttendsAll mid new
+
+  -- so many turns, one after the other
+  abbrev pub Turns : ℕ → Scene S → Scene S → Type 0
+  Turns zero old new = new ≡ old
+  Turns (suc turns) old new = (mid : Scene S) × Turns turns old mid × TakesTurn mid new
+
+-- what comes and goes over a network is not known, and neither is what its calls come to
 abbrev pub unknown : TcpStream → Option (List ℕ)
 unknown stream = None
 
--- a socket is let go of where it is done with, and no other
-abbrev pub Releases : {S : Type 0} → ℕ → PeersState S → PeersState S → Type 0
-Releases conn old new = (is_gone : Bool) × LetsGo conn old new is_gone
+abbrev pub uncounted : TcpStream → Option Calls
+uncounted stream = None
 
--- nobody has connected yet
-abbrev pub unserved : Sockets TcpStream
-unserved = record { peers = nobody; events = 0 }
+-- what the system reports is of the listening socket, which has the token 0
+abbrev pub is_of_listener : ready.Event → Bool
+is_of_listener event = (event_token event).0 == 0
 
--- a server, and nobody connected
-abbrev pub started : State → Told → Scene TcpStream
-started server told = scene server nobody 0 told
+-- a socket takes bytes, or is to be found out not to any more
+abbrev pub takes_bytes : ready.Event → Bool
+takes_bytes event = is_writable event || is_write_closed event || is_error event
 
--- from there on so many turns well done, or one where it stopped, and this is what was told before and after
-abbrev pub IsServed : Telling → State → ℕ → Told → Told → Type 0
-IsServed telling server turns old new =
-    (after : Scene TcpStream) × (after.told ≡ new) × Goes unknown unknown telling turns (started server old) after
+-- the socket that has the token for its number is to be looked at
+abbrev pub reported_event : {S : Type 0} → PeersState S → ready.Event → PeersState S
+reported_event p event = if is_of_listener event then p else reported p (event_token event).0 (takes_bytes event)
 
-abbrev pub IsStopped : Telling → State → ServeFault → Told → Told → Type 0
-IsStopped telling server fault old new =
-    (after : Scene TcpStream) × (after.told ≡ new) × Stops unknown unknown telling (started server old) after fault
+abbrev pub reported_events : {S : Type 0} → PeersState S → List ready.Event → PeersState S
+reported_events p events = fold reported_event p events
 
--- the key is what the generator gives next, 32 bytes
-abbrev pub Drawn : {G : Type 0} → (G → Stream) → G → G → List ℕ → Type 0
-Drawn stream old new key = (key, stream new) ≡ fill_bytes 32 (stream old)
+-- a server, and sockets as they are kept
+abbrev pub begun : Sockets TcpStream → State → Output → Scene TcpStream
+begun sockets server output = scene (key_stream sockets.keys) server sockets.peers sockets.events output
+
+-- From there on so many turns are well done, which are some, since without a bound they end with a fault alone; or it stopped in one. And
+-- this is what was put out before and after
+abbrev pub IsServed : EventText → Sockets TcpStream → State → ℕ → Output → Output → Type 0
+IsServed text sockets server turns old new =
+    (0 < turns) × (after : Scene TcpStream) × (after.output ≡ new) × Turns unknown unknown uncounted text turns (begun sockets server old) after
+
+abbrev pub IsStopped : EventText → Sockets TcpStream → State → ServeFault → Output → Output → Type 0
+IsStopped text sockets server fault old new =
+    (after : Scene TcpStream) × (after.output ≡ new) × Stops unknown unknown uncounted text (begun sockets server old) after fault

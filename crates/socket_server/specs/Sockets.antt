@@ -1,18 +1,53 @@
 -- What the loop keeps between its turns.
-use Rattle.std.specs.Prelude.{ℕ, refl}
-use Rattle.std.specs.Coded.{Coded, code_by, coded×, coded_ℕ}
-use Rattle.socket_peers.specs.Peers.{PeersState, peers_code}
+use Rattle.std.specs.Prelude.{◌≡◌, ℕ, List, [], ◌∷◌, refl}
+use Rattle.std.specs.Coded.{Coded, code_by, coded×, coded_ℕ, coded_list}
+use Rattle.std.specs.declared.net.ip_addr.IpAddr.{IpAddr}
+use Rattle.std.specs.declared.net.ip_addr.IpAddr.TheVariants.{V4, V6}
+use Rattle.mio.specs.declared.net.stream.TcpStream.{TcpStream}
+use Rattle.rand_core.specs.Stream.{Stream}
+use Rattle.rand_core.specs.Steps.{stream_of, steps_u32}
+use Rattle.rand_chacha.specs.ChaCha.{ChaCha, next_word}
+use Rattle.socket_peers.specs.Peers.{PeersState, peers_code, nobody}
 
--- the sockets, and how many events the server was handed
+-- the address and the port that it was asked to listen at, the generator of keys, the sockets, and how many events the server was
+-- handed
 pub record Sockets (S : Type 0) : Type 0 where
+  pub address : IpAddr
+  pub port : ℕ
+  pub keys : ChaCha
   pub peers : PeersState S
   pub events : ℕ
 
+abbrev pub keys_code : Coded ChaCha
+keys_code =
+    code_by (List ℕ × (ℕ × ℕ)) (coded× (coded_list coded_ℕ) (coded× coded_ℕ coded_ℕ)) (λ k. (k.key, (k.stream, k.word_pos)))
+    (λ t. record { key = t.0; stream = t.1.0; word_pos = t.1.1 }) (λ _. refl)
+
 module _ {S : Type 0} where
-  abbrev pub sockets_code : Coded S → Coded (Sockets S)
-  sockets_code stream =
-      code_by (PeersState S × ℕ)
-      (coded× (peers_code stream) coded_ℕ)
-      (λ s. (s.peers, s.events))
-      (λ t. record { peers = t.0; events = t.1 })
+  abbrev pub sockets_code : Coded IpAddr → Coded S → Coded (Sockets S)
+  sockets_code address stream =
+      code_by (IpAddr × (ℕ × (ChaCha × (PeersState S × ℕ))))
+      (coded× address (coded× coded_ℕ (coded× keys_code (coded× (peers_code stream) coded_ℕ))))
+      (λ s. (s.address, (s.port, (s.keys, (s.peers, s.events)))))
+      (λ t. record { address = t.0; port = t.1.0; keys = t.1.1.0; peers = t.1.1.1.0; events = t.1.1.1.1 })
       (λ _. refl)
+
+-- what a generator gives, call after call
+abbrev pub key_stream : ChaCha → Stream
+key_stream keys = stream_of (steps_u32 (next_word 6)) keys
+
+-- what is kept of sockets of the system
+abbrev pub ServeState : Type 0
+ServeState = Sockets TcpStream
+
+-- it was asked to listen there, and nobody has connected yet
+abbrev pub unserved : IpAddr → ℕ → ChaCha → ServeState
+unserved address port keys = record { address = address; port = port; keys = keys; peers = nobody; events = 0 }
+
+abbrev pub IsUnserved : IpAddr → ℕ → ServeState → Type 0
+IsUnserved address port sockets = sockets ≡ unserved address port sockets.keys
+
+-- 127.0.0.1
+abbrev pub IsLocal : IpAddr → Type 0
+IsLocal (V4 address) = address.octets ≡ 127 ∷ 0 ∷ 0 ∷ 1 ∷ []
+IsLocal (V6 address) = ⊥

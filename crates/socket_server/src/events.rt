@@ -1,11 +1,12 @@
 //! The server and the sockets: what happens at a socket is an event of the server, and what the server
 //! sends is owed to the sockets.
 
-ghost use Rattle.std.specs.Prelude.{◌≡◌, ◌+◌, true, false, IfErr, OnOk, MatchResult};
+ghost use Rattle.std.specs.Prelude.{◌≡◌, ◌+◌, true, false, OnOk, MatchResult};
+ghost use Rattle.rand_core.specs.Stream.{Stream};
 ghost use Rattle.server_core.specs.declared.event.Event.TheVariants as happening;
 ghost use Rattle.server_core.specs.World.{world_of};
 ghost use Rattle.socket_peers.specs.Peers.{departs_at};
-ghost use Rattle.socket_server.specs.Serving.{scene, HandsIn, Fails, Releases, Serves};
+ghost use Rattle.socket_server.specs.Serving.{scene, IsNextKey, HandsIn, Fails, GoesOn, ReadsOn, Attends, AttendsAll, Serves, Stops};
 
 use crate::observer::Observer;
 use crate::serve_fault::ServeFault;
@@ -51,9 +52,9 @@ pub(crate) fn hand_in<S: Socket + Drop, W: Observer>(
     observer: &mut W,
     event: &Event,
 ) -> Result<bool, ServeFault>
-    ensures { let old = scene (world_of server.old) peers.old events.old (W.told observer.old) in
-        let new = scene (world_of server.new) peers.new events.new (W.told observer.new) in
-        MatchResult result (λ _. HandsIn S.remaining S.contents W.telling event.now old new) (Fails W.telling event.now old new) }
+    ensures { (keys : Stream) → let old = scene keys (world_of server.old) peers.old events.old (W.output observer.old) in
+        let new = scene keys (world_of server.new) peers.new events.new (W.output observer.new) in
+        MatchResult result (λ _. HandsIn S.remaining S.contents S.calls W.text event.now old new) (Fails W.text event.now old new) }
 {
     let Some(number) = events.checked_add(1) else {
         return Err(ServeFault::Memory);
@@ -85,10 +86,10 @@ fn hand_in_opening<S: Socket + Drop, W: Observer>(
     observer: &mut W,
     arrival: Arrival,
 ) -> Result<(), ServeFault>
-    ensures { let opened = happening.Opened arrival.number arrival.key in
-        let old = scene (world_of server.old) peers.old events.old (W.told observer.old) in
-        let new = scene (world_of server.new) peers.new events.new (W.told observer.new) in
-        MatchResult result (λ _. HandsIn S.remaining S.contents W.telling opened old new) (Fails W.telling opened old new) }
+    ensures { (keys : Stream) → let opened = happening.Opened arrival.number arrival.key in
+        let old = scene keys (world_of server.old) peers.old events.old (W.output observer.old) in
+        let new = scene keys (world_of server.new) peers.new events.new (W.output observer.new) in
+        MatchResult result (λ _. HandsIn S.remaining S.contents S.calls W.text opened old new) (Fails W.text opened old new) }
 {
     let key = arrival.key;
     let opened = Event::Opened {
@@ -119,8 +120,8 @@ fn admit<S: Socket + Drop, W: Observer>(
     stream: S,
 ) -> Result<(), ServeFault>
     requires { arrival.number ≡ peers.old.last + 1 }
-    ensures { Serves S.remaining S.contents W.telling 0 (scene (world_of server.old) peers.old events.old (W.told observer.old))
-        (scene (world_of server.new) peers.new events.new (W.told observer.new)) result }
+    ensures { (keys : Stream) → (left : Stream) → IsNextKey keys left arrival.key → Serves S.remaining S.contents S.calls W.text 0 (scene keys (world_of server.old) peers.old events.old (W.output observer.old))
+        (scene left (world_of server.new) peers.new events.new (W.output observer.new)) result }
 {
     if peers.admit(alloc, arrival.number, stream).is_err() {
         return Err(ServeFault::Memory);
@@ -138,11 +139,11 @@ fn hand_in_piece<S: Socket + Drop, W: Observer>(
     number: u64,
     piece: Vec<u8>,
 ) -> Result<bool, ServeFault>
-    ensures { let old = scene (world_of server.old) peers.old events.old (W.told observer.old) in
-        let new = scene (world_of server.new) peers.new events.new (W.told observer.new) in
+    ensures { (keys : Stream) → let old = scene keys (world_of server.old) peers.old events.old (W.output observer.old) in
+        let new = scene keys (world_of server.new) peers.new events.new (W.output observer.new) in
         MatchResult result
-        (λ more. (more ≡ true) × HandsIn S.remaining S.contents W.telling (happening.Bytes number piece.items) old new)
-        (Fails W.telling (happening.Bytes number piece.items) old new) }
+        (λ more. (more ≡ true) × HandsIn S.remaining S.contents S.calls W.text (happening.Bytes number piece.items) old new)
+        (Fails W.text (happening.Bytes number piece.items) old new) }
 {
     let Ok(bytes) = Bytes::from_vec(piece) else {
         return Err(ServeFault::Memory);
@@ -166,18 +167,19 @@ fn hear<S: Socket + Drop, W: Observer>(
     observer: &mut W,
     number: u64,
 ) -> Result<bool, ServeFault>
-    ensures { Serves S.remaining S.contents W.telling 0 (scene (world_of server.old) peers.old events.old (W.told observer.old))
-        (scene (world_of server.new) peers.new events.new (W.told observer.new)) result }
+    ensures { (keys : Stream) →
+        let old = scene keys (world_of server.old) peers.old events.old (W.output observer.old) in
+        let new = scene keys (world_of server.new) peers.new events.new (W.output observer.new) in
+        MatchResult result (λ more. GoesOn S.remaining S.contents S.calls W.text number old new more) (Stops S.remaining S.contents S.calls W.text old new) }
 {
     let Ok(mut piece) = vec![in alloc; 0u8; PIECE] else {
         return Err(ServeFault::Memory);
     };
     match peers.read(number, &mut piece) {
-        Err(_) => Err(ServeFault::Memory),
-        Ok(Heard::Again) => Ok(true),
-        Ok(Heard::Nothing) => Ok(false),
-        Ok(Heard::End) => Ok(false),
-        Ok(Heard::Piece) => hand_in_piece(alloc, peers, events, server, observer, number, piece),
+        Heard::Again => Ok(true),
+        Heard::Nothing => Ok(false),
+        Heard::End => Ok(false),
+        Heard::Piece => hand_in_piece(alloc, peers, events, server, observer, number, piece),
     }
 }
 
@@ -190,10 +192,10 @@ fn hand_in_end<S: Socket + Drop, W: Observer>(
     observer: &mut W,
     number: u64,
 ) -> Result<(), ServeFault>
-    ensures { let old = scene (world_of server.old) peers.old events.old (W.told observer.old) in
-        let new = scene (world_of server.new) peers.new events.new (W.told observer.new) in
-        MatchResult result (λ _. HandsIn S.remaining S.contents W.telling (happening.Gone number) old new)
-        (Fails W.telling (happening.Gone number) old new) }
+    ensures { (keys : Stream) → let old = scene keys (world_of server.old) peers.old events.old (W.output observer.old) in
+        let new = scene keys (world_of server.new) peers.new events.new (W.output observer.new) in
+        MatchResult result (λ _. HandsIn S.remaining S.contents S.calls W.text (happening.Gone number) old new)
+        (Fails W.text (happening.Gone number) old new) }
 {
     let gone = Event::Gone { conn: number };
     match hand_in(alloc, peers, events, server, observer, &gone) {
@@ -214,26 +216,14 @@ fn depart<S: Socket + Drop, W: Observer>(
     observer: &mut W,
     number: u64,
 ) -> Result<(), ServeFault>
-    ensures serves { Serves S.remaining S.contents W.telling 0 (scene (world_of server.old) peers.old events.old (W.told observer.old))
-        (scene (world_of server.new) peers.new events.new (W.told observer.new)) result }
+    ensures serves { (keys : Stream) → Serves S.remaining S.contents S.calls W.text 0 (scene keys (world_of server.old) peers.old events.old (W.output observer.old))
+        (scene keys (world_of server.new) peers.new events.new (W.output observer.new)) result }
     ensures told { OnOk result (departs_at peers.new number ≡ false) }
 {
-    match peers.depart(number) {
-        Err(_) => Err(ServeFault::Memory),
-        Ok(false) => Ok(()),
-        Ok(true) => hand_in_end(alloc, peers, events, server, observer, number),
+    if peers.depart(number) {
+        return hand_in_end(alloc, peers, events, server, observer, number);
     }
-}
-
-// Lets go of a socket that is done with.
-fn release<S: Socket + Drop>(peers: &mut Peers<S>, number: u64) -> Result<(), ServeFault>
-    ensures ok { OnOk result (Releases number peers.old peers.new) }
-    ensures err { IfErr result (λ fault. fault ≡ ServeFault.Memory) }
-{
-    match peers.release(number) {
-        Ok(_) => Ok(()),
-        Err(_) => Err(ServeFault::Memory),
-    }
+    Ok(())
 }
 
 // Tells the server where a connection is no more, and lets go of its socket once all that it is owed was written.
@@ -245,12 +235,15 @@ fn finish<S: Socket + Drop, W: Observer>(
     observer: &mut W,
     number: u64,
 ) -> Result<(), ServeFault>
-    ensures serves { Serves S.remaining S.contents W.telling 0 (scene (world_of server.old) peers.old events.old (W.told observer.old))
-        (scene (world_of server.new) peers.new events.new (W.told observer.new)) result }
+    ensures serves { (keys : Stream) → Serves S.remaining S.contents S.calls W.text 0 (scene keys (world_of server.old) peers.old events.old (W.output observer.old))
+        (scene keys (world_of server.new) peers.new events.new (W.output observer.new)) result }
     ensures told { OnOk result (departs_at peers.new number ≡ false) }
 {
     match depart(alloc, peers, events, server, observer, number) {
-        Ok(()) => release(peers, number),
+        Ok(()) => {
+            peers.release(number);
+            Ok(())
+        }
         Err(fault) => Err(fault),
     }
 }
@@ -265,8 +258,10 @@ fn read_pieces<S: Socket + Drop, W: Observer>(
     observer: &mut W,
     number: u64,
 ) -> Result<(), ServeFault>
-    ensures { Serves S.remaining S.contents W.telling 0 (scene (world_of server.old) peers.old events.old (W.told observer.old))
-        (scene (world_of server.new) peers.new events.new (W.told observer.new)) result }
+    ensures { (keys : Stream) →
+        let old = scene keys (world_of server.old) peers.old events.old (W.output observer.old) in
+        let new = scene keys (world_of server.new) peers.new events.new (W.output observer.new) in
+        MatchResult result (λ _. ReadsOn S.remaining S.contents S.calls W.text number old new) (Stops S.remaining S.contents S.calls W.text old new) }
 {
     for _piece in 0..PIECES {
         match hear(alloc, peers, events, server, observer, number) {
@@ -291,8 +286,10 @@ fn attend<S: Socket + Drop, W: Observer>(
     observer: &mut W,
     number: u64,
 ) -> Result<(), ServeFault>
-    ensures serves { Serves S.remaining S.contents W.telling 0 (scene (world_of server.old) peers.old events.old (W.told observer.old))
-        (scene (world_of server.new) peers.new events.new (W.told observer.new)) result }
+    ensures serves { (keys : Stream) →
+        let old = scene keys (world_of server.old) peers.old events.old (W.output observer.old) in
+        let new = scene keys (world_of server.new) peers.new events.new (W.output observer.new) in
+        MatchResult result (λ _. Attends S.remaining S.contents S.calls W.text number old new) (Stops S.remaining S.contents S.calls W.text old new) }
     ensures told { OnOk result (departs_at peers.new number ≡ false) }
 {
     match peers.look_at(number) {
@@ -313,8 +310,10 @@ pub(crate) fn attend_all<S: Socket + Drop, W: Observer>(
     server: &mut Server,
     observer: &mut W,
 ) -> Result<(), ServeFault>
-    ensures { Serves S.remaining S.contents W.telling 0 (scene (world_of server.old) peers.old events.old (W.told observer.old))
-        (scene (world_of server.new) peers.new events.new (W.told observer.new)) result }
+    ensures { (keys : Stream) →
+        let old = scene keys (world_of server.old) peers.old events.old (W.output observer.old) in
+        let new = scene keys (world_of server.new) peers.new events.new (W.output observer.new) in
+        MatchResult result (λ _. AttendsAll S.remaining S.contents S.calls W.text old new) (Stops S.remaining S.contents S.calls W.text old new) }
 {
     let awake = peers.take_awake(alloc);
     for number in awake {
@@ -338,8 +337,8 @@ pub(crate) fn join_socket<S: Socket + Drop, W: Observer>(
     stream: S,
 ) -> Result<(), ServeFault>
     requires { arrival.number ≡ peers.old.last + 1 }
-    ensures { Serves S.remaining S.contents W.telling 0 (scene (world_of server.old) peers.old events.old (W.told observer.old))
-        (scene (world_of server.new) peers.new events.new (W.told observer.new)) result }
+    ensures { (keys : Stream) → (left : Stream) → IsNextKey keys left arrival.key → Serves S.remaining S.contents S.calls W.text 0 (scene keys (world_of server.old) peers.old events.old (W.output observer.old))
+        (scene left (world_of server.new) peers.new events.new (W.output observer.new)) result }
 {
     let number = arrival.number;
     match admit(alloc, peers, events, server, observer, arrival, stream) {

@@ -2,7 +2,7 @@
 
 ghost use Rattle.std.specs.Prelude.{◌≡◌, ℕ, List, []};
 ghost use Rattle.server_messages.specs.declared.fired.Fired.{Fired};
-ghost use Rattle.socket_server.specs.Telling.{Told, Tells, untold};
+ghost use Rattle.socket_server.specs.Output.{Output, PutsOrFails, no_output};
 
 use crate::serve_fault::ServeFault;
 use server_core::Fired;
@@ -14,28 +14,28 @@ use std::net::SocketAddr;
 /// Contracts see what is put out of the rows. Nothing is promised of what is done about connections.
 pub trait Observer {
     /// Where it puts its text.
-    ghost told: { Self → Told };
+    ghost output: { Self → Output };
 
     /// What it puts out at the event of a number, at which these rows fired.
-    ghost telling: { ℕ → List Fired → List ℕ };
+    ghost text: { ℕ → List Fired → List ℕ };
 
     /// The server has answered the event of this number, and these rows fired at it. The first event has
     /// the number 1. Serving ends with an `Err`, which is `Trace` or `Memory`.
     fn saw(&mut self, event: u64, rows: &[Fired]) -> Result<(), ServeFault>
-        ensures { Tells (telling event rows.now) (told self.old) (told self.new) result };
+        ensures { PutsOrFails (text event rows.now) (output self.old) (output self.new) result };
 
     /// The connection of this number is open, to a peer at this address.
     fn connected(&mut self, number: u64, address: SocketAddr)
-        ensures { told self.new ≡ told self.old };
+        ensures { output self.new ≡ output self.old };
 
     /// The connection of this number is turned away, since as many as may be are open. It isn't told to be
     /// closed.
     fn refused(&mut self, number: u64, address: SocketAddr)
-        ensures { told self.new ≡ told self.old };
+        ensures { output self.new ≡ output self.old };
 
     /// The connection of this number is over.
     fn closed(&mut self, number: u64)
-        ensures { told self.new ≡ told self.old };
+        ensures { output self.new ≡ output self.old };
 }
 
 /// Nobody: nothing is told.
@@ -43,9 +43,9 @@ pub trait Observer {
 pub struct Unobserved;
 
 impl Observer for Unobserved {
-    ghost told = { λ _. untold };
+    ghost output = { λ _. no_output };
 
-    ghost telling = { λ _ _. [] };
+    ghost text = { λ _ _. [] };
 
     fn saw(&mut self, _event: u64, _rows: &[Fired]) -> Result<(), ServeFault> {
         Ok(())

@@ -1,19 +1,26 @@
 //! The loop over `mio`.
 
-ghost use Rattle.std.specs.Prelude.{◌≡◌, ◌+◌, OnOk, IfOk, IfErr};
+ghost use Rattle.std.specs.Prelude.{◌≡◌, ◌+◌, ◌<◌, List, OnOk, IfOk, IfErr, MatchResult};
 ghost use Rattle.std.specs.FinMap as map;
+ghost use Rattle.std.specs.Duration.{as_nanos};
+ghost use Rattle.mio.specs.declared.event.event.Event as ready;
+ghost use Rattle.mio.specs.Events.{items};
 ghost use Rattle.server_core.specs.World.{world_of};
-ghost use Rattle.socket_server.specs.Serving.{scene, unserved, unknown, IsOutside, Serves, Drawn};
+ghost use Rattle.server_core.specs.declared.event.Event.TheVariants as happening;
+ghost use Rattle.socket_server.specs.Moments.{moment_since_1970};
+ghost use Rattle.socket_server.specs.Sockets.{IsUnserved, IsLocal, key_stream};
+ghost use Rattle.socket_server.specs.Serving.{scene, unknown, uncounted, is_of_listener, reported_event, reported_events, IsOutside, HandsIn, Fails, Serves, Stops, TakesTurn, Turns, Drawn};
 
 use crate::events::{Arrival, attend_all, hand_in, join_socket};
 use crate::observer::Observer;
 use crate::serve_fault::ServeFault;
+use mio::event::Event;
 use mio::net::{TcpListener, TcpStream};
 use mio::{Events, Interest, Poll, Token};
 use rand::make_rng;
 use rand::rngs::StdRng;
 use rand_core::Rng;
-use server_core::{Event, Server};
+use server_core::{Event as ServerEvent, Server};
 use socket_peers::Peers;
 use std::alloc::{AllocError, Global};
 use std::io;
@@ -46,6 +53,9 @@ pub struct Serve {
     poll: Poll,
     events: Events,
     listener: TcpListener,
+    // Where it was asked to listen. The system chooses a port for port 0.
+    asked_address: IpAddr,
+    asked_port: u16,
     keys: StdRng,
     // There may be a connection to be taken in.
     may_accept: bool,
@@ -57,28 +67,42 @@ pub struct Serve {
 impl Model for Serve {
     ghost use Rattle.mio.specs.declared.net.stream.TcpStream.{TcpStream};
     ghost use Rattle.mio.specs.contracts.net.stream.TcpStream as tcp_stream;
+    ghost use Rattle.std.specs.contracts.net.ip_addr.IpAddr as ip_addr_row;
     ghost use Rattle.socket_server.specs.Sockets.{Sockets, sockets_code};
 
     ghost Value = { Sockets TcpStream };
 
-    ghost coded = { sockets_code tcp_stream.the_row.coded };
+    ghost coded = { sockets_code ip_addr_row.the_row.coded tcp_stream.the_row.coded };
 
-    ghost view = { λ s. record { peers = s.peers; events = s.events_so_far } };
+    ghost view = { λ s. record {
+      address = s.asked_address;
+      port = s.asked_port;
+      keys = s.keys;
+      peers = s.peers;
+      events = s.events_so_far;
+    } };
+}
+
+// Wakes the socket that is reported as ready, or says that one may have connected.
+fn report_event(peers: &mut Peers<TcpStream>, event: &Event) -> Result<bool, AllocError>
+    ensures { IfOk result (λ connected. (connected ≡ is_of_listener event.now) × (peers.new ≡ reported_event peers.old event.now)) }
+{
+    if event.token() == LISTENER {
+        return Ok(true);
+    }
+    let Token(number) = event.token();
+    let is_writable = event.is_writable() || event.is_write_closed() || event.is_error();
+    peers.report(number as u64, is_writable)?;
+    Ok(false)
 }
 
 // Wakes the sockets that are reported as ready, and says whether one may have connected.
 fn report_all(peers: &mut Peers<TcpStream>, events: &Events) -> Result<bool, AllocError>
-    ensures { OnOk result (peers.new ≡ peers.old) }
+    ensures { OnOk result (peers.new ≡ reported_events peers.old (items events.now)) }
 {
     let mut connected = false;
     for event in events.iter() {
-        if event.token() == LISTENER {
-            connected = true;
-        } else {
-            let Token(number) = event.token();
-            let is_writable = event.is_writable() || event.is_write_closed() || event.is_error();
-            peers.report(number as u64, is_writable)?;
-        }
+        connected |= report_event(peers, event)?;
     }
     Ok(connected)
 }
@@ -103,16 +127,22 @@ fn fresh_key<K: Rng>(keys: &mut K) -> [u8; 32]
     key
 }
 
-/// The moment that the system's clock shows: 100 ns units since the year 1601. A clock before 1970 shows
-/// 1970.
+// The moment so long after the beginning of 1970, or the last that there is: 100 ns units since the year 1601.
+fn moment_of(since_1970: Duration) -> Moment
+    ensures { result ≡ moment_since_1970 (as_nanos since_1970) }
+{
+    let units = since_1970.as_nanos() / 100 + FROM_1601_TO_1970;
+    Moment(i64::try_from(units).unwrap_or(i64::MAX))
+}
+
+// The moment that the system's clock shows. A clock before 1970 shows 1970.
 fn moment<R: Clock>(rt: &R) -> io::Result<Moment> {
     let now = SystemTime::now(rt)?;
     let since_1970 = match now.duration_since(SystemTime::UNIX_EPOCH) {
         Ok(since) => since,
         Err(_) => Duration::ZERO,
     };
-    let units = since_1970.as_nanos() / 100 + FROM_1601_TO_1970;
-    Ok(Moment(i64::try_from(units).unwrap_or(i64::MAX)))
+    Ok(moment_of(since_1970))
 }
 
 impl Serve {
@@ -122,7 +152,7 @@ impl Serve {
         alloc: Global,
         port: u16,
     ) -> Result<Serve, ServeFault>
-        ensures ok { IfOk result (λ serve. serve ≡ unserved) }
+        ensures ok { IfOk result (λ serve. IsLocal serve.address × IsUnserved serve.address port serve) }
         ensures err { IfErr result IsOutside }
     {
         Serve::listen(rt, alloc, IpAddr::V4(Ipv4Addr::LOCALHOST), port)
@@ -136,7 +166,7 @@ impl Serve {
         address: IpAddr,
         port: u16,
     ) -> Result<Serve, ServeFault>
-        ensures ok { IfOk result (λ serve. serve ≡ unserved) }
+        ensures ok { IfOk result (IsUnserved address port) }
         ensures err { IfErr result IsOutside }
     {
         let mut listener = match TcpListener::bind(rt, SocketAddr::from((address, port))) {
@@ -163,6 +193,8 @@ impl Serve {
             poll,
             events,
             listener,
+            asked_address: address,
+            asked_port: port,
             keys,
             may_accept: true,
             peers: Peers::new(alloc),
@@ -186,7 +218,8 @@ impl Serve {
     /// 100 ms; then it tells the server the time, takes in who has connected, and looks at each socket that
     /// is ready. The observer is told which rows fire at each event, and which connections come and go.
     ///
-    /// Each event that is handed to the server counts, from 1 on; a later run counts on.
+    /// Each event that is handed to the server counts, from 1 on; a later run counts on. Without end it ends
+    /// with a fault alone.
     ///
     /// The server should know no connection of another's, since numbers count up from 1. At `Step`,
     /// `Trace` and `Memory` it is as its last step left it, and what was to be sent may be lost.
@@ -198,11 +231,13 @@ impl Serve {
         observer: &mut W,
         turns: u64,
     ) -> Result<(), ServeFault>
-        ensures { Serves unknown unknown W.telling turns (scene (world_of server.old) self.old.peers self.old.events (W.told observer.old))
-            (scene (world_of server.new) self.new.peers self.new.events (W.told observer.new)) result }
+        ensures serves { let old = scene (key_stream self.old.keys) (world_of server.old) self.old.peers self.old.events (W.output observer.old) in
+            let new = scene (key_stream self.new.keys) (world_of server.new) self.new.peers self.new.events (W.output observer.new) in
+            MatchResult result (λ _. Turns unknown unknown uncounted W.text turns old new) (Stops unknown unknown uncounted W.text old new) }
+        ensures bounded { OnOk result (0 < turns) }
     {
         if turns == 0 {
-            return self.run_on(rt, alloc, server, observer);
+            return Err(self.run_on(rt, alloc, server, observer));
         }
         for _turn in 0..turns {
             match self.turn(rt, alloc, server, observer) {
@@ -213,21 +248,21 @@ impl Serve {
         Ok(())
     }
 
-    // Turns without end.
+    // Turns without end. Says why they ended.
     fn run_on<R: Clock + Wait, W: Observer>(
         &mut self,
         rt: &R,
         alloc: Global,
         server: &mut Server,
         observer: &mut W,
-    ) -> Result<(), ServeFault>
-        ensures { Serves unknown unknown W.telling 0 (scene (world_of server.old) self.old.peers self.old.events (W.told observer.old))
-            (scene (world_of server.new) self.new.peers self.new.events (W.told observer.new)) result }
+    ) -> ServeFault
+        ensures { Stops unknown unknown uncounted W.text (scene (key_stream self.old.keys) (world_of server.old) self.old.peers self.old.events (W.output observer.old))
+            (scene (key_stream self.new.keys) (world_of server.new) self.new.peers self.new.events (W.output observer.new)) result }
     {
         for _turn in rt.forever() {
             match self.turn(rt, alloc, server, observer) {
                 Ok(()) => {}
-                Err(fault) => return Err(fault),
+                Err(fault) => return fault,
             }
         }
         unreachable!()
@@ -240,14 +275,18 @@ impl Serve {
         server: &mut Server,
         observer: &mut W,
     ) -> Result<(), ServeFault>
-        ensures { Serves unknown unknown W.telling 1 (scene (world_of server.old) self.old.peers self.old.events (W.told observer.old))
-            (scene (world_of server.new) self.new.peers self.new.events (W.told observer.new)) result }
+        ensures { let old = scene (key_stream self.old.keys) (world_of server.old) self.old.peers self.old.events (W.output observer.old) in
+            let new = scene (key_stream self.new.keys) (world_of server.new) self.new.peers self.new.events (W.output observer.new) in
+            MatchResult result (λ _. TakesTurn unknown unknown uncounted W.text old new) (Stops unknown unknown uncounted W.text old new) }
     {
         match self.wait() {
             Ok(()) => {}
             Err(fault) => return Err(fault),
         }
-        match self.tick(rt, alloc, server, observer) {
+        let Ok(now) = moment(rt) else {
+            return Err(ServeFault::Network);
+        };
+        match self.tick(alloc, server, observer, now) {
             Ok(()) => {}
             Err(fault) => return Err(fault),
         }
@@ -263,21 +302,19 @@ impl Serve {
         }
     }
 
-    // Tells the server the time.
-    fn tick<R: Clock, W: Observer>(
+    // Tells the server that it is this moment.
+    fn tick<W: Observer>(
         &mut self,
-        rt: &R,
         alloc: Global,
         server: &mut Server,
         observer: &mut W,
+        now: Moment,
     ) -> Result<(), ServeFault>
-        ensures { Serves unknown unknown W.telling 1 (scene (world_of server.old) self.old.peers self.old.events (W.told observer.old))
-            (scene (world_of server.new) self.new.peers self.new.events (W.told observer.new)) result }
+        ensures { let old = scene (key_stream self.old.keys) (world_of server.old) self.old.peers self.old.events (W.output observer.old) in
+            let new = scene (key_stream self.new.keys) (world_of server.new) self.new.peers self.new.events (W.output observer.new) in
+            MatchResult result (λ _. HandsIn unknown unknown uncounted W.text (happening.Tick now) old new) (Fails W.text (happening.Tick now) old new) }
     {
-        let Ok(now) = moment(rt) else {
-            return Err(ServeFault::Network);
-        };
-        let tick = Event::Tick { now };
+        let tick = ServerEvent::Tick { now };
         match hand_in(
             alloc,
             &mut self.peers,
@@ -293,7 +330,7 @@ impl Serve {
 
     // Waits until a socket is ready, and wakes those that are.
     fn wait(&mut self) -> Result<(), ServeFault>
-        ensures ok { OnOk result (self.new ≡ self.old) }
+        ensures ok { OnOk result ((events : List ready.Event) × (self.new ≡ record self.old { peers = reported_events self.old.peers events })) }
         ensures outside { IfErr result IsOutside }
     {
         let wait = if self.peers.is_any_awake() {
@@ -320,8 +357,8 @@ impl Serve {
         server: &mut Server,
         observer: &mut W,
     ) -> Result<(), ServeFault>
-        ensures { Serves unknown unknown W.telling 0 (scene (world_of server.old) self.old.peers self.old.events (W.told observer.old))
-            (scene (world_of server.new) self.new.peers self.new.events (W.told observer.new)) result }
+        ensures { Serves unknown unknown uncounted W.text 0 (scene (key_stream self.old.keys) (world_of server.old) self.old.peers self.old.events (W.output observer.old))
+            (scene (key_stream self.new.keys) (world_of server.new) self.new.peers self.new.events (W.output observer.new)) result }
     {
         for _accept in 0..ACCEPTS {
             let Some((stream, address)) = self.accept() else {
@@ -367,8 +404,8 @@ impl Serve {
         mut stream: TcpStream,
         address: SocketAddr,
     ) -> Result<(), ServeFault>
-        ensures { Serves unknown unknown W.telling 0 (scene (world_of server.old) self.old.peers self.old.events (W.told observer.old))
-            (scene (world_of server.new) self.new.peers self.new.events (W.told observer.new)) result }
+        ensures { Serves unknown unknown uncounted W.text 0 (scene (key_stream self.old.keys) (world_of server.old) self.old.peers self.old.events (W.output observer.old))
+            (scene (key_stream self.new.keys) (world_of server.new) self.new.peers self.new.events (W.output observer.new)) result }
     {
         let Some(number) = self.peers.next() else {
             return Ok(());

@@ -10,12 +10,12 @@ use Rattle.ua_types.proofs.NumberMaps.{same_number}
 use Rattle.ua_types.specs.Configuration.{Configuration}
 use Rattle.ua_values.specs.declared.data_value.DataValue.{DataValue}
 use Rattle.ua_read_write.specs.declared.writing.Change.{Change}
-use Rattle.ua_item_queue.specs.ItemQueue.{acted, queue_after, marked_front}
-use Rattle.ua_item_queue.specs.ItemQueue.ItemAct.{Queued, FrontDropped, NewestReplaced, OnlyReplaced}
-use Rattle.ua_item_queue.specs.ItemQueue.Deed.{Sample}
+use Rattle.ua_item_queue.specs.ItemQueue.{changed, queue_after, marked_front}
+use Rattle.ua_item_queue.specs.ItemQueue.QueueChange.{Queued, FrontDropped, NewestReplaced, OnlyReplaced}
+use Rattle.ua_item_queue.specs.ItemQueue.QueueMove.{Sample}
 use Rattle.ua_item_queue.specs.declared.entry.Entry.{Entry}
 use Rattle.ua_monitored_items.specs.Item.{is_reporting, takes, queued, seen}
-use Rattle.ua_monitored_items.specs.ItemTables.{Numbered, item_at, is_of, numbers_of, with_found, AreAbove, AreRising}
+use Rattle.ua_monitored_items.specs.ItemTables.{NumberedItems, item_at, is_of, numbers_of, with_found, AreAbove, AreRising}
 use Rattle.ua_monitored_items.specs.Items.{ItemsState, no_items, is_available, any_waits, waits_in, Visit, visited, sampled_items, all_visits}
 use Rattle.ua_monitored_items.specs.Moves.{Move, Moved, moved, moved_on, run, OthersStay, IsOfSubscription}
 use Rattle.ua_monitored_items.specs.Moves.Move.{Show}
@@ -27,7 +27,7 @@ use Rattle.subscription_laws.specs.Calm.{AreReached}
 use Rattle.subscription_laws.proofs.Entries.{at_itself, same_or_not, set_here, set_other}
 
 -- an item of a subscription that has a value to send
-pub record Waiting (items : Numbered) (subscription : ℕ) : Type 0 where
+pub record Waiting (items : NumberedItems) (subscription : ℕ) : Type 0 where
   pub number : ℕ
   pub item : Item
   pub found : item_at number items ≡ Some item
@@ -39,7 +39,7 @@ either true b h = refl
 either false b h = h
 
 -- one whose number is among those that are asked
-waits_among : (items es : Numbered) (subscription number : ℕ) (item : Item) → item_at number es ≡ Some item → is_of subscription item ≡ true → waits_in (item_at number items) ≡ true →
+waits_among : (items es : NumberedItems) (subscription number : ℕ) (item : Item) → item_at number es ≡ Some item → is_of subscription item ≡ true → waits_in (item_at number items) ≡ true →
     any_waits items (numbers_of subscription es) ≡ true
 waits_among items [] subscription number item found own waits = absurd (cc)
 waits_among items (e ∷ es) subscription number item found own waits = by (is_at (nat_cmp number) e.0) refl found (λ it. waits_among items es subscription number item it own waits)
@@ -67,26 +67,26 @@ both_cases : (a b : Bool) → (a || b) ≡ true → a ≡ false → b ≡ true
 both_cases true b h e = absurd (cc)
 both_cases false b h e = h
 
-waits_found : (items : Numbered) (number : ℕ) (o : Option Item) → o ≡ item_at number items → waits_in o ≡ true → (item : Item) × (item_at number items ≡ Some item) × (waits_in (Some item) ≡ true)
+waits_found : (items : NumberedItems) (number : ℕ) (o : Option Item) → o ≡ item_at number items → waits_in o ≡ true → (item : Item) × (item_at number items ≡ Some item) × (waits_in (Some item) ≡ true)
 waits_found items number None is h = absurd (cc)
 waits_found items number (Some item) is h = (item, sym is, h)
 
 -- all these entries are found in the items
-abbrev AreFound : Numbered → Numbered → Type 0
+abbrev AreFound : NumberedItems → NumberedItems → Type 0
 AreFound items [] = Unit {0}
 AreFound items (e ∷ es) = (item_at e.0 items ≡ Some e.1) × AreFound items es
 
-found_behind : (e : ℕ × Item) (items es : Numbered) → AreAbove e.0 es → AreFound items es → AreFound (e ∷ items) es
+found_behind : (e : ℕ × Item) (items es : NumberedItems) → AreAbove e.0 es → AreFound items es → AreFound (e ∷ items) es
 found_behind e items [] above found = tt
 found_behind e items (x ∷ es) above found =
     let other : is_at (nat_cmp x.0) e.0 ≡ false = ap is_eq (greater x.0 e.0 above.0) in
     (rw other found.0, found_behind e items es above.1 found.1)
 
-all_found : (items : Numbered) → AreRising items → AreFound items items
+all_found : (items : NumberedItems) → AreRising items → AreFound items items
 all_found [] rising = tt
 all_found (e ∷ es) rising = (rw (at_itself e.0) refl, found_behind e es es rising.0 (all_found es rising.1))
 
-among_waits : (items es : Numbered) (subscription : ℕ) → AreFound items es → any_waits items (numbers_of subscription es) ≡ true → Waiting items subscription
+among_waits : (items es : NumberedItems) (subscription : ℕ) → AreFound items es → any_waits items (numbers_of subscription es) ≡ true → Waiting items subscription
 among_waits items [] subscription found h = absurd (cc)
 among_waits items (e ∷ es) subscription found h = by (is_of subscription e.1) refl h (among_waits items es subscription found.1)
   where
@@ -125,7 +125,7 @@ pub reached_rise : (items : ItemsState) → AreReached items → AreRising items
 reached_rise items r = rising_of r.config r.moves items r.left
 
 one_more : (config : Configuration) (moves : List Move) (m : Move) → (run config (moves ++ m ∷ [])).state ≡ (moved (run config moves).state m).state
-one_more config moves m = ap (λ (x : Moved). x.state) (fold-append moved_on (record { state = no_items config; deeds = [] }) moves (m ∷ []))
+one_more config moves m = ap (λ (x : Moved). x.state) (fold-append moved_on (record { state = no_items config; queue_moves = [] }) moves (m ∷ []))
 
 pub reached_on : (items : ItemsState) (m : Move) → AreReached items → AreReached (moved items m).state
 reached_on items m r = record {
@@ -155,7 +155,7 @@ sample_fills : {V : Type 0} (q : List (Entry V)) (size : ℕ) (oldest : Bool) (v
 sample_fills [] size oldest v h = absurd (cc)
 sample_fills (e ∷ es) size oldest v h = by (nat_lt (length (e ∷ es)) size) (nat_lt 1 size) oldest
   where
-    by : (a b c : Bool) → nat_lt 0 (length (fold acted (e ∷ es) (cond a (Queued v ∷ []) (cond b (cond c (Queued v ∷ FrontDropped ∷ []) (NewestReplaced v ∷ [])) (OnlyReplaced v ∷ []))))) ≡ true
+    by : (a b c : Bool) → nat_lt 0 (length (fold changed (e ∷ es) (cond a (Queued v ∷ []) (cond b (cond c (Queued v ∷ FrontDropped ∷ []) (NewestReplaced v ∷ [])) (OnlyReplaced v ∷ []))))) ≡ true
     by true b c = filled (e ∷ es) _
     by false true true = marked_filled (es ++ _ ∷ []) (filled es _)
     by false true false = filled _ _
@@ -182,7 +182,7 @@ seen_own v item = by (takes item v)
     by true = refl
     by false = refl
 
-visit_waits : (items : Numbered) (subscription : ℕ) (visit : Visit) → Waiting items subscription → Waiting (visited items visit) subscription
+visit_waits : (items : NumberedItems) (subscription : ℕ) (visit : Visit) → Waiting items subscription → Waiting (visited items visit) subscription
 visit_waits items subscription visit w = by (item_at visit.number items) refl
   where
     there : (old : Item) → item_at visit.number items ≡ Some old → (visit.number ≡ w.number) ⊎ (visit.number ≢ w.number) → Waiting (set_value (is_at (nat_cmp visit.number)) items (seen visit.value old)) subscription
@@ -208,7 +208,7 @@ visit_waits items subscription visit w = by (item_at visit.number items) refl
     by None found = w
     by (Some old) found = there old found (same_or_not visit.number w.number)
 
-all_visits_wait : (items : Numbered) (subscription : ℕ) (visits : List Visit) → Waiting items subscription → Waiting (sampled_items items visits) subscription
+all_visits_wait : (items : NumberedItems) (subscription : ℕ) (visits : List Visit) → Waiting items subscription → Waiting (sampled_items items visits) subscription
 all_visits_wait items subscription [] w = w
 all_visits_wait items subscription (v ∷ vs) w = all_visits_wait (visited items v) subscription vs (visit_waits items subscription v w)
 

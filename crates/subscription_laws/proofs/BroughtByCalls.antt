@@ -31,31 +31,31 @@ use Rattle.subscription_laws.proofs.RunsKept.{IsRunKept, enter, one_run, started
 -- ---- Publish
 
 -- where none waits, nothing is sent
-all_answer : (session made : ℕ) (past : List Fired) (ns : List ℕ) (w : World) → Asked session made past ns w → AreAnswered w.turn.replies (all_met call.Publish w ns).turn.replies (all_made call.Publish w ns)
-all_answer session made past [] w a = none_answered w.turn.replies
+all_answer : (session made : ℕ) (past : List Fired) (ns : List ℕ) (w : World) → Asked session made past ns w → AreAnswered w.round.replies (all_met call.Publish w ns).round.replies (all_made call.Publish w ns)
+all_answer session made past [] w a = none_answered w.round.replies
 all_answer session made past (n ∷ ns) w a =
-    answered_then w.turn.replies (met w n call.Publish).turn.replies (all_met call.Publish (met w n call.Publish) ns).turn.replies (met_made w n call.Publish) (all_made call.Publish (met w n call.Publish) ns)
+    answered_then w.round.replies (met w n call.Publish).round.replies (all_met call.Publish (met w n call.Publish) ns).round.replies (met_made w n call.Publish) (all_made call.Publish (met w n call.Publish) ns)
     (met_answers w n call.Publish (λ s found. calm_given w n s (a.asking.none n s found (a.of n s (ap (λ (b : Bool). b || is_listed n ns) (at_itself n)) found))))
     (all_answer session made past ns (met w n call.Publish) (met_asked session made past w n ns a.asking a.of))
 
 best_answers : (session made : ℕ) (past : List Fired) (w : World) (ns : List ℕ) (asked : PublishCall) → (part_at session w.table.sessions).numbers ≡ ns → IsKept None made past w →
-    (o : Option Rank) → first_of (waiting_of w.table.subscriptions ns) ≡ o → AreAnswered w.turn.replies (met_by_best o ns (asked_by w asked)).turn.replies (best_made o ns (asked_by w asked))
+    (o : Option Rank) → first_of (waiting_of w.table.subscriptions ns) ≡ o → AreAnswered w.round.replies (met_by_best o ns (asked_by w asked)).round.replies (best_made o ns (asked_by w asked))
 best_answers session made past w ns asked are k (Some rank) is = met_answers (asked_by w asked) rank.number call.Publish (λ s found. asked_given (asked_by w asked) rank.number asked refl s)
 best_answers session made past w ns asked are k None is = all_answer session made past ns (asked_by w asked) (none_asked session made past w ns asked are k is)
 
 answered_to_answers : (session made : ℕ) (past : List Fired) (w : World) (asked : PublishCall) (ns : List ℕ) → (part_at session w.table.sessions).numbers ≡ ns → IsKept None made past w →
-    AreAnswered w.turn.replies (answered_to ns asked w).turn.replies (asked_made ns asked w)
+    AreAnswered w.round.replies (answered_to ns asked w).round.replies (asked_made ns asked w)
 unfolding answered_to
-answered_to_answers session made past w asked [] are k = one_answered w.turn.replies _
+answered_to_answers session made past w asked [] are k = one_answered w.round.replies _
 answered_to_answers session made past w asked (n ∷ ns) are k = best_answers session made past w (n ∷ ns) asked are k (first_of (waiting_of w.table.subscriptions (n ∷ ns))) refl
 
 answered_by_answers : (session made : ℕ) (past : List Fired) (w : World) (asked : PublishCall) (note : Option TimeoutNote) → IsKept None made past w →
-    AreAnswered w.turn.replies (answered_by note session asked w).turn.replies (unless_noted note session asked w)
-answered_by_answers session made past w asked (Some note) k = one_answered w.turn.replies _
+    AreAnswered w.round.replies (answered_by note session asked w).round.replies (unless_noted note session asked w)
+answered_by_answers session made past w asked (Some note) k = one_answered w.round.replies _
 answered_by_answers session made past w asked None k = answered_to_answers session made past w asked (part_at session w.table.sessions).numbers refl k
 
 published_answers : (session made : ℕ) (past : List Fired) (asked : PublishCall) (acks : List SubscriptionAcknowledgement) (w : World) → IsKept None made past w →
-    AreAnswered w.turn.replies (published session asked acks w).turn.replies (published_made session asked acks w)
+    AreAnswered w.round.replies (published session asked acks w).round.replies (published_made session asked acks w)
 unfolding published
 published_answers session made past asked acks w k =
     let all = acknowledged_all session w.table.subscriptions acks in
@@ -64,12 +64,12 @@ published_answers session made past asked acks w k =
 -- ---- any calls
 
 -- a call's answers come behind those of earlier calls
-ran_answers : {A : Type 0} → (r : Ran) (s : Said A) (ms : List Made) → AreAnswered [] s.outcome.world.turn.replies ms → AreAnswered r.replies (ran_by r s).replies ms
+ran_answers : {A : Type 0} → (r : Ran) (s : Said A) (ms : List Made) → AreAnswered [] s.outcome.world.round.replies ms → AreAnswered r.replies (ran_by r s).replies ms
 ran_answers r s ms h = record { more = h.more; so = ap (λ (rs : List Reply). r.replies ++ rs) h.so; brought = h.brought }
 
 -- and a call that makes no message may answer what it will
 ran_none : {A : Type 0} → (r : Ran) (s : Said A) → AreAnswered r.replies (ran_by r s).replies []
-ran_none r s = record { more = s.outcome.world.turn.replies; so = refl; brought = tt }
+ran_none r s = record { more = s.outcome.world.round.replies; so = refl; brought = tt }
 
 one_answers : (r : Ran) (m : Move) → IsRunKept r → AreAnswered r.replies (moved r m).replies (moved_made r m)
 one_answers r (Move.Publish clock session asked acks) k =

@@ -13,7 +13,7 @@ use Rattle.ua_subscriptions.specs.declared.call.Call.TheVariants.{Create, Publis
 use Rattle.ua_subscriptions.specs.declared.publish_call.PublishCall.{PublishCall}
 use Rattle.ua_subscriptions.specs.declared.session_part.SessionSubscriptions.{SessionSubscriptions}
 use Rattle.ua_subscriptions.specs.declared.subscription.Subscription.{Subscription}
-use Rattle.ua_subscriptions.specs.declared.turn.Turn.{Turn}
+use Rattle.ua_subscriptions.specs.declared.round.Round.{Round}
 use Rattle.ua_subscriptions.specs.Answers.{number_of, published_of}
 use Rattle.ua_subscriptions.specs.Calls.{event_of}
 use Rattle.ua_subscriptions.specs.Firing.{vars_in, before_by, row_of, fired}
@@ -66,46 +66,46 @@ answered_then a b c ms ns h k = record {
 
 -- ---- messages with notifications
 
-note_answers : (n : Noting) (own : ℕ) (call : PublishCall) → n.turn.own ≡ own → n.turn.asked ≡ Some call → AreAnswered n.turn.replies (note_sent n).turn.replies (made_of own (note_made n ∷ []))
+note_answers : (n : Noting) (own : ℕ) (call : PublishCall) → n.round.own ≡ own → n.round.asked ≡ Some call → AreAnswered n.round.replies (note_sent n).round.replies (made_of own (note_made n ∷ []))
 unfolding note_sent
 note_answers n own call is asked =
-    let after = subscription_noted n.turn n.subscription n.items in
-    let bytes = message_made n.turn n.subscription n.items in
+    let after = subscription_noted n.round n.subscription n.items in
+    let bytes = message_made n.round n.subscription n.items in
     record {
-      more = published_of n.turn.clock call n.turn.own (map number_of after.kept) after.more bytes ∷ [];
-      so = ap (λ (o : Option PublishCall). (answered_by o (counted n.turn) after after.more bytes).replies) asked;
+      more = published_of n.round.clock call n.round.own (map number_of after.kept) after.more bytes ∷ [];
+      so = ap (λ (o : Option PublishCall). (answered_by o (counted n.round) after after.more bytes).replies) asked;
       brought = inl (
         record {
-          clock = n.turn.clock;
+          clock = n.round.clock;
           call = call;
           kept = map number_of after.kept;
           more = after.more;
-          so = ap (λ (k : ℕ). published_of n.turn.clock call k (map number_of after.kept) after.more bytes) is;
+          so = ap (λ (k : ℕ). published_of n.round.clock call k (map number_of after.kept) after.more bytes) is;
         },
         tt,
       );
     }
 
 -- each further message answers a request that waited
-rest_answers : (calls : List PublishCall) (n : Noting) (own : ℕ) → n.turn.own ≡ own → AreAnswered n.turn.replies (rest_sent calls n).noting.turn.replies (made_of own (rest_made calls n))
-rest_answers [] n own is = none_answered n.turn.replies
+rest_answers : (calls : List PublishCall) (n : Noting) (own : ℕ) → n.round.own ≡ own → AreAnswered n.round.replies (rest_sent calls n).noting.round.replies (made_of own (rest_made calls n))
+rest_answers [] n own is = none_answered n.round.replies
 rest_answers (asked ∷ calls) n own is = by n.subscription.more (rest_answers calls (note_sent (with_asked n asked)) own (note_own (with_asked n asked) ∙ is))
   where
     next : Noting
     next = note_sent (with_asked n asked)
 
-    by : (more : Bool) → AreAnswered next.turn.replies (rest_sent calls next).noting.turn.replies (made_of own (rest_made calls next)) →
-        AreAnswered n.turn.replies (cond more (rest_sent calls next) (sending n (asked ∷ calls))).noting.turn.replies (made_of own (cond more (note_made (with_asked n asked) ∷ rest_made calls next) []))
+    by : (more : Bool) → AreAnswered next.round.replies (rest_sent calls next).noting.round.replies (made_of own (rest_made calls next)) →
+        AreAnswered n.round.replies (cond more (rest_sent calls next) (sending n (asked ∷ calls))).noting.round.replies (made_of own (cond more (note_made (with_asked n asked) ∷ rest_made calls next) []))
     by true h =
-        answered_then n.turn.replies next.turn.replies (rest_sent calls next).noting.turn.replies (made_of own (note_made (with_asked n asked) ∷ [])) (made_of own (rest_made calls next))
+        answered_then n.round.replies next.round.replies (rest_sent calls next).noting.round.replies (made_of own (note_made (with_asked n asked) ∷ [])) (made_of own (rest_made calls next))
         (note_answers (with_asked n asked) own asked is refl) h
-    by false h = none_answered n.turn.replies
+    by false h = none_answered n.round.replies
 
-notes_answer : (calls : List PublishCall) (n : Noting) (call : PublishCall) → n.turn.asked ≡ Some call → AreAnswered n.turn.replies (notes_sent calls n).noting.turn.replies (made_of n.turn.own (notes_made calls n))
+notes_answer : (calls : List PublishCall) (n : Noting) (call : PublishCall) → n.round.asked ≡ Some call → AreAnswered n.round.replies (notes_sent calls n).noting.round.replies (made_of n.round.own (notes_made calls n))
 unfolding notes_sent
 notes_answer calls n call asked =
-    answered_then n.turn.replies (note_sent n).turn.replies (rest_sent calls (note_sent n)).noting.turn.replies (made_of n.turn.own (note_made n ∷ [])) (made_of n.turn.own (rest_made calls (note_sent n)))
-    (note_answers n n.turn.own call refl asked) (rest_answers calls (note_sent n) n.turn.own (note_own n))
+    answered_then n.round.replies (note_sent n).round.replies (rest_sent calls (note_sent n)).noting.round.replies (made_of n.round.own (note_made n ∷ [])) (made_of n.round.own (rest_made calls (note_sent n)))
+    (note_answers n n.round.own call refl asked) (rest_answers calls (note_sent n) n.round.own (note_own n))
 
 -- ---- a row
 
@@ -114,55 +114,55 @@ abbrev pub IsGiven : RowId → Scene → Type 0
 IsGiven r c = sends r ≡ true → (call : PublishCall) × (answering r c ≡ Some call)
 
 abbrev RowAnswers : RowId → Scene → Type 0
-RowAnswers r c = AreAnswered c.turn.replies (row_done r c).turn.replies (made_of c.turn.own (messages_of r c))
+RowAnswers r c = AreAnswered c.round.replies (row_done r c).round.replies (made_of c.round.own (messages_of r c))
 
-keep_alive_answers : (asked : Option PublishCall) (turn : Turn) (s : Subscription) (more : Bool) (message : List ℕ) → AreAnswered turn.replies (answered_by asked turn s more message).replies []
-keep_alive_answers None turn s more message = none_answered turn.replies
-keep_alive_answers (Some call) turn s more message = one_answered turn.replies (published_of turn.clock call turn.own (map number_of s.kept) more message)
+keep_alive_answers : (asked : Option PublishCall) (round : Round) (s : Subscription) (more : Bool) (message : List ℕ) → AreAnswered round.replies (answered_by asked round s more message).replies []
+keep_alive_answers None round s more message = none_answered round.replies
+keep_alive_answers (Some call) round s more message = one_answered round.replies (published_of round.clock call round.own (map number_of s.kept) more message)
 
-enqueued_answers : (turn : Turn) (part : SessionSubscriptions) → AreAnswered turn.replies (enqueued turn part).turn.replies []
+enqueued_answers : (round : Round) (part : SessionSubscriptions) → AreAnswered round.replies (enqueued round part).round.replies []
 unfolding enqueued
-enqueued_answers turn part = by turn.asked
+enqueued_answers round part = by round.asked
   where
-    refused : (o : Option PublishCall) → AreAnswered turn.replies (with_refused (record turn { asked = None }) o).replies []
-    refused None = none_answered turn.replies
-    refused (Some call) = one_answered turn.replies _
+    refused : (o : Option PublishCall) → AreAnswered round.replies (with_refused (record round { asked = None }) o).replies []
+    refused None = none_answered round.replies
+    refused (Some call) = one_answered round.replies _
 
-    full : (b : Bool) (x y : Queueing) → AreAnswered turn.replies x.turn.replies [] → AreAnswered turn.replies y.turn.replies [] → AreAnswered turn.replies (cond b x y).turn.replies []
+    full : (b : Bool) (x y : Queueing) → AreAnswered round.replies x.round.replies [] → AreAnswered round.replies y.round.replies [] → AreAnswered round.replies (cond b x y).round.replies []
     full true x y h k = h
     full false x y h k = k
 
-    by : (o : Option PublishCall) → AreAnswered turn.replies (enqueued_by o turn part).turn.replies []
-    by None = none_answered turn.replies
-    by (Some call) = full (nat_le turn.bounds.publish_queue (length part.requests)) _ _ (refused (first_of part.requests)) (none_answered turn.replies)
+    by : (o : Option PublishCall) → AreAnswered round.replies (enqueued_by o round part).round.replies []
+    by None = none_answered round.replies
+    by (Some call) = full (nat_le round.bounds.publish_queue (length part.requests)) _ _ (refused (first_of part.requests)) (none_answered round.replies)
 
 row_answers : (r : RowId) (c : Scene) → IsGiven r c → RowAnswers r c
 unfolding row_done
-row_answers N2 c given = let g = given refl in notes_answer c.part.requests (noting c.turn (life_reset c.subscription) c.items) g.0 g.1
-row_answers L1 c given = let g = given refl in notes_answer c.part.requests (noting c.turn (life_reset c.subscription) c.items) g.0 g.1
-row_answers N3 c given = let g = given refl in notes_answer (drop 1 c.part.requests) (noting (dequeued c.turn c.part).turn (started c.turn (life_reset c.subscription)) c.items) g.0 g.1
-row_answers K2 c given = let g = given refl in notes_answer (drop 1 c.part.requests) (noting (dequeued c.turn c.part).turn (started c.turn (life_reset c.subscription)) c.items) g.0 g.1
-row_answers N4 c given = keep_alive_answers (first_of c.part.requests) (counted (dequeued c.turn c.part).turn) _ _ _
-row_answers K3 c given = keep_alive_answers (first_of c.part.requests) (counted (dequeued c.turn c.part).turn) _ _ _
-row_answers L2 c given = keep_alive_answers c.turn.asked (counted c.turn) _ _ _
-row_answers N1 c given = enqueued_answers c.turn c.part
-row_answers K1 c given = enqueued_answers c.turn c.part
-row_answers r c given = none_answered c.turn.replies
+row_answers N2 c given = let g = given refl in notes_answer c.part.requests (noting c.round (life_reset c.subscription) c.items) g.0 g.1
+row_answers L1 c given = let g = given refl in notes_answer c.part.requests (noting c.round (life_reset c.subscription) c.items) g.0 g.1
+row_answers N3 c given = let g = given refl in notes_answer (drop 1 c.part.requests) (noting (dequeued c.round c.part).round (started c.round (life_reset c.subscription)) c.items) g.0 g.1
+row_answers K2 c given = let g = given refl in notes_answer (drop 1 c.part.requests) (noting (dequeued c.round c.part).round (started c.round (life_reset c.subscription)) c.items) g.0 g.1
+row_answers N4 c given = keep_alive_answers (first_of c.part.requests) (counted (dequeued c.round c.part).round) _ _ _
+row_answers K3 c given = keep_alive_answers (first_of c.part.requests) (counted (dequeued c.round c.part).round) _ _ _
+row_answers L2 c given = keep_alive_answers c.round.asked (counted c.round) _ _ _
+row_answers N1 c given = enqueued_answers c.round c.part
+row_answers K1 c given = enqueued_answers c.round c.part
+row_answers r c given = none_answered c.round.replies
 
-fired_answers : (c : Scene) → IsGiven (row_of c) c → AreAnswered c.turn.replies (fired c).turn.replies (made_of c.turn.own (messages_of (row_of c) c))
+fired_answers : (c : Scene) → IsGiven (row_of c) c → AreAnswered c.round.replies (fired c).round.replies (made_of c.round.own (messages_of (row_of c) c))
 unfolding fired
 fired_answers c given = row_answers (row_of c) c given
 
 -- ---- what a subscription meets
 
 pub met_answers : (w : World) (n : ℕ) (asked : Call) → ((s : Subscription) → subscription_at n w.table.subscriptions ≡ Some s → IsGiven (row_of (scene_at w n asked s)) (scene_at w n asked s)) →
-    AreAnswered w.turn.replies (met w n asked).turn.replies (met_made w n asked)
+    AreAnswered w.round.replies (met w n asked).round.replies (met_made w n asked)
 unfolding met
 met_answers w n asked given = by (subscription_at n w.table.subscriptions) refl
   where
     by : (o : Option Subscription) → subscription_at n w.table.subscriptions ≡ o →
-        AreAnswered w.turn.replies (without_closed n (met_found (with_call w.turn n asked) w.table.subscriptions w.table.sessions w.items o)).turn.replies (made_by w n asked o)
-    by None found = none_answered w.turn.replies
+        AreAnswered w.round.replies (without_closed n (met_found (with_call w.round n asked) w.table.subscriptions w.table.sessions w.items o)).round.replies (made_by w n asked o)
+    by None found = none_answered w.round.replies
     by (Some s) found = fired_answers (scene_at w n asked s) (given s found)
 
 -- ---- a timer: what sends takes a request out of the queue, and one is there
@@ -210,12 +210,12 @@ timer_gives c = by (answers (vars_in c)).last_life
     by false h =
         let takes = timer_takes c.subscription.state (answers (vars_in c)) h in
         let first = first_is c.part.requests (right_of (is_some c.subscription.session) (is_any c.part.requests) takes.0) in
-        (first.0, ap (λ (b : Bool). cond b (first_of c.part.requests) c.turn.asked) takes.1 ∙ first.1)
+        (first.0, ap (λ (b : Bool). cond b (first_of c.part.requests) c.round.asked) takes.1 ∙ first.1)
 
-pub timers_answer : (ns : List ℕ) (w : World) → AreAnswered w.turn.replies (all_met Timer w ns).turn.replies (all_made Timer w ns)
-timers_answer [] w = none_answered w.turn.replies
+pub timers_answer : (ns : List ℕ) (w : World) → AreAnswered w.round.replies (all_met Timer w ns).round.replies (all_made Timer w ns)
+timers_answer [] w = none_answered w.round.replies
 timers_answer (n ∷ ns) w =
-    answered_then w.turn.replies (met w n Timer).turn.replies (all_met Timer (met w n Timer) ns).turn.replies (met_made w n Timer) (all_made Timer (met w n Timer) ns)
+    answered_then w.round.replies (met w n Timer).round.replies (all_met Timer (met w n Timer) ns).round.replies (met_made w n Timer) (all_made Timer (met w n Timer) ns)
     (met_answers w n Timer (λ s found. timer_gives (scene_at w n Timer s))) (timers_answer ns (met w n Timer))
 
 -- ---- a Publish request: what sends answers the one that came
@@ -234,10 +234,10 @@ publish_takes_none Late a = by a.enabled_available
 publish_takes_none KeepAlive a = refl
 publish_takes_none Closed a = refl
 
-pub asked_given : (w : World) (n : ℕ) (call : PublishCall) → w.turn.asked ≡ Some call → (s : Subscription) → IsGiven (row_of (scene_at w n Publish s)) (scene_at w n Publish s)
+pub asked_given : (w : World) (n : ℕ) (call : PublishCall) → w.round.asked ≡ Some call → (s : Subscription) → IsGiven (row_of (scene_at w n Publish s)) (scene_at w n Publish s)
 asked_given w n call is s h =
     let c = scene_at w n Publish s in
-    (call, ap (λ (b : Bool). cond b (first_of c.part.requests) c.turn.asked) (publish_takes_none s.state (answers (vars_in c))) ∙ is)
+    (call, ap (λ (b : Bool). cond b (first_of c.part.requests) c.round.asked) (publish_takes_none s.state (answers (vars_in c))) ∙ is)
 
 -- one that doesn't wait sends nothing
 calm_sends_none : (s : State) (a : Answers) → waits_in s a.enabled_more ≡ false → sends (publish_row s a) ≡ false
@@ -252,15 +252,15 @@ calm_given w n s calm h = absurd (false≢true (sym (calm_sends_none s.state (an
 -- ---- any call
 
 -- a row that sends has a request to answer
-pub row_given : (c : Scene) → (c.turn.call ≡ Publish → is_some c.turn.asked ≡ true) → sends (row_of c) ≡ true → is_some (answering (row_of c) c) ≡ true
-row_given c asked h = by c.turn.call refl h
+pub row_given : (c : Scene) → (c.round.call ≡ Publish → is_some c.round.asked ≡ true) → sends (row_of c) ≡ true → is_some (answering (row_of c) c) ≡ true
+row_given c asked h = by c.round.call refl h
   where
     timer : (call : PublishCall) × (answering (chosen (vars_in c) (event_of Timer)) c ≡ Some call) → is_some (answering (chosen (vars_in c) (event_of Timer)) c) ≡ true
     timer (call, is) = ap is_some is
 
-    by : (call : Call) → c.turn.call ≡ call → (let r = chosen (before_by call c) (event_of call) in sends r ≡ true → is_some (answering r c) ≡ true)
+    by : (call : Call) → c.round.call ≡ call → (let r = chosen (before_by call c) (event_of call) in sends r ≡ true → is_some (answering r c) ≡ true)
     by Timer is sent = timer (timer_gives c sent)
-    by Publish is sent = ap (λ (b : Bool). is_some (cond b (first_of c.part.requests) c.turn.asked)) (publish_takes_none c.subscription.state (answers (vars_in c))) ∙ asked is
+    by Publish is sent = ap (λ (b : Bool). is_some (cond b (first_of c.part.requests) c.round.asked)) (publish_takes_none c.subscription.state (answers (vars_in c))) ∙ asked is
     by (Create true settings enabled) is sent = absurd (cc)
     by (Create false settings enabled) is sent = absurd (cc)
     by (Republish true) is sent = absurd (cc)

@@ -73,7 +73,7 @@ unfolding notes_sent
 notes_are calls n = rest_is calls (note_sent n) ∙ ap (λ (s : ItemsState). after_calls s (rest_calls calls (note_sent n))) (note_is n)
 
 action_is : (c : Scene) (action : Action) → (done c action).items ≡ after_calls c.items (action_calls c action)
-action_is c SendNotifications = notes_are c.part.requests (noting c.turn c.subscription c.items)
+action_is c SendNotifications = notes_are c.part.requests (noting c.round c.subscription c.items)
 action_is c DeleteItems = refl
 action_is c action = refl
 
@@ -97,7 +97,7 @@ pub met_is : (w : World) (n : ℕ) (asked : Call) → (met w n asked).items ≡ 
 unfolding met
 met_is w n asked = by (subscription_at n w.table.subscriptions)
   where
-    by : (o : Option Subscription) → (without_closed n (met_found (with_call w.turn n asked) w.table.subscriptions w.table.sessions w.items o)).items ≡ after_calls w.items (calls_by w n asked o)
+    by : (o : Option Subscription) → (without_closed n (met_found (with_call w.round n asked) w.table.subscriptions w.table.sessions w.items o)).items ≡ after_calls w.items (calls_by w n asked o)
     by None = refl
     by (Some s) = fired_is (scene_at w n asked s)
 
@@ -226,7 +226,7 @@ unfolding published
 published_is session asked acks w =
     let all = acknowledged_all session w.table.subscriptions acks in
     answered_is (note_of session w.table.sessions) session (with_results asked all.results)
-    (record { turn = w.turn; table = record { subscriptions = all.subscriptions; sessions = without_note session w.table.sessions }; items = w.items })
+    (record { round = w.round; table = record { subscriptions = all.subscriptions; sessions = without_note session w.table.sessions }; items = w.items })
 
 none_refused : (session : ℕ) (code : Status) (w : World) → (all_refused session code w).items ≡ w.items
 unfolding all_refused
@@ -276,7 +276,7 @@ state_from [] before = refl
 state_from (m ∷ ms) before = state_from ms (moved_on before m)
 
 pub items_come_by_their_calls : ItemsComeByTheirCalls
-items_come_by_their_calls config moves = all_from moves (start config) ∙ sym (state_from (item_calls config moves) (record { state = no_items config; deeds = [] }))
+items_come_by_their_calls config moves = all_from moves (start config) ∙ sym (state_from (item_calls config moves) (record { state = no_items config; queue_moves = [] }))
 
 -- later calls come behind
 calls_join : (moves more : List Move) (r : Ran) → calls_from r (moves ++ more) ≡ calls_from r moves ++ calls_from (fold moved r moves) more

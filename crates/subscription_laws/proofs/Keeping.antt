@@ -23,18 +23,18 @@ use Rattle.subscription_laws.proofs.Settling.{IsStep, NoneWaits, table_after, se
 
 -- after the rows that fired before this call and those of it; of one session it may not hold that its subscriptions are its own
 pub record IsKept (except : Option ℕ) (made : ℕ) (past : List Fired) (w : World) : Type 0 where
-  pub calm : IsCalm (past ++ w.turn.rows) w.table w.items
+  pub calm : IsCalm (past ++ w.round.rows) w.table w.items
   pub own : (session : ℕ) → except ≢ Some session → ListsItsOwn w.table session
   pub within : AreLists made w.table
 
 -- ---- one step
 
 abbrev pub world_after : ℕ → Subscription → Scene → TableState → World
-world_after n s d t = record { turn = d.turn; table = table_after n s d.subscription d.part t; items = d.items }
+world_after n s d t = record { round = d.round; table = table_after n s d.subscription d.part t; items = d.items }
 
 pub one_kept : (except : Option ℕ) (made : ℕ) (past rows : List Fired) (t : TableState) (items : ItemsState) (n : ℕ) (s : Subscription) (f : Fired) (d : Scene) →
     IsCalm (past ++ rows) t items → ((session : ℕ) → except ≢ Some session → ListsItsOwn t session) → AreLists made t →
-    IsStep (past ++ rows) t items n s f d.subscription d.part d.items → d.turn.rows ≡ rows ++ f ∷ [] → (d.subscription.session ≡ s.session) ⊎ (s.session ≡ except) →
+    IsStep (past ++ rows) t items n s f d.subscription d.part d.items → d.round.rows ≡ rows ++ f ∷ [] → (d.subscription.session ≡ s.session) ⊎ (s.session ≡ except) →
     IsKept except made past (world_after n s d t)
 one_kept except made past rows t items n s f d calm own within step told stays = record {
   calm = subst (λ (fs : List Fired). IsCalm fs (table_after n s d.subscription d.part t) d.items) (append_assoc past rows (f ∷ []) ∙ ap (λ (fs : List Fired). past ++ fs) (sym told))
@@ -51,7 +51,7 @@ one_kept except made past rows t items n s f d calm own within step told stays =
 
 -- the scene of one that meets a call
 abbrev pub scene_at : World → ℕ → Call → Subscription → Scene
-scene_at w n call s = scene (with_call w.turn n call) s (part_of s.session w.table.sessions) w.items
+scene_at w n call s = scene (with_call w.round n call) s (part_of s.session w.table.sessions) w.items
 
 pub live_kept : (except : Option ℕ) (made : ℕ) (past : List Fired) (w : World) (n : ℕ) (call : Call) (s : Subscription) → subscription_at n w.table.subscriptions ≡ Some s → IsKept except made past w →
     before_by call (scene_at w n call s) ≡ vars_in (scene_at w n call s) → fits s.state (event_of call) ≡ true →
@@ -59,8 +59,8 @@ pub live_kept : (except : Option ℕ) (made : ℕ) (past : List Fired) (w : Worl
     ((fired (scene_at w n call s)).subscription.session ≡ s.session) ⊎ (s.session ≡ except) →
     IsKept except made past (world_after n s (fired (scene_at w n call s)) w.table)
 live_kept except made past w n call s found k own fit asked stays =
-    one_kept except made past w.turn.rows w.table w.items n s (firing (scene_at w n call s)) (fired (scene_at w n call s)) k.calm k.own k.within
-    (step (past ++ w.turn.rows) w.table (scene_at w n call s) found refl k.calm own fit asked) (fired_rows (scene_at w n call s)) stays
+    one_kept except made past w.round.rows w.table w.items n s (firing (scene_at w n call s)) (fired (scene_at w n call s)) k.calm k.own k.within
+    (step (past ++ w.round.rows) w.table (scene_at w n call s) found refl k.calm own fit asked) (fired_rows (scene_at w n call s)) stays
 
 -- ---- a plain call
 
@@ -112,7 +112,7 @@ pub met_plain : (except : Option ℕ) (made : ℕ) (past : List Fired) (w : Worl
 unfolding met
 met_plain except made past w n call plain may k = by (subscription_at n w.table.subscriptions) refl
   where
-    by : (o : Option Subscription) → subscription_at n w.table.subscriptions ≡ o → IsKept except made past (without_closed n (met_found (with_call w.turn n call) w.table.subscriptions w.table.sessions w.items o))
+    by : (o : Option Subscription) → subscription_at n w.table.subscriptions ≡ o → IsKept except made past (without_closed n (met_found (with_call w.round n call) w.table.subscriptions w.table.sessions w.items o))
     by None found = record { calm = k.calm; own = k.own; within = k.within }
     by (Some s) found =
         let kept = live_kept except made past w n call s found k (plain_before call (scene_at w n call s) plain)

@@ -63,18 +63,18 @@ served_apart number asked items = record {
 
 -- how it stood before its items were served, and stands after the row
 link_items : (c : Scene) (old : ItemsState) (counts : Counts) →
-    let s = after (circumstances G7 c (row_done G7 c)) G7 (standing (vars_of c.subscription c.part old c.turn.own) c.subscription counts) in standing_in c.turn.own (row_done G7 c) (counts_of s) ≡ s
+    let s = after (circumstances G7 c (row_done G7 c)) G7 (standing (vars_of c.subscription c.part old c.round.own) c.subscription counts) in standing_in c.round.own (row_done G7 c) (counts_of s) ≡ s
 unfolding row_done
 link_items c old counts = refl
 
-module _ (made : ℕ) (past : List Fired) (w : World) (old : ItemsState) (n : ℕ) (s : Subscription) (calm : IsCalm (past ++ w.turn.rows) w.table old) (own : (session : ℕ) → None ≢ Some session → ListsItsOwn w.table session)
+module _ (made : ℕ) (past : List Fired) (w : World) (old : ItemsState) (n : ℕ) (s : Subscription) (calm : IsCalm (past ++ w.round.rows) w.table old) (own : (session : ℕ) → None ≢ Some session → ListsItsOwn w.table session)
     (within : AreLists made w.table) (served : AreApart n old w.items) (found : subscription_at n w.table.subscriptions ≡ Some s) where
   -- the variables before, and the scene in which the row fires
   abbrev before : Vars
   before = vars_of s (part_of s.session w.table.sessions) old n
 
   abbrev stood : Standing
-  stood = standing before s (counts_at n (past ++ w.turn.rows))
+  stood = standing before s (counts_at n (past ++ w.round.rows))
 
   abbrev here : Scene
   here = scene_at w n (Items before) s
@@ -87,14 +87,14 @@ module _ (made : ℕ) (past : List Fired) (w : World) (old : ItemsState) (n : �
 
   row_steady : IsSteady (standing_in n (row_done G7 here) (counts_of (after (circumstances G7 here (row_done G7 here)) G7 stood)))
   row_steady =
-      subst IsSteady (sym (link_items here old (counts_at n (past ++ w.turn.rows))))
+      subst IsSteady (sym (link_items here old (counts_at n (past ++ w.round.rows))))
       (table.stays_steady (circumstances G7 here (row_done G7 here)) stood event.Items G7 (fair G7 here) steady (live_fits s.state (Items before) refl steady.live) one steady.live)
 
-  steady_after : IsSteady (standing_in n (fired here) (counts_at n ((past ++ w.turn.rows) ++ firing here ∷ [])))
+  steady_after : IsSteady (standing_in n (fired here) (counts_at n ((past ++ w.round.rows) ++ firing here ∷ [])))
   unfolding fired
-  steady_after = subst (λ (k : Counts). IsSteady (standing_in n (row_done G7 here) k)) (sym (counts_own n (past ++ w.turn.rows) (firing here) (fired_number here))) row_steady
+  steady_after = subst (λ (k : Counts). IsSteady (standing_in n (row_done G7 here) k)) (sym (counts_own n (past ++ w.round.rows) (firing here) (fired_number here))) row_steady
 
-  step : IsStep (past ++ w.turn.rows) w.table old n s (firing here) (fired here).subscription (fired here).part (fired here).items
+  step : IsStep (past ++ w.round.rows) w.table old n s (firing here) (fired here).subscription (fired here).part (fired here).items
   step = record {
     found = found;
     number = fired_number here;
@@ -102,21 +102,21 @@ module _ (made : ℕ) (past : List Fired) (w : World) (old : ItemsState) (n : �
     session = inl (fired_stays here refl);
     apart = apart_then n old w.items (fired here).items served (fired_items here);
     own = λ live. steady_after;
-    life = λ live. life_told (past ++ w.turn.rows) here live (λ e. absurd (cc)) (counts_own n (past ++ w.turn.rows) (firing here) (fired_number here)) steady_after.life_counted;
+    lifetime = λ live. life_told (past ++ w.round.rows) here live (λ e. absurd (cc)) (counts_own n (past ++ w.round.rows) (firing here) (fired_number here)) steady_after.life_counted;
     others = inl (λ none. fired_none here refl none);
-    lawful = lawful (past ++ w.turn.rows) (firing here) stood refl
+    lawful = lawful (past ++ w.round.rows) (firing here) stood refl
         (record {
-          started = ap (λ (k : ℕ). (counts_at k (past ++ w.turn.rows)).started) (fired_number here);
-          life = ap (λ (k : ℕ). life_at k (past ++ w.turn.rows)) (fired_number here) ∙ calm.lives n s found;
+          started = ap (λ (k : ℕ). (counts_at k (past ++ w.round.rows)).started) (fired_number here);
+          lifetime = ap (λ (k : ℕ). life_at k (past ++ w.round.rows)) (fired_number here) ∙ calm.lives n s found;
         })
         steady (live_fits s.state (Items before) refl steady.live) one;
   }
 
   served_after : IsKept None made past (world_after n s (fired here) w.table)
-  served_after = one_kept None made past w.turn.rows w.table old n s (firing here) (fired here) calm own within step (fired_rows here) (inl (fired_stays here refl))
+  served_after = one_kept None made past w.round.rows w.table old n s (firing here) (fired here) calm own within step (fired_rows here) (inl (fired_stays here refl))
 
   pub served_kept : IsKept None made past (met w n (Items before))
   unfolding met
   served_kept =
-      subst (λ (o : Option Subscription). IsKept None made past (without_closed n (met_found (with_call w.turn n (Items before)) w.table.subscriptions w.table.sessions w.items o))) (sym found)
+      subst (λ (o : Option Subscription). IsKept None made past (without_closed n (met_found (with_call w.round n (Items before)) w.table.subscriptions w.table.sessions w.items o))) (sym found)
       (let k = served_after in record { calm = k.calm; own = k.own; within = k.within })

@@ -99,19 +99,19 @@ unfolding fired row_done
 refused_items session asked enabled w = refl
 
 abbrev refused_start : ℕ → Settings → Bool → World → Scene
-refused_start session asked enabled w = scene (with_call w.turn 0 (Create true asked enabled)) (unborn session) no_part w.items
+refused_start session asked enabled w = scene (with_call w.round 0 (Create true asked enabled)) (unborn session) no_part w.items
 
 pub refused_one_kept : (made : ℕ) (past : List Fired) (session : ℕ) (asked : Settings) (enabled : Bool) (w : World) → IsKept None made past w → IsKept None made past (refused_one session asked enabled w)
 unfolding refused_one
 refused_one_kept made past session asked enabled w k =
     let f = firing (refused_start session asked enabled w) in
-    let law = created_lawful (past ++ w.turn.rows) f true refl refl refl in
-    let rows : (past ++ w.turn.rows) ++ f ∷ [] ≡ past ++ (fired (refused_start session asked enabled w)).turn.rows =
-    append_assoc past w.turn.rows (f ∷ []) ∙ ap (λ (fs : List Fired). past ++ fs) (sym (fired_rows (refused_start session asked enabled w))) in
+    let law = created_lawful (past ++ w.round.rows) f true refl refl refl in
+    let rows : (past ++ w.round.rows) ++ f ∷ [] ≡ past ++ (fired (refused_start session asked enabled w)).round.rows =
+    append_assoc past w.round.rows (f ∷ []) ∙ ap (λ (fs : List Fired). past ++ fs) (sym (fired_rows (refused_start session asked enabled w))) in
     record {
       calm = subst (λ (fs : List Fired). IsCalm fs w.table (refused_scene session asked enabled w).items) rows
-          (subst (λ (items : ItemsState). IsCalm ((past ++ w.turn.rows) ++ f ∷ []) w.table items) (sym (refused_items session asked enabled w))
-          (refused_calm (past ++ w.turn.rows) f w.table w.items refl law k.calm));
+          (subst (λ (items : ItemsState). IsCalm ((past ++ w.round.rows) ++ f ∷ []) w.table items) (sym (refused_items session asked enabled w))
+          (refused_calm (past ++ w.round.rows) f w.table w.items refl law k.calm));
       own = k.own;
       within = k.within;
     }
@@ -119,7 +119,7 @@ refused_one_kept made past session asked enabled w k =
 -- ---- one that is made
 
 abbrev pub added_start : ℕ → ℕ → Settings → Bool → World → Scene
-added_start session number asked enabled w = scene (with_call w.turn number (Create false asked enabled)) (unborn session) (part_at session w.table.sessions) w.items
+added_start session number asked enabled w = scene (with_call w.round number (Create false asked enabled)) (unborn session) (part_at session w.table.sessions) w.items
 
 -- what the row makes
 record RowMakes (r : RowId) (c : Scene) : Type 0 where
@@ -128,11 +128,11 @@ record RowMakes (r : RowId) (c : Scene) : Type 0 where
   requests : (row_done r c).part.requests ≡ c.part.requests
   numbers : (row_done r c).part.numbers ≡ c.part.numbers
   items : (row_done r c).items ≡ c.items
-  steady : (counts : Counts) → IsSteady (standing_in c.turn.own (row_done r c) (row_counts r c counts))
+  steady : (counts : Counts) → IsSteady (standing_in c.round.own (row_done r c) (row_counts r c counts))
   sets : sets_life r ≡ true
 
-begins_steady : (c : Scene) (counts : Counts) → IsSteady (standing_in c.turn.own (row_done C2 c) (row_counts C2 c counts))
-begins_steady c counts = subst IsSteady (sym (link_C2 c counts)) (begins (circumstances C2 c (row_done C2 c)) (standing_in c.turn.own c counts) (fair C2 c))
+begins_steady : (c : Scene) (counts : Counts) → IsSteady (standing_in c.round.own (row_done C2 c) (row_counts C2 c counts))
+begins_steady c counts = subst IsSteady (sym (link_C2 c counts)) (begins (circumstances C2 c (row_done C2 c)) (standing_in c.round.own c counts) (fair C2 c))
 
 row_begins : (c : Scene) → RowMakes C2 c
 unfolding row_done
@@ -147,25 +147,25 @@ record IsBegun (rows : List Fired) (c d : Scene) : Type 0 where
   requests : d.part.requests ≡ c.part.requests
   numbers : d.part.numbers ≡ c.part.numbers
   items : d.items ≡ c.items
-  steady : IsSteady (standing_in c.turn.own d (counts_at c.turn.own (rows ++ firing c ∷ [])))
-  life : life_at c.turn.own (rows ++ firing c ∷ []) ≡ d.subscription.life_count
+  steady : IsSteady (standing_in c.round.own d (counts_at c.round.own (rows ++ firing c ∷ [])))
+  lifetime : life_at c.round.own (rows ++ firing c ∷ []) ≡ d.subscription.lifetime_count
 
-begun_counts : (rows : List Fired) (c : Scene) → row_of c ≡ C2 → counts_after (counts_at c.turn.own rows) (firing c) ≡ row_counts (row_of c) c (counts_at c.turn.own rows)
+begun_counts : (rows : List Fired) (c : Scene) → row_of c ≡ C2 → counts_after (counts_at c.round.own rows) (firing c) ≡ row_counts (row_of c) c (counts_at c.round.own rows)
 begun_counts rows c is = by (row_of c) is
   where
-    by : (r : RowId) → r ≡ C2 → record { started = fold started_by (counts_at c.turn.own rows).started (actions_of r); answerable = answerable_after r (before_of c).queued (counts_at c.turn.own rows).answerable }
-        ≡ row_counts r c (counts_at c.turn.own rows)
-    by r e = rw e (sym (counts_of_row C2 c (counts_at c.turn.own rows)))
+    by : (r : RowId) → r ≡ C2 → record { started = fold started_by (counts_at c.round.own rows).started (actions_of r); answerable = answerable_after r (before_of c).queued (counts_at c.round.own rows).answerable }
+        ≡ row_counts r c (counts_at c.round.own rows)
+    by r e = rw e (sym (counts_of_row C2 c (counts_at c.round.own rows)))
 
 open_numbers : (b : Bool) (ns other : List ℕ) → b ≡ false → cond b other ns ≡ ns
 open_numbers true ns other e = absurd (cc)
 open_numbers false ns other e = refl
 
-begun_steady : (rows : List Fired) (c : Scene) → row_of c ≡ C2 → IsSteady (standing_in c.turn.own (fired c) (counts_at c.turn.own (rows ++ firing c ∷ [])))
+begun_steady : (rows : List Fired) (c : Scene) → row_of c ≡ C2 → IsSteady (standing_in c.round.own (fired c) (counts_at c.round.own (rows ++ firing c ∷ [])))
 unfolding fired
 begun_steady rows c is =
-    subst (λ (k : Counts). IsSteady (standing_in c.turn.own (row_done (row_of c) c) k))
-    (sym (counts_own c.turn.own rows (firing c) (fired_number c) ∙ begun_counts rows c is)) ((row_makes (row_of c) c is).steady (counts_at c.turn.own rows))
+    subst (λ (k : Counts). IsSteady (standing_in c.round.own (row_done (row_of c) c) k))
+    (sym (counts_own c.round.own rows (firing c) (fired_number c) ∙ begun_counts rows c is)) ((row_makes (row_of c) c is).steady (counts_at c.round.own rows))
 
 begun_live : (c : Scene) → row_of c ≡ C2 → is_closed (fired c).subscription ≡ false
 unfolding fired
@@ -186,7 +186,7 @@ begun rows c is =
       numbers = fired_numbers c ∙ open_numbers (is_closed (fired c).subscription) c.part.numbers _ live;
       items = rest.2;
       steady = steady;
-      life = life_told rows c live (λ e. absurd (false≢true (sym e ∙ (row_makes (row_of c) c is).sets))) (counts_own c.turn.own rows (firing c) (fired_number c)) steady.life_counted;
+      lifetime = life_told rows c live (λ e. absurd (false≢true (sym e ∙ (row_makes (row_of c) c is).sets))) (counts_own c.round.own rows (firing c) (fired_number c)) steady.life_counted;
     }
 
 -- the table with it
@@ -301,7 +301,7 @@ module _ (rows : List Fired) (t : TableState) (items : ItemsState) (number sessi
           (subst (λ (p : SessionSubscriptions). AreNumbersRising p.numbers) (sym made_part) (numbers_rising_put number part.numbers (subst AreNumbersRising (sym numbers) (lists.rising session))))
       rising k (inr other) = subst (λ (p : SessionSubscriptions). AreNumbersRising p.numbers) (sym (other_part k other)) (lists.rising k)
 
-  module _ (steady : IsSteady (standing (vars_of s part items number) s (counts_at number (rows ++ f ∷ [])))) (life : life_at number (rows ++ f ∷ []) ≡ s.life_count) (law : IsLawful rows f) where
+  module _ (steady : IsSteady (standing (vars_of s part items number) s (counts_at number (rows ++ f ∷ [])))) (lifetime : life_at number (rows ++ f ∷ []) ≡ s.lifetime_count) (law : IsLawful rows f) where
     own_asks : (is_some s.session && is_any (part_of s.session (with_made number session s part t).sessions).requests) ≡ (is_some s.session && is_any part.requests)
     own_asks = same_asks s.session ∙ ap (λ (o : Option ℕ). is_some s.session && is_any (part_of o t.sessions).requests) own ∙ ap (λ (x : List PublishCall). is_some s.session && is_any x) (sym requests)
 
@@ -327,8 +327,8 @@ module _ (rows : List Fired) (t : TableState) (items : ItemsState) (number sessi
     made_lives : LivesAreSet (with_made number session s part t) (rows ++ f ∷ [])
     made_lives m u found = by (made_found m u found)
       where
-        by : ((m ≡ number) × (u ≡ s)) ⊎ ((m ≢ number) × (subscription_at m t.subscriptions ≡ Some u)) → life_at m (rows ++ f ∷ []) ≡ u.life_count
-        by (inl (same, it)) = ap (λ (i : ℕ). life_at i (rows ++ f ∷ [])) same ∙ life ∙ ap (λ (x : Subscription). x.life_count) (sym it)
+        by : ((m ≡ number) × (u ≡ s)) ⊎ ((m ≢ number) × (subscription_at m t.subscriptions ≡ Some u)) → life_at m (rows ++ f ∷ []) ≡ u.lifetime_count
+        by (inl (same, it)) = ap (λ (i : ℕ). life_at i (rows ++ f ∷ [])) same ∙ lifetime ∙ ap (λ (x : Subscription). x.lifetime_count) (sym it)
         by (inr (other, before)) = life_other m rows f (λ same. other (same ∙ is)) ∙ h.lives m u before
 
     made_calm : IsCalm (rows ++ f ∷ []) (with_made number session s part t) items
@@ -338,15 +338,15 @@ pub added_kept : (made : ℕ) (past : List Fired) (session number : ℕ) (asked 
 unfolding added
 added_kept made past session number asked enabled w above k =
     let c = added_start session number asked enabled w in
-    let b = begun (past ++ w.turn.rows) c refl in
-    let rows : (past ++ w.turn.rows) ++ firing c ∷ [] ≡ past ++ (fired c).turn.rows = append_assoc past w.turn.rows (firing c ∷ []) ∙ ap (λ (fs : List Fired). past ++ fs) (sym (fired_rows c)) in
-    let steady : IsSteady (standing (vars_of (fired c).subscription (fired c).part w.items number) (fired c).subscription (counts_at number ((past ++ w.turn.rows) ++ firing c ∷ []))) =
-    subst (λ (i : ItemsState). IsSteady (standing (vars_of (fired c).subscription (fired c).part i number) (fired c).subscription (counts_at number ((past ++ w.turn.rows) ++ firing c ∷ [])))) b.items b.steady in
-    let law = created_lawful (past ++ w.turn.rows) (firing c) false refl refl refl in
+    let b = begun (past ++ w.round.rows) c refl in
+    let rows : (past ++ w.round.rows) ++ firing c ∷ [] ≡ past ++ (fired c).round.rows = append_assoc past w.round.rows (firing c ∷ []) ∙ ap (λ (fs : List Fired). past ++ fs) (sym (fired_rows c)) in
+    let steady : IsSteady (standing (vars_of (fired c).subscription (fired c).part w.items number) (fired c).subscription (counts_at number ((past ++ w.round.rows) ++ firing c ∷ []))) =
+    subst (λ (i : ItemsState). IsSteady (standing (vars_of (fired c).subscription (fired c).part i number) (fired c).subscription (counts_at number ((past ++ w.round.rows) ++ firing c ∷ [])))) b.items b.steady in
+    let law = created_lawful (past ++ w.round.rows) (firing c) false refl refl refl in
     record {
       calm = subst (λ (fs : List Fired). IsCalm fs (with_made number session (fired c).subscription (fired c).part w.table) (fired c).items) rows
-          (subst (λ (i : ItemsState). IsCalm ((past ++ w.turn.rows) ++ firing c ∷ []) (with_made number session (fired c).subscription (fired c).part w.table) i) (sym b.items)
-          (made_calm (past ++ w.turn.rows) w.table w.items number session (fired c).subscription (fired c).part (firing c) k.calm (fired_number c) b.session b.numbers b.requests steady b.life law));
-      own = λ j other. made_own (past ++ w.turn.rows) w.table w.items number session (fired c).subscription (fired c).part (firing c) k.calm (fired_number c) b.session b.numbers b.requests made above k.within j (k.own j other);
-      within = made_within (past ++ w.turn.rows) w.table w.items number session (fired c).subscription (fired c).part (firing c) k.calm (fired_number c) b.session b.numbers b.requests made above k.within;
+          (subst (λ (i : ItemsState). IsCalm ((past ++ w.round.rows) ++ firing c ∷ []) (with_made number session (fired c).subscription (fired c).part w.table) i) (sym b.items)
+          (made_calm (past ++ w.round.rows) w.table w.items number session (fired c).subscription (fired c).part (firing c) k.calm (fired_number c) b.session b.numbers b.requests steady b.lifetime law));
+      own = λ j other. made_own (past ++ w.round.rows) w.table w.items number session (fired c).subscription (fired c).part (firing c) k.calm (fired_number c) b.session b.numbers b.requests made above k.within j (k.own j other);
+      within = made_within (past ++ w.round.rows) w.table w.items number session (fired c).subscription (fired c).part (firing c) k.calm (fired_number c) b.session b.numbers b.requests made above k.within;
     }

@@ -76,9 +76,9 @@ unfolding all_refused
 refused_kept except made past session code w k =
     let f = set_fewer session (without_requests (part_at session w.table.sessions)) w.table.sessions refl (λ e. absurd (cc)) in
     record {
-      calm = parts_calm (past ++ w.turn.rows) w.table w.items (sessions_without_requests session w.table.sessions) f k.calm;
-      own = λ j other. parts_own (past ++ w.turn.rows) w.table w.items (sessions_without_requests session w.table.sessions) f j (k.own j other);
-      within = parts_within (past ++ w.turn.rows) w.table w.items (sessions_without_requests session w.table.sessions) f made k.within;
+      calm = parts_calm (past ++ w.round.rows) w.table w.items (sessions_without_requests session w.table.sessions) f k.calm;
+      own = λ j other. parts_own (past ++ w.round.rows) w.table w.items (sessions_without_requests session w.table.sessions) f j (k.own j other);
+      within = parts_within (past ++ w.round.rows) w.table w.items (sessions_without_requests session w.table.sessions) f made k.within;
     }
 
 left_kept : (b : Bool) (made : ℕ) (past : List Fired) (v w : World) → IsKept None made past v → IsKept None made past w → IsKept None made past (cond b v w)
@@ -147,7 +147,7 @@ module _ (session made : ℕ) (past : List Fired) (deleting : Bool) (n : ℕ) (n
       there s (inr before) = inr before
 
       by : (o : Option Subscription) → subscription_at n w.table.subscriptions ≡ o →
-          subscription_at m (without_closed n (met_found (with_call w.turn n (SessionEnd deleting)) w.table.subscriptions w.table.sessions w.items o)).table.subscriptions ≡ Some u →
+          subscription_at m (without_closed n (met_found (with_call w.round n (SessionEnd deleting)) w.table.subscriptions w.table.sessions w.items o)).table.subscriptions ≡ Some u →
           (u.session ≡ None) ⊎ ((m ≢ n) × (subscription_at m w.table.subscriptions ≡ Some u))
       by None none found = inr (absent none found, found)
       by (Some s) is found = there s (back_is n s (fired (scene_at w n (SessionEnd deleting) s)).subscription w.table.subscriptions h.kept.calm.listed.subscriptions is m u found)
@@ -218,7 +218,7 @@ module _ (session made : ℕ) (past : List Fired) (w : World) (k : IsKept (Some 
 
   left_without : IsKept None made past (without_session session w)
   left_without = record {
-    calm = fewer_calm (past ++ w.turn.rows) w.table w.items (remove_entry (is_at (nat_cmp session)) w.table.sessions) (rising_gone session w.table.sessions k.calm.listed.sessions) still_listed asks_yet k.calm;
+    calm = fewer_calm (past ++ w.round.rows) w.table w.items (remove_entry (is_at (nat_cmp session)) w.table.sessions) (rising_gone session w.table.sessions k.calm.listed.sessions) still_listed asks_yet k.calm;
     own = λ j other m listed. let l = lists_yet m j listed in k.own j (λ same. l.0 (sym (some_same session j same))) m l.1;
     within = record { within = λ m j listed. k.within.within m j (lists_yet m j listed).1; rising = rising_yet };
   }

@@ -170,7 +170,7 @@ module _ (rows : List Fired) (t : TableState) (items : ItemsState) (n : ℕ) (s 
     steady = λ m u after.
         let w = was_kept n s kept t found m u after in
         subst (λ (x : Subscription). IsSteady (standing_at (kept_table n s kept t) items rows m x)) (sym w.is) (h.steady m w.was w.found);
-    lives = λ m u after. let w = was_kept n s kept t found m u after in h.lives m w.was w.found ∙ sym (ap (λ (x : Subscription). x.life_count) w.is);
+    lives = λ m u after. let w = was_kept n s kept t found m u after in h.lives m w.was w.found ∙ sym (ap (λ (x : Subscription). x.lifetime_count) w.is);
     lawful = h.lawful;
     reached = h.reached;
   }

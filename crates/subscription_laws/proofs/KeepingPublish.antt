@@ -41,7 +41,7 @@ use Rattle.subscription_laws.proofs.Settling.{NoneWaits, IsPutBack, back_is, par
 -- ---- acknowledgements
 
 abbrev with_subscriptions : World → List (ℕ × Subscription) → World
-with_subscriptions w subscriptions = record { turn = w.turn; table = record { subscriptions = subscriptions; sessions = w.table.sessions }; items = w.items }
+with_subscriptions w subscriptions = record { round = w.round; table = record { subscriptions = subscriptions; sessions = w.table.sessions }; items = w.items }
 
 one_acknowledged : (made : ℕ) (past : List Fired) (w : World) (session : ℕ) (subscriptions : List (ℕ × Subscription)) (a : SubscriptionAcknowledgement) →
     IsKept None made past (with_subscriptions w subscriptions) → IsKept None made past (with_subscriptions w (acknowledged session subscriptions a).subscriptions)
@@ -54,8 +54,8 @@ one_acknowledged made past w session subscriptions a k = by (subscription_at a.s
       where
         yes : IsKept None made past (with_subscriptions w (set_value (is_at (nat_cmp a.subscription_id)) subscriptions (without_kept a.sequence_number s)))
         yes = record {
-          calm = kept_calm (past ++ w.turn.rows) (record { subscriptions = subscriptions; sessions = w.table.sessions }) w.items a.subscription_id s (forgotten a.sequence_number s.kept) found k.calm;
-          own = λ j other. kept_own (past ++ w.turn.rows) (record { subscriptions = subscriptions; sessions = w.table.sessions }) w.items a.subscription_id s (forgotten a.sequence_number s.kept) found j (k.own j other);
+          calm = kept_calm (past ++ w.round.rows) (record { subscriptions = subscriptions; sessions = w.table.sessions }) w.items a.subscription_id s (forgotten a.sequence_number s.kept) found k.calm;
+          own = λ j other. kept_own (past ++ w.round.rows) (record { subscriptions = subscriptions; sessions = w.table.sessions }) w.items a.subscription_id s (forgotten a.sequence_number s.kept) found j (k.own j other);
           within = record { within = k.within.within; rising = k.within.rising };
         }
 
@@ -70,13 +70,13 @@ acknowledged_kept made past w session (a ∷ acks) before k =
     acknowledged_kept made past w session acks (with_acknowledged session before a) (one_acknowledged made past w session before.subscriptions a k)
 
 note_kept : (made : ℕ) (past : List Fired) (w : World) (session : ℕ) → IsKept None made past w →
-    IsKept None made past (record { turn = w.turn; table = record { subscriptions = w.table.subscriptions; sessions = without_note session w.table.sessions }; items = w.items })
+    IsKept None made past (record { round = w.round; table = record { subscriptions = w.table.subscriptions; sessions = without_note session w.table.sessions }; items = w.items })
 note_kept made past w session k =
     let f = set_fewer session (part_without_note (part_at session w.table.sessions)) w.table.sessions refl (λ e. e) in
     record {
-      calm = parts_calm (past ++ w.turn.rows) w.table w.items (without_note session w.table.sessions) f k.calm;
-      own = λ j other. parts_own (past ++ w.turn.rows) w.table w.items (without_note session w.table.sessions) f j (k.own j other);
-      within = parts_within (past ++ w.turn.rows) w.table w.items (without_note session w.table.sessions) f made k.within;
+      calm = parts_calm (past ++ w.round.rows) w.table w.items (without_note session w.table.sessions) f k.calm;
+      own = λ j other. parts_own (past ++ w.round.rows) w.table w.items (without_note session w.table.sessions) f j (k.own j other);
+      within = parts_within (past ++ w.round.rows) w.table w.items (without_note session w.table.sessions) f made k.within;
     }
 
 -- ---- which subscription waits
@@ -184,7 +184,7 @@ met_waiting : (made : ℕ) (past : List Fired) (w : World) (n : ℕ) → ((s : S
 unfolding met
 met_waiting made past w n waits k = by (subscription_at n w.table.subscriptions) refl
   where
-    by : (o : Option Subscription) → subscription_at n w.table.subscriptions ≡ o → IsKept None made past (without_closed n (met_found (with_call w.turn n Publish) w.table.subscriptions w.table.sessions w.items o))
+    by : (o : Option Subscription) → subscription_at n w.table.subscriptions ≡ o → IsKept None made past (without_closed n (met_found (with_call w.round n Publish) w.table.subscriptions w.table.sessions w.items o))
     by None found = record { calm = k.calm; own = k.own; within = k.within }
     by (Some s) found =
         let live = is_live None made past w n s found k in
@@ -226,7 +226,7 @@ fired_queues c q = record { calm = q.calm; any = q.any }
 pub record IsAsking (session made : ℕ) (past : List Fired) (w : World) : Type 0 where
   pub kept : IsKept None made past w
   pub none : NoneWaits w.table (Some session)
-  pub asked : (is_some w.turn.asked || is_any (part_at session w.table.sessions).requests) ≡ true
+  pub asked : (is_some w.round.asked || is_any (part_at session w.table.sessions).requests) ≡ true
 
 abbrev pub AreOf : ℕ → List ℕ → World → Type 0
 AreOf session ns w = (m : ℕ) (s : Subscription) → is_listed m ns ≡ true → subscription_at m w.table.subscriptions ≡ Some s → s.session ≡ Some session
@@ -243,7 +243,7 @@ module _ (session made : ℕ) (past : List Fired) (w : World) (n : ℕ) (ns : Li
   is_asked : (s : Subscription) → s.session ≡ Some session → IsAsked (scene_at w n Publish s)
   is_asked s own = record {
     owned = ap is_some own;
-    asked = ap (λ (o : Option ℕ). is_some w.turn.asked || is_any (part_of o w.table.sessions).requests) own ∙ h.asked;
+    asked = ap (λ (o : Option ℕ). is_some w.round.asked || is_any (part_of o w.table.sessions).requests) own ∙ h.asked;
   }
 
   later : (b c : Bool) → c ≡ true → (b || c) ≡ true
@@ -265,7 +265,7 @@ module _ (session made : ℕ) (past : List Fired) (w : World) (n : ℕ) (ns : Li
         asking = record {
           kept = live_kept None made past w n Publish s found h.kept refl (live_fits s.state Publish refl live) (λ e. (is, none)) (inl stays);
           none = λ m u after same. none_after s found queued.calm own m u (back_is n s (fired (scene_at w n Publish s)).subscription w.table.subscriptions h.kept.calm.listed.subscriptions found m u after) same;
-          asked = either (is_some (fired (scene_at w n Publish s)).turn.asked) _ (ap (λ (p : SessionSubscriptions). is_any p.requests) part ∙ queued.any);
+          asked = either (is_some (fired (scene_at w n Publish s)).round.asked) _ (ap (λ (p : SessionSubscriptions). is_any p.requests) part ∙ queued.any);
         };
         of = λ m u listed after. of_after s (stays ∙ own) m u listed (back_is n s (fired (scene_at w n Publish s)).subscription w.table.subscriptions h.kept.calm.listed.subscriptions found m u after);
       }
@@ -284,7 +284,7 @@ module _ (session made : ℕ) (past : List Fired) (w : World) (n : ℕ) (ns : Li
   unfolding met
   met_asked = by (subscription_at n w.table.subscriptions) refl
     where
-      by : (o : Option Subscription) → subscription_at n w.table.subscriptions ≡ o → Asked session made past ns (without_closed n (met_found (with_call w.turn n Publish) w.table.subscriptions w.table.sessions w.items o))
+      by : (o : Option Subscription) → subscription_at n w.table.subscriptions ≡ o → Asked session made past ns (without_closed n (met_found (with_call w.round n Publish) w.table.subscriptions w.table.sessions w.items o))
       by None found = record {
         asking = record { kept = record { calm = h.kept.calm; own = h.kept.own; within = h.kept.within }; none = h.none; asked = h.asked };
         of = λ m u listed there. of m u (later (is_at (nat_cmp m) n) (is_listed m ns) listed) there;
@@ -344,7 +344,7 @@ answered_kept session made past w call None k = answered_to_kept session made pa
 abbrev pub ready : ℕ → List SubscriptionAcknowledgement → World → World
 ready session acks w =
     let all = acknowledged_all session w.table.subscriptions acks in
-    record { turn = w.turn; table = record { subscriptions = all.subscriptions; sessions = without_note session w.table.sessions }; items = w.items }
+    record { round = w.round; table = record { subscriptions = all.subscriptions; sessions = without_note session w.table.sessions }; items = w.items }
 
 pub ready_kept : (session made : ℕ) (past : List Fired) (acks : List SubscriptionAcknowledgement) (w : World) → IsKept None made past w → IsKept None made past (ready session acks w)
 ready_kept session made past acks w k =

@@ -28,5 +28,5 @@ pub mod MessageNotes
 pub mod RunMessages
 pub mod ItemsCalled
 pub mod ValueFates
-pub mod TellingLemmas
+pub mod MessageContentLemmas
 pub mod Others

@@ -15,7 +15,7 @@ use Rattle.ua_subscriptions.specs.declared.publish_call.PublishCall.{PublishCall
 use Rattle.ua_subscriptions.specs.declared.session_part.SessionSubscriptions.{SessionSubscriptions}
 use Rattle.ua_subscriptions.specs.declared.session_part.TimeoutNote.{TimeoutNote}
 use Rattle.ua_subscriptions.specs.declared.subscription.Subscription.{Subscription}
-use Rattle.ua_subscriptions.specs.declared.turn.Turn.{Turn}
+use Rattle.ua_subscriptions.specs.declared.round.Round.{Round}
 use Rattle.subscription_laws.specs.Calm.{AreRising}
 use Rattle.ua_subscriptions.specs.Firing.{is_closed, row_of, fired}
 use Rattle.ua_subscriptions.specs.Messages.{number_after}
@@ -90,16 +90,16 @@ enqueued_notes_if : (full : Bool) (part : SessionSubscriptions) (a b : Queueing)
 enqueued_notes_if true part a b g h = g
 enqueued_notes_if false part a b g h = h
 
-enqueued_notes_by : (asked : Option PublishCall) (turn : Turn) (part : SessionSubscriptions) → (enqueued_by asked turn part).part.notes ≡ part.notes
-enqueued_notes_by None turn part = refl
-enqueued_notes_by (Some call) turn part = enqueued_notes_if (nat_le turn.bounds.publish_queue (length part.requests)) part _ _ refl refl
+enqueued_notes_by : (asked : Option PublishCall) (round : Round) (part : SessionSubscriptions) → (enqueued_by asked round part).part.notes ≡ part.notes
+enqueued_notes_by None round part = refl
+enqueued_notes_by (Some call) round part = enqueued_notes_if (nat_le round.bounds.publish_queue (length part.requests)) part _ _ refl refl
 
-enqueued_notes : (turn : Turn) (part : SessionSubscriptions) → (enqueued turn part).part.notes ≡ part.notes
+enqueued_notes : (round : Round) (part : SessionSubscriptions) → (enqueued round part).part.notes ≡ part.notes
 unfolding enqueued
-enqueued_notes turn part = enqueued_notes_by turn.asked turn part
+enqueued_notes round part = enqueued_notes_by round.asked round part
 
 done_notes : (c : Scene) (action : Action) → is_noting action ≡ false → (done c action).part.notes ≡ c.part.notes
-done_notes c Enqueue e = enqueued_notes c.turn c.part
+done_notes c Enqueue e = enqueued_notes c.round c.part
 done_notes c NoteTimeout e = absurd (cc)
 done_notes c action e = refl
 
@@ -122,7 +122,7 @@ only_G6 G6 e = refl
 only_G6 r e = absurd (cc)
 
 abbrev note_left : Scene → TimeoutNote
-note_left c = record { subscription = c.turn.own; number = number_after c.subscription.number }
+note_left c = record { subscription = c.round.own; number = number_after c.subscription.number }
 
 -- what it leaves
 record IsTimeout (r : RowId) (c : Scene) : Type 0 where
@@ -210,7 +210,7 @@ met_notes : (made : ℕ) (ms : List Made) (w : World) (n : ℕ) (call : Call) �
 unfolding met
 met_notes made ms w n call h k = by (subscription_at n w.table.subscriptions) refl
   where
-    by : (o : Option Subscription) → subscription_at n w.table.subscriptions ≡ o → let t : TableState = (without_closed n (met_found (with_call w.turn n call) w.table.subscriptions w.table.sessions w.items o)).table in
+    by : (o : Option Subscription) → subscription_at n w.table.subscriptions ≡ o → let t : TableState = (without_closed n (met_found (with_call w.round n call) w.table.subscriptions w.table.sessions w.items o)).table in
         AllNotes made (ms ++ made_by w n call o) t.subscriptions (part_at k t.sessions).notes
     by None found = subst (λ (xs : List Made). AllNotes made xs w.table.subscriptions (part_at k w.table.sessions).notes) (sym (append-nil ms)) (h.notes k)
     by (Some s) found = notes_after made ms w n call s h found s.session k
@@ -219,7 +219,7 @@ met_rises : (w : World) (n : ℕ) (call : Call) → AreRising w.table.sessions �
 unfolding met
 met_rises w n call rising = by (subscription_at n w.table.subscriptions)
   where
-    by : (o : Option Subscription) → AreRising (without_closed n (met_found (with_call w.turn n call) w.table.subscriptions w.table.sessions w.items o)).table.sessions
+    by : (o : Option Subscription) → AreRising (without_closed n (met_found (with_call w.round n call) w.table.subscriptions w.table.sessions w.items o)).table.sessions
     by None = rising
     by (Some s) = part_rises s.session (fired (scene_at w n call s)).part w.table.sessions rising
 

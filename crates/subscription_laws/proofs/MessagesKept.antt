@@ -137,24 +137,24 @@ module _ (made : ℕ) (ms : List Made) (w : World) (n : ℕ) (call : Call) (s : 
       subst (AreNumbered s.number) (sym (ends (row_of (scene_at w n call s)) (scene_at w n call s) e (begins_none (before_of (scene_at w n call s)) call begins)).none) tt
 
   row_made : is_closed (row_done (row_of (scene_at w n call s)) (scene_at w n call s)).subscription ≡ false →
-      IsMade w.turn.bounds.kept s (row_done (row_of (scene_at w n call s)) (scene_at w n call s)).subscription (messages_of (row_of (scene_at w n call s)) (scene_at w n call s))
+      IsMade w.round.bounds.kept s (row_done (row_of (scene_at w n call s)) (scene_at w n call s)).subscription (messages_of (row_of (scene_at w n call s)) (scene_at w n call s))
   row_made open_yet = by (begins_or_ends (row_of (scene_at w n call s))) refl
     where
       by : (b : Bool) → begins_or_ends (row_of (scene_at w n call s)) ≡ b →
-          IsMade w.turn.bounds.kept s (row_done (row_of (scene_at w n call s)) (scene_at w n call s)).subscription (messages_of (row_of (scene_at w n call s)) (scene_at w n call s))
+          IsMade w.round.bounds.kept s (row_done (row_of (scene_at w n call s)) (scene_at w n call s)).subscription (messages_of (row_of (scene_at w n call s)) (scene_at w n call s))
       by false e = row_makes (row_of (scene_at w n call s)) (scene_at w n call s) e
       by true e = absurd (false≢true (sym open_yet ∙ (ends (row_of (scene_at w n call s)) (scene_at w n call s) e (begins_none (before_of (scene_at w n call s)) call begins)).closed))
 
-  fired_made : is_closed (fired (scene_at w n call s)).subscription ≡ false → IsMade w.turn.bounds.kept s (fired (scene_at w n call s)).subscription (messages_of (row_of (scene_at w n call s)) (scene_at w n call s))
+  fired_made : is_closed (fired (scene_at w n call s)).subscription ≡ false → IsMade w.round.bounds.kept s (fired (scene_at w n call s)).subscription (messages_of (row_of (scene_at w n call s)) (scene_at w n call s))
   fired_made open_yet =
-      subst (λ (d : Subscription). is_closed d ≡ false → IsMade w.turn.bounds.kept s d (messages_of (row_of (scene_at w n call s)) (scene_at w n call s))) (sym (fired_subscription (scene_at w n call s))) row_made open_yet
+      subst (λ (d : Subscription). is_closed d ≡ false → IsMade w.round.bounds.kept s d (messages_of (row_of (scene_at w n call s)) (scene_at w n call s))) (sym (fired_subscription (scene_at w n call s))) row_made open_yet
 
   live_numbered : IsNumbered made (ms ++ made_of n (messages_of (row_of (scene_at w n call s)) (scene_at w n call s))) (put_back n (fired (scene_at w n call s)).subscription w.table.subscriptions)
   live_numbered =
       one_numbered made ms w.table.subscriptions n s (fired (scene_at w n call s)).subscription (messages_of (row_of (scene_at w n call s)) (scene_at w n call s)) h found
       (row_numbered (begins_or_ends (row_of (scene_at w n call s))) refl) (λ open_yet. (fired_made open_yet).number)
       (λ open_yet. subst (λ (ks : List KeptMessage). AreAmong ks (messages_for n ms ++ messages_of (row_of (scene_at w n call s)) (scene_at w n call s))) (sym (fired_made open_yet).kept)
-      (more_kept w.turn.bounds.kept s.kept (messages_for n ms) (messages_of (row_of (scene_at w n call s)) (scene_at w n call s)) (h.live n s found).kept))
+      (more_kept w.round.bounds.kept s.kept (messages_for n ms) (messages_of (row_of (scene_at w n call s)) (scene_at w n call s)) (h.live n s found).kept))
 
 pub met_numbered : (made : ℕ) (ms : List Made) (w : World) (n : ℕ) (call : Call) → is_create call ≡ false → IsNumbered made ms w.table.subscriptions →
     IsNumbered made (ms ++ met_made w n call) (met w n call).table.subscriptions
@@ -162,7 +162,7 @@ unfolding met
 met_numbered made ms w n call begins h = by (subscription_at n w.table.subscriptions) refl
   where
     by : (o : Option Subscription) → subscription_at n w.table.subscriptions ≡ o →
-        IsNumbered made (ms ++ made_by w n call o) (without_closed n (met_found (with_call w.turn n call) w.table.subscriptions w.table.sessions w.items o)).table.subscriptions
+        IsNumbered made (ms ++ made_by w n call o) (without_closed n (met_found (with_call w.round n call) w.table.subscriptions w.table.sessions w.items o)).table.subscriptions
     by None found = subst (λ (xs : List Made). IsNumbered made xs w.table.subscriptions) (sym (append-nil ms)) h
     by (Some s) found = live_numbered made ms w n call s h found begins
 

@@ -158,7 +158,7 @@ module _ (session : ℕ) (t : TableState) (items : ItemsState) (w : World) (n : 
   unfolding met
   met_apart = by (subscription_at n w.table.subscriptions) refl
     where
-      by : (o : Option Subscription) → subscription_at n w.table.subscriptions ≡ o → Apart session t items (without_closed n (met_found (with_call w.turn n asked) w.table.subscriptions w.table.sessions w.items o))
+      by : (o : Option Subscription) → subscription_at n w.table.subscriptions ≡ o → Apart session t items (without_closed n (met_found (with_call w.round n asked) w.table.subscriptions w.table.sessions w.items o))
       by None found = h
       by (Some s) found = live_apart s found
 
@@ -396,7 +396,7 @@ published_apart session t items asked acks w its h =
     let all = acknowledged_all session w.table.subscriptions acks in
     let acked = all_acknowledged session t items w.items w.table.sessions acks (record { results = []; subscriptions = w.table.subscriptions }) h in
     answered_apart session t items (with_results asked all.results)
-    (record { turn = w.turn; table = record { subscriptions = all.subscriptions; sessions = without_note session w.table.sessions }; items = w.items }) (note_of session w.table.sessions)
+    (record { round = w.round; table = record { subscriptions = all.subscriptions; sessions = without_note session w.table.sessions }; items = w.items }) (note_of session w.table.sessions)
     (λ m listed. its m (sym (ap (is_listed m) (same_numbers session w.table.sessions)) ∙ listed))
     (part_apart session t items w.items (record { subscriptions = all.subscriptions; sessions = w.table.sessions }) (part_without_note (part_at session w.table.sessions)) acked)
 

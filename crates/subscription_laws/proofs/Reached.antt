@@ -53,9 +53,9 @@ none_beside config moves number session s found own waits =
 -- ---- the counts
 
 pub lives_count : (config : Configuration) (moves : List Move) (number : ℕ) (s : Subscription) → let r = run config moves in subscription_at number r.subs.table.subscriptions ≡ Some s →
-    (life_at number r.rows ≡ s.life_count) × (s.life + (counts_at number r.rows).started ≡ s.life_count)
+    (life_at number r.rows ≡ s.lifetime_count) × (s.lifetime + (counts_at number r.rows).started ≡ s.lifetime_count)
 lives_count config moves number s found = ((run_kept config moves).calm.lives number s found, (all_steady config moves number s found).life_counted)
 
 pub none_skipped : (config : Configuration) (moves : List Move) (number : ℕ) (s : Subscription) → let r = run config moves in subscription_at number r.subs.table.subscriptions ≡ Some s →
-    (counts_at number r.rows).answerable < s.keep_count
+    (counts_at number r.rows).answerable < s.keep_alive_count
 none_skipped config moves number s found = patient (standing_at (run config moves).subs.table (run config moves).items (run config moves).rows number s) (all_steady config moves number s found)

@@ -14,7 +14,7 @@ use Rattle.ua_monitored_items.specs.Moves.Move.{End, TakeNotes}
 use Rattle.ua_subscriptions.specs.declared.publish_call.PublishCall.{PublishCall}
 use Rattle.ua_subscriptions.specs.declared.session_part.SessionSubscriptions.{SessionSubscriptions}
 use Rattle.ua_subscriptions.specs.declared.subscription.Subscription.{Subscription}
-use Rattle.ua_subscriptions.specs.declared.turn.Turn.{Turn}
+use Rattle.ua_subscriptions.specs.declared.round.Round.{Round}
 use Rattle.subscription_laws.specs.Calm.{AreReached}
 use Rattle.ua_subscriptions.specs.Queues.{first_of}
 use Rattle.ua_subscriptions.specs.Scenes.{Scene, Noting, sending, with_asked, with_refused, Queueing, enqueued, enqueued_by, answered_by, note_sent, rest_sent, notes_sent, noting, done, all_done, row_done}
@@ -25,46 +25,46 @@ use Rattle.subscription_laws.proofs.RowLinks.{notes_fixed}
 
 -- ---- the rows that fired
 
-refused_rows : (turn : Turn) (call : Option PublishCall) → (with_refused turn call).rows ≡ turn.rows
-refused_rows turn None = refl
-refused_rows turn (Some call) = refl
+refused_rows : (round : Round) (call : Option PublishCall) → (with_refused round call).rows ≡ round.rows
+refused_rows round None = refl
+refused_rows round (Some call) = refl
 
-enqueued_rows_if : (full : Bool) (turn : Turn) (a b : Queueing) → a.turn.rows ≡ turn.rows → b.turn.rows ≡ turn.rows → (cond full a b).turn.rows ≡ turn.rows
-enqueued_rows_if true turn a b g h = g
-enqueued_rows_if false turn a b g h = h
+enqueued_rows_if : (full : Bool) (round : Round) (a b : Queueing) → a.round.rows ≡ round.rows → b.round.rows ≡ round.rows → (cond full a b).round.rows ≡ round.rows
+enqueued_rows_if true round a b g h = g
+enqueued_rows_if false round a b g h = h
 
-enqueued_rows_by : (asked : Option PublishCall) (turn : Turn) (part : SessionSubscriptions) → (enqueued_by asked turn part).turn.rows ≡ turn.rows
-enqueued_rows_by None turn part = refl
-enqueued_rows_by (Some call) turn part = enqueued_rows_if (nat_le turn.bounds.publish_queue (length part.requests)) turn _ _ (refused_rows (record turn { asked = None }) (first_of part.requests)) refl
+enqueued_rows_by : (asked : Option PublishCall) (round : Round) (part : SessionSubscriptions) → (enqueued_by asked round part).round.rows ≡ round.rows
+enqueued_rows_by None round part = refl
+enqueued_rows_by (Some call) round part = enqueued_rows_if (nat_le round.bounds.publish_queue (length part.requests)) round _ _ (refused_rows (record round { asked = None }) (first_of part.requests)) refl
 
-enqueued_rows : (turn : Turn) (part : SessionSubscriptions) → (enqueued turn part).turn.rows ≡ turn.rows
+enqueued_rows : (round : Round) (part : SessionSubscriptions) → (enqueued round part).round.rows ≡ round.rows
 unfolding enqueued
-enqueued_rows turn part = enqueued_rows_by turn.asked turn part
+enqueued_rows round part = enqueued_rows_by round.asked round part
 
-answered_rows : (asked : Option PublishCall) (turn : Turn) (s : Subscription) (more : Bool) (message : List ℕ) → (answered_by asked turn s more message).rows ≡ turn.rows
-answered_rows None turn s more message = refl
-answered_rows (Some call) turn s more message = refl
+answered_rows : (asked : Option PublishCall) (round : Round) (s : Subscription) (more : Bool) (message : List ℕ) → (answered_by asked round s more message).rows ≡ round.rows
+answered_rows None round s more message = refl
+answered_rows (Some call) round s more message = refl
 
-note_rows : (n : Noting) → (note_sent n).turn.rows ≡ n.turn.rows
+note_rows : (n : Noting) → (note_sent n).round.rows ≡ n.round.rows
 unfolding note_sent
-note_rows n = answered_rows n.turn.asked _ _ _ _
+note_rows n = answered_rows n.round.asked _ _ _ _
 
-rest_rows_if : (more : Bool) (call : PublishCall) (calls : List PublishCall) (n : Noting) → (rest_sent calls (note_sent (with_asked n call))).noting.turn.rows ≡ n.turn.rows → (cond more (rest_sent calls (note_sent (with_asked n call))) (sending n (call ∷ calls))).noting.turn.rows ≡ n.turn.rows
+rest_rows_if : (more : Bool) (call : PublishCall) (calls : List PublishCall) (n : Noting) → (rest_sent calls (note_sent (with_asked n call))).noting.round.rows ≡ n.round.rows → (cond more (rest_sent calls (note_sent (with_asked n call))) (sending n (call ∷ calls))).noting.round.rows ≡ n.round.rows
 rest_rows_if true call calls n h = h
 rest_rows_if false call calls n h = refl
 
-rest_rows : (calls : List PublishCall) (n : Noting) → (rest_sent calls n).noting.turn.rows ≡ n.turn.rows
+rest_rows : (calls : List PublishCall) (n : Noting) → (rest_sent calls n).noting.round.rows ≡ n.round.rows
 rest_rows [] n = refl
 rest_rows (call ∷ calls) n = rest_rows_if n.subscription.more call calls n (rest_rows calls (note_sent (with_asked n call)) ∙ note_rows (with_asked n call))
 
-notes_rows : (calls : List PublishCall) (n : Noting) → (notes_sent calls n).noting.turn.rows ≡ n.turn.rows
+notes_rows : (calls : List PublishCall) (n : Noting) → (notes_sent calls n).noting.round.rows ≡ n.round.rows
 unfolding notes_sent
 notes_rows calls n = rest_rows calls (note_sent n) ∙ note_rows n
 
-done_rows : (c : Scene) (action : Action) → (done c action).turn.rows ≡ c.turn.rows
-done_rows c Enqueue = enqueued_rows c.turn c.part
-done_rows c SendNotifications = notes_rows c.part.requests (noting c.turn c.subscription c.items)
-done_rows c SendKeepAlive = answered_rows c.turn.asked _ _ _ _
+done_rows : (c : Scene) (action : Action) → (done c action).round.rows ≡ c.round.rows
+done_rows c Enqueue = enqueued_rows c.round c.part
+done_rows c SendNotifications = notes_rows c.part.requests (noting c.round c.subscription c.items)
+done_rows c SendKeepAlive = answered_rows c.round.asked _ _ _ _
 done_rows c action = refl
 
 -- ---- the numbers of the session's part
@@ -73,16 +73,16 @@ enqueued_numbers_if : (full : Bool) (part : SessionSubscriptions) (a b : Queuein
 enqueued_numbers_if true part a b g h = g
 enqueued_numbers_if false part a b g h = h
 
-enqueued_numbers_by : (asked : Option PublishCall) (turn : Turn) (part : SessionSubscriptions) → (enqueued_by asked turn part).part.numbers ≡ part.numbers
-enqueued_numbers_by None turn part = refl
-enqueued_numbers_by (Some call) turn part = enqueued_numbers_if (nat_le turn.bounds.publish_queue (length part.requests)) part _ _ refl refl
+enqueued_numbers_by : (asked : Option PublishCall) (round : Round) (part : SessionSubscriptions) → (enqueued_by asked round part).part.numbers ≡ part.numbers
+enqueued_numbers_by None round part = refl
+enqueued_numbers_by (Some call) round part = enqueued_numbers_if (nat_le round.bounds.publish_queue (length part.requests)) part _ _ refl refl
 
-enqueued_numbers : (turn : Turn) (part : SessionSubscriptions) → (enqueued turn part).part.numbers ≡ part.numbers
+enqueued_numbers : (round : Round) (part : SessionSubscriptions) → (enqueued round part).part.numbers ≡ part.numbers
 unfolding enqueued
-enqueued_numbers turn part = enqueued_numbers_by turn.asked turn part
+enqueued_numbers round part = enqueued_numbers_by round.asked round part
 
 done_numbers : (c : Scene) (action : Action) → (done c action).part.numbers ≡ c.part.numbers
-done_numbers c Enqueue = enqueued_numbers c.turn c.part
+done_numbers c Enqueue = enqueued_numbers c.round c.part
 done_numbers c action = refl
 
 -- ---- whose it is
@@ -95,7 +95,7 @@ sent_session : (calls : List PublishCall) (n : Noting) → (notes_sent calls n).
 sent_session calls n = ap (λ (s : Subscription). s.session) (notes_fixed calls n)
 
 done_session : (c : Scene) (action : Action) → is_leaving action ≡ false → (done c action).subscription.session ≡ c.subscription.session
-done_session c SendNotifications h = sent_session c.part.requests (noting c.turn c.subscription c.items)
+done_session c SendNotifications h = sent_session c.part.requests (noting c.round c.subscription c.items)
 done_session c LeaveSession h = absurd (cc)
 done_session c action h = refl
 
@@ -120,14 +120,14 @@ apart_then own a b c f g = record {
   stay = λ r. stays_then own a.items b.items c.items (f.stay r) (g.stay (f.reached r));
 }
 
-note_apart : (n : Noting) → AreApart n.turn.own n.items (note_sent n).items
+note_apart : (n : Noting) → AreApart n.round.own n.items (note_sent n).items
 unfolding note_sent
 note_apart n = record {
-  reached = λ r. reached_on n.items (TakeNotes n.turn.own n.subscription.notifications) r;
-  stay = λ r. reached_stay n.turn.own n.items (TakeNotes n.turn.own n.subscription.notifications) refl r;
+  reached = λ r. reached_on n.items (TakeNotes n.round.own n.subscription.notifications) r;
+  stay = λ r. reached_stay n.round.own n.items (TakeNotes n.round.own n.subscription.notifications) refl r;
 }
 
-pub note_own : (n : Noting) → (note_sent n).turn.own ≡ n.turn.own
+pub note_own : (n : Noting) → (note_sent n).round.own ≡ n.round.own
 note_own n = ap (λ (f : Frame). f.own) (note_frame n)
 
 rest_apart_if : (more : Bool) (call : PublishCall) (calls : List PublishCall) (n : Noting) (own : ℕ) → AreApart own n.items (rest_sent calls (note_sent (with_asked n call))).noting.items →
@@ -135,7 +135,7 @@ rest_apart_if : (more : Bool) (call : PublishCall) (calls : List PublishCall) (n
 rest_apart_if true call calls n own h = h
 rest_apart_if false call calls n own h = apart_none own n.items
 
-rest_apart : (calls : List PublishCall) (n : Noting) (own : ℕ) → n.turn.own ≡ own → AreApart own n.items (rest_sent calls n).noting.items
+rest_apart : (calls : List PublishCall) (n : Noting) (own : ℕ) → n.round.own ≡ own → AreApart own n.items (rest_sent calls n).noting.items
 rest_apart [] n own is = apart_none own n.items
 rest_apart (call ∷ calls) n own is =
     let next = note_sent (with_asked n call) in
@@ -144,18 +144,18 @@ rest_apart (call ∷ calls) n own is =
     (subst (λ (o : ℕ). AreApart o n.items next.items) is (note_apart (with_asked n call)))
     (rest_apart calls next own (note_own (with_asked n call) ∙ is)))
 
-notes_apart : (calls : List PublishCall) (n : Noting) → AreApart n.turn.own n.items (notes_sent calls n).noting.items
+notes_apart : (calls : List PublishCall) (n : Noting) → AreApart n.round.own n.items (notes_sent calls n).noting.items
 unfolding notes_sent
 notes_apart calls n =
-    apart_then n.turn.own n.items (note_sent n).items (rest_sent calls (note_sent n)).noting.items (note_apart n) (rest_apart calls (note_sent n) n.turn.own (note_own n))
+    apart_then n.round.own n.items (note_sent n).items (rest_sent calls (note_sent n)).noting.items (note_apart n) (rest_apart calls (note_sent n) n.round.own (note_own n))
 
 end_apart : (items : ItemsState) (own : ℕ) → AreApart own items (ended items own)
 end_apart items own = record { reached = λ r. reached_on items (End own) r; stay = λ r. reached_stay own items (End own) refl r }
 
-done_apart : (c : Scene) (action : Action) → AreApart c.turn.own c.items (done c action).items
-done_apart c SendNotifications = notes_apart c.part.requests (noting c.turn c.subscription c.items)
-done_apart c DeleteItems = end_apart c.items c.turn.own
-done_apart c action = apart_none c.turn.own c.items
+done_apart : (c : Scene) (action : Action) → AreApart c.round.own c.items (done c action).items
+done_apart c SendNotifications = notes_apart c.part.requests (noting c.round c.subscription c.items)
+done_apart c DeleteItems = end_apart c.items c.round.own
+done_apart c action = apart_none c.round.own c.items
 
 -- ---- requests that wait
 
@@ -174,16 +174,16 @@ notes_none calls n h = rest_none calls (note_sent n) h
 done_none : (c : Scene) (action : Action) → is_enqueueing action ≡ false → is_any c.part.requests ≡ false → is_any (done c action).part.requests ≡ false
 done_none c Enqueue e h = absurd (cc)
 done_none c Dequeue e h = dropped_none c.part.requests h
-done_none c SendNotifications e h = notes_none c.part.requests (noting c.turn c.subscription c.items) h
+done_none c SendNotifications e h = notes_none c.part.requests (noting c.round c.subscription c.items) h
 done_none c action e h = h
 
 -- ---- all actions of a row
 
 pub record Remains (c d : Scene) : Type 0 where
-  pub own : d.turn.own ≡ c.turn.own
-  pub rows : d.turn.rows ≡ c.turn.rows
+  pub own : d.round.own ≡ c.round.own
+  pub rows : d.round.rows ≡ c.round.rows
   pub numbers : d.part.numbers ≡ c.part.numbers
-  pub items : AreApart c.turn.own c.items d.items
+  pub items : AreApart c.round.own c.items d.items
 
 done_remains : (c : Scene) (action : Action) → Remains c (done c action)
 done_remains c action = record {
@@ -198,11 +198,11 @@ remains_then b c d f g = record {
   own = g.own ∙ f.own;
   rows = g.rows ∙ f.rows;
   numbers = g.numbers ∙ f.numbers;
-  items = apart_then b.turn.own b.items c.items d.items f.items (subst (λ (o : ℕ). AreApart o c.items d.items) f.own g.items);
+  items = apart_then b.round.own b.items c.items d.items f.items (subst (λ (o : ℕ). AreApart o c.items d.items) f.own g.items);
 }
 
 all_remains : (actions : List Action) (c : Scene) → Remains c (all_done c actions)
-all_remains [] c = record { own = refl; rows = refl; numbers = refl; items = apart_none c.turn.own c.items }
+all_remains [] c = record { own = refl; rows = refl; numbers = refl; items = apart_none c.round.own c.items }
 all_remains (action ∷ actions) c = remains_then c (done c action) (all_done (done c action) actions) (done_remains c action) (all_remains actions (done c action))
 
 pub row_remains : (r : RowId) (c : Scene) → Remains c (row_done r c)

@@ -27,7 +27,7 @@ use Rattle.ua_subscriptions.specs.declared.session_part.TimeoutNote.{TimeoutNote
 use Rattle.ua_subscriptions.specs.declared.settings.Settings.{Settings}
 use Rattle.ua_subscriptions.specs.declared.subscriptions.Created.{Created}
 use Rattle.ua_subscriptions.specs.declared.subscription.Subscription.{Subscription}
-use Rattle.ua_subscriptions.specs.declared.turn.Turn.{Turn}
+use Rattle.ua_subscriptions.specs.declared.round.Round.{Round}
 use Rattle.ua_subscriptions.specs.Answers.{refused_of}
 use Rattle.ua_subscriptions.specs.Ending.{came_by_other, session_ended, entry_without_conn}
 use Rattle.ua_subscriptions.specs.Firing.{row_of, fired}
@@ -60,72 +60,72 @@ module _ (such : Name → Bool) where
   all_same clock code [] = refl
   all_same clock code (x ∷ xs) = ap (λ (n : ℕ). one_if (such (name_of x)) + n) (all_same clock code xs)
 
-  -- ---- a turn, and what a row sees
+  -- ---- a round, and what a row sees
 
   abbrev asked_one : Option PublishCall → ℕ
   asked_one None = 0
   asked_one (Some asked) = one_if (such (name_of asked))
 
-  abbrev of_turn : Turn → ℕ
-  of_turn turn = such_answers such turn.replies + asked_one turn.asked
+  abbrev of_round : Round → ℕ
+  of_round round = such_answers such round.replies + asked_one round.asked
 
   abbrev of_scene : Scene → ℕ
-  of_scene c = of_turn c.turn + such_calls such c.part.requests
+  of_scene c = of_round c.round + such_calls such c.part.requests
 
-  answered_less : (o : Option PublishCall) (turn : Turn) (s : Subscription) (more : Bool) (message : List ℕ) → turn.asked ≡ o → of_turn (scenes.answered_by o turn s more message) ≤ of_turn turn
-  answered_less None turn s more message is = omega arith
-  answered_less (Some asked) turn s more message is =
-      let one : asked_one turn.asked ≡ one_if (such (name_of asked)) = ap asked_one is in
-      let sum : such_answers such (scenes.answered_by (Some asked) turn s more message).replies ≡ such_answers such turn.replies + (one_if (such (name_of asked)) + 0) = answers-append turn.replies _ in
+  answered_less : (o : Option PublishCall) (round : Round) (s : Subscription) (more : Bool) (message : List ℕ) → round.asked ≡ o → of_round (scenes.answered_by o round s more message) ≤ of_round round
+  answered_less None round s more message is = omega arith
+  answered_less (Some asked) round s more message is =
+      let one : asked_one round.asked ≡ one_if (such (name_of asked)) = ap asked_one is in
+      let sum : such_answers such (scenes.answered_by (Some asked) round s more message).replies ≡ such_answers such round.replies + (one_if (such (name_of asked)) + 0) = answers-append round.replies _ in
       omega (arith, one, sum)
 
-  note_less : (n : Noting) → of_turn (note_sent n).turn ≤ of_turn n.turn
+  note_less : (n : Noting) → of_round (note_sent n).round ≤ of_round n.round
   unfolding note_sent
   note_less n =
-      let after = subscription_noted n.turn n.subscription n.items in
-      answered_less n.turn.asked (counted n.turn) after after.more (message_made n.turn n.subscription n.items) refl
+      let after = subscription_noted n.round n.subscription n.items in
+      answered_less n.round.asked (counted n.round) after after.more (message_made n.round n.subscription n.items) refl
 
   abbrev of_sending : Sending → ℕ
-  of_sending s = of_turn s.noting.turn + such_calls such s.requests
+  of_sending s = of_round s.noting.round + such_calls such s.requests
 
-  rest_less : (calls : List PublishCall) (n : Noting) → of_sending (rest_sent calls n) ≤ of_turn n.turn + such_calls such calls
+  rest_less : (calls : List PublishCall) (n : Noting) → of_sending (rest_sent calls n) ≤ of_round n.round + such_calls such calls
   rest_less [] n = omega arith
   rest_less (asked ∷ calls) n = by n.subscription.more (rest_less calls (note_sent (with_asked n asked))) (note_less (with_asked n asked))
     where
       next : Noting
       next = note_sent (with_asked n asked)
 
-      by : (more : Bool) → of_sending (rest_sent calls next) ≤ of_turn next.turn + such_calls such calls → of_turn next.turn ≤ such_answers such n.turn.replies + one_if (such (name_of asked)) →
-          of_sending (cond more (rest_sent calls next) (sending n (asked ∷ calls))) ≤ of_turn n.turn + (one_if (such (name_of asked)) + such_calls such calls)
+      by : (more : Bool) → of_sending (rest_sent calls next) ≤ of_round next.round + such_calls such calls → of_round next.round ≤ such_answers such n.round.replies + one_if (such (name_of asked)) →
+          of_sending (cond more (rest_sent calls next) (sending n (asked ∷ calls))) ≤ of_round n.round + (one_if (such (name_of asked)) + such_calls such calls)
       by true h k = omega (arith, h, k)
       by false h k = omega arith
 
-  notes_less : (calls : List PublishCall) (n : Noting) → of_sending (notes_sent calls n) ≤ of_turn n.turn + such_calls such calls
+  notes_less : (calls : List PublishCall) (n : Noting) → of_sending (notes_sent calls n) ≤ of_round n.round + such_calls such calls
   unfolding notes_sent
   notes_less calls n =
-      let h : of_sending (rest_sent calls (note_sent n)) ≤ of_turn (note_sent n).turn + such_calls such calls = rest_less calls (note_sent n) in
-      let k : of_turn (note_sent n).turn ≤ of_turn n.turn = note_less n in
+      let h : of_sending (rest_sent calls (note_sent n)) ≤ of_round (note_sent n).round + such_calls such calls = rest_less calls (note_sent n) in
+      let k : of_round (note_sent n).round ≤ of_round n.round = note_less n in
       omega (arith, h, k)
 
   abbrev of_queueing : Queueing → ℕ
-  of_queueing q = of_turn q.turn + such_calls such q.part.requests
+  of_queueing q = of_round q.round + such_calls such q.part.requests
 
-  enqueued_less : (turn : Turn) (part : SessionSubscriptions) → of_queueing (enqueued turn part) ≤ of_turn turn + such_calls such part.requests
+  enqueued_less : (round : Round) (part : SessionSubscriptions) → of_queueing (enqueued round part) ≤ of_round round + such_calls such part.requests
   unfolding enqueued
-  enqueued_less turn part = by turn.asked refl
+  enqueued_less round part = by round.asked refl
     where
-      full : (asked : PublishCall) (calls : List PublishCall) → turn.asked ≡ Some asked →
-          of_turn (with_refused (record turn { asked = None }) (first_of calls)) + such_calls such (drop 1 calls ++ asked ∷ []) ≤ of_turn turn + such_calls such calls
-      full asked [] is = let one : asked_one turn.asked ≡ one_if (such (name_of asked)) = ap asked_one is in omega (arith, one)
+      full : (asked : PublishCall) (calls : List PublishCall) → round.asked ≡ Some asked →
+          of_round (with_refused (record round { asked = None }) (first_of calls)) + such_calls such (drop 1 calls ++ asked ∷ []) ≤ of_round round + such_calls such calls
+      full asked [] is = let one : asked_one round.asked ≡ one_if (such (name_of asked)) = ap asked_one is in omega (arith, one)
       full asked (x ∷ xs) is =
-          let one : asked_one turn.asked ≡ one_if (such (name_of asked)) = ap asked_one is in
-          let sum : such_answers such (with_refused (record turn { asked = None }) (Some x)).replies ≡ such_answers such turn.replies + (one_if (such (name_of x)) + 0) = answers-append turn.replies _ in
+          let one : asked_one round.asked ≡ one_if (such (name_of asked)) = ap asked_one is in
+          let sum : such_answers such (with_refused (record round { asked = None }) (Some x)).replies ≡ such_answers such round.replies + (one_if (such (name_of x)) + 0) = answers-append round.replies _ in
           let queue : such_calls such (xs ++ asked ∷ []) ≡ such_calls such xs + (one_if (such (name_of asked)) + 0) = calls-append xs (asked ∷ []) in
           omega (arith, one, sum, queue)
 
-      room : (asked : PublishCall) → turn.asked ≡ Some asked → such_answers such turn.replies + 0 + such_calls such (part.requests ++ asked ∷ []) ≤ of_turn turn + such_calls such part.requests
+      room : (asked : PublishCall) → round.asked ≡ Some asked → such_answers such round.replies + 0 + such_calls such (part.requests ++ asked ∷ []) ≤ of_round round + such_calls such part.requests
       room asked is =
-          let one : asked_one turn.asked ≡ one_if (such (name_of asked)) = ap asked_one is in
+          let one : asked_one round.asked ≡ one_if (such (name_of asked)) = ap asked_one is in
           let queue : such_calls such (part.requests ++ asked ∷ []) ≡ such_calls such part.requests + (one_if (such (name_of asked)) + 0) = calls-append part.requests (asked ∷ []) in
           omega (arith, one, queue)
 
@@ -133,20 +133,20 @@ module _ (such : Name → Bool) where
       either true x y n h k = h
       either false x y n h k = k
 
-      by : (o : Option PublishCall) → turn.asked ≡ o → of_queueing (enqueued_by o turn part) ≤ of_turn turn + such_calls such part.requests
+      by : (o : Option PublishCall) → round.asked ≡ o → of_queueing (enqueued_by o round part) ≤ of_round round + such_calls such part.requests
       by None is = omega arith
-      by (Some asked) is = either (nat_le turn.bounds.publish_queue (length part.requests)) _ _ (of_turn turn + such_calls such part.requests) (full asked part.requests is) (room asked is)
+      by (Some asked) is = either (nat_le round.bounds.publish_queue (length part.requests)) _ _ (of_round round + such_calls such part.requests) (full asked part.requests is) (room asked is)
 
   dequeued_less : (calls : List PublishCall) → asked_one (first_of calls) + such_calls such (drop 1 calls) ≤ such_calls such calls
   dequeued_less [] = omega arith
   dequeued_less (x ∷ xs) = omega arith
 
   done_less : (c : Scene) (action : Action) → of_scene (done c action) ≤ of_scene c
-  done_less c Enqueue = enqueued_less c.turn c.part
+  done_less c Enqueue = enqueued_less c.round c.part
   done_less c Dequeue = let h : asked_one (first_of c.part.requests) + such_calls such (drop 1 c.part.requests) ≤ such_calls such c.part.requests = dequeued_less c.part.requests in omega (arith, h)
-  done_less c SendNotifications = notes_less c.part.requests (noting c.turn c.subscription c.items)
+  done_less c SendNotifications = notes_less c.part.requests (noting c.round c.subscription c.items)
   done_less c SendKeepAlive =
-      let h : of_turn (done c SendKeepAlive).turn ≤ of_turn c.turn = answered_less c.turn.asked (counted c.turn) _ _ _ refl in
+      let h : of_round (done c SendKeepAlive).round ≤ of_round c.round = answered_less c.round.asked (counted c.round) _ _ _ refl in
       omega (arith, h)
   done_less c action = omega arith
 
@@ -168,7 +168,7 @@ module _ (such : Name → Bool) where
   -- ---- what a subscription meets
 
   abbrev of_world : World → ℕ
-  of_world w = of_turn w.turn + such_waiting such w.table.sessions
+  of_world w = of_round w.round + such_waiting such w.table.sessions
 
   set_less : (k : ℕ) (part : SessionSubscriptions) (sessions : List (ℕ × SessionSubscriptions)) →
       such_waiting such (set_value (is_at (nat_cmp k)) sessions part) + such_calls such (part_at k sessions).requests ≤ such_waiting such sessions + such_calls such part.requests
@@ -190,11 +190,11 @@ module _ (such : Name → Bool) where
   unfolding met
   met_less w n asked = by (subscription_at n w.table.subscriptions)
     where
-      by : (o : Option Subscription) → of_world (without_closed n (met_found (with_call w.turn n asked) w.table.subscriptions w.table.sessions w.items o)) ≤ of_world w
+      by : (o : Option Subscription) → of_world (without_closed n (met_found (with_call w.round n asked) w.table.subscriptions w.table.sessions w.items o)) ≤ of_world w
       by None = omega arith
       by (Some s) =
           let d = fired (scene_at w n asked s) in
-          let h : of_scene d ≤ of_turn w.turn + such_calls such (part_of s.session w.table.sessions).requests = fired_less (scene_at w n asked s) in
+          let h : of_scene d ≤ of_round w.round + such_calls such (part_of s.session w.table.sessions).requests = fired_less (scene_at w n asked s) in
           let k : such_waiting such (set_part s.session w.table.sessions d.part) + such_calls such (part_of s.session w.table.sessions).requests ≤ such_waiting such w.table.sessions + such_calls such d.part.requests =
           part_less s.session d.part w.table.sessions in
           omega (arith, h, k)
@@ -228,9 +228,9 @@ module _ (such : Name → Bool) where
   unfolding all_refused
   refused_less session code w =
       let part = part_at session w.table.sessions in
-      let given = map (refused_of w.turn.clock code) part.requests in
-      let sum : such_answers such (w.turn.replies ++ given) ≡ such_answers such w.turn.replies + such_answers such given = answers-append w.turn.replies given in
-      let same : such_answers such given ≡ such_calls such part.requests = all_same w.turn.clock code part.requests in
+      let given = map (refused_of w.round.clock code) part.requests in
+      let sum : such_answers such (w.round.replies ++ given) ≡ such_answers such w.round.replies + such_answers such given = answers-append w.round.replies given in
+      let same : such_answers such given ≡ such_calls such part.requests = all_same w.round.clock code part.requests in
       let set : such_waiting such (set_value (is_at (nat_cmp session)) w.table.sessions (without_requests part)) + such_calls such part.requests ≤ such_waiting such w.table.sessions + 0 = set_less session (without_requests part) w.table.sessions in
       omega (arith, sum, same, set)
 
@@ -307,7 +307,7 @@ module _ (such : Name → Bool) where
   refused_one_less : (session : ℕ) (asked : Settings) (enabled : Bool) (w : World) → of_world (refused_one session asked enabled w) ≤ of_world w
   unfolding refused_one
   refused_one_less session asked enabled w =
-      let h : of_scene (refused_scene session asked enabled w) ≤ of_turn w.turn + 0 = fired_less _ in
+      let h : of_scene (refused_scene session asked enabled w) ≤ of_round w.round + 0 = fired_less _ in
       omega (arith, h)
 
   put_less : (k : ℕ) (part : SessionSubscriptions) (sessions : List (ℕ × SessionSubscriptions)) → such_waiting such (insert_entry nat_cmp sessions k part) ≤ such_waiting such sessions + such_calls such part.requests
@@ -326,7 +326,7 @@ module _ (such : Name → Bool) where
   added_less session number asked enabled w =
       let d = added_scene session number asked enabled w in
       let rest = remove_entry (is_at (nat_cmp session)) w.table.sessions in
-      let h : of_scene d ≤ of_turn w.turn + such_calls such (part_at session w.table.sessions).requests = fired_less _ in
+      let h : of_scene d ≤ of_round w.round + such_calls such (part_at session w.table.sessions).requests = fired_less _ in
       let k : such_waiting such rest + such_calls such (part_at session w.table.sessions).requests ≤ such_waiting such w.table.sessions = removed_less session w.table.sessions in
       let g : such_waiting such (insert_entry nat_cmp rest session (with_number number d.part)) ≤ such_waiting such rest + such_calls such d.part.requests = put_less session (with_number number d.part) rest in
       omega (arith, h, k, g)
@@ -340,16 +340,16 @@ module _ (such : Name → Bool) where
   answered_to_less : (asked : PublishCall) (ns : List ℕ) (w : World) → of_world (answered_to ns asked w) ≤ of_world w + one_if (such (name_of asked))
   unfolding answered_to
   answered_to_less asked [] w =
-      let sum : such_answers such (w.turn.replies ++ refused_of w.turn.clock status.BAD_NO_SUBSCRIPTION asked ∷ []) ≡ such_answers such w.turn.replies + (one_if (such (name_of asked)) + 0) = answers-append w.turn.replies _ in
+      let sum : such_answers such (w.round.replies ++ refused_of w.round.clock status.BAD_NO_SUBSCRIPTION asked ∷ []) ≡ such_answers such w.round.replies + (one_if (such (name_of asked)) + 0) = answers-append w.round.replies _ in
       omega (arith, sum)
   answered_to_less asked (n ∷ ns) w =
       let best = first_of (waiting_of w.table.subscriptions (n ∷ ns)) in
-      let h : of_world (met_by_best best (n ∷ ns) (asked_by w asked)) ≤ such_answers such w.turn.replies + one_if (such (name_of asked)) + such_waiting such w.table.sessions = best_less best (n ∷ ns) (asked_by w asked) in
+      let h : of_world (met_by_best best (n ∷ ns) (asked_by w asked)) ≤ such_answers such w.round.replies + one_if (such (name_of asked)) + such_waiting such w.table.sessions = best_less best (n ∷ ns) (asked_by w asked) in
       omega (arith, h)
 
   answered_by_less : (note : Option TimeoutNote) (session : ℕ) (asked : PublishCall) (w : World) → of_world (answered_by note session asked w) ≤ of_world w + one_if (such (name_of asked))
   answered_by_less (Some note) session asked w =
-      let sum : such_answers such (answered_by (Some note) session asked w).turn.replies ≡ such_answers such w.turn.replies + (one_if (such (name_of asked)) + 0) = answers-append w.turn.replies _ in
+      let sum : such_answers such (answered_by (Some note) session asked w).round.replies ≡ such_answers such w.round.replies + (one_if (such (name_of asked)) + 0) = answers-append w.round.replies _ in
       omega (arith, sum)
   answered_by_less None session asked w = answered_to_less asked (part_at session w.table.sessions).numbers w
 
@@ -357,7 +357,7 @@ module _ (such : Name → Bool) where
   unfolding published
   published_less session asked acks w =
       let all = acknowledged_all session w.table.subscriptions acks in
-      let v : World = record { turn = w.turn; table = record { subscriptions = all.subscriptions; sessions = without_note session w.table.sessions }; items = w.items } in
+      let v : World = record { round = w.round; table = record { subscriptions = all.subscriptions; sessions = without_note session w.table.sessions }; items = w.items } in
       let part = part_at session w.table.sessions in
       let h : of_world (answered_by (note_of session w.table.sessions) session (with_results asked all.results) v) ≤ of_world v + one_if (such (name_of asked)) =
       answered_by_less (note_of session w.table.sessions) session (with_results asked all.results) v in
@@ -370,10 +370,10 @@ module _ (such : Name → Bool) where
   abbrev of_ran : Ran → ℕ
   of_ran r = such_answers such r.replies + such_waiting such r.subs.table.sessions
 
-  ran_less : {A : Type 0} → (r : Ran) (s : Said A) (more : ℕ) → such_answers such s.outcome.world.turn.replies + such_waiting such s.state.table.sessions ≤ such_waiting such r.subs.table.sessions + more →
+  ran_less : {A : Type 0} → (r : Ran) (s : Said A) (more : ℕ) → such_answers such s.outcome.world.round.replies + such_waiting such s.state.table.sessions ≤ such_waiting such r.subs.table.sessions + more →
       of_ran (ran_by r s) ≤ of_ran r + more
   ran_less r s more h =
-      let replies = s.outcome.world.turn.replies in
+      let replies = s.outcome.world.round.replies in
       let sum : such_answers such (r.replies ++ replies) ≡ such_answers such r.replies + such_answers such replies = answers-append r.replies replies in
       omega (arith, h, sum)
 

@@ -67,7 +67,7 @@ pub counts_of_row : (r : RowId) (c : Scene) (counts : Counts) →
     row_counts r c counts ≡ record { started = fold started_by counts.started (actions_of r); answerable = answerable_after r (vars_in c).queued counts.answerable }
 counts_of_row r c counts =
     ap (λ (n : ℕ). record { started = n; answerable = answerable_after r (vars_in c).queued counts.answerable })
-    (all_started (actions_of r) (circumstances r c (row_done r c)) (standing_in c.turn.own c counts))
+    (all_started (actions_of r) (circumstances r c (row_done r c)) (standing_in c.round.own c counts))
 
 -- ---- what the life counter was set to
 
@@ -89,7 +89,7 @@ started_again G7 n e = refl
 started_again r n e = absurd (cc)
 
 -- and no other row changes the lifetime count
-same_count : (r : RowId) (c : Scene) → sets_life r ≡ false → (row_done r c).subscription.life_count ≡ c.subscription.life_count
+same_count : (r : RowId) (c : Scene) → sets_life r ≡ false → (row_done r c).subscription.lifetime_count ≡ c.subscription.lifetime_count
 unfolding row_done
 same_count C1 c e = refl
 same_count N1 c e = refl
@@ -105,12 +105,12 @@ same_count G8 c e = refl
 same_count G9 c e = refl
 same_count r c e = absurd (cc)
 
-pub life_of_row : (c : Scene) (f : Fired) (counts : Counts) (life : ℕ) → f.after.life ≡ (row_done f.row c).subscription.life → (sets_life f.row ≡ false → life ≡ c.subscription.life_count) →
-    (row_done f.row c).subscription.life + (counts_after counts f).started ≡ (row_done f.row c).subscription.life_count → life_after life f ≡ (row_done f.row c).subscription.life_count
-life_of_row c f counts life is set counted = by (sets_life f.row) refl
+pub life_of_row : (c : Scene) (f : Fired) (counts : Counts) (lifetime : ℕ) → f.after.lifetime ≡ (row_done f.row c).subscription.lifetime → (sets_life f.row ≡ false → lifetime ≡ c.subscription.lifetime_count) →
+    (row_done f.row c).subscription.lifetime + (counts_after counts f).started ≡ (row_done f.row c).subscription.lifetime_count → life_after lifetime f ≡ (row_done f.row c).subscription.lifetime_count
+life_of_row c f counts lifetime is set counted = by (sets_life f.row) refl
   where
-    by : (b : Bool) → sets_life f.row ≡ b → cond b (f.after.life + (counts_after no_counts f).started) life ≡ (row_done f.row c).subscription.life_count
+    by : (b : Bool) → sets_life f.row ≡ b → cond b (f.after.lifetime + (counts_after no_counts f).started) lifetime ≡ (row_done f.row c).subscription.lifetime_count
     by true e =
         let again : (counts_after counts f).started ≡ (counts_after no_counts f).started = started_again f.row counts.started e in
-        ap (λ (n : ℕ). n + (counts_after no_counts f).started) is ∙ ap (λ (n : ℕ). (row_done f.row c).subscription.life + n) (sym again) ∙ counted
+        ap (λ (n : ℕ). n + (counts_after no_counts f).started) is ∙ ap (λ (n : ℕ). (row_done f.row c).subscription.lifetime + n) (sym again) ∙ counted
     by false e = set e ∙ sym (same_count f.row c e)

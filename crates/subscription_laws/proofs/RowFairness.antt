@@ -7,22 +7,22 @@ use Rattle.ua_state_table.specs.declared.row.RowId.TheVariants.{C1, C2, N1, N2, 
 use Rattle.ua_monitored_items.specs.Items.{is_available}
 use Rattle.ua_subscriptions.specs.declared.publish_call.PublishCall.{PublishCall}
 use Rattle.ua_subscriptions.specs.Scenes.{Scene, Noting, sending, noting, note_sent, rest_sent, notes_sent, with_asked, dequeued, started, life_reset, row_done}
-use Rattle.ua_subscriptions.specs.Settings.{revised_keep, revised_life}
+use Rattle.ua_subscriptions.specs.Settings.{revised_keep_alive_count, revised_lifetime_count}
 use Rattle.subscription_laws.specs.Standings.{circumstances, sends_notes}
 use Rattle.ua_subscriptions.specs.Subscriptions.{is_any}
 use Rattle.subscription_laws.proofs.Owners.{Frame, note_frame}
 
-pub revised : (keep life : ℕ) → AreRevised (revised_keep keep) (revised_life (revised_keep keep) life)
-revised keep life = record { keep = grind arith; life = grind arith }
+pub revised : (keep_alive lifetime : ℕ) → AreRevised (revised_keep_alive_count keep_alive) (revised_lifetime_count (revised_keep_alive_count keep_alive) lifetime)
+revised keep_alive lifetime = record { keep_alive = grind arith; lifetime = grind arith }
 
 -- values are left over where they are there
 abbrev Tells : ℕ → Noting → Type 0
 Tells own n = n.subscription.more ≡ is_available n.items own
 
-note_own : (n : Noting) → (note_sent n).turn.own ≡ n.turn.own
+note_own : (n : Noting) → (note_sent n).round.own ≡ n.round.own
 note_own n = ap (λ (f : Frame). f.own) (note_frame n)
 
-note_tells : (n : Noting) → Tells n.turn.own (note_sent n)
+note_tells : (n : Noting) → Tells n.round.own (note_sent n)
 unfolding note_sent
 note_tells n = refl
 
@@ -30,16 +30,16 @@ rest_tells_if : (own : ℕ) (more : Bool) (call : PublishCall) (calls : List Pub
 rest_tells_if own true call calls n g h = h
 rest_tells_if own false call calls n g h = g
 
-rest_tells : (own : ℕ) (calls : List PublishCall) (n : Noting) → n.turn.own ≡ own → Tells own n → Tells own (rest_sent calls n).noting
+rest_tells : (own : ℕ) (calls : List PublishCall) (n : Noting) → n.round.own ≡ own → Tells own n → Tells own (rest_sent calls n).noting
 rest_tells own [] n is h = h
 rest_tells own (call ∷ calls) n is h =
     let next = note_sent (with_asked n call) in
     rest_tells_if own n.subscription.more call calls n h
     (rest_tells own calls next (note_own (with_asked n call) ∙ is) (subst (λ o. Tells o next) is (note_tells (with_asked n call))))
 
-notes_tell : (calls : List PublishCall) (n : Noting) → Tells n.turn.own (notes_sent calls n).noting
+notes_tell : (calls : List PublishCall) (n : Noting) → Tells n.round.own (notes_sent calls n).noting
 unfolding notes_sent
-notes_tell calls n = rest_tells n.turn.own calls (note_sent n) (note_own n) (note_tells n)
+notes_tell calls n = rest_tells n.round.own calls (note_sent n) (note_own n) (note_tells n)
 
 -- and then no request is left
 rest_left_if : (more : Bool) (call : PublishCall) (calls : List PublishCall) (n : Noting) → n.subscription.more ≡ more → ((rest_sent calls (note_sent (with_asked n call))).noting.subscription.more ≡ true → (rest_sent calls (note_sent (with_asked n call))).requests ≡ []) →
@@ -70,7 +70,7 @@ Fair r c = AreFair (circumstances r c (row_done r c))
 fair_N2 : (c : Scene) → Fair N2 c
 unfolding row_done
 fair_N2 c =
-    let n = noting c.turn (life_reset c.subscription) c.items in
+    let n = noting c.round (life_reset c.subscription) c.items in
     let left = notes_sent c.part.requests n in
     record {
       revised = revised _ _;
@@ -81,7 +81,7 @@ fair_N2 c =
 fair_L1 : (c : Scene) → Fair L1 c
 unfolding row_done
 fair_L1 c =
-    let n = noting c.turn (life_reset c.subscription) c.items in
+    let n = noting c.round (life_reset c.subscription) c.items in
     let left = notes_sent c.part.requests n in
     record {
       revised = revised _ _;
@@ -92,7 +92,7 @@ fair_L1 c =
 fair_N3 : (c : Scene) → Fair N3 c
 unfolding row_done
 fair_N3 c =
-    let n = noting (dequeued c.turn c.part).turn (started c.turn (life_reset c.subscription)) c.items in
+    let n = noting (dequeued c.round c.part).round (started c.round (life_reset c.subscription)) c.items in
     let left = notes_sent (drop 1 c.part.requests) n in
     record {
       revised = revised _ _;
@@ -103,7 +103,7 @@ fair_N3 c =
 fair_K2 : (c : Scene) → Fair K2 c
 unfolding row_done
 fair_K2 c =
-    let n = noting (dequeued c.turn c.part).turn (started c.turn (life_reset c.subscription)) c.items in
+    let n = noting (dequeued c.round c.part).round (started c.round (life_reset c.subscription)) c.items in
     let left = notes_sent (drop 1 c.part.requests) n in
     record {
       revised = revised _ _;

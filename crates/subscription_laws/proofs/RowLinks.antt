@@ -10,14 +10,14 @@ use Rattle.ua_monitored_items.specs.Items.{is_available}
 use Rattle.ua_subscriptions.specs.declared.publish_call.PublishCall.{PublishCall}
 use Rattle.ua_subscriptions.specs.declared.session_part.SessionSubscriptions.{SessionSubscriptions}
 use Rattle.ua_subscriptions.specs.declared.subscription.Subscription.{Subscription}
-use Rattle.ua_subscriptions.specs.declared.turn.Turn.{Turn}
+use Rattle.ua_subscriptions.specs.declared.round.Round.{Round}
 use Rattle.ua_subscriptions.specs.Scenes.{Scene, Noting, sending, noting, note_sent, rest_sent, notes_sent, with_asked, Queueing, enqueued, enqueued_by, dequeued, started, life_reset, row_done}
 use Rattle.subscription_laws.specs.Standings.{Counts, standing_in, circumstances, counts_of, IsAsked}
 use Rattle.ua_subscriptions.specs.Subscriptions.{is_any}
 
 -- how a subscription stands after a row is how the table says
 abbrev pub Links : RowId → Scene → Scene → Type 0
-Links r c d = (counts : Counts) → let s = after (circumstances r c d) r (standing_in c.turn.own c counts) in standing_in c.turn.own d (counts_of s) ≡ s
+Links r c d = (counts : Counts) → let s = after (circumstances r c d) r (standing_in c.round.own c counts) in standing_in c.round.own d (counts_of s) ≡ s
 
 pub link_N5 : (c : Scene) → Links N5 c (row_done N5 c)
 unfolding row_done
@@ -79,20 +79,20 @@ any_dropped (call ∷ calls) h = refl
 pub link_N4 : (c : Scene) → Links N4 c (row_done N4 c)
 unfolding row_done
 link_N4 c counts =
-    ap (with_queued (standing_in c.turn.own (row_done N4 c) (record { started = 1; answerable = 0 })))
+    ap (with_queued (standing_in c.round.own (row_done N4 c) (record { started = 1; answerable = 0 })))
     (and_of (is_some c.subscription.session) (is_any c.part.requests) (is_any (drop 1 c.part.requests)) (any_dropped c.part.requests))
 
 pub link_K3 : (c : Scene) → Links K3 c (row_done K3 c)
 unfolding row_done
 link_K3 c counts =
-    ap (with_queued (standing_in c.turn.own (row_done K3 c) (record { started = 1; answerable = 0 })))
+    ap (with_queued (standing_in c.round.own (row_done K3 c) (record { started = 1; answerable = 0 })))
     (and_of (is_some c.subscription.session) (is_any c.part.requests) (is_any (drop 1 c.part.requests)) (any_dropped c.part.requests))
 
 -- ---- messages that were sent
 
 -- what no message changes
 abbrev fixed : Subscription → Subscription
-fixed s = record s { more = false; place = 0; number = 0; kept = [] }
+fixed s = record s { more = false; message_count = 0; number = 0; kept = [] }
 
 note_fixed : (n : Noting) → fixed (note_sent n).subscription ≡ fixed n.subscription
 unfolding note_sent
@@ -122,9 +122,9 @@ notes_any calls n h = rest_any calls (note_sent n) h
 -- how it stands after notifications were sent
 abbrev sent_standing : Bool → Bool → Bool → Counts → Subscription → Standing
 sent_standing waits available more counts s = record {
-  vars = record { state = Normal; enabled = s.enabled; queued = is_some s.session && waits; available = available; more = more; sent = true; keep = s.keep; life = s.life };
-  keep_count = s.keep_count;
-  life_count = s.life_count;
+  vars = record { state = Normal; enabled = s.enabled; queued = is_some s.session && waits; available = available; more = more; sent = true; keep_alive = s.keep_alive; lifetime = s.lifetime };
+  keep_alive_count = s.keep_alive_count;
+  lifetime_count = s.lifetime_count;
   started = counts.started;
   answerable = counts.answerable;
 }
@@ -144,16 +144,16 @@ sent_link calls n more available waited counts before =
 pub link_N2 : (c : Scene) → Links N2 c (row_done N2 c)
 unfolding row_done
 link_N2 c counts =
-    let n = noting c.turn (life_reset c.subscription) c.items in
+    let n = noting c.round (life_reset c.subscription) c.items in
     let left = notes_sent c.part.requests n in
-    sent_link c.part.requests n left.noting.subscription.more (is_available left.noting.items c.turn.own) (is_any c.part.requests) (record { started = 0; answerable = 0 }) (notes_any c.part.requests n)
+    sent_link c.part.requests n left.noting.subscription.more (is_available left.noting.items c.round.own) (is_any c.part.requests) (record { started = 0; answerable = 0 }) (notes_any c.part.requests n)
 
 pub link_L1 : (c : Scene) → Links L1 c (row_done L1 c)
 unfolding row_done
 link_L1 c counts =
-    let n = noting c.turn (life_reset c.subscription) c.items in
+    let n = noting c.round (life_reset c.subscription) c.items in
     let left = notes_sent c.part.requests n in
-    sent_link c.part.requests n left.noting.subscription.more (is_available left.noting.items c.turn.own) (is_any c.part.requests) (record { started = 0; answerable = 0 }) (notes_any c.part.requests n)
+    sent_link c.part.requests n left.noting.subscription.more (is_available left.noting.items c.round.own) (is_any c.part.requests) (record { started = 0; answerable = 0 }) (notes_any c.part.requests n)
 
 any_sent_dropped : (calls : List PublishCall) (n : Noting) → is_any (notes_sent (drop 1 calls) n).requests ≡ true → is_any calls ≡ true
 any_sent_dropped calls n h = any_dropped calls (notes_any (drop 1 calls) n h)
@@ -176,16 +176,16 @@ sent_link_again calls n more available waited counts before =
 pub link_N3 : (c : Scene) → Links N3 c (row_done N3 c)
 unfolding row_done
 link_N3 c counts =
-    let n = noting (dequeued c.turn c.part).turn (started c.turn (life_reset c.subscription)) c.items in
+    let n = noting (dequeued c.round c.part).round (started c.round (life_reset c.subscription)) c.items in
     let left = notes_sent (drop 1 c.part.requests) n in
-    sent_link_again (drop 1 c.part.requests) n left.noting.subscription.more (is_available left.noting.items c.turn.own) (is_any c.part.requests) (record { started = 1; answerable = 0 }) (any_sent_dropped c.part.requests n)
+    sent_link_again (drop 1 c.part.requests) n left.noting.subscription.more (is_available left.noting.items c.round.own) (is_any c.part.requests) (record { started = 1; answerable = 0 }) (any_sent_dropped c.part.requests n)
 
 pub link_K2 : (c : Scene) → Links K2 c (row_done K2 c)
 unfolding row_done
 link_K2 c counts =
-    let n = noting (dequeued c.turn c.part).turn (started c.turn (life_reset c.subscription)) c.items in
+    let n = noting (dequeued c.round c.part).round (started c.round (life_reset c.subscription)) c.items in
     let left = notes_sent (drop 1 c.part.requests) n in
-    sent_link_again (drop 1 c.part.requests) n left.noting.subscription.more (is_available left.noting.items c.turn.own) (is_any c.part.requests) (record { started = 1; answerable = 0 }) (any_sent_dropped c.part.requests n)
+    sent_link_again (drop 1 c.part.requests) n left.noting.subscription.more (is_available left.noting.items c.round.own) (is_any c.part.requests) (record { started = 1; answerable = 0 }) (any_sent_dropped c.part.requests n)
 
 -- ---- a request that is queued
 
@@ -197,13 +197,13 @@ any_if : (full : Bool) (a b : Queueing) → is_any a.part.requests ≡ true → 
 any_if true a b g h = g
 any_if false a b g h = h
 
-enqueued_any_by : (asked : Option PublishCall) (turn : Turn) (part : SessionSubscriptions) → (is_some asked || is_any part.requests) ≡ true → is_any (enqueued_by asked turn part).part.requests ≡ true
-enqueued_any_by None turn part h = h
-enqueued_any_by (Some call) turn part h = any_if (nat_le turn.bounds.publish_queue (length part.requests)) _ _ (any_more (drop 1 part.requests) call) (any_more part.requests call)
+enqueued_any_by : (asked : Option PublishCall) (round : Round) (part : SessionSubscriptions) → (is_some asked || is_any part.requests) ≡ true → is_any (enqueued_by asked round part).part.requests ≡ true
+enqueued_any_by None round part h = h
+enqueued_any_by (Some call) round part h = any_if (nat_le round.bounds.publish_queue (length part.requests)) _ _ (any_more (drop 1 part.requests) call) (any_more part.requests call)
 
-pub enqueued_any : (c : Scene) → (is_some c.turn.asked || is_any c.part.requests) ≡ true → is_any (enqueued c.turn c.part).part.requests ≡ true
+pub enqueued_any : (c : Scene) → (is_some c.round.asked || is_any c.part.requests) ≡ true → is_any (enqueued c.round c.part).part.requests ≡ true
 unfolding enqueued
-enqueued_any c h = enqueued_any_by c.turn.asked c.turn c.part h
+enqueued_any c h = enqueued_any_by c.round.asked c.round c.part h
 
 both : (a b : Bool) → a ≡ true → b ≡ true → (a && b) ≡ true
 both true b g h = h
@@ -211,11 +211,11 @@ both false b g h = absurd (cc)
 
 pub link_N1 : (c : Scene) → IsAsked c → Links N1 c (row_done N1 c)
 unfolding row_done
-link_N1 c is counts = ap (with_queued (standing_in c.turn.own (row_done N1 c) counts)) (both _ _ is.owned (enqueued_any c is.asked))
+link_N1 c is counts = ap (with_queued (standing_in c.round.own (row_done N1 c) counts)) (both _ _ is.owned (enqueued_any c is.asked))
 
 pub link_K1 : (c : Scene) → IsAsked c → Links K1 c (row_done K1 c)
 unfolding row_done
-link_K1 c is counts = ap (with_queued (standing_in c.turn.own (row_done K1 c) counts)) (both _ _ is.owned (enqueued_any c is.asked))
+link_K1 c is counts = ap (with_queued (standing_in c.round.own (row_done K1 c) counts)) (both _ _ is.owned (enqueued_any c is.asked))
 
 pub link_C2 : (c : Scene) → Links C2 c (row_done C2 c)
 unfolding row_done

@@ -47,11 +47,11 @@ row_link G7 c live asked = link_G7 c
 row_link G8 c live asked = absurd (live refl)
 row_link G9 c live asked = link_G9 c
 
-pub row_stays_steady : (c : Scene) (counts : Counts) (e : TableEvent) (r : RowId) → IsSteady (standing_in c.turn.own c counts) → fits c.subscription.state e ≡ true → fires (standing_in c.turn.own c counts).vars e ≡ r ∷ [] →
-    next_of r c.subscription.state ≢ Closed → (enqueues r ≡ true → IsAsked c) → IsSteady (standing_in c.turn.own (row_done r c) (row_counts r c counts))
+pub row_stays_steady : (c : Scene) (counts : Counts) (e : TableEvent) (r : RowId) → IsSteady (standing_in c.round.own c counts) → fits c.subscription.state e ≡ true → fires (standing_in c.round.own c counts).vars e ≡ r ∷ [] →
+    next_of r c.subscription.state ≢ Closed → (enqueues r ≡ true → IsAsked c) → IsSteady (standing_in c.round.own (row_done r c) (row_counts r c counts))
 row_stays_steady c counts e r steady fit fire live asked =
     subst IsSteady (sym (row_link r c live asked counts))
-    (table.stays_steady (circumstances r c (row_done r c)) (standing_in c.turn.own c counts) e r (fair r c) steady fit fire live)
+    (table.stays_steady (circumstances r c (row_done r c)) (standing_in c.round.own c counts) e r (fair r c) steady fit fire live)
 
 not_closed : (s : State) → is_closed s ≡ false → s ≢ Closed
 not_closed Closed h e = absurd (cc)
@@ -63,16 +63,16 @@ closes : (r : RowId) (c : Scene) → (row_done r c).subscription.state ≡ next_
 unfolding row_done
 closes r c = refl
 
-pub one_row_fires : (c : Scene) (counts : Counts) → before_of c ≡ vars_in c → fits c.subscription.state (event_of c.turn.call) ≡ true → IsSteady (standing_in c.turn.own c counts) →
-    fires (before_of c) (event_of c.turn.call) ≡ row_of c ∷ []
+pub one_row_fires : (c : Scene) (counts : Counts) → before_of c ≡ vars_in c → fits c.subscription.state (event_of c.round.call) ≡ true → IsSteady (standing_in c.round.own c counts) →
+    fires (before_of c) (event_of c.round.call) ≡ row_of c ∷ []
 one_row_fires c counts own fit steady =
-    subst (λ v. fires v (event_of c.turn.call) ≡ chosen v (event_of c.turn.call) ∷ []) (sym own)
-    (one_row (vars_in c) (event_of c.turn.call) (table.steady_is_sound (standing_in c.turn.own c counts) steady) fit)
+    subst (λ v. fires v (event_of c.round.call) ≡ chosen v (event_of c.round.call) ∷ []) (sym own)
+    (one_row (vars_in c) (event_of c.round.call) (table.steady_is_sound (standing_in c.round.own c counts) steady) fit)
 
-pub stays_steady : (c : Scene) (counts : Counts) → before_of c ≡ vars_in c → fits c.subscription.state (event_of c.turn.call) ≡ true → IsSteady (standing_in c.turn.own c counts) →
-    (enqueues (row_of c) ≡ true → IsAsked c) → is_closed (fired c).subscription.state ≡ false → IsSteady (standing_in c.turn.own (fired c) (row_counts (row_of c) c counts))
+pub stays_steady : (c : Scene) (counts : Counts) → before_of c ≡ vars_in c → fits c.subscription.state (event_of c.round.call) ≡ true → IsSteady (standing_in c.round.own c counts) →
+    (enqueues (row_of c) ≡ true → IsAsked c) → is_closed (fired c).subscription.state ≡ false → IsSteady (standing_in c.round.own (fired c) (row_counts (row_of c) c counts))
 unfolding fired
 stays_steady c counts own fit steady asked live =
-    row_stays_steady c counts (event_of c.turn.call) (row_of c) steady fit
-    (subst (λ v. fires v (event_of c.turn.call) ≡ row_of c ∷ []) own (one_row_fires c counts own fit steady))
+    row_stays_steady c counts (event_of c.round.call) (row_of c) steady fit
+    (subst (λ v. fires v (event_of c.round.call) ≡ row_of c ∷ []) own (one_row_fires c counts own fit steady))
     (subst (λ s. s ≢ Closed) (closes (row_of c) c) (not_closed _ live)) asked

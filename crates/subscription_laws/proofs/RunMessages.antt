@@ -351,7 +351,7 @@ unfolding published
 published_numbered made ms session asked acks w h =
     let all = acknowledged_all session w.table.subscriptions acks in
     answered_numbered made ms session (with_results asked all.results)
-    (record { turn = w.turn; table = record { subscriptions = all.subscriptions; sessions = without_note session w.table.sessions }; items = w.items }) (note_of session w.table.sessions)
+    (record { round = w.round; table = record { subscriptions = all.subscriptions; sessions = without_note session w.table.sessions }; items = w.items }) (note_of session w.table.sessions)
     (note_removed made ms session (with_table w.table.sessions all.subscriptions) (all_acknowledged made ms session w.table.sessions acks (record { results = []; subscriptions = w.table.subscriptions }) h))
 
 -- ---- any calls

@@ -188,7 +188,7 @@ pub record IsStep (rows : List Fired) (t : TableState) (items : ItemsState) (n :
   pub session : (d.session ≡ s.session) ⊎ (d.session ≡ None)
   pub apart : AreApart n items after
   pub own : is_closed d ≡ false → IsSteady (standing (vars_of d part after n) d (counts_at n (rows ++ f ∷ [])))
-  pub life : is_closed d ≡ false → life_at n (rows ++ f ∷ []) ≡ d.life_count
+  pub lifetime : is_closed d ≡ false → life_at n (rows ++ f ∷ []) ≡ d.lifetime_count
   pub others : (is_any (part_of s.session t.sessions).requests ≡ false → is_any part.requests ≡ false) ⊎ NoneWaits t s.session
   pub lawful : IsLawful rows f
 
@@ -307,10 +307,10 @@ module _ (rows : List Fired) (t : TableState) (items : ItemsState) (n : ℕ) (s 
   lives_after : LivesAreSet (table_after n s d part t) (rows ++ f ∷ [])
   lives_after m u found = by (same_or_not m n)
     where
-      by : (m ≡ n) ⊎ (m ≢ n) → life_at m (rows ++ f ∷ []) ≡ u.life_count
+      by : (m ≡ n) ⊎ (m ≢ n) → life_at m (rows ++ f ∷ []) ≡ u.lifetime_count
       by (inl same) =
           let b = own_back m u same found in
-          ap (λ (k : ℕ). life_at k (rows ++ f ∷ [])) same ∙ step.life b.live ∙ ap (λ (x : Subscription). x.life_count) (sym b.is)
+          ap (λ (k : ℕ). life_at k (rows ++ f ∷ [])) same ∙ step.lifetime b.live ∙ ap (λ (x : Subscription). x.lifetime_count) (sym b.is)
       by (inr other) = life_other m rows f (λ same. other (same ∙ step.number)) ∙ h.lives m u (before m u other found)
 
   pub settles : IsCalm (rows ++ f ∷ []) (table_after n s d part t) after

@@ -36,7 +36,7 @@ dequeues r = list_any is_dequeueing (actions_of r)
 
 -- the request that a row answers, or the first of several: the oldest that is queued where it takes that, else the one that came
 abbrev pub answering : RowId → Scene → Option PublishCall
-answering r c = if dequeues r then first_of c.part.requests else c.turn.asked
+answering r c = if dequeues r then first_of c.part.requests else c.round.asked
 
 -- ---- answers and messages
 

@@ -67,7 +67,7 @@ AreSteady t items rows = (number : ℕ) (s : Subscription) → subscription_at n
 
 -- the life counter of each was last set to its lifetime count
 abbrev pub LivesAreSet : TableState → List Fired → Type 0
-LivesAreSet t rows = (number : ℕ) (s : Subscription) → subscription_at number t.subscriptions ≡ Some s → life_at number rows ≡ s.life_count
+LivesAreSet t rows = (number : ℕ) (s : Subscription) → subscription_at number t.subscriptions ≡ Some s → life_at number rows ≡ s.lifetime_count
 
 -- items that some calls of theirs left
 pub record AreReached (items : ItemsState) : Type 0 where

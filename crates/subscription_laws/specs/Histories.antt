@@ -45,10 +45,10 @@ sets_life r = list_any is_setting_life (actions_of r)
 
 -- what the life counter was last set to: a row that sets it may have started the timer since
 abbrev pub life_after : ℕ → Fired → ℕ
-life_after life f = if sets_life f.row then f.after.life + (counts_after no_counts f).started else life
+life_after lifetime f = if sets_life f.row then f.after.lifetime + (counts_after no_counts f).started else lifetime
 
 abbrev pub life_for : ℕ → ℕ → Fired → ℕ
-life_for number life f = if f.subscription == number then life_after life f else life
+life_for number lifetime f = if f.subscription == number then life_after lifetime f else lifetime
 
 abbrev pub life_at : ℕ → List Fired → ℕ
 life_at number rows = fold (life_for number) 0 rows

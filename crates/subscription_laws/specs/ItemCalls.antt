@@ -29,7 +29,7 @@ use Rattle.subscription_laws.specs.Runs.{ItemsCall, on_items, Move, Ran, start, 
 
 -- a message takes the first values of its subscription's items, as many as it may have
 abbrev pub note_call : Noting → item_moves.Move
-note_call n = item_moves.Move.TakeNotes n.turn.own n.subscription.notifications
+note_call n = item_moves.Move.TakeNotes n.round.own n.subscription.notifications
 
 -- and so does each further message
 abbrev pub rest_calls : List PublishCall → Noting → List item_moves.Move
@@ -41,8 +41,8 @@ notes_calls calls n = note_call n ∷ rest_calls calls (note_sent n)
 
 -- of all actions two touch the items: one that sends notifications, and one that deletes the items
 abbrev pub action_calls : Scene → Action → List item_moves.Move
-action_calls c SendNotifications = notes_calls c.part.requests (noting c.turn c.subscription c.items)
-action_calls c DeleteItems = item_moves.Move.End c.turn.own ∷ []
+action_calls c SendNotifications = notes_calls c.part.requests (noting c.round c.subscription c.items)
+action_calls c DeleteItems = item_moves.Move.End c.round.own ∷ []
 action_calls c action = []
 
 abbrev pub actions_calls : Scene → List Action → List item_moves.Move
@@ -56,7 +56,7 @@ row_calls r c = actions_calls c (actions_of r)
 
 abbrev pub calls_by : World → ℕ → Call → Option Subscription → List item_moves.Move
 calls_by w number asked None = []
-calls_by w number asked (Some s) = let c = scene (with_call w.turn number asked) s (part_of s.session w.table.sessions) w.items in row_calls (row_of c) c
+calls_by w number asked (Some s) = let c = scene (with_call w.round number asked) s (part_of s.session w.table.sessions) w.items in row_calls (row_of c) c
 
 -- by the row that fires at the subscription of a number
 abbrev pub met_calls : World → ℕ → Call → List item_moves.Move
@@ -94,7 +94,7 @@ abbrev pub published_calls : ℕ → PublishCall → List SubscriptionAcknowledg
 published_calls session asked acks w =
     let all = acknowledged_all session w.table.subscriptions acks in
     unless_noted (note_of session w.table.sessions) session (with_results asked all.results)
-    (record { turn = w.turn; table = record { subscriptions = all.subscriptions; sessions = without_note session w.table.sessions }; items = w.items })
+    (record { round = w.round; table = record { subscriptions = all.subscriptions; sessions = without_note session w.table.sessions }; items = w.items })
 
 -- ---- any call
 

@@ -9,5 +9,5 @@ pub mod Requests
 pub mod Apartness
 pub mod ItemCalls
 pub mod Fates
-pub mod Tellings
+pub mod MessageContents
 pub mod Precedence

@@ -32,7 +32,7 @@ made_of number messages = map (λ m. record { subscription = number; message = m
 
 abbrev pub made_by : World → ℕ → Call → Option Subscription → List Made
 made_by w number call None = []
-made_by w number call (Some s) = let c = scene (with_call w.turn number call) s (part_of s.session w.table.sessions) w.items in made_of number (messages_of (row_of c) c)
+made_by w number call (Some s) = let c = scene (with_call w.round number call) s (part_of s.session w.table.sessions) w.items in made_of number (messages_of (row_of c) c)
 
 -- by the row that fires at the subscription of a number
 abbrev pub met_made : World → ℕ → Call → List Made
@@ -61,7 +61,7 @@ abbrev pub published_made : ℕ → PublishCall → List SubscriptionAcknowledge
 published_made session asked acks w =
     let all = acknowledged_all session w.table.subscriptions acks in
     unless_noted (note_of session w.table.sessions) session (with_results asked all.results)
-    (record { turn = w.turn; table = record { subscriptions = all.subscriptions; sessions = without_note session w.table.sessions }; items = w.items })
+    (record { round = w.round; table = record { subscriptions = all.subscriptions; sessions = without_note session w.table.sessions }; items = w.items })
 
 abbrev pub moved_made : Ran → Move → List Made
 moved_made r (Move.Publish clock session asked acks) = published_made session asked acks (world_of r.subs r.items clock)

@@ -10,7 +10,7 @@ use Rattle.ua_subscriptions.specs.Scenes.{Scene, Noting, noting, note_sent, with
 
 -- the message that is made next
 abbrev pub note_made : Noting → KeptMessage
-note_made n = record { number = number_after n.subscription.number; bytes = message_made n.turn n.subscription n.items }
+note_made n = record { number = number_after n.subscription.number; bytes = message_made n.round n.subscription n.items }
 
 abbrev pub rest_made : List PublishCall → Noting → List KeptMessage
 rest_made [] n = []
@@ -41,10 +41,10 @@ pub record IsMade (bound : ℕ) (before after : Subscription) (made : List KeptM
 
 -- the messages that a row makes; those of the four rows that send notifications
 abbrev pub messages_of : RowId → Scene → List KeptMessage
-messages_of N2 c = notes_made c.part.requests (noting c.turn (life_reset c.subscription) c.items)
-messages_of L1 c = notes_made c.part.requests (noting c.turn (life_reset c.subscription) c.items)
-messages_of N3 c = notes_made (drop 1 c.part.requests) (noting (dequeued c.turn c.part).turn (started c.turn (life_reset c.subscription)) c.items)
-messages_of K2 c = notes_made (drop 1 c.part.requests) (noting (dequeued c.turn c.part).turn (started c.turn (life_reset c.subscription)) c.items)
+messages_of N2 c = notes_made c.part.requests (noting c.round (life_reset c.subscription) c.items)
+messages_of L1 c = notes_made c.part.requests (noting c.round (life_reset c.subscription) c.items)
+messages_of N3 c = notes_made (drop 1 c.part.requests) (noting (dequeued c.round c.part).round (started c.round (life_reset c.subscription)) c.items)
+messages_of K2 c = notes_made (drop 1 c.part.requests) (noting (dequeued c.round c.part).round (started c.round (life_reset c.subscription)) c.items)
 messages_of r c = []
 
 -- a row begins or ends a subscription

@@ -12,4 +12,4 @@ and_then Greater second = Greater
 
 -- the highest priority, among equals the least recent message, and among those the least number
 abbrev pub precedence : Rank → Rank → Ordering
-precedence a b = and_then (nat_cmp b.priority.0 a.priority.0) (and_then (nat_cmp a.place b.place) (nat_cmp a.number b.number))
+precedence a b = and_then (nat_cmp b.priority.0 a.priority.0) (and_then (nat_cmp a.message_count b.message_count) (nat_cmp a.number b.number))

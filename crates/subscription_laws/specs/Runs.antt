@@ -65,8 +65,8 @@ abbrev pub ran_by : {A : Type 0} → Ran → Said A → Ran
 ran_by before s = record {
   subs = s.state;
   items = s.outcome.world.items;
-  rows = before.rows ++ s.outcome.world.turn.rows;
-  replies = before.replies ++ s.outcome.world.turn.replies;
+  rows = before.rows ++ s.outcome.world.round.rows;
+  replies = before.replies ++ s.outcome.world.round.replies;
 }
 
 -- where the subscription has these variables, its items are served, and the row sees both

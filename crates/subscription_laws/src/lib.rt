@@ -4,14 +4,14 @@
 //! list of calls and what it comes to, from no subscription on; `Standings` how a subscription stands, and `Histories` what
 //! the rows that fired count; `Precedence` which subscription comes first; `Numbering` and `Messaging` the messages that were
 //! made, `Answering` the answers that bring them, `Requests` the requests that are answered, `Calm` what always holds, and
-//! `Apartness` what is of other sessions; `ItemCalls` the calls of items that come of any calls, `Fates` and `Tellings` what
+//! `Apartness` what is of other sessions; `ItemCalls` the calls of items that come of any calls, `Fates` and `MessageContents` what
 //! becomes of values and which messages tell them.
 //!
 //! Read docs/SUBSCRIPTIONS.md first, then `specs/Runs`.
 #![tactic(auto)]
 
 ghost use Rattle.std.specs.Prelude.{◌≡◌, ◌<◌, ◌≤◌, ◌+◌, ℕ, Bool, true, false, List, [], ◌∷◌, ◌++◌, map, is_some, Some, Ok};
-ghost use Rattle.ua_item_queue.specs.Fates.{waiting, GoesOn, IsInOrder, TellsLosses};
+ghost use Rattle.ua_item_queue.specs.Fates.{waiting, GoesOn, IsInOrder, LossesAreMarked};
 ghost use Rattle.ua_item_queue.specs.Sendings.{values_of, sampled_by, sent_of};
 ghost use Rattle.ua_monitored_items.specs.Moves.{queue_at};
 ghost use Rattle.ua_state_table.specs.Doing.{enqueues};
@@ -25,7 +25,7 @@ ghost use Rattle.ua_subscriptions.specs.Answers.{number_of, published_of};
 ghost use Rattle.ua_subscriptions.specs.Calls.{event_of};
 ghost use Rattle.subscription_laws.specs.Calm.{IsListed, ListsItsOwn, AreLists, AreSteady};
 ghost use Rattle.ua_subscriptions.specs.Firing.{fired, before_of, vars_in, row_of};
-ghost use Rattle.subscription_laws.specs.Fates.{deeds_at, account_at, AreCaused, HaveTheirCauses, TellsEachLoss};
+ghost use Rattle.subscription_laws.specs.Fates.{queue_moves_at, account_at, AreCaused, HaveTheirCauses, EachLossIsMarked};
 ghost use Rattle.subscription_laws.specs.Histories.{counts_at, life_at, AreLawful};
 ghost use Rattle.subscription_laws.specs.ItemCalls.{ItemsComeByTheirCalls, item_calls};
 ghost use Rattle.ua_subscriptions.specs.Making.{kept_at, republished};
@@ -40,7 +40,7 @@ ghost use Rattle.ua_subscriptions.specs.Scenes.{Scene, row_done};
 ghost use Rattle.ua_subscriptions.specs.SubscriptionCalls.{world_of};
 ghost use Rattle.subscription_laws.specs.Standings.{Counts, standing_in, row_counts, IsAsked};
 ghost use Rattle.ua_subscriptions.specs.Tables.{part_at, subscription_at};
-ghost use Rattle.subscription_laws.specs.Tellings.{all_taken, AreTold, entries_told};
+ghost use Rattle.subscription_laws.specs.MessageContents.{all_taken, AreMadeOf, entries_sent};
 ghost use Rattle.ua_subscriptions.specs.declared.call.Call.TheVariants.{Publish};
 ghost use Rattle.ua_subscriptions.specs.declared.publish_call.PublishCall.{PublishCall};
 ghost use Rattle.ua_subscriptions.specs.declared.ranks.Rank.{Rank};
@@ -56,17 +56,17 @@ pub fn the_highest_priority_comes_first()
 
 /// Exactly one row fires of what comes to a steady subscription, the one that is chosen.
 pub fn one_row_fires()
-    ensures { (c : Scene) (counts : Counts) → before_of c ≡ vars_in c → fits c.subscription.state (event_of c.turn.call) ≡ true →
-        IsSteady (standing_in c.turn.own c counts) → fires (before_of c) (event_of c.turn.call) ≡ row_of c ∷ [] }
+    ensures { (c : Scene) (counts : Counts) → before_of c ≡ vars_in c → fits c.subscription.state (event_of c.round.call) ≡ true →
+        IsSteady (standing_in c.round.own c counts) → fires (before_of c) (event_of c.round.call) ≡ row_of c ∷ [] }
 {}
 
 /// What comes to a steady subscription leaves it steady, unless it is closed: the counters are within their bounds, values
 /// are left over only where they are there, and it doesn't wait beside a request. A request is there, or waits already,
 /// where the row is one that queues it.
 pub fn rows_keep_subscriptions_steady()
-    ensures { (c : Scene) (counts : Counts) → before_of c ≡ vars_in c → fits c.subscription.state (event_of c.turn.call) ≡ true →
-        IsSteady (standing_in c.turn.own c counts) → (enqueues (row_of c) ≡ true → IsAsked c) →
-        is_closed (fired c).subscription.state ≡ false → IsSteady (standing_in c.turn.own (fired c) (row_counts (row_of c) c counts)) }
+    ensures { (c : Scene) (counts : Counts) → before_of c ≡ vars_in c → fits c.subscription.state (event_of c.round.call) ≡ true →
+        IsSteady (standing_in c.round.own c counts) → (enqueues (row_of c) ≡ true → IsAsked c) →
+        is_closed (fired c).subscription.state ≡ false → IsSteady (standing_in c.round.own (fired c) (row_counts (row_of c) c counts)) }
 {}
 
 /// The messages that a row makes are numbered without a gap from the subscription's last number on, after the last of 32
@@ -74,13 +74,13 @@ pub fn rows_keep_subscriptions_steady()
 /// be. A keep-alive uses no number and isn't kept.
 pub fn rows_number_messages()
     ensures { (r : RowId) (c : Scene) → begins_or_ends r ≡ false →
-        IsMade c.turn.bounds.kept c.subscription (row_done r c).subscription (messages_of r c) }
+        IsMade c.round.bounds.kept c.subscription (row_done r c).subscription (messages_of r c) }
 {}
 
 /// A row that sends, be it notifications or a keep-alive, has a request to answer: at a timer the oldest that is queued, and
 /// at a Publish request the one that came, as long as it is there.
 pub fn rows_that_send_have_a_request()
-    ensures { (c : Scene) → (c.turn.call ≡ Publish → is_some c.turn.asked ≡ true) → sends (row_of c) ≡ true →
+    ensures { (c : Scene) → (c.round.call ≡ Publish → is_some c.round.asked ≡ true) → sends (row_of c) ≡ true →
         is_some (answering (row_of c) c) ≡ true }
 {}
 
@@ -88,8 +88,8 @@ pub fn rows_that_send_have_a_request()
 /// the number that the subscription's next message with notifications will have, and doesn't use it up.
 pub fn keep_alives_have_the_next_number()
     ensures answers { (r : RowId) (c : Scene) → sends_keep_alive r ≡ true → (call : PublishCall) → answering r c ≡ Some call →
-        (row_done r c).turn.replies ≡ c.turn.replies ++ published_of c.turn.clock call c.turn.own (map number_of c.subscription.kept) false
-        (keep_alive_message (number_after c.subscription.number) c.turn.clock) ∷ [] }
+        (row_done r c).round.replies ≡ c.round.replies ++ published_of c.round.clock call c.round.own (map number_of c.subscription.kept) false
+        (keep_alive_message (number_after c.subscription.number) c.round.clock) ∷ [] }
     ensures unused { (r : RowId) (c : Scene) → sends_keep_alive r ≡ true →
         (row_done r c).subscription.number ≡ c.subscription.number }
 {}
@@ -127,14 +127,14 @@ pub fn none_waits_beside_a_request()
 pub fn life_counters_count_timers()
     ensures { (config : Configuration) (moves : List Move) (number : ℕ) (s : Subscription) → let r = run config moves in
         subscription_at number r.subs.table.subscriptions ≡ Some s →
-        (life_at number r.rows ≡ s.life_count) × (s.life + (counts_at number r.rows).started ≡ s.life_count) }
+        (life_at number r.rows ≡ s.lifetime_count) × (s.lifetime + (counts_at number r.rows).started ≡ s.lifetime_count) }
 {}
 
 /// Whatever is called, no keep-alive is skipped: the timers of a subscription that found a request, since it sent a message,
 /// or one of them found none, or its counts were set, are fewer than its keep-alive count.
 pub fn no_keep_alive_is_skipped()
     ensures { (config : Configuration) (moves : List Move) (number : ℕ) (s : Subscription) → let r = run config moves in
-        subscription_at number r.subs.table.subscriptions ≡ Some s → (counts_at number r.rows).answerable < s.keep_count }
+        subscription_at number r.subs.table.subscriptions ≡ Some s → (counts_at number r.rows).answerable < s.keep_alive_count }
 {}
 
 /// Whatever is called, the messages of a subscription are numbered from 1 without a gap, after the last of 32 bits comes 1,
@@ -197,14 +197,14 @@ pub fn items_come_by_their_calls()
 /// has room, and nothing is cleared that a smaller queue holds.
 pub fn values_have_one_fate()
     ensures all { (config : Configuration) (moves : List Move) (number : ℕ) →
-        values_of (account_at config moves number) ≡ sampled_by (deeds_at config moves number) }
+        values_of (account_at config moves number) ≡ sampled_by (queue_moves_at config moves number) }
     ensures waiting { (config : Configuration) (moves : List Move) (number : ℕ) →
         waiting (account_at config moves number) ≡ queue_at number (run config moves).items.items }
     ensures ordered { (config : Configuration) (moves : List Move) (number : ℕ) → IsInOrder (account_at config moves number) }
     ensures for_good { (config : Configuration) (moves more : List Move) (number : ℕ) →
         GoesOn (account_at config moves number) (account_at config (moves ++ more) number) }
     ensures caused { (config : Configuration) (moves : List Move) (number : ℕ) → AreCaused config (item_calls config moves) number }
-    ensures within { (config : Configuration) (moves : List Move) (number : ℕ) → HaveTheirCauses (deeds_at config moves number) }
+    ensures within { (config : Configuration) (moves : List Move) (number : ℕ) → HaveTheirCauses (queue_moves_at config moves number) }
 {}
 
 /// Whatever is called, no value of an item is lost in silence. Where the queue holds more than one value, each loss is told of
@@ -212,15 +212,15 @@ pub fn values_have_one_fate()
 /// And behind each value that was lost the first one that was neither lost nor cleared carries the mark, until something of the
 /// item is cleared, or its queue holds one value only.
 pub fn no_value_is_lost_in_silence()
-    ensures told { (config : Configuration) (moves : List Move) (number : ℕ) → TellsLosses (account_at config moves number) }
-    ensures at_once { (config : Configuration) (moves : List Move) (number : ℕ) → TellsEachLoss (deeds_at config moves number) }
+    ensures told { (config : Configuration) (moves : List Move) (number : ℕ) → LossesAreMarked (account_at config moves number) }
+    ensures at_once { (config : Configuration) (moves : List Move) (number : ℕ) → EachLossIsMarked (queue_moves_at config moves number) }
 {}
 
 /// Whatever is called, each value that was sent stands in one message that a row made, with its mark. The messages are those
 /// of what the items gave, one for each time that values were taken, in order: their bytes are the notes of that and nothing
 /// else. And what an item gave, message after message, are the values of its account that were sent, in the order of sampling.
 pub fn sent_values_stand_in_messages()
-    ensures told { (config : Configuration) (moves : List Move) → AreTold (run_made (start config) moves) (all_taken config moves) }
+    ensures told { (config : Configuration) (moves : List Move) → AreMadeOf (run_made (start config) moves) (all_taken config moves) }
     ensures sent { (config : Configuration) (moves : List Move) (number : ℕ) →
-        entries_told number (all_taken config moves) ≡ sent_of (account_at config moves number) }
+        entries_sent number (all_taken config moves) ≡ sent_of (account_at config moves number) }
 {}

@@ -1,10 +1,12 @@
 //! Pages of a node's references, and the points between them.
 
-ghost use Rattle.std.specs.Prelude.{◌≡◌, ◌<◌, ◌^◌, length, Some, IfOk};
+ghost use Rattle.std.specs.Prelude.{◌≡◌, ◌<◌, ◌^◌, length, Some, Err, IfErr, IfOk};
 ghost use Rattle.std.specs.Result.{result_map_both};
 ghost use Rattle.ua_types.specs.Answers.{step};
+ghost use Rattle.ua_types.specs.declared.refusal.Refusal.TheVariants.{Service};
 ghost use Rattle.ua_session.specs.Points.{TakesSerial};
 ghost use Rattle.ua_browse.specs.Browsing.{page_size as page_size_spec, page_of, cut_of, part, browse_of, browse_next_of, release_of};
+ghost use Rattle.ua_browse.specs.Wanted.{judged as judged_spec};
 
 use crate::pages::{Cut, page_from};
 use crate::wanted::{judged, types_of};
@@ -71,8 +73,8 @@ fn paged(
 /// It refuses in this order: no node has the id, `BAD_NODE_ID_UNKNOWN`; the reference type is neither null
 /// nor a ReferenceType node, `BAD_REFERENCE_TYPE_ID_INVALID`; the direction is none of the three,
 /// `BAD_BROWSE_DIRECTION_INVALID`; there are more references than the page has, and no room for another
-/// point, `BAD_NO_CONTINUATION_POINTS`. `Exhausted` where no serial is left for the point. At an `Err` the
-/// points are as they were.
+/// point, `BAD_NO_CONTINUATION_POINTS`. `Exhausted` where no serial is left for the point. The first three come
+/// however little memory there is: nothing grows before. At an `Err` the points are as they were.
 #[tactic(auto, unfolding(crate::specs::Browsing::browse_of), using(crate::proofs::Paging::takes_page))]
 pub fn browse(
     alloc: Global,
@@ -81,7 +83,8 @@ pub fn browse(
     size: u32,
     description: BrowseDescription,
 ) -> Result<Page, Refusal>
-    ensures { TakesSerial result points.old points.new (browse_of space.now points.old size description) }
+    ensures taken { TakesSerial result points.old points.new (browse_of space.now points.old size description) }
+    ensures judged { IfErr (judged_spec space.now.nodes description) (λ code. result ≡ Err (Service code)) }
 {
     if let Err(status) = judged(space, &description) {
         return Err(Refusal::Service(status));
@@ -119,8 +122,8 @@ fn copied(alloc: Global, description: &BrowseDescription) -> Result<BrowseDescri
 /// The next page after a point (IEC 62541-4, 5.8.3, BrowseNext). The point is used up; where more references are
 /// left, another one stands for them.
 ///
-/// `BAD_CONTINUATION_POINT_INVALID` where no point of Browse has the serial. `Exhausted` where no serial is left
-/// for the new point. At an `Err` the points are as they were.
+/// `BAD_CONTINUATION_POINT_INVALID` where no point of Browse has the serial, however little memory there is.
+/// `Exhausted` where no serial is left for the new point. At an `Err` the points are as they were.
 #[tactic(auto, unfolding(crate::specs::Browsing::browse_next_of), using(crate::proofs::Paging::takes_page))]
 pub fn browse_next(
     alloc: Global,
@@ -128,7 +131,8 @@ pub fn browse_next(
     points: &mut Points,
     serial: u64,
 ) -> Result<Page, Refusal>
-    ensures { TakesSerial result points.old points.new (browse_next_of space.now points.old serial) }
+    ensures taken { TakesSerial result points.old points.new (browse_next_of space.now points.old serial) }
+    ensures held { IfErr (release_of points.old serial).answer (λ code. result ≡ Err (Service code)) }
 {
     let Some(Point::Browse(point)) = points.get(serial) else {
         return Err(Refusal::Service(Status::BAD_CONTINUATION_POINT_INVALID));

@@ -1,5 +1,5 @@
 -- Messages out of the chunks that they come in.
-use Rattle.std.specs.Prelude.{ℕ, ◌+◌, ◌==◌, Bool, true, not, ◌||◌, nat_lt, List, ◌++◌, length, ◌≤◌, Option, Some, None, Ok, Err, if◌then◌else◌, IfSome}
+use Rattle.std.specs.Prelude.{ℕ, ◌+◌, ◌==◌, Bool, true, false, not, ◌||◌, nat_lt, List, ◌++◌, length, ◌≤◌, Option, Some, None, Result, Ok, Err, if◌then◌else◌, IfSome}
 use Rattle.ua_types.specs.Answers.{Step, step}
 use Rattle.ua_types.specs.declared.status.Status.{Status}
 use Rattle.ua_types.specs.declared.status.TheConstants.Status as status
@@ -35,6 +35,12 @@ abbrev pub joined_as : ChunkType → UnfinishedMessage → Step Taken Status (Op
 joined_as Intermediate message = step (Ok taken.Nothing) (Some message)
 joined_as Final message = step (Ok (taken.Request message.request_id message.body)) None
 joined_as Aborted message = step (Ok (taken.Aborted message.request_id)) None
+
+-- whether what was taken brings a part of a message, which is stored: nothing else takes memory
+abbrev pub brings_part : Result Taken Status → Bool
+brings_part (Ok taken.Nothing) = true
+brings_part (Ok (taken.Request id body)) = true
+brings_part _ = false
 
 -- A chunk is joined to what has come of its message. Refused are a chunk of another request, and one
 -- with which the message is too large.

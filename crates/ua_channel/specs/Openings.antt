@@ -9,12 +9,27 @@ use Rattle.ua_messages.specs.Bodies.{message_id_of, message_of}
 use Rattle.ua_messages.specs.SecurityPolicies.{security_policy_none}
 use Rattle.ua_messages.specs.SecureChannels.{open_secure_channel_request_reading}
 use Rattle.ua_messages.specs.declared.secure_channels.OpenSecureChannelRequest.{OpenSecureChannelRequest}
+use Rattle.ua_messages.specs.declared.headers.RequestHeader.{RequestHeader}
+use Rattle.ua_channel.specs.declared.headers.OpeningHeader.{OpeningHeader}
+use Rattle.ua_channel.specs.declared.openings.JudgedHeader.{JudgedHeader}
 use Rattle.ua_channel.specs.declared.openings.OpeningRequest.{OpeningRequest}
 use Rattle.ua_channel.specs.ChannelStates.{is_channel}
 
 abbrev pub is_policy_none : Option (List ℕ) → Bool
 is_policy_none None = false
 is_policy_none (Some uri) = bytes_eq uri security_policy_none
+
+-- what of the header of an OPN the channel needs
+abbrev pub judged_in : OpeningHeader → JudgedHeader
+judged_in header = record {
+  channel_id = header.channel_id;
+  is_policy_none = is_policy_none header.security_policy_uri;
+  sequence_number = header.sequence_number;
+  request_id = header.request_id;
+}
+
+abbrev pub handle_in : RequestHeader → ℕ
+handle_in header = header.request_handle
 
 -- what of the request the channel needs
 abbrev pub asked_in : OpenSecureChannelRequest → OpeningRequest

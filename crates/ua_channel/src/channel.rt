@@ -1,25 +1,26 @@
 //! A secure channel.
 
-ghost use Rattle.std.specs.Prelude.{◌≡◌, ◌≤◌, length, IfOk};
-ghost use Rattle.ua_types.specs.Answers.{Takes};
-ghost use Rattle.ua_types.specs.Refusals.{GivesOrRefuses, TakesOrRefuses};
+ghost use Rattle.std.specs.Prelude.{◌≡◌, ◌≤◌, length, true, Err, IfErr, IfOk};
+ghost use Rattle.ua_types.specs.Answers.{Takes, step};
+ghost use Rattle.ua_types.specs.Refusals.{TakesOrRefuses};
+ghost use Rattle.ua_types.specs.declared.refusal.Refusal.TheVariants.{Memory};
 ghost use Rattle.ua_channel.specs.declared.send_fault.SendFault.TheVariants as send_fault;
-ghost use Rattle.ua_channel.specs.Messages.{AreWithinLimits};
+ghost use Rattle.ua_channel.specs.Messages.{AreWithinLimits, brings_part};
 ghost use Rattle.ua_channel.specs.ChannelStates.{new_channel, token_after, granted_of};
 ghost use Rattle.ua_channel.specs.Acceptance.{admission_of, comes_by_channel as comes_by_channel_spec, acceptance_of, take_of, message_taken, close_taken, opening_taken};
 ghost use Rattle.ua_channel.specs.Cutting.{send_of, send_opening_of};
 
 use crate::cutting::{cut, is_opening_too_large, is_too_large, opening_chunk, room};
-use crate::headers::{ChunkHeader, OpeningHeader};
+use crate::headers::ChunkHeader;
 use crate::messages::{Unfinished, join};
-use crate::openings::{is_policy_none, opening_request, renewal};
+use crate::openings::{judged_header, opening_request, renewal};
 use crate::send_fault::SendFault;
 use crate::sequence_numbers::{may_follow, sequence_number_after};
 use crate::taken::Taken;
 use bytes::Bytes;
 use std::alloc::Global;
 use std::marker::Model;
-use ua_binary::{Cursor, TakeFault, Wire};
+use ua_binary::{Cursor, Wire};
 use ua_tcp::{Agreed, ChunkType, Frame, MessageType};
 use ua_types::{Listed, Refusal, Status};
 
@@ -134,11 +135,14 @@ impl Channel {
     /// - `BAD_TCP_MESSAGE_TOO_LARGE`: with it the message has more bytes than the server's
     ///   `max_message`, or more chunks than its `max_chunks`.
     ///
-    /// `Memory` comes only where an allocation failed. The channel is then as it was, and the same
-    /// frame may be taken again. `Exhausted` never comes.
+    /// `Memory` comes only where an allocation failed, at a chunk that brings a part of a message and isn't
+    /// refused: nothing else needs memory, no refusal, opening, close or ERR, and not the chunk that aborts a
+    /// message. The channel is then as it was, and the same frame may be taken again. `Exhausted` never
+    /// comes.
     pub fn take(&mut self, alloc: Global, frame: &Frame) -> Result<Taken, Refusal>
         ensures taken { TakesOrRefuses result self.old self.new (take_of self.old frame.now) }
         ensures limits { AreWithinLimits self.new.agreed.limits self.new.unfinished }
+        ensures memory { result ≡ Err Memory → brings_part (take_of self.old frame.now).answer ≡ true }
     {
         if let Some(status) = self.refused {
             return Err(Refusal::Service(status));
@@ -152,7 +156,8 @@ impl Channel {
 
     // Judges the frame where none was refused before. A refusal leaves the channel as it was.
     fn accept(&mut self, alloc: Global, frame: &Frame) -> Result<Taken, Refusal>
-        ensures { TakesOrRefuses result self.old self.new (acceptance_of self.old frame.now) }
+        ensures accepts { TakesOrRefuses result self.old self.new (acceptance_of self.old frame.now) }
+        ensures memory { result ≡ Err Memory → brings_part (acceptance_of self.old frame.now).answer ≡ true }
     {
         if frame.message_type == MessageType::Error {
             return Ok(Taken::Closed);
@@ -164,30 +169,28 @@ impl Channel {
             return Err(Refusal::Service(Status::BAD_TCP_MESSAGE_TOO_LARGE));
         }
         match frame.message_type {
-            MessageType::OpenSecureChannel => self.accept_opening(alloc, frame),
-            MessageType::CloseSecureChannel => self.accept_close(alloc, frame),
+            MessageType::OpenSecureChannel => Ok(self.accept_opening(frame)?),
+            MessageType::CloseSecureChannel => Ok(self.accept_close(frame)?),
             // MSG is all that is left.
             _ => self.accept_chunk(alloc, frame),
         }
     }
 
     #[tactic(auto, unfolding(crate::specs::Acceptance::opening_taken))]
-    fn accept_opening(&mut self, alloc: Global, frame: &Frame) -> Result<Taken, Refusal>
-        ensures { TakesOrRefuses result self.old self.new (opening_taken self.old frame.now.body) }
+    fn accept_opening(&mut self, frame: &Frame) -> Result<Taken, Status>
+        ensures { opening_taken self.old frame.now.body ≡ step result self.new }
     {
         let mut cursor = Cursor::new(frame.body.as_slice());
-        let header = match OpeningHeader::decode(alloc, &mut cursor) {
-            Ok(header) => header,
-            Err(TakeFault::Memory) => return Err(Refusal::Memory),
-            Err(_) => return Err(Refusal::Service(Status::BAD_DECODING_ERROR)),
+        let Ok(header) = judged_header(&mut cursor) else {
+            return Err(Status::BAD_DECODING_ERROR);
         };
-        if !is_policy_none(&header.security_policy_uri) {
-            return Err(Refusal::Service(Status::BAD_SECURITY_POLICY_REJECTED));
+        if !header.is_policy_none {
+            return Err(Status::BAD_SECURITY_POLICY_REJECTED);
         }
         if !may_follow(self.received, header.sequence_number) {
-            return Err(Refusal::Service(Status::BAD_SEQUENCE_NUMBER_INVALID));
+            return Err(Status::BAD_SEQUENCE_NUMBER_INVALID);
         }
-        let request = opening_request(alloc, cursor.rest())?;
+        let request = opening_request(cursor.rest())?;
         let renew = renewal(self.channel_id, header.channel_id, &request)?;
         self.received = Some(header.sequence_number);
         Ok(Taken::Opening {
@@ -197,20 +200,21 @@ impl Channel {
         })
     }
 
-    fn accept_close(&mut self, alloc: Global, frame: &Frame) -> Result<Taken, Refusal>
-        ensures { TakesOrRefuses result self.old self.new (close_taken self.old (admission_of self.old frame.now.body)) }
+    fn accept_close(&mut self, frame: &Frame) -> Result<Taken, Status>
+        ensures { close_taken self.old (admission_of self.old frame.now.body) ≡ step result self.new }
     {
-        let header = self.admit(alloc, frame)?;
+        let header = self.admit(frame)?;
         self.used_token = header.token_id;
         self.received = Some(header.sequence_number);
         Ok(Taken::Closed)
     }
 
     fn accept_chunk(&mut self, alloc: Global, frame: &Frame) -> Result<Taken, Refusal>
-        ensures { TakesOrRefuses result self.old self.new
+        ensures accepts { TakesOrRefuses result self.old self.new
             (message_taken self.old frame.now (admission_of self.old frame.now.body)) }
+        ensures memory { result ≡ Err Memory → brings_part (message_taken self.old frame.now (admission_of self.old frame.now.body)).answer ≡ true }
     {
-        let header = self.admit(alloc, frame)?;
+        let header = self.admit(frame)?;
         let taken = join(
             alloc,
             &self.agreed.limits,
@@ -225,24 +229,22 @@ impl Channel {
 
     // The header of a MSG or a CLO, once it is judged.
     #[tactic(auto, using(crate::proofs::HeaderLemmas::header_length), unfolding(crate::specs::Acceptance::admission_of))]
-    fn admit(&self, alloc: Global, frame: &Frame) -> Result<ChunkHeader, Refusal>
-        ensures header { GivesOrRefuses result (admission_of self.now frame.now.body) }
+    fn admit(&self, frame: &Frame) -> Result<ChunkHeader, Status>
+        ensures header { result ≡ admission_of self.now frame.now.body }
         ensures long { IfOk result (λ _. 16 ≤ length frame.now.body) }
     {
         let mut cursor = Cursor::new(frame.body.as_slice());
-        let header = match ChunkHeader::decode(alloc, &mut cursor) {
-            Ok(header) => header,
-            Err(TakeFault::Memory) => return Err(Refusal::Memory),
-            Err(_) => return Err(Refusal::Service(Status::BAD_DECODING_ERROR)),
+        let Ok(header) = ChunkHeader::read(&mut cursor) else {
+            return Err(Status::BAD_DECODING_ERROR);
         };
         if self.channel_id != Some(header.channel_id) {
-            return Err(Refusal::Service(Status::BAD_TCP_SECURE_CHANNEL_UNKNOWN));
+            return Err(Status::BAD_TCP_SECURE_CHANNEL_UNKNOWN);
         }
         if header.token_id != self.used_token && header.token_id != self.newest_token {
-            return Err(Refusal::Service(Status::BAD_SECURE_CHANNEL_TOKEN_UNKNOWN));
+            return Err(Status::BAD_SECURE_CHANNEL_TOKEN_UNKNOWN);
         }
         if !may_follow(self.received, header.sequence_number) {
-            return Err(Refusal::Service(Status::BAD_SEQUENCE_NUMBER_INVALID));
+            return Err(Status::BAD_SEQUENCE_NUMBER_INVALID);
         }
         Ok(header)
     }
@@ -276,7 +278,8 @@ impl Channel {
     /// more chunks than the client takes, and `Memory` where an allocation failed. The channel is
     /// then as it was.
     pub fn send(&mut self, alloc: Global, id: u32, body: &[u8]) -> Result<Listed<Bytes>, SendFault>
-        ensures { Takes send_fault.Memory result self.old self.new (send_of self.old id body.now) }
+        ensures taken { Takes send_fault.Memory result self.old self.new (send_of self.old id body.now) }
+        ensures refused { IfErr (send_of self.old id body.now).answer (λ fault. result ≡ Err fault) }
     {
         if is_too_large(&self.agreed, body.len()) {
             return Err(SendFault::TooLarge);
@@ -304,7 +307,8 @@ impl Channel {
         id: u32,
         body: &[u8],
     ) -> Result<Listed<Bytes>, SendFault>
-        ensures { Takes send_fault.Memory result self.old self.new (send_opening_of self.old id body.now) }
+        ensures taken { Takes send_fault.Memory result self.old self.new (send_opening_of self.old id body.now) }
+        ensures refused { IfErr (send_opening_of self.old id body.now).answer (λ fault. result ≡ Err fault) }
     {
         if is_opening_too_large(&self.agreed, body) {
             return Err(SendFault::TooLarge);

@@ -1,6 +1,7 @@
 //! What stands before a chunk's part of the message.
 
-ghost use Rattle.std.specs.Prelude.{◌≡◌, IfOk};
+ghost use Rattle.std.specs.Prelude.{◌≡◌, ◌≢◌, ⊤, Ok, Err, IfOk, IfErr};
+ghost use Rattle.ua_binary.specs.declared.fault.TakeFault.TheVariants.{Memory};
 ghost use Rattle.ua_channel.specs.Cutting.{opening_header_by};
 ghost use Rattle.ua_channel.specs.Headers.{chunk_header_reading, chunk_header_encoding, opening_header_reading, opening_header_encoding};
 
@@ -34,19 +35,33 @@ pub struct ChunkHeader {
     pub request_id: u32,
 }
 
+impl ChunkHeader {
+    /// Reads a header, without memory. At an `Err` the cursor stands where the fault is.
+    #[tactic(auto, unfolding(crate::specs::Headers::chunk_header_reading))]
+    pub fn read(cursor: &mut Cursor<'_>) -> Result<ChunkHeader, TakeFault>
+        ensures ok { IfOk result (λ header. chunk_header_reading cursor.old ≡ Ok (header, cursor.new)) }
+        ensures err { IfErr result (λ e. chunk_header_reading cursor.old ≡ Err e) }
+        ensures no_memory { IfErr result (λ e. e ≢ Memory) }
+    {
+        Ok(ChunkHeader {
+            channel_id: cursor.number()?,
+            token_id: cursor.number()?,
+            sequence_number: cursor.number()?,
+            request_id: cursor.number()?,
+        })
+    }
+}
+
 #[tactic(auto, using(ua_binary::proofs::Fields::fields4), unfolding(crate::specs::Headers::chunk_header_reading, crate::specs::Headers::chunk_header_encoding))]
 impl Wire for ChunkHeader {
     ghost reading = { chunk_header_reading };
 
     ghost encoding = { chunk_header_encoding };
 
-    fn decode(alloc: Global, cursor: &mut Cursor<'_>) -> Result<ChunkHeader, TakeFault> {
-        Ok(ChunkHeader {
-            channel_id: u32::decode(alloc, cursor)?,
-            token_id: u32::decode(alloc, cursor)?,
-            sequence_number: u32::decode(alloc, cursor)?,
-            request_id: u32::decode(alloc, cursor)?,
-        })
+    ghost spares_memory = { λ _. ⊤ };
+
+    fn decode(_alloc: Global, cursor: &mut Cursor<'_>) -> Result<ChunkHeader, TakeFault> {
+        ChunkHeader::read(cursor)
     }
 
     fn encode(&self, out: &mut Vec<u8>) -> Result<(), AllocError> {

@@ -1,8 +1,9 @@
 //! Messages out of the chunks that they come in.
 
-ghost use Rattle.std.specs.Prelude.{◌≡◌, ◌≤◌, ◌<◌, ◌+◌, ◌++◌, ℕ, length, drop, false, Some, None, OnOk, OnErr, IfOk, IfSome};
+ghost use Rattle.std.specs.Prelude.{◌≡◌, ◌≤◌, ◌<◌, ◌+◌, ◌++◌, ℕ, length, drop, true, false, Some, None, Err, OnOk, OnErr, IfOk, IfSome};
+ghost use Rattle.ua_types.specs.declared.refusal.Refusal.TheVariants.{Memory};
 ghost use Rattle.ua_types.specs.Refusals.{TakesOrRefuses};
-ghost use Rattle.ua_channel.specs.Messages.{may_join as may_join_spec, extended, exceeds_limits as exceeds_limits_spec, joining_of, AreWithinLimits};
+ghost use Rattle.ua_channel.specs.Messages.{may_join as may_join_spec, extended, exceeds_limits as exceeds_limits_spec, joining_of, brings_part, AreWithinLimits};
 
 use crate::headers::HEADER_SIZE;
 use crate::taken::Taken;
@@ -140,6 +141,7 @@ pub(crate) fn join(
         (joining_of limits.now unfinished.old request_id frame.now.chunk_type (drop 16 frame.now.body)) }
     ensures limits { AreWithinLimits limits.now unfinished.new }
     ensures err { OnErr result (unfinished.new ≡ unfinished.old) }
+    ensures memory { result ≡ Err Memory → brings_part (joining_of limits.now unfinished.old request_id frame.now.chunk_type (drop 16 frame.now.body)).answer ≡ true }
 {
     let part = &frame.body.as_slice()[HEADER_SIZE..];
     if !may_join(unfinished, request_id) {

@@ -1,9 +1,9 @@
 -- Reading raw values of a node (HistoryRead, IEC 62541-4; reading of raw values, IEC 62541-11): the refusals in their order, pages,
 -- and the points by which they go on.
-use Rattle.std.specs.Prelude.{ℕ, ◌/◌, ◌%◌, ◌==◌, Bool, true, false, not, List, [], ◌∷◌, map, Option, Some, None, Result, Ok, Err, if◌then◌else◌}
+use Rattle.std.specs.Prelude.{ℕ, ◌/◌, ◌%◌, ◌==◌, Bool, not, List, [], ◌∷◌, map, Option, Some, None, Result, Ok, Err, if◌then◌else◌}
 use Rattle.std.specs.FinMap.{get}
 use Rattle.std.specs.Result.{result_map_both}
-use Rattle.ua_types.specs.Answers.{Step, step}
+use Rattle.ua_types.specs.Answers.{◌>>=◌, Step, step}
 use Rattle.ua_types.specs.NodeIdOrder.{same_id}
 use Rattle.ua_types.specs.declared.moment.Moment.{Moment}
 use Rattle.ua_types.specs.declared.node_id.NodeId.{NodeId}
@@ -109,7 +109,25 @@ abbrev pub at_point : HistoryState → PointsState → NodeId → Option ℕ →
 at_point h s id None = step (Err status.BAD_CONTINUATION_POINT_INVALID) s
 at_point h s id (Some serial) = gone_on h s serial (history_point id (get s.held serial))
 
+-- the point that these bytes name, for this node
+abbrev pub named_at : PointsState → NodeId → Option ℕ → Option HistoryPoint
+named_at s id None = None
+named_at s id (Some serial) = history_point id (get s.held serial)
+
+abbrev pub point_named : PointsState → NodeId → Option (List ℕ) → Option HistoryPoint
+point_named s id bytes = named_at s id (serial_of bytes)
+
 -- ---- reading
+
+abbrev pub point_judged : HistoryReadValueId → Option HistoryPoint → Result (Unit {0}) Status
+point_judged asked None = if is_given asked.continuation_point then Err status.BAD_CONTINUATION_POINT_INVALID else Ok tt
+point_judged asked (Some p) = Ok tt
+
+-- what is judged before a value is looked at: the node, and the point where one is given
+abbrev pub judged_at : PointsState → Nodes → HistoryReadValueId → Result (Unit {0}) Status
+judged_at s nodes asked = do
+  node ← judged nodes asked
+  point_judged asked (point_named s asked.node_id asked.continuation_point)
 
 abbrev pub read_judged : HistoryState → PointsState → RawRange → HistoryReadValueId → Result (Unit {0}) Status → Step RawPage Status PointsState
 read_judged h s range asked (Err code) = step (Err code) s

@@ -1,6 +1,6 @@
 //! The histories of nodes.
 
-ghost use Rattle.std.specs.Prelude.{◌≡◌, [], length, IfOk, OnOk, OnErr};
+ghost use Rattle.std.specs.Prelude.{◌≡◌, [], length, None, IfOk, IsOk, OnOk, OnErr};
 ghost use Rattle.std.specs.Option.{option_copied};
 ghost use Rattle.ua_history.specs.HistoryLaws.{IsByTime};
 ghost use Rattle.ua_history.specs.Intervals.{raw};
@@ -99,6 +99,7 @@ impl History {
     /// none of them. At an `Err` nothing changed.
     pub fn keep(&mut self, alloc: Global, node: &NodeId, value: DataValue) -> Result<(), AllocError>
         ensures ok { OnOk result (self.new ≡ kept self.old node.now value) }
+        ensures untimed { value.source_time ≡ None → IsOk result }
         ensures err { OnErr result (self.new ≡ self.old) }
     {
         let Some(time) = value.source_time else {

@@ -1,13 +1,15 @@
 //! Pages of a node's history, and the points between them.
 
-ghost use Rattle.std.specs.Prelude.{◌≡◌, map as list_map, Some, IfOk};
+ghost use Rattle.std.specs.Prelude.{◌≡◌, map as list_map, None, Some, Err, IfErr, IfOk};
 ghost use Rattle.std.specs.FinMap as map;
 ghost use Rattle.std.specs.Option.{option_copied};
 ghost use Rattle.std.specs.Result.{result_map_both};
 ghost use Rattle.ua_types.specs.Answers.{step};
+ghost use Rattle.ua_types.specs.declared.refusal.Refusal.TheVariants.{Service};
+ghost use Rattle.ua_types.specs.declared.status.TheConstants.Status as status;
 ghost use Rattle.ua_session.specs.Points.{TakesSerial, serial_of};
 ghost use Rattle.ua_history.specs.Pages.{IsCut, seen};
-ghost use Rattle.ua_history.specs.Reading.{judged as judged_spec, page_of, page_seen, begun, history_point, left_at, point_past as point_past_spec, at_point, read_raw_of, release_of};
+ghost use Rattle.ua_history.specs.Reading.{judged as judged_spec, page_of, page_seen, begun, history_point, left_at, judged_at, point_named, point_past as point_past_spec, at_point, read_raw_of, release_of};
 
 use crate::history::History;
 use crate::intervals::Interval;
@@ -155,7 +157,8 @@ fn go_on<'a>(
     node: &NodeId,
     named: &ByteString,
 ) -> Result<Page<'a>, Refusal>
-    ensures { TakesSerial (result_map_both page_seen (λ refusal. refusal) result) points.old points.new (at_point history.now points.old node.now (serial_of named.now)) }
+    ensures taken { TakesSerial (result_map_both page_seen (λ refusal. refusal) result) points.old points.new (at_point history.now points.old node.now (serial_of named.now)) }
+    ensures held { point_named points.old node.now named.now ≡ None → result ≡ Err (Service status.BAD_CONTINUATION_POINT_INVALID) }
 {
     let Some(serial) = point_serial(named) else {
         return Err(Refusal::Service(Status::BAD_CONTINUATION_POINT_INVALID));
@@ -187,7 +190,8 @@ fn go_on<'a>(
 /// history be read, `BAD_HISTORY_OPERATION_UNSUPPORTED`; an index range is given, `BAD_INDEX_RANGE_INVALID`; a point
 /// is given that isn't held, or is one of Browse or of another node, `BAD_CONTINUATION_POINT_INVALID`, which uses up
 /// none; there are more values than the page has, and no room for a point, `BAD_NO_CONTINUATION_POINTS`. `Exhausted`
-/// where no serial is left for the point. At an `Err` the points are as they were.
+/// where no serial is left for the point. The first four come however little memory there is: nothing grows before
+/// them. At an `Err` the points are as they were.
 #[tactic(auto, unfolding(crate::specs::Reading::read_raw_of))]
 pub fn read_raw<'a>(
     alloc: Global,
@@ -197,7 +201,8 @@ pub fn read_raw<'a>(
     range: RawRange,
     asked: &HistoryReadValueId,
 ) -> Result<Page<'a>, Refusal>
-    ensures { TakesSerial (result_map_both page_seen (λ refusal. refusal) result) points.old points.new (read_raw_of history.now space.now.nodes range points.old asked.now) }
+    ensures taken { TakesSerial (result_map_both page_seen (λ refusal. refusal) result) points.old points.new (read_raw_of history.now space.now.nodes range points.old asked.now) }
+    ensures judged { IfErr (judged_at points.old space.now.nodes asked.now) (λ code. result ≡ Err (Service code)) }
 {
     if let Err(status) = judged(space, asked) {
         return Err(Refusal::Service(status));

@@ -1,13 +1,13 @@
--- A deed gives a value no fate but its own.
+-- A move gives a value no fate but its own.
 use Rattle.std.proofs.Common.{◌≡◌, ℕ, ◌-◌, Bool, true, false, cond, List, [], ◌∷◌, ◌++◌, length, suc, zero, refl, ap, ◌∙◌}
 use Rattle.std.specs.Prelude.{⊤, not, nat_lt, nat_le, fold}
 use Rattle.ua_item_queue.specs.Causes.{gives, may_give, GetsOnly}
-use Rattle.ua_item_queue.specs.ItemQueue.{Deed}
-use Rattle.ua_item_queue.specs.ItemQueue.ItemAct.{Queued, FrontDropped, NewestReplaced, OnlyReplaced, FrontCleared, BackCleared}
-use Rattle.ua_item_queue.specs.ItemQueue.Deed.{Sample, Send, Clear, Resize}
-use Rattle.ua_item_queue.specs.Fates.{Fate, AccountEntry, is_waiting, told, with_fate, waiting, first_get, others_get, first_marked, settled, accounted, account_after, GoesOn}
+use Rattle.ua_item_queue.specs.ItemQueue.{QueueMove}
+use Rattle.ua_item_queue.specs.ItemQueue.QueueChange.{Queued, FrontDropped, NewestReplaced, OnlyReplaced, FrontCleared, BackCleared}
+use Rattle.ua_item_queue.specs.ItemQueue.QueueMove.{Sample, Send, Clear, Resize}
+use Rattle.ua_item_queue.specs.Fates.{Fate, AccountEntry, is_waiting, entered, with_fate, waiting, first_get, others_get, first_marked, settled, accounted, account_after, GoesOn}
 use Rattle.ua_item_queue.specs.Fates.Fate.{WasSent, WasLost, WasCleared}
-use Rattle.ua_item_queue.proofs.KeptLemmas.{act_goes, first_marked_goes, settled_goes, deeds_go}
+use Rattle.ua_item_queue.proofs.KeptLemmas.{change_goes, first_marked_goes, settled_goes, queue_moves_go}
 use Rattle.ua_item_queue.proofs.OrderLemmas.{both}
 
 module _ {V : Type 0} (may : Fate → Bool) where
@@ -15,7 +15,7 @@ module _ {V : Type 0} (may : Fate → Bool) where
   gets_none [] = tt
   gets_none (t ∷ ts) = ((λ w u. both w u), gets_none ts)
 
-  gets_more : (ts us : List (AccountEntry V)) (v : V) (marked : Bool) → GetsOnly may ts us → GetsOnly may ts (us ++ told v marked ∷ [])
+  gets_more : (ts us : List (AccountEntry V)) (v : V) (marked : Bool) → GetsOnly may ts us → GetsOnly may ts (us ++ entered v marked ∷ [])
   gets_more [] [] v marked h = ((λ u. absurd (cc)), tt)
   gets_more [] (u ∷ us) v marked h = (h.0, gets_more [] us v marked h.1)
   gets_more (t ∷ ts) [] v marked h = absurd h
@@ -90,7 +90,7 @@ module _ {V : Type 0} (may : Fate → Bool) where
           GetsOnly may ts (fold accounted ts (cond a (Queued v ∷ []) (cond b (cond c (Queued v ∷ FrontDropped ∷ []) (NewestReplaced v ∷ [])) (OnlyReplaced v ∷ []))))
       by true b c e = queued
       by false true true e =
-          gets_then ts (accounted ts (Queued v)) (accounted (accounted ts (Queued v)) FrontDropped) queued (act_goes (accounted ts (Queued v)) FrontDropped) (front_gets (lost e) (accounted ts (Queued v)))
+          gets_then ts (accounted ts (Queued v)) (accounted (accounted ts (Queued v)) FrontDropped) queued (change_goes (accounted ts (Queued v)) FrontDropped) (front_gets (lost e) (accounted ts (Queued v)))
       by false true false e = gets_more ts (others_get WasLost (length (waiting ts) - 1) ts) v true (gets_others WasLost (lost e) (length (waiting ts) - 1) ts)
       by false false c e = gets_more ts (settled (others_get WasLost 0 ts)) v false (others_settled WasLost (lost e) 0 ts)
 
@@ -103,26 +103,26 @@ module _ {V : Type 0} (may : Fate → Bool) where
       by false true e = first_settled WasCleared (cleared e) (length (waiting ts) - size) ts
       by false false e = others_settled WasCleared (cleared e) size ts
 
-  -- each fate that a deed gives is such a one
-  abbrev pub IsWithin : Deed V → Type 0
+  -- each fate that a move gives is such a one
+  abbrev pub IsWithin : QueueMove V → Type 0
   IsWithin d = (f : Fate) → gives d f ≡ true → may f ≡ true
 
-  deed_gets : (d : Deed V) (ts : List (AccountEntry V)) → IsWithin d → GetsOnly may ts (account_after ts d)
-  deed_gets (Sample size oldest v) ts ok = sample_gets size oldest v ts (λ e. ok WasLost refl)
-  deed_gets (Send n) ts ok = gets_first WasSent (ok WasSent refl) n ts
-  deed_gets Clear ts ok = others_settled WasCleared (ok WasCleared refl) 0 ts
-  deed_gets (Resize size oldest) ts ok = resize_gets size oldest ts (λ e. ok WasCleared refl)
+  queue_move_gets : (d : QueueMove V) (ts : List (AccountEntry V)) → IsWithin d → GetsOnly may ts (account_after ts d)
+  queue_move_gets (Sample size oldest v) ts ok = sample_gets size oldest v ts (λ e. ok WasLost refl)
+  queue_move_gets (Send n) ts ok = gets_first WasSent (ok WasSent refl) n ts
+  queue_move_gets Clear ts ok = others_settled WasCleared (ok WasCleared refl) 0 ts
+  queue_move_gets (Resize size oldest) ts ok = resize_gets size oldest ts (λ e. ok WasCleared refl)
 
-  abbrev pub AreWithin : List (Deed V) → Type 0
+  abbrev pub AreWithin : List (QueueMove V) → Type 0
   AreWithin [] = ⊤
   AreWithin (d ∷ ds) = IsWithin d × AreWithin ds
 
-  pub deeds_get : (ds : List (Deed V)) (ts : List (AccountEntry V)) → AreWithin ds → GetsOnly may ts (fold account_after ts ds)
-  deeds_get [] ts ok = gets_none ts
-  deeds_get (d ∷ ds) ts ok =
-      gets_then ts (account_after ts d) (fold account_after (account_after ts d) ds) (deed_gets d ts ok.0) (deeds_go ds (account_after ts d)) (deeds_get ds (account_after ts d) ok.1)
+  pub queue_moves_get : (ds : List (QueueMove V)) (ts : List (AccountEntry V)) → AreWithin ds → GetsOnly may ts (fold account_after ts ds)
+  queue_moves_get [] ts ok = gets_none ts
+  queue_moves_get (d ∷ ds) ts ok =
+      gets_then ts (account_after ts d) (fold account_after (account_after ts d) ds) (queue_move_gets d ts ok.0) (queue_moves_go ds (account_after ts d)) (queue_moves_get ds (account_after ts d) ok.1)
 
-pub own_fates : {V : Type 0} → (d : Deed V) (ts : List (AccountEntry V)) → GetsOnly (may_give ts d) ts (account_after ts d)
+pub own_fates : {V : Type 0} → (d : QueueMove V) (ts : List (AccountEntry V)) → GetsOnly (may_give ts d) ts (account_after ts d)
 own_fates (Sample size oldest v) ts = sample_gets (may_give ts (Sample size oldest v)) size oldest v ts (λ e. ap not e)
 own_fates (Send n) ts = gets_first (may_give ts (Send n)) WasSent refl n ts
 own_fates Clear ts = others_settled (may_give ts Clear) WasCleared refl 0 ts

@@ -1,7 +1,7 @@
 -- What stands in the account stays in its place.
 use Rattle.std.proofs.Common.{◌≡◌, ℕ, ◌-◌, Bool, true, false, cond, List, [], ◌∷◌, ◌++◌, length, suc, zero, refl, sym, ap, ◌∙◌}
 use Rattle.std.specs.Prelude.{fold}
-use Rattle.ua_item_queue.specs.ItemQueue.{ItemAct, Deed, acts_of}
+use Rattle.ua_item_queue.specs.ItemQueue.{QueueChange, QueueMove, changes_of}
 use Rattle.ua_item_queue.specs.Fates.{Fate, AccountEntry, is_waiting, with_fate, waiting, first_get, others_get, first_marked, settled, accounted, account_after, IsKept, GoesOn}
 use Rattle.ua_item_queue.specs.Fates.Fate.{WasSent, WasLost, WasCleared}
 
@@ -25,7 +25,7 @@ fated f t w = record { value = refl; mark = λ h. h; last_mark = λ h. refl; las
 marks : {V : Type 0} → (t : AccountEntry V) → is_waiting t.fate ≡ true → IsKept t (record t { marked = true })
 marks t w = record { value = refl; mark = λ h. refl; last_mark = λ h. absurd (both w h); last_fate = λ h. refl }
 
-settles : {V : Type 0} → (t : AccountEntry V) → IsKept t (record t { owed = false })
+settles : {V : Type 0} → (t : AccountEntry V) → IsKept t (record t { needs_mark = false })
 settles t = record { value = refl; mark = λ h. h; last_mark = λ h. refl; last_fate = λ h. refl }
 
 pub goes_on : {V : Type 0} → (ts : List (AccountEntry V)) → GoesOn ts ts
@@ -77,20 +77,20 @@ pub settled_goes : {V : Type 0} → (ts : List (AccountEntry V)) → GoesOn ts (
 settled_goes [] = tt
 settled_goes (t ∷ ts) = (settles t, settled_goes ts)
 
-pub act_goes : {V : Type 0} → (ts : List (AccountEntry V)) (a : ItemAct V) → GoesOn ts (accounted ts a)
-act_goes ts (ItemAct.Queued v) = longer ts ts _ (goes_on ts)
-act_goes ts ItemAct.FrontDropped = goes_further ts (first_get WasLost 1 ts) _ (first_get_goes WasLost 1 ts) (first_marked_goes (first_get WasLost 1 ts))
-act_goes ts (ItemAct.NewestReplaced v) = longer ts (others_get WasLost (length (waiting ts) - 1) ts) _ (others_get_goes WasLost (length (waiting ts) - 1) ts)
-act_goes ts (ItemAct.OnlyReplaced v) = longer ts (settled (others_get WasLost 0 ts)) _ (goes_further ts (others_get WasLost 0 ts) _ (others_get_goes WasLost 0 ts) (settled_goes (others_get WasLost 0 ts)))
-act_goes ts (ItemAct.Sent n) = first_get_goes WasSent n ts
-act_goes ts ItemAct.Cleared = goes_further ts (others_get WasCleared 0 ts) _ (others_get_goes WasCleared 0 ts) (settled_goes (others_get WasCleared 0 ts))
-act_goes ts (ItemAct.FrontCleared n) = goes_further ts (first_get WasCleared n ts) _ (first_get_goes WasCleared n ts) (settled_goes (first_get WasCleared n ts))
-act_goes ts (ItemAct.BackCleared n) = goes_further ts (others_get WasCleared n ts) _ (others_get_goes WasCleared n ts) (settled_goes (others_get WasCleared n ts))
+pub change_goes : {V : Type 0} → (ts : List (AccountEntry V)) (a : QueueChange V) → GoesOn ts (accounted ts a)
+change_goes ts (QueueChange.Queued v) = longer ts ts _ (goes_on ts)
+change_goes ts QueueChange.FrontDropped = goes_further ts (first_get WasLost 1 ts) _ (first_get_goes WasLost 1 ts) (first_marked_goes (first_get WasLost 1 ts))
+change_goes ts (QueueChange.NewestReplaced v) = longer ts (others_get WasLost (length (waiting ts) - 1) ts) _ (others_get_goes WasLost (length (waiting ts) - 1) ts)
+change_goes ts (QueueChange.OnlyReplaced v) = longer ts (settled (others_get WasLost 0 ts)) _ (goes_further ts (others_get WasLost 0 ts) _ (others_get_goes WasLost 0 ts) (settled_goes (others_get WasLost 0 ts)))
+change_goes ts (QueueChange.Sent n) = first_get_goes WasSent n ts
+change_goes ts QueueChange.Cleared = goes_further ts (others_get WasCleared 0 ts) _ (others_get_goes WasCleared 0 ts) (settled_goes (others_get WasCleared 0 ts))
+change_goes ts (QueueChange.FrontCleared n) = goes_further ts (first_get WasCleared n ts) _ (first_get_goes WasCleared n ts) (settled_goes (first_get WasCleared n ts))
+change_goes ts (QueueChange.BackCleared n) = goes_further ts (others_get WasCleared n ts) _ (others_get_goes WasCleared n ts) (settled_goes (others_get WasCleared n ts))
 
-pub acts_go : {V : Type 0} → (acts : List (ItemAct V)) (ts : List (AccountEntry V)) → GoesOn ts (fold accounted ts acts)
-acts_go [] ts = goes_on ts
-acts_go (a ∷ acts) ts = goes_further ts (accounted ts a) _ (act_goes ts a) (acts_go acts (accounted ts a))
+pub changes_go : {V : Type 0} → (changes : List (QueueChange V)) (ts : List (AccountEntry V)) → GoesOn ts (fold accounted ts changes)
+changes_go [] ts = goes_on ts
+changes_go (a ∷ changes) ts = goes_further ts (accounted ts a) _ (change_goes ts a) (changes_go changes (accounted ts a))
 
-pub deeds_go : {V : Type 0} → (ds : List (Deed V)) (ts : List (AccountEntry V)) → GoesOn ts (fold account_after ts ds)
-deeds_go [] ts = goes_on ts
-deeds_go (d ∷ ds) ts = goes_further ts (account_after ts d) _ (acts_go (acts_of (waiting ts) d) ts) (deeds_go ds (account_after ts d))
+pub queue_moves_go : {V : Type 0} → (ds : List (QueueMove V)) (ts : List (AccountEntry V)) → GoesOn ts (fold account_after ts ds)
+queue_moves_go [] ts = goes_on ts
+queue_moves_go (d ∷ ds) ts = goes_further ts (account_after ts d) _ (changes_go (changes_of (waiting ts) d) ts) (queue_moves_go ds (account_after ts d))

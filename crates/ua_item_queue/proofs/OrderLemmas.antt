@@ -1,7 +1,7 @@
 -- No value is sent before an older one that waits.
 use Rattle.std.proofs.Common.{◌≡◌, ℕ, ◌-◌, Bool, true, false, cond, List, [], ◌∷◌, ◌++◌, length, suc, zero, refl, sym, ◌∙◌}
-use Rattle.ua_item_queue.specs.ItemQueue.{ItemAct}
-use Rattle.ua_item_queue.specs.Fates.{Fate, AccountEntry, is_waiting, is_sent, told, with_fate, waiting, first_get, others_get, first_marked, settled, accounted, NoneSent, IsInOrder}
+use Rattle.ua_item_queue.specs.ItemQueue.{QueueChange}
+use Rattle.ua_item_queue.specs.Fates.{Fate, AccountEntry, is_waiting, is_sent, entered, with_fate, waiting, first_get, others_get, first_marked, settled, accounted, NoneSent, IsInOrder}
 use Rattle.ua_item_queue.specs.Fates.Fate.{WasSent, WasLost, WasCleared}
 
 pub both : {A : Type 0} {b : Bool} → b ≡ true → b ≡ false → A
@@ -70,16 +70,16 @@ order_settled : {V : Type 0} → (ts : List (AccountEntry V)) → IsInOrder ts �
 order_settled [] h = tt
 order_settled (t ∷ ts) h = ((λ waits. none_settled ts (h.0 waits)), order_settled ts h.1)
 
-order_appended : {V : Type 0} → (ts : List (AccountEntry V)) (v : V) (m : Bool) → IsInOrder ts → IsInOrder (ts ++ told v m ∷ [])
+order_appended : {V : Type 0} → (ts : List (AccountEntry V)) (v : V) (m : Bool) → IsInOrder ts → IsInOrder (ts ++ entered v m ∷ [])
 order_appended [] v m h = ((λ waits. tt), tt)
-order_appended (t ∷ ts) v m h = ((λ waits. none_appended ts (told v m ∷ []) (h.0 waits) (refl, tt)), order_appended ts v m h.1)
+order_appended (t ∷ ts) v m h = ((λ waits. none_appended ts (entered v m ∷ []) (h.0 waits) (refl, tt)), order_appended ts v m h.1)
 
-pub order_kept : {V : Type 0} → (ts : List (AccountEntry V)) (a : ItemAct V) → IsInOrder ts → IsInOrder (accounted ts a)
-order_kept ts (ItemAct.Queued v) h = order_appended ts v false h
-order_kept ts ItemAct.FrontDropped h = order_marked (first_get WasLost 1 ts) (order_first WasLost refl 1 ts h)
-order_kept ts (ItemAct.NewestReplaced v) h = order_appended (others_get WasLost (length (waiting ts) - 1) ts) v true (order_others WasLost refl refl (length (waiting ts) - 1) ts h)
-order_kept ts (ItemAct.OnlyReplaced v) h = order_appended (settled (others_get WasLost 0 ts)) v false (order_settled (others_get WasLost 0 ts) (order_others WasLost refl refl 0 ts h))
-order_kept ts (ItemAct.Sent n) h = order_first WasSent refl n ts h
-order_kept ts ItemAct.Cleared h = order_settled (others_get WasCleared 0 ts) (order_others WasCleared refl refl 0 ts h)
-order_kept ts (ItemAct.FrontCleared n) h = order_settled (first_get WasCleared n ts) (order_first WasCleared refl n ts h)
-order_kept ts (ItemAct.BackCleared n) h = order_settled (others_get WasCleared n ts) (order_others WasCleared refl refl n ts h)
+pub order_kept : {V : Type 0} → (ts : List (AccountEntry V)) (a : QueueChange V) → IsInOrder ts → IsInOrder (accounted ts a)
+order_kept ts (QueueChange.Queued v) h = order_appended ts v false h
+order_kept ts QueueChange.FrontDropped h = order_marked (first_get WasLost 1 ts) (order_first WasLost refl 1 ts h)
+order_kept ts (QueueChange.NewestReplaced v) h = order_appended (others_get WasLost (length (waiting ts) - 1) ts) v true (order_others WasLost refl refl (length (waiting ts) - 1) ts h)
+order_kept ts (QueueChange.OnlyReplaced v) h = order_appended (settled (others_get WasLost 0 ts)) v false (order_settled (others_get WasLost 0 ts) (order_others WasLost refl refl 0 ts h))
+order_kept ts (QueueChange.Sent n) h = order_first WasSent refl n ts h
+order_kept ts QueueChange.Cleared h = order_settled (others_get WasCleared 0 ts) (order_others WasCleared refl refl 0 ts h)
+order_kept ts (QueueChange.FrontCleared n) h = order_settled (first_get WasCleared n ts) (order_first WasCleared refl n ts h)
+order_kept ts (QueueChange.BackCleared n) h = order_settled (others_get WasCleared n ts) (order_others WasCleared refl refl n ts h)

@@ -2,8 +2,8 @@
 use Rattle.std.proofs.Common.{◌≡◌, ℕ, ◌-◌, Bool, true, false, cond, List, [], ◌∷◌, ◌++◌, take, drop, length, suc, zero, refl, ap, ◌∙◌}
 use Rattle.std.specs.Prelude.{fold}
 use Rattle.ua_item_queue.specs.declared.entry.Entry.{Entry}
-use Rattle.ua_item_queue.specs.ItemQueue.{entry, marked_front, ItemAct, acted, Deed, acts_of, queue_after, queue}
-use Rattle.ua_item_queue.specs.Fates.{Fate, AccountEntry, is_waiting, told, with_fate, waiting, first_get, others_get, first_marked, settled, accounted, account_after, account}
+use Rattle.ua_item_queue.specs.ItemQueue.{entry, marked_front, QueueChange, changed, QueueMove, changes_of, queue_after, queue}
+use Rattle.ua_item_queue.specs.Fates.{Fate, AccountEntry, is_waiting, entered, with_fate, waiting, first_get, others_get, first_marked, settled, accounted, account_after, account}
 use Rattle.ua_item_queue.specs.Fates.Fate.{WasSent, WasLost, WasCleared}
 
 pub waiting-append : {V : Type 0} → (ts us : List (AccountEntry V)) → waiting (ts ++ us) ≡ waiting ts ++ waiting us
@@ -54,24 +54,24 @@ take_none : {V : Type 0} → (es : List (Entry V)) → take 0 es ≡ []
 take_none [] = refl
 take_none (e ∷ es) = refl
 
--- an act on the account is that act on what waits
-pub waiting-accounted : {V : Type 0} → (ts : List (AccountEntry V)) (a : ItemAct V) → waiting (accounted ts a) ≡ acted (waiting ts) a
-waiting-accounted ts (ItemAct.Queued v) = waiting-append ts (told v false ∷ [])
-waiting-accounted ts ItemAct.FrontDropped = waiting-first_marked (first_get WasLost 1 ts) ∙ ap marked_front (waiting-first_get WasLost refl 1 ts)
-waiting-accounted ts (ItemAct.NewestReplaced v) = waiting-append (others_get WasLost (length (waiting ts) - 1) ts) (told v true ∷ []) ∙ ap (λ es. es ++ entry v true ∷ []) (waiting-others_get WasLost refl (length (waiting ts) - 1) ts)
-waiting-accounted ts (ItemAct.OnlyReplaced v) = waiting-append (settled (others_get WasLost 0 ts)) (told v false ∷ []) ∙ ap (λ es. es ++ entry v false ∷ []) (waiting-settled (others_get WasLost 0 ts) ∙ waiting-others_get WasLost refl 0 ts ∙ take_none (waiting ts))
-waiting-accounted ts (ItemAct.Sent n) = waiting-first_get WasSent refl n ts
-waiting-accounted ts ItemAct.Cleared = waiting-settled (others_get WasCleared 0 ts) ∙ waiting-others_get WasCleared refl 0 ts ∙ take_none (waiting ts)
-waiting-accounted ts (ItemAct.FrontCleared n) = waiting-settled (first_get WasCleared n ts) ∙ waiting-first_get WasCleared refl n ts
-waiting-accounted ts (ItemAct.BackCleared n) = waiting-settled (others_get WasCleared n ts) ∙ waiting-others_get WasCleared refl n ts
+-- a change of the account is that change of what waits
+pub waiting-accounted : {V : Type 0} → (ts : List (AccountEntry V)) (a : QueueChange V) → waiting (accounted ts a) ≡ changed (waiting ts) a
+waiting-accounted ts (QueueChange.Queued v) = waiting-append ts (entered v false ∷ [])
+waiting-accounted ts QueueChange.FrontDropped = waiting-first_marked (first_get WasLost 1 ts) ∙ ap marked_front (waiting-first_get WasLost refl 1 ts)
+waiting-accounted ts (QueueChange.NewestReplaced v) = waiting-append (others_get WasLost (length (waiting ts) - 1) ts) (entered v true ∷ []) ∙ ap (λ es. es ++ entry v true ∷ []) (waiting-others_get WasLost refl (length (waiting ts) - 1) ts)
+waiting-accounted ts (QueueChange.OnlyReplaced v) = waiting-append (settled (others_get WasLost 0 ts)) (entered v false ∷ []) ∙ ap (λ es. es ++ entry v false ∷ []) (waiting-settled (others_get WasLost 0 ts) ∙ waiting-others_get WasLost refl 0 ts ∙ take_none (waiting ts))
+waiting-accounted ts (QueueChange.Sent n) = waiting-first_get WasSent refl n ts
+waiting-accounted ts QueueChange.Cleared = waiting-settled (others_get WasCleared 0 ts) ∙ waiting-others_get WasCleared refl 0 ts ∙ take_none (waiting ts)
+waiting-accounted ts (QueueChange.FrontCleared n) = waiting-settled (first_get WasCleared n ts) ∙ waiting-first_get WasCleared refl n ts
+waiting-accounted ts (QueueChange.BackCleared n) = waiting-settled (others_get WasCleared n ts) ∙ waiting-others_get WasCleared refl n ts
 
-waiting-acts : {V : Type 0} → (acts : List (ItemAct V)) (ts : List (AccountEntry V)) → waiting (fold accounted ts acts) ≡ fold acted (waiting ts) acts
+waiting-acts : {V : Type 0} → (changes : List (QueueChange V)) (ts : List (AccountEntry V)) → waiting (fold accounted ts changes) ≡ fold changed (waiting ts) changes
 waiting-acts [] ts = refl
-waiting-acts (a ∷ acts) ts = waiting-acts acts (accounted ts a) ∙ ap (λ q. fold acted q acts) (waiting-accounted ts a)
+waiting-acts (a ∷ changes) ts = waiting-acts changes (accounted ts a) ∙ ap (λ q. fold changed q changes) (waiting-accounted ts a)
 
-waiting-deeds : {V : Type 0} → (ds : List (Deed V)) (ts : List (AccountEntry V)) → waiting (fold account_after ts ds) ≡ fold queue_after (waiting ts) ds
-waiting-deeds [] ts = refl
-waiting-deeds (d ∷ ds) ts = waiting-deeds ds (account_after ts d) ∙ ap (λ q. fold queue_after q ds) (waiting-acts (acts_of (waiting ts) d) ts)
+waiting-queue_moves : {V : Type 0} → (ds : List (QueueMove V)) (ts : List (AccountEntry V)) → waiting (fold account_after ts ds) ≡ fold queue_after (waiting ts) ds
+waiting-queue_moves [] ts = refl
+waiting-queue_moves (d ∷ ds) ts = waiting-queue_moves ds (account_after ts d) ∙ ap (λ q. fold queue_after q ds) (waiting-acts (changes_of (waiting ts) d) ts)
 
-pub queue_is_what_waits : {V : Type 0} → (ds : List (Deed V)) → waiting (account ds) ≡ queue ds
-queue_is_what_waits ds = waiting-deeds ds []
+pub queue_is_what_waits : {V : Type 0} → (ds : List (QueueMove V)) → waiting (account ds) ≡ queue ds
+queue_is_what_waits ds = waiting-queue_moves ds []

@@ -1,14 +1,14 @@
 -- What was sent is what the sendings took from the front of the queue.
 use Rattle.std.proofs.Common.{◌≡◌, ℕ, ◌-◌, Bool, true, false, cond, List, [], ◌∷◌, ◌++◌, append_assoc, append-nil, length, take, suc, zero, refl, sym, ap, ◌∙◌}
 use Rattle.std.specs.Prelude.{nat_lt, nat_le, fold}
-use Rattle.ua_item_queue.specs.ItemQueue.{entry, ItemAct, Deed, acted, acts_of, queue_after}
-use Rattle.ua_item_queue.specs.ItemQueue.ItemAct.{Queued, FrontDropped, NewestReplaced, OnlyReplaced, FrontCleared, BackCleared}
-use Rattle.ua_item_queue.specs.ItemQueue.Deed.{Sample, Send, Clear, Resize}
-use Rattle.ua_item_queue.specs.Fates.{Fate, AccountEntry, is_waiting, is_sent, told, with_fate, waiting, first_get, others_get, first_marked, settled, accounted, account_after, account, NoneSent, IsInOrder}
+use Rattle.ua_item_queue.specs.ItemQueue.{entry, QueueChange, QueueMove, changed, changes_of, queue_after}
+use Rattle.ua_item_queue.specs.ItemQueue.QueueChange.{Queued, FrontDropped, NewestReplaced, OnlyReplaced, FrontCleared, BackCleared}
+use Rattle.ua_item_queue.specs.ItemQueue.QueueMove.{Sample, Send, Clear, Resize}
+use Rattle.ua_item_queue.specs.Fates.{Fate, AccountEntry, is_waiting, is_sent, entered, with_fate, waiting, first_get, others_get, first_marked, settled, accounted, account_after, account, NoneSent, IsInOrder}
 use Rattle.ua_item_queue.specs.Fates.Fate.{Waits, WasSent, WasLost, WasCleared}
 use Rattle.ua_item_queue.specs.Sendings.{sent_of, given_by}
 use Rattle.ua_item_queue.proofs.QueueLemmas.{waiting-accounted}
-use Rattle.ua_item_queue.proofs.AccountLemmas.{IsRight, deed_right}
+use Rattle.ua_item_queue.proofs.AccountLemmas.{IsRight, queue_move_right}
 
 waits_unsent : (f : Fate) → is_waiting f ≡ true → is_sent f ≡ false
 waits_unsent Waits w = refl
@@ -69,8 +69,8 @@ sent-settled [] = refl
 sent-settled (t ∷ ts) = ap (λ es. cond (is_sent t.fate) (entry t.value t.marked ∷ es) es) (sent-settled ts)
 
 -- one more behind, that waits
-more : {V : Type 0} → (ts us : List (AccountEntry V)) (v : V) (marked : Bool) → sent_of us ≡ sent_of ts → sent_of (us ++ told v marked ∷ []) ≡ sent_of ts
-more ts us v marked h = sent-append us (told v marked ∷ []) ∙ append-nil (sent_of us) ∙ h
+more : {V : Type 0} → (ts us : List (AccountEntry V)) (v : V) (marked : Bool) → sent_of us ≡ sent_of ts → sent_of (us ++ entered v marked ∷ []) ≡ sent_of ts
+more ts us v marked h = sent-append us (entered v marked ∷ []) ∙ append-nil (sent_of us) ∙ h
 
 -- the first that wait are sent
 sent-sent : {V : Type 0} → (n : ℕ) (ts : List (AccountEntry V)) → IsInOrder ts → sent_of (first_get WasSent n ts) ≡ sent_of ts ++ take n (waiting ts)
@@ -96,7 +96,7 @@ sent-sample ts size oldest v = by (nat_lt (length (waiting ts)) size) (nat_lt 1 
   where
     by : (a b c : Bool) → sent_of (fold accounted ts (cond a (Queued v ∷ []) (cond b (cond c (Queued v ∷ FrontDropped ∷ []) (NewestReplaced v ∷ [])) (OnlyReplaced v ∷ [])))) ≡ sent_of ts
     by true b c = more ts ts v false refl
-    by false true true = sent-first_marked (first_get WasLost 1 (ts ++ told v false ∷ [])) ∙ sent-first_get WasLost refl 1 (ts ++ told v false ∷ []) ∙ more ts ts v false refl
+    by false true true = sent-first_marked (first_get WasLost 1 (ts ++ entered v false ∷ [])) ∙ sent-first_get WasLost refl 1 (ts ++ entered v false ∷ []) ∙ more ts ts v false refl
     by false true false = more ts (others_get WasLost (length (waiting ts) - 1) ts) v true (sent-others_get WasLost refl (length (waiting ts) - 1) ts)
     by false false c = more ts (settled (others_get WasLost 0 ts)) v false (sent-settled (others_get WasLost 0 ts) ∙ sent-others_get WasLost refl 0 ts)
 
@@ -108,32 +108,32 @@ sent-resize ts size oldest = by (nat_le (length (waiting ts)) size) oldest
     by false true = sent-settled (first_get WasCleared (length (waiting ts) - size) ts) ∙ sent-first_get WasCleared refl (length (waiting ts) - size) ts
     by false false = sent-settled (others_get WasCleared size ts) ∙ sent-others_get WasCleared refl size ts
 
-waiting-acts : {V : Type 0} → (acts : List (ItemAct V)) (ts : List (AccountEntry V)) → waiting (fold accounted ts acts) ≡ fold acted (waiting ts) acts
+waiting-acts : {V : Type 0} → (changes : List (QueueChange V)) (ts : List (AccountEntry V)) → waiting (fold accounted ts changes) ≡ fold changed (waiting ts) changes
 waiting-acts [] ts = refl
-waiting-acts (a ∷ acts) ts = waiting-acts acts (accounted ts a) ∙ ap (λ q. fold acted q acts) (waiting-accounted ts a)
+waiting-acts (a ∷ changes) ts = waiting-acts changes (accounted ts a) ∙ ap (λ q. fold changed q changes) (waiting-accounted ts a)
 
-waiting-deed : {V : Type 0} → (ts : List (AccountEntry V)) (d : Deed V) → waiting (account_after ts d) ≡ queue_after (waiting ts) d
-waiting-deed ts d = waiting-acts (acts_of (waiting ts) d) ts
+waiting-queue_move : {V : Type 0} → (ts : List (AccountEntry V)) (d : QueueMove V) → waiting (account_after ts d) ≡ queue_after (waiting ts) d
+waiting-queue_move ts d = waiting-acts (changes_of (waiting ts) d) ts
 
--- a deed that sends none, and those behind it
-unsending : {V : Type 0} → (ts : List (AccountEntry V)) (d : Deed V) (ds : List (Deed V)) → sent_of (account_after ts d) ≡ sent_of ts →
+-- a move that sends none, and those behind it
+unsending : {V : Type 0} → (ts : List (AccountEntry V)) (d : QueueMove V) (ds : List (QueueMove V)) → sent_of (account_after ts d) ≡ sent_of ts →
     sent_of (fold account_after (account_after ts d) ds) ≡ sent_of (account_after ts d) ++ given_by (waiting (account_after ts d)) ds →
     sent_of (fold account_after ts (d ∷ ds)) ≡ sent_of ts ++ given_by (queue_after (waiting ts) d) ds
-unsending ts d ds h k = k ∙ ap (λ es. es ++ given_by (waiting (account_after ts d)) ds) h ∙ ap (λ q. sent_of ts ++ given_by q ds) (waiting-deed ts d)
+unsending ts d ds h k = k ∙ ap (λ es. es ++ given_by (waiting (account_after ts d)) ds) h ∙ ap (λ q. sent_of ts ++ given_by q ds) (waiting-queue_move ts d)
 
-sent-from : {V : Type 0} → (ds : List (Deed V)) (ts : List (AccountEntry V)) → IsRight ts → sent_of (fold account_after ts ds) ≡ sent_of ts ++ given_by (waiting ts) ds
+sent-from : {V : Type 0} → (ds : List (QueueMove V)) (ts : List (AccountEntry V)) → IsRight ts → sent_of (fold account_after ts ds) ≡ sent_of ts ++ given_by (waiting ts) ds
 sent-from [] ts h = sym (append-nil (sent_of ts))
 sent-from (Send n ∷ ds) ts h =
-    sent-from ds (account_after ts (Send n)) (deed_right ts (Send n) h)
+    sent-from ds (account_after ts (Send n)) (queue_move_right ts (Send n) h)
     ∙ ap (λ es. es ++ given_by (waiting (account_after ts (Send n))) ds) (sent-sent n ts h.order)
     ∙ append_assoc (sent_of ts) (take n (waiting ts)) (given_by (waiting (account_after ts (Send n))) ds)
-    ∙ ap (λ q. sent_of ts ++ (take n (waiting ts) ++ given_by q ds)) (waiting-deed ts (Send n))
+    ∙ ap (λ q. sent_of ts ++ (take n (waiting ts) ++ given_by q ds)) (waiting-queue_move ts (Send n))
 sent-from (Sample size oldest v ∷ ds) ts h =
-    unsending ts (Sample size oldest v) ds (sent-sample ts size oldest v) (sent-from ds (account_after ts (Sample size oldest v)) (deed_right ts (Sample size oldest v) h))
+    unsending ts (Sample size oldest v) ds (sent-sample ts size oldest v) (sent-from ds (account_after ts (Sample size oldest v)) (queue_move_right ts (Sample size oldest v) h))
 sent-from (Clear ∷ ds) ts h =
-    unsending ts Clear ds (sent-settled (others_get WasCleared 0 ts) ∙ sent-others_get WasCleared refl 0 ts) (sent-from ds (account_after ts Clear) (deed_right ts Clear h))
+    unsending ts Clear ds (sent-settled (others_get WasCleared 0 ts) ∙ sent-others_get WasCleared refl 0 ts) (sent-from ds (account_after ts Clear) (queue_move_right ts Clear h))
 sent-from (Resize size oldest ∷ ds) ts h =
-    unsending ts (Resize size oldest) ds (sent-resize ts size oldest) (sent-from ds (account_after ts (Resize size oldest)) (deed_right ts (Resize size oldest) h))
+    unsending ts (Resize size oldest) ds (sent-resize ts size oldest) (sent-from ds (account_after ts (Resize size oldest)) (queue_move_right ts (Resize size oldest) h))
 
-pub sent_are_given : {V : Type 0} → (ds : List (Deed V)) → sent_of (account ds) ≡ given_by [] ds
+pub sent_are_given : {V : Type 0} → (ds : List (QueueMove V)) → sent_of (account ds) ≡ given_by [] ds
 sent_are_given ds = sent-from ds [] (record { order = tt; losses = tt })

@@ -1,10 +1,10 @@
 -- Each value that is queued stands in the account.
 use Rattle.std.proofs.Common.{◌≡◌, ℕ, ◌-◌, Bool, true, false, cond, List, [], ◌∷◌, ◌++◌, append_assoc, append-nil, length, suc, zero, refl, sym, ap, ◌∙◌}
 use Rattle.std.specs.Prelude.{nat_lt, nat_le, fold}
-use Rattle.ua_item_queue.specs.ItemQueue.{Deed}
-use Rattle.ua_item_queue.specs.ItemQueue.ItemAct.{Queued, FrontDropped, NewestReplaced, OnlyReplaced, FrontCleared, BackCleared}
-use Rattle.ua_item_queue.specs.ItemQueue.Deed.{Sample, Send, Clear, Resize}
-use Rattle.ua_item_queue.specs.Fates.{Fate, AccountEntry, is_waiting, told, with_fate, waiting, first_get, others_get, first_marked, settled, accounted, account_after, account}
+use Rattle.ua_item_queue.specs.ItemQueue.{QueueMove}
+use Rattle.ua_item_queue.specs.ItemQueue.QueueChange.{Queued, FrontDropped, NewestReplaced, OnlyReplaced, FrontCleared, BackCleared}
+use Rattle.ua_item_queue.specs.ItemQueue.QueueMove.{Sample, Send, Clear, Resize}
+use Rattle.ua_item_queue.specs.Fates.{Fate, AccountEntry, is_waiting, entered, with_fate, waiting, first_get, others_get, first_marked, settled, accounted, account_after, account}
 use Rattle.ua_item_queue.specs.Fates.Fate.{WasSent, WasLost, WasCleared}
 use Rattle.ua_item_queue.specs.Sendings.{values_of, sampled_by}
 
@@ -49,8 +49,8 @@ values-settled [] = refl
 values-settled (t ∷ ts) = ap (λ vs. t.value ∷ vs) (values-settled ts)
 
 -- one more behind
-more : {V : Type 0} → (ts us : List (AccountEntry V)) (v : V) (marked : Bool) → values_of us ≡ values_of ts → values_of (us ++ told v marked ∷ []) ≡ values_of ts ++ v ∷ []
-more ts us v marked h = values-append us (told v marked ∷ []) ∙ ap (λ vs. vs ++ v ∷ []) h
+more : {V : Type 0} → (ts us : List (AccountEntry V)) (v : V) (marked : Bool) → values_of us ≡ values_of ts → values_of (us ++ entered v marked ∷ []) ≡ values_of ts ++ v ∷ []
+more ts us v marked h = values-append us (entered v marked ∷ []) ∙ ap (λ vs. vs ++ v ∷ []) h
 
 values-sample : {V : Type 0} → (ts : List (AccountEntry V)) (size : ℕ) (oldest : Bool) (v : V) → values_of (account_after ts (Sample size oldest v)) ≡ values_of ts ++ v ∷ []
 values-sample ts size oldest v = by (nat_lt (length (waiting ts)) size) (nat_lt 1 size) oldest
@@ -58,7 +58,7 @@ values-sample ts size oldest v = by (nat_lt (length (waiting ts)) size) (nat_lt 
     by : (a b c : Bool) → values_of (fold accounted ts (cond a (Queued v ∷ []) (cond b (cond c (Queued v ∷ FrontDropped ∷ []) (NewestReplaced v ∷ [])) (OnlyReplaced v ∷ [])))) ≡ values_of ts ++ v ∷ []
     by true b c = more ts ts v false refl
     by false true true =
-        values-first_marked (first_get WasLost 1 (ts ++ told v false ∷ [])) ∙ values-first_get WasLost 1 (ts ++ told v false ∷ []) ∙ more ts ts v false refl
+        values-first_marked (first_get WasLost 1 (ts ++ entered v false ∷ [])) ∙ values-first_get WasLost 1 (ts ++ entered v false ∷ []) ∙ more ts ts v false refl
     by false true false = more ts (others_get WasLost (length (waiting ts) - 1) ts) v true (values-others_get WasLost (length (waiting ts) - 1) ts)
     by false false c = more ts (settled (others_get WasLost 0 ts)) v false (values-settled (others_get WasLost 0 ts) ∙ values-others_get WasLost 0 ts)
 
@@ -70,7 +70,7 @@ values-resize ts size oldest = by (nat_le (length (waiting ts)) size) oldest
     by false true = values-settled (first_get WasCleared (length (waiting ts) - size) ts) ∙ values-first_get WasCleared (length (waiting ts) - size) ts
     by false false = values-settled (others_get WasCleared size ts) ∙ values-others_get WasCleared size ts
 
-values-from : {V : Type 0} → (ds : List (Deed V)) (ts : List (AccountEntry V)) → values_of (fold account_after ts ds) ≡ values_of ts ++ sampled_by ds
+values-from : {V : Type 0} → (ds : List (QueueMove V)) (ts : List (AccountEntry V)) → values_of (fold account_after ts ds) ≡ values_of ts ++ sampled_by ds
 values-from [] ts = sym (append-nil (values_of ts))
 values-from (Sample size oldest v ∷ ds) ts =
     values-from ds (account_after ts (Sample size oldest v)) ∙ ap (λ vs. vs ++ sampled_by ds) (values-sample ts size oldest v) ∙ append_assoc (values_of ts) (v ∷ []) (sampled_by ds)
@@ -79,5 +79,5 @@ values-from (Clear ∷ ds) ts =
     values-from ds (account_after ts Clear) ∙ ap (λ vs. vs ++ sampled_by ds) (values-settled (others_get WasCleared 0 ts) ∙ values-others_get WasCleared 0 ts)
 values-from (Resize size oldest ∷ ds) ts = values-from ds (account_after ts (Resize size oldest)) ∙ ap (λ vs. vs ++ sampled_by ds) (values-resize ts size oldest)
 
-pub values_are_told : {V : Type 0} → (ds : List (Deed V)) → values_of (account ds) ≡ sampled_by ds
-values_are_told ds = values-from ds []
+pub values_are_sent : {V : Type 0} → (ds : List (QueueMove V)) → values_of (account ds) ≡ sampled_by ds
+values_are_sent ds = values-from ds []

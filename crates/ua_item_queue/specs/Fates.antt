@@ -1,20 +1,20 @@
 -- What became of the values that were queued.
 use Rattle.std.specs.Prelude.{◌≡◌, ◌&&◌, ◌||◌, ℕ, ◌-◌, zero, suc, Bool, true, false, List, [], ◌∷◌, ◌++◌, length, fold, if◌then◌else◌, ⊤}
 use Rattle.ua_item_queue.specs.declared.entry.Entry.{Entry}
-use Rattle.ua_item_queue.specs.ItemQueue.{entry, ItemAct, Deed, acts_of}
-use Rattle.ua_item_queue.specs.ItemQueue.ItemAct.{Queued, FrontDropped, NewestReplaced, OnlyReplaced, Sent, Cleared, FrontCleared, BackCleared}
+use Rattle.ua_item_queue.specs.ItemQueue.{entry, QueueChange, QueueMove, changes_of}
+use Rattle.ua_item_queue.specs.ItemQueue.QueueChange.{Queued, FrontDropped, NewestReplaced, OnlyReplaced, Sent, Cleared, FrontCleared, BackCleared}
 
 -- a value waits in the queue, was sent, was lost where the queue was full, or was cleared by a call
 pub data Fate : Type 0 where
   Waits WasSent WasLost WasCleared : Fate
 
--- a value of the account; and of a lost one, whether a later value owes it a mark: nothing was cleared since, and the
+-- a value of the account; and of a lost one, whether it still needs a mark on a later value: nothing was cleared since, and the
 -- queue holds more than one value
 pub record AccountEntry (V : Type 0) : Type 0 where
   pub value : V
   pub marked : Bool
   pub fate : Fate
-  pub owed : Bool
+  pub needs_mark : Bool
 
 abbrev pub is_waiting : Fate → Bool
 is_waiting Waits = true
@@ -28,11 +28,11 @@ abbrev pub is_lost : Fate → Bool
 is_lost WasLost = true
 is_lost _ = false
 
-abbrev pub told : {V : Type 0} → V → Bool → AccountEntry V
-told v marked = record { value = v; marked = marked; fate = Waits; owed = false }
+abbrev pub entered : {V : Type 0} → V → Bool → AccountEntry V
+entered v marked = record { value = v; marked = marked; fate = Waits; needs_mark = false }
 
 abbrev pub with_fate : {V : Type 0} → Fate → AccountEntry V → AccountEntry V
-with_fate f t = record t { fate = f; owed = is_lost f }
+with_fate f t = record t { fate = f; needs_mark = is_lost f }
 
 -- the values that wait, in order
 abbrev pub waiting : {V : Type 0} → List (AccountEntry V) → List (Entry V)
@@ -56,27 +56,27 @@ abbrev pub first_marked : {V : Type 0} → List (AccountEntry V) → List (Accou
 first_marked [] = []
 first_marked (t ∷ ts) = if is_waiting t.fate then record t { marked = true } ∷ ts else t ∷ first_marked ts
 
--- no mark is owed any more
+-- no value needs a mark any more
 abbrev pub settled : {V : Type 0} → List (AccountEntry V) → List (AccountEntry V)
 settled [] = []
-settled (t ∷ ts) = record t { owed = false } ∷ settled ts
+settled (t ∷ ts) = record t { needs_mark = false } ∷ settled ts
 
--- the account after an act
-abbrev pub accounted : {V : Type 0} → List (AccountEntry V) → ItemAct V → List (AccountEntry V)
-accounted ts (Queued v) = ts ++ told v false ∷ []
+-- the account after a change
+abbrev pub accounted : {V : Type 0} → List (AccountEntry V) → QueueChange V → List (AccountEntry V)
+accounted ts (Queued v) = ts ++ entered v false ∷ []
 accounted ts FrontDropped = first_marked (first_get WasLost 1 ts)
-accounted ts (NewestReplaced v) = others_get WasLost (length (waiting ts) - 1) ts ++ told v true ∷ []
-accounted ts (OnlyReplaced v) = settled (others_get WasLost 0 ts) ++ told v false ∷ []
+accounted ts (NewestReplaced v) = others_get WasLost (length (waiting ts) - 1) ts ++ entered v true ∷ []
+accounted ts (OnlyReplaced v) = settled (others_get WasLost 0 ts) ++ entered v false ∷ []
 accounted ts (Sent n) = first_get WasSent n ts
 accounted ts Cleared = settled (others_get WasCleared 0 ts)
 accounted ts (FrontCleared n) = settled (first_get WasCleared n ts)
 accounted ts (BackCleared n) = settled (others_get WasCleared n ts)
 
-abbrev pub account_after : {V : Type 0} → List (AccountEntry V) → Deed V → List (AccountEntry V)
-account_after ts d = fold accounted ts (acts_of (waiting ts) d)
+abbrev pub account_after : {V : Type 0} → List (AccountEntry V) → QueueMove V → List (AccountEntry V)
+account_after ts d = fold accounted ts (changes_of (waiting ts) d)
 
 -- the account of all that was ever queued
-abbrev pub account : {V : Type 0} → List (Deed V) → List (AccountEntry V)
+abbrev pub account : {V : Type 0} → List (QueueMove V) → List (AccountEntry V)
 account ds = fold account_after [] ds
 
 -- a value of the account later: it is the same value; a mark stays; and once it doesn't wait, nothing of it changes
@@ -112,10 +112,10 @@ abbrev pub is_first_marked : {V : Type 0} → List (AccountEntry V) → Bool
 is_first_marked [] = false
 is_first_marked (t ∷ ts) = if is_left t.fate then t.marked else is_first_marked ts
 
--- each value that is owed a mark has it: the first value after it that is left carries one
-abbrev pub TellsLosses : {V : Type 0} → List (AccountEntry V) → Type 0
-TellsLosses [] = ⊤
-TellsLosses (t ∷ ts) = (t.owed ≡ true → is_first_marked ts ≡ true) × TellsLosses ts
+-- each value that needs a mark has it: the first value after it that is left carries one
+abbrev pub LossesAreMarked : {V : Type 0} → List (AccountEntry V) → Type 0
+LossesAreMarked [] = ⊤
+LossesAreMarked (t ∷ ts) = (t.needs_mark ≡ true → is_first_marked ts ≡ true) × LossesAreMarked ts
 
 -- some value waits and is marked
 abbrev pub any_marked : {V : Type 0} → List (AccountEntry V) → Bool
@@ -123,7 +123,7 @@ any_marked [] = false
 any_marked (t ∷ ts) = is_waiting t.fate && t.marked || any_marked ts
 
 -- behind each value that is lost between two accounts, a marked one waits
-abbrev pub MarksLosses : {V : Type 0} → List (AccountEntry V) → List (AccountEntry V) → Type 0
-MarksLosses [] us = ⊤
-MarksLosses (t ∷ ts) [] = ⊥
-MarksLosses (t ∷ ts) (u ∷ us) = (is_waiting t.fate ≡ true → is_lost u.fate ≡ true → any_marked us ≡ true) × MarksLosses ts us
+abbrev pub NewLossesAreMarked : {V : Type 0} → List (AccountEntry V) → List (AccountEntry V) → Type 0
+NewLossesAreMarked [] us = ⊤
+NewLossesAreMarked (t ∷ ts) [] = ⊥
+NewLossesAreMarked (t ∷ ts) (u ∷ us) = (is_waiting t.fate ≡ true → is_lost u.fate ≡ true → any_marked us ≡ true) × NewLossesAreMarked ts us

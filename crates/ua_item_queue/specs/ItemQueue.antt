@@ -15,66 +15,66 @@ pub record QueueState (V : Type 0) : Type 0 where
   pub size : ℕ
   pub discard_oldest : Bool
 
--- the acts by which a queue changes
-pub data ItemAct (V : Type 0) : Type 0 where
+-- the changes of a queue
+pub data QueueChange (V : Type 0) : Type 0 where
   -- a value comes in at the back
-  Queued : V → ItemAct V
+  Queued : V → QueueChange V
   -- the oldest value is lost, and the one behind it is marked
-  FrontDropped : ItemAct V
+  FrontDropped : QueueChange V
   -- the newest value is lost, and this one comes in its place, marked
-  NewestReplaced : V → ItemAct V
+  NewestReplaced : V → QueueChange V
   -- where the queue holds one value: it is lost, and this one comes in its place, unmarked
-  OnlyReplaced : V → ItemAct V
+  OnlyReplaced : V → QueueChange V
   -- so many of the oldest are sent
-  Sent : ℕ → ItemAct V
+  Sent : ℕ → QueueChange V
   -- all are cleared, so many of the oldest are, or all but so many of the oldest
-  Cleared : ItemAct V
-  FrontCleared : ℕ → ItemAct V
-  BackCleared : ℕ → ItemAct V
+  Cleared : QueueChange V
+  FrontCleared : ℕ → QueueChange V
+  BackCleared : ℕ → QueueChange V
 
-abbrev pub acted : {V : Type 0} → List (Entry V) → ItemAct V → List (Entry V)
-acted q (Queued v) = q ++ entry v false ∷ []
-acted q FrontDropped = marked_front (drop 1 q)
-acted q (NewestReplaced v) = take (length q - 1) q ++ entry v true ∷ []
-acted q (OnlyReplaced v) = entry v false ∷ []
-acted q (Sent n) = drop n q
-acted q Cleared = []
-acted q (FrontCleared n) = drop n q
-acted q (BackCleared n) = take n q
+abbrev pub changed : {V : Type 0} → List (Entry V) → QueueChange V → List (Entry V)
+changed q (Queued v) = q ++ entry v false ∷ []
+changed q FrontDropped = marked_front (drop 1 q)
+changed q (NewestReplaced v) = take (length q - 1) q ++ entry v true ∷ []
+changed q (OnlyReplaced v) = entry v false ∷ []
+changed q (Sent n) = drop n q
+changed q Cleared = []
+changed q (FrontCleared n) = drop n q
+changed q (BackCleared n) = take n q
 
 -- what the server does with an item
-pub data Deed (V : Type 0) : Type 0 where
+pub data QueueMove (V : Type 0) : Type 0 where
   -- queues a value, in a queue of that size, whose oldest value goes where it is full, or else the newest
-  Sample : (size : ℕ) (discard_oldest : Bool) → V → Deed V
+  Sample : (size : ℕ) (discard_oldest : Bool) → V → QueueMove V
   -- sends the oldest values, as many as that
-  Send : ℕ → Deed V
+  Send : ℕ → QueueMove V
   -- the item is disabled or deleted, or its subscription ends
-  Clear : Deed V
+  Clear : QueueMove V
   -- the queue gets another size
-  Resize : (size : ℕ) (discard_oldest : Bool) → Deed V
+  Resize : (size : ℕ) (discard_oldest : Bool) → QueueMove V
 
-abbrev pub acts_of : {V : Type 0} → List (Entry V) → Deed V → List (ItemAct V)
-acts_of q (Sample size discard_oldest v) =
+abbrev pub changes_of : {V : Type 0} → List (Entry V) → QueueMove V → List (QueueChange V)
+changes_of q (Sample size discard_oldest v) =
     if nat_lt (length q) size then Queued v ∷ []
     else (if nat_lt 1 size then (if discard_oldest then Queued v ∷ FrontDropped ∷ [] else NewestReplaced v ∷ []) else OnlyReplaced v ∷ [])
-acts_of q (Send n) = Sent n ∷ []
-acts_of q Clear = Cleared ∷ []
-acts_of q (Resize size discard_oldest) =
+changes_of q (Send n) = Sent n ∷ []
+changes_of q Clear = Cleared ∷ []
+changes_of q (Resize size discard_oldest) =
     if nat_le (length q) size then [] else (if discard_oldest then FrontCleared (length q - size) ∷ [] else BackCleared size ∷ [])
 
--- the queue after a deed, and after all of some
-abbrev pub queue_after : {V : Type 0} → List (Entry V) → Deed V → List (Entry V)
-queue_after q d = fold acted q (acts_of q d)
+-- the queue after a move, and after all of some
+abbrev pub queue_after : {V : Type 0} → List (Entry V) → QueueMove V → List (Entry V)
+queue_after q d = fold changed q (changes_of q d)
 
-abbrev pub queue : {V : Type 0} → List (Deed V) → List (Entry V)
+abbrev pub queue : {V : Type 0} → List (QueueMove V) → List (Entry V)
 queue ds = fold queue_after [] ds
 
 abbrev pub first_of : {V : Type 0} → List (Entry V) → Option (Entry V)
 first_of [] = None
 first_of (e ∷ es) = Some e
 
--- a queue after each call, which is one deed
-abbrev pub after : {V : Type 0} → QueueState V → Deed V → QueueState V
+-- a queue after each call, which is one move
+abbrev pub after : {V : Type 0} → QueueState V → QueueMove V → QueueState V
 after q d = record q { entries = queue_after q.entries d }
 
 abbrev pub sampled : {V : Type 0} → QueueState V → V → QueueState V

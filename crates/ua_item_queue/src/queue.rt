@@ -3,7 +3,7 @@
 ghost use Rattle.std.specs.Prelude.{◌≡◌, ◌≤◌, ◌<◌, OnOk, OnErr, IfOk, IsOk, length, drop, take, [], ◌∷◌, ◌++◌, ◌-◌, IsTrue, ◌↔◌};
 ghost use Rattle.std.specs.VecDeque.{deque_len, deque_capacity};
 ghost use Rattle.ua_item_queue.specs.ItemQueue.{QueueState, queue_after, marked_front, sampled, sent, cleared, resized, first_of};
-ghost use Rattle.ua_item_queue.specs.ItemQueue.Deed.{Sample};
+ghost use Rattle.ua_item_queue.specs.ItemQueue.QueueMove.{Sample};
 
 use crate::entry::Entry;
 use crate::room::Room;

@@ -6,6 +6,7 @@ use crate::enumerations::{ApplicationType, MessageSecurityMode, UserTokenType};
 use std::alloc::{AllocError, Global};
 use ua_binary::{Cursor, TakeFault, Wire};
 use ua_types::{Array, ByteString, LocalizedText, Text};
+use ua_walks::Walk;
 
 /// A client or a server (ApplicationDescription, IEC 62541-4, section 7).
 #[derive(Debug, Drop)]
@@ -50,6 +51,20 @@ impl Wire for ApplicationDescription {
         self.gateway_server_uri.encode(out)?;
         self.discovery_profile_uri.encode(out)?;
         self.discovery_urls.encode(out)?;
+        Ok(())
+    }
+}
+
+#[tactic(auto, unfolding(crate::specs::Descriptions::application_description_reading))]
+impl Walk for ApplicationDescription {
+    fn walk(cursor: &mut Cursor<'_>) -> Result<(), TakeFault> {
+        Text::skip(cursor)?;
+        Text::skip(cursor)?;
+        LocalizedText::skip(cursor)?;
+        ApplicationType::skip(cursor)?;
+        Text::skip(cursor)?;
+        Text::skip(cursor)?;
+        Array::<Text>::skip(cursor)?;
         Ok(())
     }
 }

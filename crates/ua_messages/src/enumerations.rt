@@ -3,7 +3,8 @@
 
 ghost use Rattle.std.specs.Prelude.{refl};
 
-use ua_binary::Enumeration;
+use ua_binary::{Cursor, Enumeration, TakeFault};
+use ua_walks::Walk;
 
 /// What an application is (ApplicationType, IEC 62541-4, section 7).
 #[derive(Clone, Copy, Debug, PartialEq, Eq)]
@@ -35,6 +36,14 @@ impl Enumeration for ApplicationType {
     ghost kept = { λ v. refl };
 }
 
+#[tactic(auto, unfolding(ua_binary::specs::Enumerations::enumeration_reading))]
+impl Walk for ApplicationType {
+    fn walk(cursor: &mut Cursor<'_>) -> Result<(), TakeFault> {
+        i32::skip(cursor)?;
+        Ok(())
+    }
+}
+
 /// How messages are protected (MessageSecurityMode, IEC 62541-4, section 7).
 #[derive(Clone, Copy, Debug, PartialEq, Eq)]
 pub struct MessageSecurityMode(pub i32);
@@ -62,6 +71,14 @@ impl Enumeration for MessageSecurityMode {
     }
 
     ghost kept = { λ v. refl };
+}
+
+#[tactic(auto, unfolding(ua_binary::specs::Enumerations::enumeration_reading))]
+impl Walk for MessageSecurityMode {
+    fn walk(cursor: &mut Cursor<'_>) -> Result<(), TakeFault> {
+        i32::skip(cursor)?;
+        Ok(())
+    }
 }
 
 /// How a user says who they are (UserTokenType, IEC 62541-4, section 7).
@@ -124,6 +141,14 @@ impl Enumeration for SecurityTokenRequestType {
     ghost kept = { λ v. refl };
 }
 
+#[tactic(auto, unfolding(ua_binary::specs::Enumerations::enumeration_reading))]
+impl Walk for SecurityTokenRequestType {
+    fn walk(cursor: &mut Cursor<'_>) -> Result<(), TakeFault> {
+        i32::skip(cursor)?;
+        Ok(())
+    }
+}
+
 /// Which times a value is to have in an answer (TimestampsToReturn, IEC 62541-4, section 7).
 #[derive(Clone, Copy, Debug, PartialEq, Eq)]
 pub struct TimestampsToReturn(pub i32);
@@ -154,4 +179,12 @@ impl Enumeration for TimestampsToReturn {
     }
 
     ghost kept = { λ v. refl };
+}
+
+#[tactic(auto, unfolding(ua_binary::specs::Enumerations::enumeration_reading))]
+impl Walk for TimestampsToReturn {
+    fn walk(cursor: &mut Cursor<'_>) -> Result<(), TakeFault> {
+        i32::skip(cursor)?;
+        Ok(())
+    }
 }

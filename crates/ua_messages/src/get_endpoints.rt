@@ -7,6 +7,7 @@ use crate::headers::{RequestHeader, ResponseHeader};
 use std::alloc::{AllocError, Global};
 use ua_binary::{Cursor, TakeFault, Wire};
 use ua_types::{Array, Text};
+use ua_walks::Walk;
 
 /// Asks for the endpoints of a server (GetEndpoints, IEC 62541-4, section 5, Discovery Service Set).
 #[derive(Debug, Drop)]
@@ -40,6 +41,17 @@ impl Wire for GetEndpointsRequest {
         self.endpoint_url.encode(out)?;
         self.locale_ids.encode(out)?;
         self.profile_uris.encode(out)?;
+        Ok(())
+    }
+}
+
+#[tactic(auto, unfolding(crate::specs::GetEndpoints::get_endpoints_request_reading))]
+impl Walk for GetEndpointsRequest {
+    fn walk(cursor: &mut Cursor<'_>) -> Result<(), TakeFault> {
+        RequestHeader::skip(cursor)?;
+        Text::skip(cursor)?;
+        Array::<Text>::skip(cursor)?;
+        Array::<Text>::skip(cursor)?;
         Ok(())
     }
 }

@@ -7,6 +7,7 @@ use crate::diagnostics::DiagnosticInfo;
 use std::alloc::{AllocError, Global};
 use ua_binary::{Cursor, TakeFault, Wire};
 use ua_types::{Array, ExtensionObject, ExtensionObjectBody, Moment, NodeId, Status, Text};
+use ua_walks::Walk;
 
 /// What each request begins with (RequestHeader, IEC 62541-4, section 7).
 #[derive(Debug, Drop)]
@@ -53,6 +54,20 @@ impl Wire for RequestHeader {
         self.audit_entry_id.encode(out)?;
         self.timeout_hint.encode(out)?;
         self.additional_header.encode(out)?;
+        Ok(())
+    }
+}
+
+#[tactic(auto, unfolding(crate::specs::Headers::request_header_reading))]
+impl Walk for RequestHeader {
+    fn walk(cursor: &mut Cursor<'_>) -> Result<(), TakeFault> {
+        NodeId::skip(cursor)?;
+        Moment::skip(cursor)?;
+        u32::skip(cursor)?;
+        u32::skip(cursor)?;
+        Text::skip(cursor)?;
+        u32::skip(cursor)?;
+        ExtensionObject::skip(cursor)?;
         Ok(())
     }
 }

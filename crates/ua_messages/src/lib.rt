@@ -8,7 +8,9 @@
 //! the message. [`message_id`] tells which message a body holds, [`message`] reads it, [`body`] writes
 //! one, and [`fault`] writes the answer to a request that failed. [`Results`] is the response that has one
 //! result for each thing asked for, and [`results_body`] writes it from results that stand elsewhere.
-//! [`structure`] reads what an ExtensionObject holds, and [`extension_object`] makes one.
+//! [`structure`] reads what an ExtensionObject holds, and [`extension_object`] makes one. A server reads what a client
+//! sent by [`received`] and [`received_structure`], which answer a fault also where there is no memory: the types that
+//! clients send are [`ua_walks::Walk`] too.
 //!
 //! Nothing here decides anything: no field is judged beyond its form, no session is looked up, and no
 //! clock is read. Frames and chunks are other crates' work.
@@ -23,6 +25,7 @@ mod diagnostics;
 mod enumerations;
 mod get_endpoints;
 mod headers;
+pub mod laws;
 mod read_value_ids;
 mod results;
 mod secure_channels;
@@ -31,7 +34,7 @@ mod service_faults;
 mod structures;
 pub mod type_ids;
 
-pub use bodies::{body, message, message_id};
+pub use bodies::{body, message, message_id, received};
 pub use descriptions::{ApplicationDescription, EndpointDescription, UserTokenPolicy};
 pub use diagnostics::{DiagnosticInfo, DiagnosticInfos};
 pub use enumerations::{
@@ -47,4 +50,6 @@ pub use secure_channels::{
 };
 pub use security_policies::SECURITY_POLICY_NONE;
 pub use service_faults::{ServiceFault, fault};
-pub use structures::{StructureFault, extension_object, object_of_bytes, structure};
+pub use structures::{
+    StructureFault, extension_object, is_structure, object_of_bytes, received_structure, structure,
+};

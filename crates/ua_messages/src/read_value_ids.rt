@@ -5,6 +5,7 @@ ghost use Rattle.ua_messages.specs.ReadValueIds.{read_value_id_reading, read_val
 use std::alloc::{AllocError, Global};
 use ua_binary::{Cursor, TakeFault, Wire};
 use ua_types::{NodeId, QualifiedName, Text};
+use ua_walks::Walk;
 
 /// An attribute of a node, or a part of its value (ReadValueId, IEC 62541-4, section 7).
 #[derive(Debug, Drop)]
@@ -38,6 +39,17 @@ impl Wire for ReadValueId {
         self.attribute_id.encode(out)?;
         self.index_range.encode(out)?;
         self.data_encoding.encode(out)?;
+        Ok(())
+    }
+}
+
+#[tactic(auto, unfolding(crate::specs::ReadValueIds::read_value_id_reading))]
+impl Walk for ReadValueId {
+    fn walk(cursor: &mut Cursor<'_>) -> Result<(), TakeFault> {
+        NodeId::skip(cursor)?;
+        u32::skip(cursor)?;
+        Text::skip(cursor)?;
+        QualifiedName::skip(cursor)?;
         Ok(())
     }
 }

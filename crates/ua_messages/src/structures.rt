@@ -1,6 +1,6 @@
 //! Structures inside ExtensionObjects: identity tokens, filters, the details of history, notifications.
 
-ghost use Rattle.std.specs.Prelude.{◌≡◌, Ok, IfOk, option_map};
+ghost use Rattle.std.specs.Prelude.{◌≡◌, ◌≢◌, ℕ, List, Ok, Err, IfOk, IsOk, is_ok, option_map};
 ghost use Rattle.ua_types.specs.Answers.{Gives};
 ghost use Rattle.ua_messages.specs.declared.structures.StructureFault.TheVariants.{Memory};
 ghost use Rattle.ua_messages.specs.Structures.{is_id, binary_body, structure_of, object_around};
@@ -9,6 +9,7 @@ use std::alloc::{AllocError, Global};
 use thiserror::Error;
 use ua_binary::{Cursor, TakeFault, Wire};
 use ua_types::{ByteString, ExtensionObject, ExtensionObjectBody, Identifier, NodeId};
+use ua_walks::Walk;
 
 /// Why an object isn't read as the structure that is asked for.
 #[derive(Clone, Copy, Debug, PartialEq, Eq, Error)]
@@ -65,6 +66,50 @@ pub fn structure<T: Wire>(
         Ok(value) => Ok(value),
         Err(TakeFault::Memory) => Err(StructureFault::Memory),
         Err(_) => Err(StructureFault::Unreadable),
+    }
+}
+
+/// The structure of this type that an object from a client holds, as [`structure`] gives it.
+///
+/// An object of another type, or one that can't be read, is answered as that, however little memory there is: `Memory`
+/// comes only where the object holds such a structure, and never at a structure of fixed size.
+#[tactic(auto, unfolding(crate::specs::Structures::structure_of))]
+pub fn received_structure<T: Walk>(
+    alloc: Global,
+    type_id: u32,
+    object: &ExtensionObject,
+) -> Result<T, StructureFault>
+    ensures gives { Gives Memory result (structure_of T.reading type_id object.now) }
+    ensures memory { result ≡ Err Memory → IsOk (structure_of T.reading type_id object.now) }
+    ensures spared { ((bytes : List ℕ) → T.spares_memory bytes) → result ≢ Err Memory }
+{
+    if !is_standard(&object.type_id, type_id) {
+        return Err(StructureFault::OtherType);
+    }
+    let Some(bytes) = binary(&object.body) else {
+        return Err(StructureFault::Unreadable);
+    };
+    match T::decode(alloc, &mut Cursor::new(bytes)) {
+        Ok(value) => Ok(value),
+        Err(TakeFault::Memory) => match T::skip(&mut Cursor::new(bytes)) {
+            Ok(()) => Err(StructureFault::Memory),
+            Err(_) => Err(StructureFault::Unreadable),
+        },
+        Err(_) => Err(StructureFault::Unreadable),
+    }
+}
+
+/// Whether an object from a client holds a structure of this type. Takes no memory.
+#[tactic(auto, unfolding(crate::specs::Structures::structure_of))]
+pub fn is_structure<T: Walk>(type_id: u32, object: &ExtensionObject) -> bool
+    ensures { result ≡ is_ok (structure_of T.reading type_id object.now) }
+{
+    if !is_standard(&object.type_id, type_id) {
+        return false;
+    }
+    match binary(&object.body) {
+        Some(bytes) => T::skip(&mut Cursor::new(bytes)).is_ok(),
+        None => false,
     }
 }
 

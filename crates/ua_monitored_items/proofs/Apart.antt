@@ -16,7 +16,7 @@ use Rattle.ua_subscription_messages.specs.declared.monitored_items.MonitoredItem
 use Rattle.ua_subscription_messages.specs.declared.monitored_items.MonitoredItemModifyRequest.{MonitoredItemModifyRequest}
 use Rattle.ua_monitored_items.specs.Kinds.{trigger_of}
 use Rattle.ua_monitored_items.specs.Item.{is_enabled, queued, reading, with_mode, disabled, modified, moded, gave, waiting_in}
-use Rattle.ua_monitored_items.specs.ItemTables.{Numbered, item_at, numbers_of, is_of, with_found, with_item, AreWithin, AreAbove, AreRising}
+use Rattle.ua_monitored_items.specs.ItemTables.{NumberedItems, item_at, numbers_of, is_of, with_found, with_item, AreWithin, AreAbove, AreRising}
 use Rattle.ua_monitored_items.specs.Items.{ItemsState, One, Served, with_one, nothing_served, create_one, create_judged, created_by, new_item, begun, own_if, modify_one, modified_by, mode_one, moded_by, delete_one, deleted_by, without_all, no_items, Taking, nat_least, taken_from, with_taken, nothing_taken}
 use Rattle.ua_monitored_items.specs.Moves.{Move, Moved, moved, moved_on, run, OthersAreIn, OthersStay, IsOfSubscription, SubscriptionsStayApart}
 use Rattle.ua_monitored_items.specs.Moves.Move.{Create, Modify, SetMode, Delete, End, Show, TakeNotes}
@@ -34,7 +34,7 @@ use Rattle.ua_monitored_items.proofs.Tables.{greater, at_itself, above_found, Is
 abbrev IsItsOwn : ℕ → Option Item → Type 0
 IsItsOwn subscription found = (item : Item) → found ≡ Some item → is_of subscription item ≡ true
 
-are_in : (subscription k : ℕ) (items there : Numbered) → ((n : ℕ) → n ≢ k → item_at n there ≡ item_at n items) → IsItsOwn subscription (item_at k items) → OthersAreIn subscription items there
+are_in : (subscription k : ℕ) (items there : NumberedItems) → ((n : ℕ) → n ≢ k → item_at n there ≡ item_at n items) → IsItsOwn subscription (item_at k items) → OthersAreIn subscription items there
 are_in subscription k items there elsewhere own n item found not_own = by (n == k) refl
   where
     by : (b : Bool) → (n == k) ≡ b → item_at n there ≡ Some item
@@ -42,18 +42,18 @@ are_in subscription k items there elsewhere own n item found not_own = by (n == 
     by false e = elsewhere n (λ same. false≢true (sym e ∙ eq-eqb n k same)) ∙ found
 
 -- only what stands under one number changes, and it is the subscription's own before and after
-stays_but : (subscription k : ℕ) (before after : Numbered) → ((n : ℕ) → n ≢ k → item_at n after ≡ item_at n before) → IsItsOwn subscription (item_at k before) → IsItsOwn subscription (item_at k after) →
+stays_but : (subscription k : ℕ) (before after : NumberedItems) → ((n : ℕ) → n ≢ k → item_at n after ≡ item_at n before) → IsItsOwn subscription (item_at k before) → IsItsOwn subscription (item_at k after) →
     OthersStay subscription before after
 stays_but subscription k before after elsewhere own own_after =
     (are_in subscription k before after elsewhere own, are_in subscription k after before (λ n other. sym (elsewhere n other)) own_after)
 
-pub stays_none : (subscription : ℕ) (items : Numbered) → OthersStay subscription items items
+pub stays_none : (subscription : ℕ) (items : NumberedItems) → OthersStay subscription items items
 stays_none subscription items = (λ n item found not_own. found, λ n item found not_own. found)
 
-in_then : (subscription : ℕ) (a b c : Numbered) → OthersAreIn subscription a b → OthersAreIn subscription b c → OthersAreIn subscription a c
+in_then : (subscription : ℕ) (a b c : NumberedItems) → OthersAreIn subscription a b → OthersAreIn subscription b c → OthersAreIn subscription a c
 in_then subscription a b c f g n item found not_own = g n item (f n item found not_own) not_own
 
-pub stays_then : (subscription : ℕ) (a b c : Numbered) → OthersStay subscription a b → OthersStay subscription b c → OthersStay subscription a c
+pub stays_then : (subscription : ℕ) (a b c : NumberedItems) → OthersStay subscription a b → OthersStay subscription b c → OthersStay subscription a c
 stays_then subscription a b c f g = (in_then subscription a b c f.0 g.0, in_then subscription c b a g.1 f.1)
 
 -- an item that is the subscription's is so where it is found
@@ -65,7 +65,7 @@ own_found subscription (Some other) own is item e = let it : item ≡ other = cc
     by true its is = its
     by false its is = absurd cc
 
-changed_own : (subscription : ℕ) (items : Numbered) (k : ℕ) (change : Item → Item) → ((v : Item) → IsThere v (change v)) → IsItsOwn subscription (item_at k items) → IsItsOwn subscription (item_at k (with_item k change items))
+changed_own : (subscription : ℕ) (items : NumberedItems) (k : ℕ) (change : Item → Item) → ((v : Item) → IsThere v (change v)) → IsItsOwn subscription (item_at k items) → IsItsOwn subscription (item_at k (with_item k change items))
 changed_own subscription items k change there own item = by (item_at k items) refl own
   where
     by : (found : Option Item) → item_at k items ≡ found → IsItsOwn subscription found → item_at k (with_found k change items found) ≡ Some item → is_of subscription item ≡ true
@@ -75,7 +75,7 @@ changed_own subscription items k change there own item = by (item_at k items) re
         let it : item ≡ change v = cc in
         ap (is_of subscription) it ∙ same_of v (change v) (there v) subscription ∙ its v refl
 
-stays_changed : (subscription : ℕ) (items : Numbered) (k : ℕ) (change : Item → Item) (own : Item) → ((v : Item) → IsThere v (change v)) → own_if subscription (item_at k items) ≡ Some own →
+stays_changed : (subscription : ℕ) (items : NumberedItems) (k : ℕ) (change : Item → Item) (own : Item) → ((v : Item) → IsThere v (change v)) → own_if subscription (item_at k items) ≡ Some own →
     OthersStay subscription items (with_item k change items)
 stays_changed subscription items k change own there is =
     let its = own_found subscription (item_at k items) own is in
@@ -88,7 +88,7 @@ stays_changed subscription items k change own there is =
         by None = refl
         by (Some v) = set_other k n (change v) other items
 
-stays_new : (subscription made : ℕ) (items : Numbered) (new : Item) → is_of subscription new ≡ true → AreWithin made items → OthersStay subscription items (insert_entry nat_cmp items (made + 1) new)
+stays_new : (subscription made : ℕ) (items : NumberedItems) (new : Item) → is_of subscription new ≡ true → AreWithin made items → OthersStay subscription items (insert_entry nat_cmp items (made + 1) new)
 stays_new subscription made items new its within =
     stays_but subscription (made + 1) items (insert_entry nat_cmp items (made + 1) new) (λ n other. put_other made (made + 1) n new (omega arith) other items within) before after
   where
@@ -101,7 +101,7 @@ stays_new subscription made items new its within =
         let it : item ≡ new = cc in
         ap (is_of subscription) it ∙ its
 
-stays_removed : (subscription : ℕ) (items : Numbered) (k : ℕ) (own : Item) → own_if subscription (item_at k items) ≡ Some own → AreRising items → OthersStay subscription items (remove_entry (is_at (nat_cmp k)) items)
+stays_removed : (subscription : ℕ) (items : NumberedItems) (k : ℕ) (own : Item) → own_if subscription (item_at k items) ≡ Some own → AreRising items → OthersStay subscription items (remove_entry (is_at (nat_cmp k)) items)
 stays_removed subscription items k own is rising =
     stays_but subscription k items (remove_entry (is_at (nat_cmp k)) items) (λ n other. gone_other k n other items) (own_found subscription (item_at k items) own is) after
   where
@@ -110,7 +110,7 @@ stays_removed subscription items k own is rising =
 
 -- ---- the end of a subscription
 
-left_in : (subscription : ℕ) (items : Numbered) → OthersAreIn subscription items (without_all subscription items)
+left_in : (subscription : ℕ) (items : NumberedItems) → OthersAreIn subscription items (without_all subscription items)
 left_in subscription [] n item found not_own = found
 left_in subscription (e ∷ es) n item found not_own = by (is_at (nat_cmp n) e.0) refl (is_of subscription e.1) refl found (λ f. left_in subscription es n item f not_own)
   where
@@ -123,7 +123,7 @@ left_in subscription (e ∷ es) n item found not_own = by (is_at (nat_cmp n) e.0
     by false is true own here rest = rest here
     by false is false own here rest = rw is (rest here)
 
-were_in : (subscription : ℕ) (items : Numbered) → AreRising items → OthersAreIn subscription (without_all subscription items) items
+were_in : (subscription : ℕ) (items : NumberedItems) → AreRising items → OthersAreIn subscription (without_all subscription items) items
 were_in subscription [] rising n item found not_own = found
 were_in subscription (e ∷ es) rising n item found not_own = by (is_at (nat_cmp n) e.0) refl (is_of subscription e.1) found (λ f. were_in subscription es rising.1 n item f not_own)
   where
@@ -140,7 +140,7 @@ were_in subscription (e ∷ es) rising n item found not_own = by (is_at (nat_cmp
     by true is false here rest = first true is here
     by false is false here rest = rest (first false is here)
 
-stays_ended : (subscription : ℕ) (items : Numbered) → AreRising items → OthersStay subscription items (without_all subscription items)
+stays_ended : (subscription : ℕ) (items : NumberedItems) → AreRising items → OthersStay subscription items (without_all subscription items)
 stays_ended subscription items rising = (left_in subscription items, were_in subscription items rising)
 
 -- ---- what is done with an item leaves it its subscription's
@@ -217,7 +217,7 @@ module _ {A R : Type 0} (subscription : ℕ) (serve : ItemsState → A → One R
 
 -- ---- what a message takes
 
-abbrev AllOwn : ℕ → Numbered → List ℕ → Type 0
+abbrev AllOwn : ℕ → NumberedItems → List ℕ → Type 0
 AllOwn subscription items [] = ⊤
 AllOwn subscription items (k ∷ ks) = ((v : Item) → item_at k items ≡ Some v → is_of subscription v ≡ true) × AllOwn subscription items ks
 
@@ -225,7 +225,7 @@ abbrev pub AllGreater : ℕ → List ℕ → Type 0
 AllGreater k [] = ⊤
 AllGreater k (n ∷ ns) = (k < n) × AllGreater k ns
 
-pub numbers_greater : (subscription k : ℕ) (es : Numbered) → AreAbove k es → AllGreater k (numbers_of subscription es)
+pub numbers_greater : (subscription k : ℕ) (es : NumberedItems) → AreAbove k es → AllGreater k (numbers_of subscription es)
 numbers_greater subscription k [] above = tt
 numbers_greater subscription k (e ∷ es) above = by (is_of subscription e.1) (numbers_greater subscription k es above.1)
   where
@@ -233,14 +233,14 @@ numbers_greater subscription k (e ∷ es) above = by (is_of subscription e.1) (n
     by true rest = (above.0, rest)
     by false rest = rest
 
-own_behind : (subscription : ℕ) (e : ℕ × Item) (es : Numbered) (ks : List ℕ) → AllGreater e.0 ks → AllOwn subscription es ks → AllOwn subscription (e ∷ es) ks
+own_behind : (subscription : ℕ) (e : ℕ × Item) (es : NumberedItems) (ks : List ℕ) → AllGreater e.0 ks → AllOwn subscription es ks → AllOwn subscription (e ∷ es) ks
 own_behind subscription e es [] greater_all own = tt
 own_behind subscription e es (k ∷ ks) greater_all own =
     let behind : nat_cmp k e.0 ≡ Greater = greater k e.0 greater_all.0 in
     let skip : item_at k (e ∷ es) ≡ item_at k es = rw behind refl in
     (λ v found. own.0 v (sym skip ∙ found), own_behind subscription e es ks greater_all.1 own.1)
 
-all_own : (subscription : ℕ) (es : Numbered) → AreRising es → AllOwn subscription es (numbers_of subscription es)
+all_own : (subscription : ℕ) (es : NumberedItems) → AreRising es → AllOwn subscription es (numbers_of subscription es)
 all_own subscription [] rising = tt
 all_own subscription (e ∷ es) rising =
     by (is_of subscription e.1) refl (own_behind subscription e es (numbers_of subscription es) (numbers_greater subscription e.0 es rising.0) (all_own subscription es rising.1))
@@ -251,7 +251,7 @@ all_own subscription (e ∷ es) rising =
         ((λ v found. let clash : Some e.1 ≡ Some v = sym here ∙ found in let it : e.1 ≡ v = cc in ap (is_of subscription) (sym it) ∙ own), rest)
     by false own rest = rest
 
-own_kept : (subscription k j : ℕ) (items : Numbered) (item : Item) → item_at k items ≡ Some item → (ks : List ℕ) → AllOwn subscription items ks → is_of subscription item ≡ true → AllOwn subscription (with_item k (gave j) items) ks
+own_kept : (subscription k j : ℕ) (items : NumberedItems) (item : Item) → item_at k items ≡ Some item → (ks : List ℕ) → AllOwn subscription items ks → is_of subscription item ≡ true → AllOwn subscription (with_item k (gave j) items) ks
 own_kept subscription k j items item found [] own its = tt
 own_kept subscription k j items item found (n ∷ ns) own its = (λ v at_n. one (k == n) refl v at_n, own_kept subscription k j items item found ns own.1 its)
   where
@@ -308,5 +308,5 @@ pub subscriptions_stay_apart : SubscriptionsStayApart
 subscriptions_stay_apart config moves move subscription is =
     let s = (run config moves).state in
     let after : (run config (moves ++ move ∷ [])).state ≡ (moved s move).state =
-    ap (λ (m : Moved). m.state) (fold-append moved_on (record { state = no_items config; deeds = [] }) moves (move ∷ [])) in
+    ap (λ (m : Moved). m.state) (fold-append moved_on (record { state = no_items config; queue_moves = [] }) moves (move ∷ [])) in
     subst (λ (t : ItemsState). OthersStay subscription s.items t.items) (sym after) (move_stays s move subscription (run_step config moves).sound is)

@@ -7,7 +7,7 @@ use Rattle.std.specs.Ordering.{nat_cmp}
 use Rattle.std.specs.declared.cmp.Ordering.TheVariants.{Greater}
 use Rattle.ua_subscription_messages.specs.declared.publishing.MonitoredItemNotification.{MonitoredItemNotification}
 use Rattle.ua_monitored_items.specs.Item.{is_reporting, gave, notes_of, note_of, waiting_in}
-use Rattle.ua_monitored_items.specs.ItemTables.{Numbered, item_at, numbers_of, is_of, with_found, with_item, AreRising}
+use Rattle.ua_monitored_items.specs.ItemTables.{NumberedItems, item_at, numbers_of, is_of, with_found, with_item, AreRising}
 use Rattle.ua_monitored_items.specs.Items.{Taking, nat_least, taken_from, with_taken, nothing_taken}
 use Rattle.ua_monitored_items.specs.Moves.{told_notes, all_notes, run, NotesAreTheFirst}
 use Rattle.ua_monitored_items.specs.declared.item.Item.{Item}
@@ -77,7 +77,7 @@ abbrev told_at : Option Item → Notes
 told_at None = []
 told_at (Some item) = told_notes item
 
-abbrev told_by : Numbered → List ℕ → Notes
+abbrev told_by : NumberedItems → List ℕ → Notes
 told_by items [] = []
 told_by items (k ∷ ks) = told_at (item_at k items) ++ told_by items ks
 
@@ -85,7 +85,7 @@ abbrev IsRisingList : List ℕ → Type 0
 IsRisingList [] = ⊤
 IsRisingList (k ∷ ks) = AllGreater k ks × IsRisingList ks
 
-others_told : (items : Numbered) (k : ℕ) (change : Item → Item) (ks : List ℕ) → AllGreater k ks → told_by (with_item k change items) ks ≡ told_by items ks
+others_told : (items : NumberedItems) (k : ℕ) (change : Item → Item) (ks : List ℕ) → AllGreater k ks → told_by (with_item k change items) ks ≡ told_by items ks
 others_told items k change [] above = refl
 others_told items k change (n ∷ ns) above = rw (same (item_at k items), others_told items k change ns above.1) refl
   where
@@ -113,7 +113,7 @@ first_told t (k ∷ ks) rising = by (item_at k t.items) (λ u. first_told u ks r
 
 -- ---- the numbers of a subscription
 
-numbers_rise : (subscription : ℕ) (es : Numbered) → AreRising es → IsRisingList (numbers_of subscription es)
+numbers_rise : (subscription : ℕ) (es : NumberedItems) → AreRising es → IsRisingList (numbers_of subscription es)
 numbers_rise subscription [] rising = tt
 numbers_rise subscription (e ∷ es) rising = by (is_of subscription e.1) (numbers_rise subscription es rising.1)
   where
@@ -121,17 +121,17 @@ numbers_rise subscription (e ∷ es) rising = by (is_of subscription e.1) (numbe
     by true rest = (numbers_greater subscription e.0 es rising.0, rest)
     by false rest = rest
 
-behind_told : (e : ℕ × Item) (es : Numbered) (ks : List ℕ) → AllGreater e.0 ks → told_by (e ∷ es) ks ≡ told_by es ks
+behind_told : (e : ℕ × Item) (es : NumberedItems) (ks : List ℕ) → AllGreater e.0 ks → told_by (e ∷ es) ks ≡ told_by es ks
 behind_told e es [] above = refl
 behind_told e es (k ∷ ks) above =
     let behind : nat_cmp k e.0 ≡ Greater = greater k e.0 above.0 in
     let skip : item_at k (e ∷ es) ≡ item_at k es = rw behind refl in
     rw (skip, behind_told e es ks above.1) refl
 
-all_are_told : (subscription : ℕ) (es : Numbered) → AreRising es → told_by es (numbers_of subscription es) ≡ all_notes subscription es
-all_are_told subscription [] rising = refl
-all_are_told subscription (e ∷ es) rising =
-    by (is_of subscription e.1) (behind_told e es (numbers_of subscription es) (numbers_greater subscription e.0 es rising.0) ∙ all_are_told subscription es rising.1)
+all_are_made_of : (subscription : ℕ) (es : NumberedItems) → AreRising es → told_by es (numbers_of subscription es) ≡ all_notes subscription es
+all_are_made_of subscription [] rising = refl
+all_are_made_of subscription (e ∷ es) rising =
+    by (is_of subscription e.1) (behind_told e es (numbers_of subscription es) (numbers_greater subscription e.0 es rising.0) ∙ all_are_made_of subscription es rising.1)
   where
     by : (b : Bool) → told_by (e ∷ es) (numbers_of subscription es) ≡ all_notes subscription es
         → told_by (e ∷ es) (cond b (e.0 ∷ numbers_of subscription es) (numbers_of subscription es)) ≡ cond b (told_notes e.1 ++ all_notes subscription es) (all_notes subscription es)
@@ -145,4 +145,4 @@ notes_are_the_first config moves subscription n =
     let items = (run config moves).state.items in
     let rising = (run_step config moves).sound.rising in
     first_told (nothing_taken items n) (numbers_of subscription items) (numbers_rise subscription items rising)
-    ∙ ap (take n) (all_are_told subscription items rising)
+    ∙ ap (take n) (all_are_made_of subscription items rising)

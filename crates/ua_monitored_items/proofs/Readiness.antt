@@ -9,7 +9,7 @@ use Rattle.ua_types.specs.declared.moment.Moment.{Moment}
 use Rattle.ua_values.specs.declared.data_value.DataValue.{DataValue}
 use Rattle.ua_space.specs.Nodes.{Nodes}
 use Rattle.ua_monitored_items.specs.Item.{is_enabled, queued, with_mode, disabled, enabled, moded}
-use Rattle.ua_monitored_items.specs.ItemTables.{Numbered, item_at, with_found, with_item}
+use Rattle.ua_monitored_items.specs.ItemTables.{NumberedItems, item_at, with_found, with_item}
 use Rattle.ua_monitored_items.specs.Items.{ItemsState, own_if, own_item, moded_by, mode_one}
 use Rattle.ua_monitored_items.specs.Preparing.{FitsAt, IsReady, AreReady, enabled_from, moded_from, mode_status, moded_own}
 use Rattle.ua_monitored_items.specs.declared.item.Item.{Item}
@@ -61,7 +61,7 @@ module _ (nodes : Nodes) (clock : Moment) (mode : Mode) where
             ap (with_found e.number (moded_from mode e.first) s.items) found in
             let two : with_item e.number (moded nodes clock mode) s.items ≡ set_value (is_at (nat_cmp e.number)) s.items (moded nodes clock mode item) =
             ap (with_found e.number (moded nodes clock mode) s.items) found in
-            ap (λ (es : Numbered). record s { items = es })
+            ap (λ (es : NumberedItems). record s { items = es })
             (one ∙ ap (set_value (is_at (nat_cmp e.number)) s.items) (moded_same item e.first ready) ∙ sym two)
 
     -- an item that got the mode wants nothing more
@@ -88,7 +88,7 @@ module _ (nodes : Nodes) (clock : Moment) (mode : Mode) where
             found : item_at k s.items ≡ Some v
             found = own_is subscription (item_at k s.items) v is
 
-            new : Numbered
+            new : NumberedItems
             new = set_value (is_at (nat_cmp k)) s.items (moded nodes clock mode v)
 
             after : with_item k (moded nodes clock mode) s.items ≡ new
@@ -104,7 +104,7 @@ module _ (nodes : Nodes) (clock : Moment) (mode : Mode) where
                 subst (λ (o : Option Item). IsReady nodes clock mode (own_if subscription o) first) (sym (set_other k n (moded nodes clock mode v) other s.items)) ready
 
             here : (b : Bool) → (k == n) ≡ b → IsReady nodes clock mode (own_if subscription (item_at n (with_item k (moded nodes clock mode) s.items))) first
-            here b e = subst (λ (es : Numbered). IsReady nodes clock mode (own_if subscription (item_at n es)) first) (sym after) (in_new b e)
+            here b e = subst (λ (es : NumberedItems). IsReady nodes clock mode (own_if subscription (item_at n es)) first) (sym after) (in_new b e)
 
     pub ready_kept : (k : ℕ) (es : List Prepared) → AreReady nodes clock subscription mode s es → AreReady nodes clock subscription mode (mode_one nodes clock subscription mode s k).state es
     ready_kept k [] ready = tt

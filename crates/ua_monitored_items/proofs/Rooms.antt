@@ -6,35 +6,35 @@ use Rattle.std.specs.BTreeMap.{is_at}
 use Rattle.std.specs.Map.{set_value}
 use Rattle.std.specs.Ordering.{nat_cmp}
 use Rattle.ua_monitored_items.specs.Item.{is_reporting, gave, waiting_in}
-use Rattle.ua_monitored_items.specs.ItemTables.{Numbered, item_at, with_found, with_item}
+use Rattle.ua_monitored_items.specs.ItemTables.{NumberedItems, item_at, with_found, with_item}
 use Rattle.ua_monitored_items.specs.Items.{Taking, nat_least, taken_from, with_taken}
 use Rattle.ua_monitored_items.specs.Taking.{waiting_at, left_after}
 use Rattle.ua_monitored_items.specs.declared.item.Item.{Item}
 use Rattle.ua_monitored_items.proofs.Following.{set_here, set_other}
 
-pub left_none : (items : Numbered) (ns : List ℕ) → left_after items 0 ns ≡ 0
+pub left_none : (items : NumberedItems) (ns : List ℕ) → left_after items 0 ns ≡ 0
 left_none items [] = refl
 left_none items (n ∷ ns) =
     let none : 0 - waiting_at (item_at n items) ≡ 0 = omega arith in
     ap (λ (l : ℕ). left_after items l ns) none ∙ left_none items ns
 
-pub left_fewer : (items : Numbered) (l : ℕ) (ns : List ℕ) → left_after items l ns ≤ l
+pub left_fewer : (items : NumberedItems) (l : ℕ) (ns : List ℕ) → left_after items l ns ≤ l
 left_fewer items l [] = omega arith
 left_fewer items l (n ∷ ns) =
     let rest = left_fewer items (l - waiting_at (item_at n items)) ns in
     omega (arith, rest)
 
-left_from : (items : Numbered) (l m : ℕ) (ns : List ℕ) → l ≤ m → left_after items l ns ≤ left_after items m ns
+left_from : (items : NumberedItems) (l m : ℕ) (ns : List ℕ) → l ≤ m → left_after items l ns ≤ left_after items m ns
 left_from items l m [] le = le
 left_from items l m (n ∷ ns) le =
     let w = waiting_at (item_at n items) in
     left_from items (l - w) (m - w) ns (omega (arith, le))
 
 -- no more waits in any item than did
-abbrev WaitsLess : Numbered → Numbered → Type 0
+abbrev WaitsLess : NumberedItems → NumberedItems → Type 0
 WaitsLess old new = (n : ℕ) → waiting_at (item_at n new) ≤ waiting_at (item_at n old)
 
-left_more : (old new : Numbered) → WaitsLess old new → (l : ℕ) (ns : List ℕ) → left_after old l ns ≤ left_after new l ns
+left_more : (old new : NumberedItems) → WaitsLess old new → (l : ℕ) (ns : List ℕ) → left_after old l ns ≤ left_after new l ns
 left_more old new less l [] = omega arith
 left_more old new less l (n ∷ ns) =
     let v = waiting_at (item_at n old) in
@@ -51,10 +51,10 @@ gave_less j item = by (is_reporting item.mode)
     by true = let left = length-drop j item.queue.entries in omega (arith, left)
     by false = omega arith
 
-set_less : (items : Numbered) (k j : ℕ) (item : Item) → item_at k items ≡ Some item → WaitsLess items (set_value (is_at (nat_cmp k)) items (gave j item))
+set_less : (items : NumberedItems) (k j : ℕ) (item : Item) → item_at k items ≡ Some item → WaitsLess items (set_value (is_at (nat_cmp k)) items (gave j item))
 set_less items k j item found n = by (k == n) refl
   where
-    new : Numbered
+    new : NumberedItems
     new = set_value (is_at (nat_cmp k)) items (gave j item)
 
     by : (b : Bool) → (k == n) ≡ b → waiting_at (item_at n new) ≤ waiting_at (item_at n items)
@@ -78,7 +78,7 @@ taken_less before number = by (item_at number before.items) refl
     by (Some item) e =
         let j = nat_least before.left (waiting_in item) in
         let after : with_item number (gave j) before.items ≡ set_value (is_at (nat_cmp number)) before.items (gave j item) = ap (with_found number (gave j) before.items) e in
-        subst (λ (es : Numbered). WaitsLess before.items es) (sym after) (set_less before.items number j item e)
+        subst (λ (es : NumberedItems). WaitsLess before.items es) (sym after) (set_less before.items number j item e)
 
 -- once an item gave, as many are left at the end as were told, or more
 pub left_taken : (before : Taking) (number : ℕ) (ns : List ℕ) (l : ℕ) → left_after before.items l ns ≤ left_after (with_taken before number).items l ns

@@ -8,7 +8,7 @@ use Rattle.ua_values.specs.declared.data_value.DataValue.{DataValue}
 use Rattle.ua_monitored_items.specs.Item.{seen, gave, notes_of, waiting_in}
 use Rattle.ua_monitored_items.specs.Sampling.{visits_by}
 use Rattle.std.specs.Result.{OnErr}
-use Rattle.ua_monitored_items.specs.ItemTables.{Numbered, item_at, with_item}
+use Rattle.ua_monitored_items.specs.ItemTables.{NumberedItems, item_at, with_item}
 use Rattle.ua_monitored_items.specs.Items.{ItemsState, One, Served, nothing_served, with_one, all_served, Visit, visited, sampled_items, VisitedSome, Taking, nat_least, taken_from, with_taken, nothing_taken, taken_of}
 use Rattle.ua_monitored_items.specs.declared.item.Item.{Item}
 use Rattle.ua_monitored_items.proofs.Edits.{set_same}
@@ -43,17 +43,17 @@ module _ {A R : Type 0} (serve : ItemsState → A → One R) (old mid : ItemsSta
 
 -- ---- visits
 
-pub sampled_more : (items : Numbered) (front : List Visit) (back : List Visit) → sampled_items items (front ++ back) ≡ sampled_items (sampled_items items front) back
+pub sampled_more : (items : NumberedItems) (front : List Visit) (back : List Visit) → sampled_items items (front ++ back) ≡ sampled_items (sampled_items items front) back
 sampled_more items front back = fold-append visited items front back
 
 -- some of the visits that come after others
-pub visited_after : (old mid new : Numbered) (front some all : List Visit) (rest : List Visit) → mid ≡ sampled_items old front → front ++ (some ++ rest) ≡ all → VisitedSome mid new some → VisitedSome old new all
+pub visited_after : (old mid new : NumberedItems) (front some all : List Visit) (rest : List Visit) → mid ≡ sampled_items old front → front ++ (some ++ rest) ≡ all → VisitedSome mid new some → VisitedSome old new all
 visited_after old mid new front some all rest is split (made, left, joined, then) =
     let inner : made ++ (left ++ rest) ≡ some ++ rest = sym (append_assoc made left rest) ∙ ap (λ (vs : List Visit). vs ++ rest) joined in (
       front ++ made,
       left ++ rest,
       append_assoc front made (left ++ rest) ∙ ap (λ (vs : List Visit). front ++ vs) inner ∙ split,
-      then ∙ ap (λ (m : Numbered). sampled_items m made) is ∙ sym (sampled_more old front made),
+      then ∙ ap (λ (m : NumberedItems). sampled_items m made) is ∙ sym (sampled_more old front made),
     )
 
 fold_map_more : {A B S : Type 0} (f : S → B → S) (h : A → B) (s : S) (xs : List A) (x : A) → fold f s (map h (xs ++ x ∷ [])) ≡ f (fold f s (map h xs)) (h x)
@@ -64,11 +64,11 @@ map_split : {A B : Type 0} (h : A → B) (xs ys : List A) → map h xs ++ map h 
 map_split h [] ys = refl
 map_split h (x ∷ xs) ys = ap (λ zs. h x ∷ zs) (map_split h xs ys)
 
-module _ (items : Numbered) (value : DataValue) (front : List ℕ) (number : ℕ) where
+module _ (items : NumberedItems) (value : DataValue) (front : List ℕ) (number : ℕ) where
   pub visits_more : sampled_items items (visits_by value (front ++ number ∷ [])) ≡ with_item number (seen value) (sampled_items items (visits_by value front))
   visits_more = fold_map_more visited (λ n. record { number = n; value = value }) items front number
 
-  pub visits_before : (rest all : List ℕ) (new mid : Numbered) → front ++ number ∷ rest ≡ all → mid ≡ sampled_items items (visits_by value front) → new ≡ mid → VisitedSome items new (visits_by value all)
+  pub visits_before : (rest all : List ℕ) (new mid : NumberedItems) → front ++ number ∷ rest ≡ all → mid ≡ sampled_items items (visits_by value front) → new ≡ mid → VisitedSome items new (visits_by value all)
   visits_before rest all new mid split is same =
       (visits_by value front, visits_by value (number ∷ rest), map_split (λ n. record { number = n; value = value }) front (number ∷ rest) ∙ ap (visits_by value) split, same ∙ is)
 
@@ -80,7 +80,7 @@ flat_split f (z ∷ zs) ys x =
 
 -- ---- what a message takes
 
-pub taken_more : (items : Numbered) (n : ℕ) (front : List ℕ) (number : ℕ) → taken_of items n (front ++ number ∷ []) ≡ with_taken (taken_of items n front) number
+pub taken_more : (items : NumberedItems) (n : ℕ) (front : List ℕ) (number : ℕ) → taken_of items n (front ++ number ∷ []) ≡ with_taken (taken_of items n front) number
 taken_more items n front number = fold-append with_taken (nothing_taken items n) front (number ∷ [])
 
 -- ---- entries of a slice
@@ -98,7 +98,7 @@ flat_at f xs i x less here = flat_split f (take i xs) (drop (suc i) xs) x ∙ ap
 taking_is : (t u : Taking) → u.notes ≡ t.notes → u.items ≡ t.items → u.left ≡ t.left → u ≡ t
 taking_is t u notes items left = rw (notes, items, left) refl
 
-pub took_more : (items : Numbered) (n : ℕ) (front : List ℕ) (number : ℕ) (before after : Taking) → before ≡ taken_of items n front
+pub took_more : (items : NumberedItems) (n : ℕ) (front : List ℕ) (number : ℕ) (before after : Taking) → before ≡ taken_of items n front
     → after.notes ≡ (with_taken before number).notes → after.items ≡ (with_taken before number).items → after.left ≡ (with_taken before number).left → after ≡ taken_of items n (front ++ number ∷ [])
 took_more items n front number before after is notes its left =
     taking_is (with_taken before number) after notes its left ∙ ap (λ (t : Taking). with_taken t number) is ∙ sym (taken_more items n front number)
@@ -130,12 +130,12 @@ all_full : (t : Taking) (numbers : List ℕ) → t.left ≡ 0 → fold with_take
 all_full t [] none = refl
 all_full t (n ∷ ns) none = ap (λ (u : Taking). fold with_taken u ns) (one_full t n none) ∙ all_full t ns none
 
-pub taken_full : (items : Numbered) (n : ℕ) (front rest all : List ℕ) (before : Taking) → front ++ rest ≡ all → before ≡ taken_of items n front → before.left ≡ 0 → taken_of items n all ≡ before
+pub taken_full : (items : NumberedItems) (n : ℕ) (front rest all : List ℕ) (before : Taking) → front ++ rest ≡ all → before ≡ taken_of items n front → before.left ≡ 0 → taken_of items n all ≡ before
 taken_full items n front rest all before split is none =
     ap (taken_of items n) (sym split) ∙ fold-append with_taken (nothing_taken items n) front rest
     ∙ ap (λ (t : Taking). fold with_taken t rest) (sym is) ∙ all_full before rest none
 
-pub taken_end : (items : Numbered) (n : ℕ) (front rest all : List ℕ) (before : Taking) → front ++ rest ≡ all → before ≡ taken_of items n front → rest ≡ [] → taken_of items n all ≡ before
+pub taken_end : (items : NumberedItems) (n : ℕ) (front rest all : List ℕ) (before : Taking) → front ++ rest ≡ all → before ≡ taken_of items n front → rest ≡ [] → taken_of items n all ≡ before
 taken_end items n front rest all before split is none =
     let same : all ≡ front = sym split ∙ ap (λ (ns : List ℕ). front ++ ns) none ∙ append-nil front in
     ap (taken_of items n) same ∙ sym is

@@ -14,7 +14,7 @@ use Rattle.std.specs.declared.cmp.Ordering.TheVariants.{Less, Equal, Greater}
 use Rattle.ua_types.specs.NodeIdOrder.{id_cmp, same_id}
 use Rattle.ua_types.specs.contracts.node_id.NodeIdOrd.TheImpl.Laws.{matches_eq-law}
 use Rattle.ua_types.specs.declared.node_id.NodeId.{NodeId}
-use Rattle.ua_monitored_items.specs.ItemTables.{Numbered, item_at, numbers_where, numbers_of, is_of, is_on, with_found, with_item, numbers_at, AreWithin, AreAbove, AreRising, IsTable, IsPut, IsTakenOut, IsPutBack}
+use Rattle.ua_monitored_items.specs.ItemTables.{NumberedItems, item_at, numbers_where, numbers_of, is_of, is_on, with_found, with_item, numbers_at, AreWithin, AreAbove, AreRising, IsTable, IsPut, IsTakenOut, IsPutBack}
 use Rattle.ua_values.specs.declared.data_value.DataValue.{DataValue}
 use Rattle.ua_read_write.specs.declared.timestamps.Timestamps.{Timestamps}
 use Rattle.ua_subscription_messages.specs.declared.monitoring_parameters.MonitoringParameters.{MonitoringParameters}
@@ -41,7 +41,7 @@ at_itself n = (eq_by_cmp_equiv nat_cmp_total).refl n
 
 module _ (p : Item → Bool) where
   -- another item in the place of one, of which the same is said
-  pub where_set : (number : ℕ) (v w : Item) → p w ≡ p v → (es : Numbered) → lookup (is_at (nat_cmp number)) es ≡ Some v
+  pub where_set : (number : ℕ) (v w : Item) → p w ≡ p v → (es : NumberedItems) → lookup (is_at (nat_cmp number)) es ≡ Some v
       → numbers_where p (set_value (is_at (nat_cmp number)) es w) ≡ numbers_where p es
   where_set number v w same [] found = refl
   where_set number v w same (e ∷ es) found = by (is_at (nat_cmp number) e.0) found (where_set number v w same es)
@@ -55,7 +55,7 @@ module _ (p : Item → Bool) where
       by false here more = ap (λ (ns : List ℕ). cond (p e.1) (e.0 ∷ ns) ns) (more here)
 
   -- an item of which it isn't said is taken out
-  pub where_removed_other : (number : ℕ) (v : Item) → p v ≡ false → (es : Numbered) → lookup (is_at (nat_cmp number)) es ≡ Some v
+  pub where_removed_other : (number : ℕ) (v : Item) → p v ≡ false → (es : NumberedItems) → lookup (is_at (nat_cmp number)) es ≡ Some v
       → numbers_where p (remove_entry (is_at (nat_cmp number)) es) ≡ numbers_where p es
   where_removed_other number v not_said [] found = refl
   where_removed_other number v not_said (e ∷ es) found = by (is_at (nat_cmp number) e.0) found (where_removed_other number v not_said es)
@@ -69,7 +69,7 @@ module _ (p : Item → Bool) where
       by false here more = ap (λ (ns : List ℕ). cond (p e.1) (e.0 ∷ ns) ns) (more here)
 
   -- an item of which it is said is taken out
-  pub where_removed : (number : ℕ) (v : Item) → p v ≡ true → (es : Numbered) → lookup (is_at (nat_cmp number)) es ≡ Some v
+  pub where_removed : (number : ℕ) (v : Item) → p v ≡ true → (es : NumberedItems) → lookup (is_at (nat_cmp number)) es ≡ Some v
       → numbers_where p (remove_entry (is_at (nat_cmp number)) es) ≡ remove_key (is_at (nat_cmp number)) (numbers_where p es)
   where_removed number v said [] found = refl
   where_removed number v said (e ∷ es) found = by (is_at (nat_cmp number) e.0) refl (p e.1) refl found (where_removed number v said es)
@@ -86,7 +86,7 @@ module _ (p : Item → Bool) where
       by false equal false is here more = rw is (more here)
 
   -- an item is put behind all
-  pub where_put : (made number : ℕ) (v : Item) → made < number → (es : Numbered) → AreWithin made es
+  pub where_put : (made number : ℕ) (v : Item) → made < number → (es : NumberedItems) → AreWithin made es
       → numbers_where p (insert_entry nat_cmp es number v) ≡ cond (p v) (insert_key nat_cmp (numbers_where p es) number) (numbers_where p es)
   where_put made number v above [] within = refl
   where_put made number v above (e ∷ es) within = rw behind (by (p e.1) (p v) (where_put made number v above es within.1))
@@ -107,7 +107,7 @@ module _ (p : Item → Bool) where
       by false d h = h
 
   -- and taken out again
-  pub where_put_back : (made number : ℕ) → made < number → (es : Numbered) → AreWithin made es
+  pub where_put_back : (made number : ℕ) → made < number → (es : NumberedItems) → AreWithin made es
       → remove_key (is_at (nat_cmp number)) (insert_key nat_cmp (numbers_where p es) number) ≡ numbers_where p es
   where_put_back made number above [] within = rw (at_itself number) refl
   where_put_back made number above (e ∷ es) within = by (p e.1) (where_put_back made number above es within.1)
@@ -125,16 +125,16 @@ module _ (p : Item → Bool) where
 
 -- ---- numbers that are given
 
-within_more : (made more : ℕ) → made ≤ more → (es : Numbered) → AreWithin made es → AreWithin more es
+within_more : (made more : ℕ) → made ≤ more → (es : NumberedItems) → AreWithin made es → AreWithin more es
 within_more made more le [] within = tt
 within_more made more le (e ∷ es) within = (omega (arith, le, within.0), within_more made more le es within.1)
 
-pub within_put : (made : ℕ) (v : Item) (es : Numbered) → AreWithin made es → AreWithin (made + 1) (insert_entry nat_cmp es (made + 1) v)
+pub within_put : (made : ℕ) (v : Item) (es : NumberedItems) → AreWithin made es → AreWithin (made + 1) (insert_entry nat_cmp es (made + 1) v)
 within_put made v [] within = (omega arith, tt)
 within_put made v (e ∷ es) within =
     rw (greater (made + 1) e.0 (omega (arith, within.0))) (omega (arith, within.0), within_put made v es within.1)
 
-pub within_set : (made number : ℕ) (w : Item) (es : Numbered) → AreWithin made es → AreWithin made (set_value (is_at (nat_cmp number)) es w)
+pub within_set : (made number : ℕ) (w : Item) (es : NumberedItems) → AreWithin made es → AreWithin made (set_value (is_at (nat_cmp number)) es w)
 within_set made number w [] within = tt
 within_set made number w (e ∷ es) within = by (within_set made number w es within.1) (is_at (nat_cmp number) e.0)
   where
@@ -142,7 +142,7 @@ within_set made number w (e ∷ es) within = by (within_set made number w es wit
     by rest true = (within.0, within.1)
     by rest false = (within.0, rest)
 
-pub within_removed : (made number : ℕ) (es : Numbered) → AreWithin made es → AreWithin made (remove_entry (is_at (nat_cmp number)) es)
+pub within_removed : (made number : ℕ) (es : NumberedItems) → AreWithin made es → AreWithin made (remove_entry (is_at (nat_cmp number)) es)
 within_removed made number [] within = tt
 within_removed made number (e ∷ es) within = by (within_removed made number es within.1) (is_at (nat_cmp number) e.0)
   where
@@ -152,7 +152,7 @@ within_removed made number (e ∷ es) within = by (within_removed made number es
 
 -- ---- numbers rise
 
-above_put : (k number : ℕ) (v : Item) → k < number → (es : Numbered) → AreAbove k es → AreAbove k (insert_entry nat_cmp es number v)
+above_put : (k number : ℕ) (v : Item) → k < number → (es : NumberedItems) → AreAbove k es → AreAbove k (insert_entry nat_cmp es number v)
 above_put k number v less [] above = (less, tt)
 above_put k number v less (e ∷ es) above = by (above_put k number v less es above.1) (nat_cmp number e.0)
   where
@@ -161,13 +161,13 @@ above_put k number v less (e ∷ es) above = by (above_put k number v less es ab
     by rest Equal = above
     by rest Greater = (above.0, rest)
 
-pub rising_put : (made number : ℕ) (v : Item) → made < number → (es : Numbered) → AreWithin made es → AreRising es → AreRising (insert_entry nat_cmp es number v)
+pub rising_put : (made number : ℕ) (v : Item) → made < number → (es : NumberedItems) → AreWithin made es → AreRising es → AreRising (insert_entry nat_cmp es number v)
 rising_put made number v above [] within rising = (tt, tt)
 rising_put made number v above (e ∷ es) within rising =
     rw (greater number e.0 (omega (arith, above, within.0)))
     (above_put e.0 number v (omega (arith, above, within.0)) es rising.0, rising_put made number v above es within.1 rising.1)
 
-above_set : (k number : ℕ) (w : Item) (es : Numbered) → AreAbove k es → AreAbove k (set_value (is_at (nat_cmp number)) es w)
+above_set : (k number : ℕ) (w : Item) (es : NumberedItems) → AreAbove k es → AreAbove k (set_value (is_at (nat_cmp number)) es w)
 above_set k number w [] above = tt
 above_set k number w (e ∷ es) above = by (above_set k number w es above.1) (is_at (nat_cmp number) e.0)
   where
@@ -175,7 +175,7 @@ above_set k number w (e ∷ es) above = by (above_set k number w es above.1) (is
     by rest true = above
     by rest false = (above.0, rest)
 
-pub rising_set : (number : ℕ) (w : Item) (es : Numbered) → AreRising es → AreRising (set_value (is_at (nat_cmp number)) es w)
+pub rising_set : (number : ℕ) (w : Item) (es : NumberedItems) → AreRising es → AreRising (set_value (is_at (nat_cmp number)) es w)
 rising_set number w [] rising = tt
 rising_set number w (e ∷ es) rising = by (rising_set number w es rising.1) (is_at (nat_cmp number) e.0)
   where
@@ -183,7 +183,7 @@ rising_set number w (e ∷ es) rising = by (rising_set number w es rising.1) (is
     by rest true = rising
     by rest false = (above_set e.0 number w es rising.0, rest)
 
-above_removed : (k number : ℕ) (es : Numbered) → AreAbove k es → AreAbove k (remove_entry (is_at (nat_cmp number)) es)
+above_removed : (k number : ℕ) (es : NumberedItems) → AreAbove k es → AreAbove k (remove_entry (is_at (nat_cmp number)) es)
 above_removed k number [] above = tt
 above_removed k number (e ∷ es) above = by (above_removed k number es above.1) (is_at (nat_cmp number) e.0)
   where
@@ -191,7 +191,7 @@ above_removed k number (e ∷ es) above = by (above_removed k number es above.1)
     by rest true = above.1
     by rest false = (above.0, rest)
 
-pub rising_removed : (number : ℕ) (es : Numbered) → AreRising es → AreRising (remove_entry (is_at (nat_cmp number)) es)
+pub rising_removed : (number : ℕ) (es : NumberedItems) → AreRising es → AreRising (remove_entry (is_at (nat_cmp number)) es)
 rising_removed number [] rising = tt
 rising_removed number (e ∷ es) rising = by (rising_removed number es rising.1) (is_at (nat_cmp number) e.0)
   where
@@ -201,11 +201,11 @@ rising_removed number (e ∷ es) rising = by (rising_removed number es rising.1)
 
 -- ---- the last number is taken back
 
-within_less : (made : ℕ) (es : Numbered) → AreAbove made es → AreWithin made es → AreWithin (made - 1) es
+within_less : (made : ℕ) (es : NumberedItems) → AreAbove made es → AreWithin made es → AreWithin (made - 1) es
 within_less made [] above within = tt
 within_less made (e ∷ es) above within = absurd (omega (arith, above.0, within.0))
 
-within_back : (made : ℕ) (es : Numbered) → AreWithin made es → AreRising es → AreWithin (made - 1) (remove_entry (is_at (nat_cmp made)) es)
+within_back : (made : ℕ) (es : NumberedItems) → AreWithin made es → AreRising es → AreWithin (made - 1) (remove_entry (is_at (nat_cmp made)) es)
 within_back made [] within rising = tt
 within_back made (e ∷ es) within rising = by (within_back made es within.1 rising.1) (is_at (nat_cmp made) e.0) refl
   where
@@ -216,11 +216,11 @@ within_back made (e ∷ es) within rising = by (within_back made es within.1 ris
         (omega (arith, within.0, other), rest)
 
 -- what was put behind all is taken out again
-pub put_and_removed : (made : ℕ) (v : Item) (es : Numbered) → AreWithin made es → remove_entry (is_at (nat_cmp (made + 1))) (insert_entry nat_cmp es (made + 1) v) ≡ es
+pub put_and_removed : (made : ℕ) (v : Item) (es : NumberedItems) → AreWithin made es → remove_entry (is_at (nat_cmp (made + 1))) (insert_entry nat_cmp es (made + 1) v) ≡ es
 put_and_removed made v [] within = rw (at_itself (made + 1)) refl
 put_and_removed made v (e ∷ es) within =
     let behind : nat_cmp (made + 1) e.0 ≡ Greater = greater (made + 1) e.0 (omega (arith, within.0)) in
-    rw behind (rw behind (ap (λ (fs : Numbered). e ∷ fs) (put_and_removed made v es within.1)))
+    rw behind (rw behind (ap (λ (fs : NumberedItems). e ∷ fs) (put_and_removed made v es within.1)))
 
 -- ---- what the fields of a table keep
 
@@ -237,7 +237,7 @@ same_on : (item new : Item) → IsThere item new → (id : NodeId) → is_on id 
 same_on item new h id =
     ap (λ (a : ℕ). a == 13 && same_id new.node_id id) h.attribute ∙ ap (λ (n : NodeId). item.attribute_id == 13 && same_id n id) h.node
 
-module _ (made : ℕ) (items : Numbered) (of_subscription : BTreeMap ℕ (BTreeSet ℕ)) (on_node : BTreeMap NodeId (BTreeSet ℕ)) (h : IsTable made items of_subscription on_node) where
+module _ (made : ℕ) (items : NumberedItems) (of_subscription : BTreeMap ℕ (BTreeSet ℕ)) (on_node : BTreeMap NodeId (BTreeSet ℕ)) (h : IsTable made items of_subscription on_node) where
   pub table_set : (number : ℕ) (v w : Item) → IsThere v w → item_at number items ≡ Some v → IsTable made (set_value (is_at (nat_cmp number)) items w) of_subscription on_node
   table_set number v w there found = record {
     within = within_set made number w items h.within;
@@ -356,7 +356,7 @@ pub there_gave : (n : ℕ) (item : Item) → IsThere item (gave n item)
 there_gave n item = record { subscription = refl; node = refl; attribute = refl }
 
 module _ (made : ℕ) (of_subscription : BTreeMap ℕ (BTreeSet ℕ)) (on_node : BTreeMap NodeId (BTreeSet ℕ)) where
-  pub table_sampled : (items : Numbered) (visits : List Visit) → IsTable made items of_subscription on_node → IsTable made (sampled_items items visits) of_subscription on_node
+  pub table_sampled : (items : NumberedItems) (visits : List Visit) → IsTable made items of_subscription on_node → IsTable made (sampled_items items visits) of_subscription on_node
   table_sampled items [] h = h
   table_sampled items (v ∷ vs) h = table_sampled (visited items v) vs (table_changed made items of_subscription on_node h v.number (seen v.value) (there_seen v.value))
 
@@ -370,7 +370,7 @@ module _ (made : ℕ) (of_subscription : BTreeMap ℕ (BTreeSet ℕ)) (on_node :
 
 -- ---- the items of a subscription
 
-pub above_found : (k number : ℕ) (item : Item) (es : Numbered) → AreAbove k es → item_at number es ≡ Some item → k < number
+pub above_found : (k number : ℕ) (item : Item) (es : NumberedItems) → AreAbove k es → item_at number es ≡ Some item → k < number
 above_found k number item [] above found = absurd cc
 above_found k number item (e ∷ es) above found = by (above_found k number item es above.1) (is_at (nat_cmp number) e.0) refl found
   where
@@ -379,7 +379,7 @@ above_found k number item (e ∷ es) above found = by (above_found k number item
     by rest false is here = rest here
 
 -- the item of a number that is found by what is said of it
-pub first_found : (p : Item → Bool) (es : Numbered) → AreRising es → (number : ℕ) → first_number (numbers_where p es) ≡ Some number
+pub first_found : (p : Item → Bool) (es : NumberedItems) → AreRising es → (number : ℕ) → first_number (numbers_where p es) ≡ Some number
     → (item : Item) × (item_at number es ≡ Some item) × (p item ≡ true)
 first_found p [] rising number first = absurd cc
 first_found p (e ∷ es) rising number first = by (first_found p es rising.1 number) (p e.1) refl first
@@ -399,7 +399,7 @@ first_found p (e ∷ es) rising number first = by (first_found p es rising.1 num
     by rest false said here = of_rest (rest here)
 
 -- an item that is said to be of the subscription is no other's
-pub others_stay : (subscription number : ℕ) (es : Numbered) (item : Item) → item_at number es ≡ Some item → is_of subscription item ≡ true
+pub others_stay : (subscription number : ℕ) (es : NumberedItems) (item : Item) → item_at number es ≡ Some item → is_of subscription item ≡ true
     → without_all subscription (remove_entry (is_at (nat_cmp number)) es) ≡ without_all subscription es
 others_stay subscription number [] item found own = refl
 others_stay subscription number (e ∷ es) item found own = by (is_at (nat_cmp number) e.0) found (others_stay subscription number es item)
@@ -411,27 +411,27 @@ others_stay subscription number (e ∷ es) item found own = by (is_at (nat_cmp n
         let is : e.1 ≡ item = cc in
         let said : is_of subscription e.1 ≡ true = ap (is_of subscription) is ∙ own in
         rw said refl
-    by false here rest = ap (λ (fs : Numbered). cond (not (is_of subscription e.1)) (e ∷ fs) fs) (rest here own)
+    by false here rest = ap (λ (fs : NumberedItems). cond (not (is_of subscription e.1)) (e ∷ fs) fs) (rest here own)
 
-pub none_left : (subscription : ℕ) (es : Numbered) → numbers_of subscription es ≡ [] → without_all subscription es ≡ es
+pub none_left : (subscription : ℕ) (es : NumberedItems) → numbers_of subscription es ≡ [] → without_all subscription es ≡ es
 none_left subscription [] none = refl
 none_left subscription (e ∷ es) none = by (is_of subscription e.1) none (none_left subscription es)
   where
     by : (b : Bool) → cond b (e.0 ∷ numbers_of subscription es) (numbers_of subscription es) ≡ [] → (numbers_of subscription es ≡ [] → without_all subscription es ≡ es)
         → cond (not b) (e ∷ without_all subscription es) (without_all subscription es) ≡ e ∷ es
     by true none rest = absurd cc
-    by false none rest = ap (λ (fs : Numbered). e ∷ fs) (rest none)
+    by false none rest = ap (λ (fs : NumberedItems). e ∷ fs) (rest none)
 
 -- ---- after what was seen or taken, of which a part may be left
 
-module _ (made : ℕ) (of_subscription : BTreeMap ℕ (BTreeSet ℕ)) (on_node : BTreeMap NodeId (BTreeSet ℕ)) (items : Numbered) (h : IsTable made items of_subscription on_node) where
-  pub table_after_samples : {T E : Type 0} (r : Result T E) (new : Numbered) (visits : List Visit) → OnOk r (new ≡ sampled_items items visits) → OnErr r (VisitedSome items new visits) → IsTable made new of_subscription on_node
-  table_after_samples (Ok x) new visits ok err = subst (λ (es : Numbered). IsTable made es of_subscription on_node) (sym ok) (table_sampled made of_subscription on_node items visits h)
-  table_after_samples (Err x) new visits ok (front, rest, joined, is) = subst (λ (es : Numbered). IsTable made es of_subscription on_node) (sym is) (table_sampled made of_subscription on_node items front h)
+module _ (made : ℕ) (of_subscription : BTreeMap ℕ (BTreeSet ℕ)) (on_node : BTreeMap NodeId (BTreeSet ℕ)) (items : NumberedItems) (h : IsTable made items of_subscription on_node) where
+  pub table_after_samples : {T E : Type 0} (r : Result T E) (new : NumberedItems) (visits : List Visit) → OnOk r (new ≡ sampled_items items visits) → OnErr r (VisitedSome items new visits) → IsTable made new of_subscription on_node
+  table_after_samples (Ok x) new visits ok err = subst (λ (es : NumberedItems). IsTable made es of_subscription on_node) (sym ok) (table_sampled made of_subscription on_node items visits h)
+  table_after_samples (Err x) new visits ok (front, rest, joined, is) = subst (λ (es : NumberedItems). IsTable made es of_subscription on_node) (sym is) (table_sampled made of_subscription on_node items front h)
 
-  pub table_after_taking : {T E : Type 0} (r : Result T E) (new : Numbered) (n : ℕ) (numbers : List ℕ) → OnOk r (new ≡ (taken_of items n numbers).items) → OnErr r (new ≡ items) → IsTable made new of_subscription on_node
-  table_after_taking (Ok x) new n numbers ok err = subst (λ (es : Numbered). IsTable made es of_subscription on_node) (sym ok) (table_taken made of_subscription on_node (nothing_taken items n) numbers h)
-  table_after_taking (Err x) new n numbers ok err = subst (λ (es : Numbered). IsTable made es of_subscription on_node) (sym err) h
+  pub table_after_taking : {T E : Type 0} (r : Result T E) (new : NumberedItems) (n : ℕ) (numbers : List ℕ) → OnOk r (new ≡ (taken_of items n numbers).items) → OnErr r (new ≡ items) → IsTable made new of_subscription on_node
+  table_after_taking (Ok x) new n numbers ok err = subst (λ (es : NumberedItems). IsTable made es of_subscription on_node) (sym ok) (table_taken made of_subscription on_node (nothing_taken items n) numbers h)
+  table_after_taking (Err x) new n numbers ok err = subst (λ (es : NumberedItems). IsTable made es of_subscription on_node) (sym err) h
 
   -- the visits that the index leads to are those of the items of each node
   pub same_visits : (changed : List Change) → flat_map (index_visits on_node) changed ≡ all_visits items changed

@@ -7,7 +7,7 @@ use Rattle.ua_subscription_messages.specs.declared.publishing.MonitoredItemNotif
 use Rattle.ua_item_queue.specs.Sendings.{sent_of}
 use Rattle.ua_item_queue.specs.declared.entry.Entry.{Entry}
 use Rattle.ua_monitored_items.specs.Item.{note_of, waiting_in}
-use Rattle.ua_monitored_items.specs.ItemTables.{Numbered, item_at, numbers_of}
+use Rattle.ua_monitored_items.specs.ItemTables.{NumberedItems, item_at, numbers_of}
 use Rattle.ua_monitored_items.specs.Items.{ItemsState, no_items, Taking, nat_least, with_taken, nothing_taken, taken_of}
 use Rattle.ua_monitored_items.specs.Moves.{Move, moved, account_of}
 use Rattle.ua_monitored_items.specs.Moves.Move.{Create, Modify, SetMode, Delete, End, Show, TakeNotes}
@@ -65,7 +65,7 @@ entries_of number (g ∷ gs) = if g.number == number then g.entries ++ entries_o
 
 -- what a message takes is told of what the items give
 abbrev pub NotesAreOfGivings : Type 0
-NotesAreOfGivings = (items : Numbered) (n : ℕ) (numbers : List ℕ) → (taken_of items n numbers).notes ≡ notes_given (givings (nothing_taken items n) numbers)
+NotesAreOfGivings = (items : NumberedItems) (n : ℕ) (numbers : List ℕ) → (taken_of items n numbers).notes ≡ notes_given (givings (nothing_taken items n) numbers)
 
 -- what an item ever gave are the values of its account that were sent, with their marks
 abbrev pub GivingsAreWhatWasSent : Type 0

@@ -13,8 +13,8 @@ use Rattle.ua_read_write.specs.Reading.{attribute_read}
 use Rattle.ua_read_write.specs.Timestamps.{has_source, has_server}
 use Rattle.ua_read_write.specs.declared.timestamps.Timestamps.{Timestamps}
 use Rattle.ua_read_write.specs.declared.timestamps.Timestamps.TheVariants as choices
-use Rattle.ua_item_queue.specs.ItemQueue.{Deed, sampled, sent, cleared, resized}
-use Rattle.ua_item_queue.specs.ItemQueue.Deed.{Sample, Clear, Resize}
+use Rattle.ua_item_queue.specs.ItemQueue.{QueueMove, sampled, sent, cleared, resized}
+use Rattle.ua_item_queue.specs.ItemQueue.QueueMove.{Sample, Clear, Resize}
 use Rattle.ua_item_queue.specs.declared.entry.Entry.{Entry}
 use Rattle.ua_monitored_items.specs.declared.item.Item.{Item}
 use Rattle.ua_monitored_items.specs.declared.kinds.Mode.{Mode}
@@ -137,18 +137,18 @@ notes_of item = map (note_of item.client_handle item.timestamps) item.queue.entr
 abbrev pub waiting_in : Item → ℕ
 waiting_in item = if is_reporting item.mode then length item.queue.entries else 0
 
--- ---- the same, as deeds on its queue
+-- ---- the same, as moves on its queue
 
 -- a value is queued
-abbrev pub sample_deed : DataValue → Item → List (Deed DataValue)
-sample_deed v item = Sample item.queue.size item.queue.discard_oldest v ∷ []
+abbrev pub sample_queue_move : DataValue → Item → List (QueueMove DataValue)
+sample_queue_move v item = Sample item.queue.size item.queue.discard_oldest v ∷ []
 
-abbrev pub seen_deeds : DataValue → Item → List (Deed DataValue)
-seen_deeds v item = if takes item v then sample_deed v item else []
+abbrev pub seen_queue_moves : DataValue → Item → List (QueueMove DataValue)
+seen_queue_moves v item = if takes item v then sample_queue_move v item else []
 
-abbrev pub mode_deeds : Nodes → Moment → Mode → Item → List (Deed DataValue)
-mode_deeds nodes clock mode item =
-    if is_enabled mode then (if is_enabled item.mode then [] else sample_deed (reading nodes clock item) item) else Clear ∷ []
+abbrev pub mode_queue_moves : Nodes → Moment → Mode → Item → List (QueueMove DataValue)
+mode_queue_moves nodes clock mode item =
+    if is_enabled mode then (if is_enabled item.mode then [] else sample_queue_move (reading nodes clock item) item) else Clear ∷ []
 
-abbrev pub modify_deeds : ℕ → MonitoringParameters → List (Deed DataValue)
-modify_deeds longest parameters = Resize (revised_size longest parameters.queue_size) parameters.discard_oldest ∷ []
+abbrev pub modify_queue_moves : ℕ → MonitoringParameters → List (QueueMove DataValue)
+modify_queue_moves longest parameters = Resize (revised_size longest parameters.queue_size) parameters.discard_oldest ∷ []

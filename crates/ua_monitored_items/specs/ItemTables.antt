@@ -12,15 +12,15 @@ use Rattle.ua_types.specs.declared.node_id.NodeId.{NodeId}
 use Rattle.ua_monitored_items.specs.declared.item.Item.{Item}
 
 -- items under their numbers, which rise
-abbrev pub Numbered : Type 0
-Numbered = List (ℕ × Item)
+abbrev pub NumberedItems : Type 0
+NumberedItems = List (ℕ × Item)
 
 -- the item with a number
-abbrev pub item_at : ℕ → Numbered → Option Item
+abbrev pub item_at : ℕ → NumberedItems → Option Item
 item_at number items = lookup (is_at (nat_cmp number)) items
 
 -- the numbers of some of the items, rising
-abbrev pub numbers_where : (Item → Bool) → Numbered → List ℕ
+abbrev pub numbers_where : (Item → Bool) → NumberedItems → List ℕ
 numbers_where p [] = []
 numbers_where p (e ∷ es) = if p e.1 then e.0 ∷ numbers_where p es else numbers_where p es
 
@@ -28,7 +28,7 @@ abbrev pub is_of : ℕ → Item → Bool
 is_of subscription item = item.subscription == subscription
 
 -- the numbers of a subscription's items
-abbrev pub numbers_of : ℕ → Numbered → List ℕ
+abbrev pub numbers_of : ℕ → NumberedItems → List ℕ
 numbers_of subscription items = numbers_where (is_of subscription) items
 
 -- an item is of the value of this node
@@ -36,25 +36,25 @@ abbrev pub is_on : NodeId → Item → Bool
 is_on id item = item.attribute_id == 13 && same_id item.node_id id
 
 -- the numbers of the items of a node's value
-abbrev pub numbers_on : NodeId → Numbered → List ℕ
+abbrev pub numbers_on : NodeId → NumberedItems → List ℕ
 numbers_on id items = numbers_where (is_on id) items
 
 -- a number is that of an item of a subscription
-abbrev pub IsOwn : ℕ → ℕ → Numbered → Type 0
+abbrev pub IsOwn : ℕ → ℕ → NumberedItems → Type 0
 IsOwn subscription number items = (item : Item) × (item_at number items ≡ Some item) × (is_of subscription item ≡ true)
 
-abbrev pub with_found : ℕ → (Item → Item) → Numbered → Option Item → Numbered
+abbrev pub with_found : ℕ → (Item → Item) → NumberedItems → Option Item → NumberedItems
 with_found number change items None = items
 with_found number change items (Some item) = set_value (is_at (nat_cmp number)) items (change item)
 
 -- the items, where something is done with the one of this number, if there is one
-abbrev pub with_item : ℕ → (Item → Item) → Numbered → Numbered
+abbrev pub with_item : ℕ → (Item → Item) → NumberedItems → NumberedItems
 with_item number change items = with_found number change items (item_at number items)
 
 -- the items, and the number of the last one that was made
 pub record TableState : Type 0 where
   pub made : ℕ
-  pub items : Numbered
+  pub items : NumberedItems
 
 -- ---- what the fields of an `ItemTable` keep
 
@@ -83,22 +83,22 @@ module _ {K : Type 0} (cmp : K → K → Ordering) (old new : BTreeMap K (BTreeS
   IsKept = (q : K) → numbers_at cmp new q ≡ numbers_at cmp old q
 
 -- no number above that one is given
-abbrev pub AreWithin : ℕ → Numbered → Type 0
+abbrev pub AreWithin : ℕ → NumberedItems → Type 0
 AreWithin made [] = ⊤
 AreWithin made (e ∷ es) = (e.0 ≤ made) × AreWithin made es
 
 -- the numbers are above that one
-abbrev pub AreAbove : ℕ → Numbered → Type 0
+abbrev pub AreAbove : ℕ → NumberedItems → Type 0
 AreAbove number [] = ⊤
 AreAbove number (e ∷ es) = (number < e.0) × AreAbove number es
 
 -- the numbers rise
-abbrev pub AreRising : Numbered → Type 0
+abbrev pub AreRising : NumberedItems → Type 0
 AreRising [] = ⊤
 AreRising (e ∷ es) = AreAbove e.0 es × AreRising es
 
 -- each key leads to the numbers of its items
-pub record IsTable (made : ℕ) (items : Numbered) (of_subscription : BTreeMap ℕ (BTreeSet ℕ)) (on_node : BTreeMap NodeId (BTreeSet ℕ)) : Type 0 where
+pub record IsTable (made : ℕ) (items : NumberedItems) (of_subscription : BTreeMap ℕ (BTreeSet ℕ)) (on_node : BTreeMap NodeId (BTreeSet ℕ)) : Type 0 where
   pub within : AreWithin made items
   pub rising : AreRising items
   pub subscriptions : (subscription : ℕ) → numbers_at nat_cmp of_subscription subscription ≡ numbers_of subscription items

@@ -23,11 +23,11 @@ use Rattle.ua_subscription_messages.specs.declared.monitored_items.MonitoredItem
 use Rattle.ua_subscription_messages.specs.declared.monitored_items.MonitoredItemModifyRequest.{MonitoredItemModifyRequest}
 use Rattle.ua_subscription_messages.specs.declared.monitored_items.MonitoredItemModifyResult.{MonitoredItemModifyResult}
 use Rattle.ua_subscription_messages.specs.declared.publishing.MonitoredItemNotification.{MonitoredItemNotification}
-use Rattle.ua_item_queue.specs.ItemQueue.{Deed}
-use Rattle.ua_item_queue.specs.ItemQueue.Deed.{Clear}
+use Rattle.ua_item_queue.specs.ItemQueue.{QueueMove}
+use Rattle.ua_item_queue.specs.ItemQueue.QueueMove.{Clear}
 use Rattle.ua_monitored_items.specs.Kinds.{mode_numbered, trigger_of}
-use Rattle.ua_monitored_items.specs.Item.{is_enabled, queued, seen, reading, moded, revised_size, modified, gave, notes_of, waiting_in, sample_deed, mode_deeds, modify_deeds}
-use Rattle.ua_monitored_items.specs.ItemTables.{Numbered, item_at, is_of, numbers_of, numbers_on, with_item}
+use Rattle.ua_monitored_items.specs.Item.{is_enabled, queued, seen, reading, moded, revised_size, modified, gave, notes_of, waiting_in, sample_queue_move, mode_queue_moves, modify_queue_moves}
+use Rattle.ua_monitored_items.specs.ItemTables.{NumberedItems, item_at, is_of, numbers_of, numbers_on, with_item}
 use Rattle.ua_monitored_items.specs.declared.item.Item.{Item}
 use Rattle.ua_monitored_items.specs.declared.kinds.Kind.{Kind}
 use Rattle.ua_monitored_items.specs.declared.kinds.Mode.{Mode}
@@ -40,40 +40,40 @@ pub record ItemsState : Type 0 where
   pub longest : ℕ
   pub interval : Duration
   pub made : ℕ
-  pub items : Numbered
+  pub items : NumberedItems
 
 abbrev pub no_items : Configuration → ItemsState
 no_items config = record { most = config.items; longest = config.queue; interval = config.sampling_duration; made = 0; items = [] }
 
--- a deed on the queue of the item with this number
-pub record ItemDeed : Type 0 where
+-- a move on the queue of the item with this number
+pub record ItemQueueMove : Type 0 where
   pub number : ℕ
-  pub deed : Deed DataValue
+  pub queue_move : QueueMove DataValue
 
-abbrev pub deeds_on : ℕ → List (Deed DataValue) → List ItemDeed
-deeds_on number deeds = map (λ d. record { number = number; deed = d }) deeds
+abbrev pub queue_moves_on : ℕ → List (QueueMove DataValue) → List ItemQueueMove
+queue_moves_on number queue_moves = map (λ d. record { number = number; queue_move = d }) queue_moves
 
 -- ---- entries of a request, one after the other
 
--- what one entry comes to: its result, the items after it, and the deeds by which their queues changed, which no code keeps
+-- what one entry comes to: its result, the items after it, and the moves by which their queues changed, which no code keeps
 pub record One (R : Type 0) : Type 0 where
   pub result : R
   pub state : ItemsState
-  pub deeds : List ItemDeed
+  pub queue_moves : List ItemQueueMove
 
 -- what some come to
 pub record Served (R : Type 0) : Type 0 where
   pub results : List R
   pub state : ItemsState
-  pub deeds : List ItemDeed
+  pub queue_moves : List ItemQueueMove
 
 abbrev pub nothing_served : {R : Type 0} → ItemsState → Served R
-nothing_served s = record { results = []; state = s; deeds = [] }
+nothing_served s = record { results = []; state = s; queue_moves = [] }
 
 abbrev pub with_one : {A R : Type 0} → (ItemsState → A → One R) → Served R → A → Served R
 with_one serve before x =
     let one = serve before.state x in
-    record { results = before.results ++ one.result ∷ []; state = one.state; deeds = before.deeds ++ one.deeds }
+    record { results = before.results ++ one.result ∷ []; state = one.state; queue_moves = before.queue_moves ++ one.queue_moves }
 
 abbrev pub all_served : {A R : Type 0} → (ItemsState → A → One R) → ItemsState → List A → Served R
 all_served serve s xs = fold (with_one serve) (nothing_served s) xs
@@ -129,8 +129,8 @@ new_item s subscription timestamps request kind =
 abbrev pub begun : Nodes → Moment → Item → Item
 begun nodes clock item = if is_enabled item.mode then queued (reading nodes clock item) item else item
 
-abbrev pub begin_deeds : Nodes → Moment → Item → List (Deed DataValue)
-begin_deeds nodes clock item = if is_enabled item.mode then sample_deed (reading nodes clock item) item else []
+abbrev pub begin_queue_moves : Nodes → Moment → Item → List (QueueMove DataValue)
+begin_queue_moves nodes clock item = if is_enabled item.mode then sample_queue_move (reading nodes clock item) item else []
 
 abbrev pub create_result : ItemsState → MonitoredItemCreateRequest → MonitoredItemCreateResult
 create_result s request = record {
@@ -155,13 +155,13 @@ abbrev pub with_new_item : ItemsState → Item → ItemsState
 with_new_item s item = record s { made = s.made + 1; items = insert_entry nat_cmp s.items (s.made + 1) item }
 
 abbrev pub created_by : Nodes → Moment → ℕ → Timestamps → ItemsState → MonitoredItemCreateRequest → Result Kind Status → One MonitoredItemCreateResult
-created_by nodes clock subscription timestamps s request (Err code) = record { result = create_refused code; state = s; deeds = [] }
+created_by nodes clock subscription timestamps s request (Err code) = record { result = create_refused code; state = s; queue_moves = [] }
 created_by nodes clock subscription timestamps s request (Ok kind) =
     let item = new_item s subscription timestamps request kind in
     record {
       result = create_result s request;
       state = with_new_item s (begun nodes clock item);
-      deeds = deeds_on (s.made + 1) (begin_deeds nodes clock item);
+      queue_moves = queue_moves_on (s.made + 1) (begin_queue_moves nodes clock item);
     }
 
 unfoldable pub create_one : Nodes → Moment → ℕ → Timestamps → ItemsState → MonitoredItemCreateRequest → One MonitoredItemCreateResult
@@ -199,12 +199,12 @@ modify_refused code = record {
 }
 
 abbrev pub modified_by : Timestamps → ItemsState → MonitoredItemModifyRequest → Option Item → Option Trigger → One MonitoredItemModifyResult
-modified_by timestamps s request None trigger = record { result = modify_refused status.BAD_MONITORED_ITEM_ID_INVALID; state = s; deeds = [] }
-modified_by timestamps s request (Some item) None = record { result = modify_refused status.BAD_MONITORED_ITEM_FILTER_UNSUPPORTED; state = s; deeds = [] }
+modified_by timestamps s request None trigger = record { result = modify_refused status.BAD_MONITORED_ITEM_ID_INVALID; state = s; queue_moves = [] }
+modified_by timestamps s request (Some item) None = record { result = modify_refused status.BAD_MONITORED_ITEM_FILTER_UNSUPPORTED; state = s; queue_moves = [] }
 modified_by timestamps s request (Some item) (Some trigger) = record {
   result = modify_result s request;
   state = with_change s request.monitored_item_id (modified s.longest timestamps trigger request.requested_parameters);
-  deeds = deeds_on request.monitored_item_id (modify_deeds s.longest request.requested_parameters);
+  queue_moves = queue_moves_on request.monitored_item_id (modify_queue_moves s.longest request.requested_parameters);
 }
 
 -- an item gets other parameters; refused where it is unknown, then by its filter
@@ -215,11 +215,11 @@ modify_one subscription timestamps s request =
 -- ---- SetMonitoringMode
 
 abbrev pub moded_by : Nodes → Moment → Mode → ItemsState → ℕ → Option Item → One Status
-moded_by nodes clock mode s number None = record { result = status.BAD_MONITORED_ITEM_ID_INVALID; state = s; deeds = [] }
+moded_by nodes clock mode s number None = record { result = status.BAD_MONITORED_ITEM_ID_INVALID; state = s; queue_moves = [] }
 moded_by nodes clock mode s number (Some item) = record {
   result = status.GOOD;
   state = with_change s number (moded nodes clock mode);
-  deeds = deeds_on number (mode_deeds nodes clock mode item);
+  queue_moves = queue_moves_on number (mode_queue_moves nodes clock mode item);
 }
 
 -- an item gets a mode; refused where it is unknown
@@ -232,8 +232,8 @@ abbrev pub without : ItemsState → ℕ → ItemsState
 without s number = record s { items = remove_entry (is_at (nat_cmp number)) s.items }
 
 abbrev pub deleted_by : ItemsState → ℕ → Option Item → One Status
-deleted_by s number None = record { result = status.BAD_MONITORED_ITEM_ID_INVALID; state = s; deeds = [] }
-deleted_by s number (Some item) = record { result = status.GOOD; state = without s number; deeds = deeds_on number (Clear ∷ []) }
+deleted_by s number None = record { result = status.BAD_MONITORED_ITEM_ID_INVALID; state = s; queue_moves = [] }
+deleted_by s number (Some item) = record { result = status.GOOD; state = without s number; queue_moves = queue_moves_on number (Clear ∷ []) }
 
 -- an item is deleted; refused where it is unknown
 unfoldable pub delete_one : ℕ → ItemsState → ℕ → One Status
@@ -245,15 +245,15 @@ abbrev pub is_of_other : ℕ → ℕ × Item → Bool
 is_of_other subscription e = not (is_of subscription e.1)
 
 -- the items that are not of a subscription
-abbrev pub without_all : ℕ → Numbered → Numbered
+abbrev pub without_all : ℕ → NumberedItems → NumberedItems
 without_all subscription items = filter (is_of_other subscription) items
 
 -- all items of a subscription are deleted
 abbrev pub ended : ItemsState → ℕ → ItemsState
 ended s subscription = record s { items = without_all subscription s.items }
 
-abbrev pub end_deeds : ItemsState → ℕ → List ItemDeed
-end_deeds s subscription = flat_map (λ number. deeds_on number (Clear ∷ [])) (numbers_of subscription s.items)
+abbrev pub end_queue_moves : ItemsState → ℕ → List ItemQueueMove
+end_queue_moves s subscription = flat_map (λ number. queue_moves_on number (Clear ∷ [])) (numbers_of subscription s.items)
 
 abbrev pub first_number : List ℕ → Option ℕ
 first_number [] = None
@@ -267,21 +267,21 @@ pub record Visit : Type 0 where
   pub value : DataValue
 
 -- the items of a node's value see what was written there, by rising numbers
-abbrev pub visits_of : Numbered → Change → List Visit
+abbrev pub visits_of : NumberedItems → Change → List Visit
 visits_of items change = map (λ number. record { number = number; value = change.value }) (numbers_on change.node_id items)
 
-abbrev pub all_visits : Numbered → List Change → List Visit
+abbrev pub all_visits : NumberedItems → List Change → List Visit
 all_visits items changed = flat_map (visits_of items) changed
 
-abbrev pub visited : Numbered → Visit → Numbered
+abbrev pub visited : NumberedItems → Visit → NumberedItems
 visited items visit = with_item visit.number (seen visit.value) items
 
 -- each item sees the values that were written to its node, in their order
-abbrev pub sampled_items : Numbered → List Visit → Numbered
+abbrev pub sampled_items : NumberedItems → List Visit → NumberedItems
 sampled_items items visits = fold visited items visits
 
 -- some of the visits were made, from the first on, and nothing else was done
-abbrev pub VisitedSome : Numbered → Numbered → List Visit → Type 0
+abbrev pub VisitedSome : NumberedItems → NumberedItems → List Visit → Type 0
 VisitedSome old new visits = (front : List Visit) × (rest : List Visit) × (front ++ rest ≡ visits) × (new ≡ sampled_items old front)
 
 -- ---- what a message takes
@@ -291,7 +291,7 @@ waits_in None = false
 waits_in (Some item) = nat_lt 0 (waiting_in item)
 
 -- whether one of these items has a value to send
-abbrev pub any_waits : Numbered → List ℕ → Bool
+abbrev pub any_waits : NumberedItems → List ℕ → Bool
 any_waits items [] = false
 any_waits items (number ∷ numbers) = waits_in (item_at number items) || any_waits items numbers
 
@@ -302,7 +302,7 @@ is_available s subscription = any_waits s.items (numbers_of subscription s.items
 -- values that were taken, and the items after it
 pub record Taking : Type 0 where
   pub notes : List MonitoredItemNotification
-  pub items : Numbered
+  pub items : NumberedItems
   pub left : ℕ
 
 abbrev pub nat_least : ℕ → ℕ → ℕ
@@ -318,9 +318,9 @@ taken_from before number (Some item) =
 abbrev pub with_taken : Taking → ℕ → Taking
 with_taken before number = taken_from before number (item_at number before.items)
 
-abbrev pub nothing_taken : Numbered → ℕ → Taking
+abbrev pub nothing_taken : NumberedItems → ℕ → Taking
 nothing_taken items n = record { notes = []; items = items; left = n }
 
 -- the first n values of these items, the items by rising number and the values of each oldest first
-abbrev pub taken_of : Numbered → ℕ → List ℕ → Taking
+abbrev pub taken_of : NumberedItems → ℕ → List ℕ → Taking
 taken_of items n numbers = fold with_taken (nothing_taken items n) numbers

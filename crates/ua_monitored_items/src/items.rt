@@ -98,7 +98,7 @@ fn triggers_of(
 {
     let mut triggers = Vec::with_capacity(alloc, requests.len())?;
     for request in requests {
-        let trigger = trigger_of(alloc, &request.requested_parameters.filter)?;
+        let trigger = trigger_of(alloc, &request.requested_parameters.filter);
         triggers.push(trigger)?;
     }
     Ok(triggers)
@@ -125,7 +125,7 @@ impl Items {
         self.table.count_of(subscription) >= self.most as usize || self.table.made() == u32::MAX
     }
 
-    // Whether an item may be made, or why not.
+    // Whether an item may be made, or why not. Takes no memory.
     #[tactic(auto, unfolding(crate::specs::Items::create_judged))]
     fn create_judged(
         &self,
@@ -133,23 +133,23 @@ impl Items {
         space: &Space,
         subscription: u32,
         request: &MonitoredItemCreateRequest,
-    ) -> Result<Result<Kind, Status>, AllocError>
-        ensures verdict { IfOk result (λ verdict. verdict ≡ create_judged self.now space.now.nodes subscription request.now) }
-        ensures room { IfOk result (λ verdict. OnOk verdict (self.now.made < 2 ^ 32 - 1)) }
+    ) -> Result<Kind, Status>
+        ensures verdict { result ≡ create_judged self.now space.now.nodes subscription request.now }
+        ensures room { OnOk result (self.now.made < 2 ^ 32 - 1) }
     {
         if let Some(status) = refusal(space, &request.item_to_monitor) {
-            return Ok(Err(status));
+            return Err(status);
         }
         let Some(mode) = Mode::numbered(request.monitoring_mode) else {
-            return Ok(Err(Status::BAD_MONITORING_MODE_INVALID));
+            return Err(Status::BAD_MONITORING_MODE_INVALID);
         };
-        let Some(trigger) = trigger_of(alloc, &request.requested_parameters.filter)? else {
-            return Ok(Err(Status::BAD_MONITORED_ITEM_FILTER_UNSUPPORTED));
+        let Some(trigger) = trigger_of(alloc, &request.requested_parameters.filter) else {
+            return Err(Status::BAD_MONITORED_ITEM_FILTER_UNSUPPORTED);
         };
         if self.is_full(subscription) {
-            return Ok(Err(Status::BAD_TOO_MANY_MONITORED_ITEMS));
+            return Err(Status::BAD_TOO_MANY_MONITORED_ITEMS);
         }
-        Ok(Ok(Kind { mode, trigger }))
+        Ok(Kind { mode, trigger })
     }
 
     // An item as it is made, before anything is sampled.
@@ -205,7 +205,7 @@ impl Items {
         ensures back { OnOk result (CanBeUndone self.old self.new) }
         ensures err { OnErr result (self.new ≡ self.old) }
     {
-        let kind = match self.create_judged(alloc, space, subscription, &request)? {
+        let kind = match self.create_judged(alloc, space, subscription, &request) {
             Ok(kind) => kind,
             Err(status) => return Ok(create_refused(status)),
         };

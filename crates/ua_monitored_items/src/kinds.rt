@@ -1,11 +1,11 @@
 //! What an item does, and which changes it takes.
 
-ghost use Rattle.std.specs.Prelude.{◌≡◌, IfOk};
+ghost use Rattle.std.specs.Prelude.{◌≡◌};
 ghost use Rattle.ua_monitored_items.specs.Kinds.{mode_numbered, trigger_numbered, is_null_filter, trigger_of};
 ghost use Rattle.ua_monitored_items.specs.Item.{is_enabled, is_reporting, is_change, same_status, same_value, same_time};
 
-use std::alloc::{AllocError, Global};
-use ua_messages::{StructureFault, structure, type_ids};
+use std::alloc::Global;
+use ua_messages::{received_structure, type_ids};
 use ua_subscription_messages::{DataChangeFilter, DataChangeTrigger, MonitoringMode};
 use ua_types::{ExtensionObject, ExtensionObjectBody};
 use ua_values::DataValue;
@@ -122,26 +122,22 @@ fn is_null_filter(filter: &ExtensionObject) -> bool
 
 /// Which changes a filter lets through. None where the server doesn't have the filter, which a service
 /// refuses by `BAD_MONITORED_ITEM_FILTER_UNSUPPORTED`: it has a null one, which is as
-/// [`Trigger::StatusValue`], and a DataChangeFilter without a deadband.
+/// [`Trigger::StatusValue`], and a DataChangeFilter without a deadband. Takes no memory, since that is of fixed size.
 #[tactic(auto, unfolding(crate::specs::Kinds::trigger_of))]
-pub(crate) fn trigger_of(
-    alloc: Global,
-    filter: &ExtensionObject,
-) -> Result<Option<Trigger>, AllocError>
-    ensures { IfOk result (λ trigger. trigger ≡ trigger_of filter.now) }
+pub(crate) fn trigger_of(alloc: Global, filter: &ExtensionObject) -> Option<Trigger>
+    ensures { result ≡ trigger_of filter.now }
 {
     if is_null_filter(filter) {
-        return Ok(Some(Trigger::StatusValue));
+        return Some(Trigger::StatusValue);
     }
-    match structure::<DataChangeFilter>(alloc, type_ids::DATA_CHANGE_FILTER, filter) {
+    match received_structure::<DataChangeFilter>(alloc, type_ids::DATA_CHANGE_FILTER, filter) {
         Ok(filter) => {
             if filter.deadband_type == DataChangeFilter::NO_DEADBAND {
-                Ok(Trigger::numbered(filter.trigger))
+                Trigger::numbered(filter.trigger)
             } else {
-                Ok(None)
+                None
             }
         }
-        Err(StructureFault::Memory) => Err(AllocError),
-        Err(_) => Ok(None),
+        Err(_) => None,
     }
 }

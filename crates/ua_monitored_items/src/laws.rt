@@ -1,16 +1,16 @@
 //! What becomes of the values that the items queue, whatever is called. The laws have no code: their
 //! contracts state them, over lists of calls (`specs/Moves`).
 
-ghost use Rattle.ua_monitored_items.specs.Moves.{QueuesAreTheirDeeds, QueuesAreWhatWaits, FatesAreFinal, AccountsAreInOrder, AccountsTellLosses, SubscriptionsStayApart, NotesAreTheFirst};
+ghost use Rattle.ua_monitored_items.specs.Moves.{QueuesAreTheirMoves, QueuesAreWhatWaits, FatesAreFinal, AccountsAreInOrder, AccountsMarkLosses, SubscriptionsStayApart, NotesAreTheFirst};
 ghost use Rattle.ua_monitored_items.specs.Causes.{FatesHaveTheirCauses};
 ghost use Rattle.ua_monitored_items.specs.Givings.{NotesAreOfGivings, GivingsAreWhatWasSent};
 
-/// After any calls each item's queue is what its own deeds made of it, from the empty queue on: the deeds
+/// After any calls each item's queue is what its own moves made of it, from the empty queue on: the moves
 /// that the calls' definitions list leave nothing out, and no call changes the queue of an item on which it
 /// lists none.
-#[tactic(auto, using(crate::proofs::Runs::queues_are_their_deeds))]
-pub fn queues_are_their_deeds()
-    ensures { QueuesAreTheirDeeds }
+#[tactic(auto, using(crate::proofs::Runs::queues_are_their_moves))]
+pub fn queues_are_their_moves()
+    ensures { QueuesAreTheirMoves }
 {}
 
 /// After any calls the values that wait in an item are those of its account that wait, in the order in
@@ -36,9 +36,9 @@ pub fn sends_in_order()
 /// No value of an item is lost in silence: behind each that was lost where the queue was full, the first
 /// one that was neither lost nor cleared carries a mark, until something of the item is cleared, or its
 /// queue holds one value only.
-#[tactic(auto, using(crate::proofs::Runs::accounts_tell_losses))]
-pub fn tells_losses()
-    ensures { AccountsTellLosses }
+#[tactic(auto, using(crate::proofs::Runs::accounts_mark_losses))]
+pub fn losses_are_marked()
+    ensures { AccountsMarkLosses }
 {}
 
 /// A call of one subscription leaves each item of another as it is, with its queue, and none appears under
@@ -65,7 +65,7 @@ pub fn messages_take_what_is_sent()
 /// A call gives a value no fate but its own. A value is sent only by a message that takes it; it is lost only
 /// where its item takes another one, when it is made or enabled, or one that was written; and it is cleared
 /// only where the item gets a smaller queue, is disabled or deleted, or its subscription ends. That its queue
-/// is full then, or too long for its new size, `ua_item_queue::laws::each_fate_has_its_cause` says of each deed.
+/// is full then, or too long for its new size, `ua_item_queue::laws::each_fate_has_its_cause` says of each move.
 #[tactic(auto, using(crate::proofs::Causing::fates_have_their_causes))]
 pub fn fates_have_their_causes()
     ensures { FatesHaveTheirCauses }

@@ -1,5 +1,5 @@
 -- The attributes of nodes: which class has which, and what each is (IEC 62541-3, 5.2 to 5.8).
-use Rattle.std.specs.Prelude.{ℕ, ℤ, pos, negsuc, Bool, true, false, List, [], ◌∷◌, Option, Some, None}
+use Rattle.std.specs.Prelude.{ℕ, ℤ, pos, negsuc, Bool, Option, Some, None}
 use Rattle.ua_types.specs.NodeIds.{numeric_id}
 use Rattle.ua_values.specs.declared.content.Content.TheVariants.{Scalar}
 use Rattle.ua_values.specs.declared.variant.Variant.{Variant}

@@ -7,7 +7,7 @@ ghost use Rattle.ua_binary.specs.Reading.{Extends, IsReadAgain};
 ghost use Rattle.ua_binary.specs.Scalars.{moment_reading, moment_encoding};
 ghost use Rattle.ua_read_write.specs.Answers.{scalar_encoding};
 ghost use Rattle.ua_read_write.specs.Attributes.{seen};
-ghost use Rattle.ua_read_write.specs.Reading.{dated as dated_spec, source_time_of, server_time_of};
+ghost use Rattle.ua_read_write.specs.Reading.{dated as dated_spec, refused as refused_spec, source_time_of, server_time_of};
 
 use crate::attributes::Attribute;
 use crate::timestamps::Timestamps;
@@ -152,7 +152,20 @@ impl Written for Answer<'_> {
     }
 }
 
-fn copied(
+// A refusal as a data value.
+pub(crate) fn refused(status: Status) -> DataValue
+    ensures { result ≡ refused_spec status }
+{
+    DataValue {
+        value: None,
+        status,
+        source_time: None,
+        server_time: None,
+    }
+}
+
+// An attribute, with the times that are wanted, as a data value of its own.
+pub(crate) fn copied(
     alloc: Global,
     attribute: Attribute<'_>,
     clock: Moment,
@@ -214,12 +227,7 @@ impl<'a> Answer<'a> {
     {
         match self.attribute {
             Ok(attribute) => copied(alloc, attribute, self.clock, self.timestamps),
-            Err(status) => Ok(DataValue {
-                value: None,
-                status,
-                source_time: None,
-                server_time: None,
-            }),
+            Err(status) => Ok(refused(status)),
         }
     }
 }

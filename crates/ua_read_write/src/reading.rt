@@ -1,6 +1,6 @@
 //! The service Read.
 
-ghost use Rattle.std.specs.Prelude.{◌≡◌, ◌<◌, ◌^◌, ◌++◌, Some, None, length, IfOk, OnOk};
+ghost use Rattle.std.specs.Prelude.{◌≡◌, ◌<◌, ◌^◌, ◌++◌, Some, None, length, IfErr, IfOk, IsOk, OnOk};
 ghost use Rattle.std.specs.Result.{result_map_both};
 ghost use Rattle.ua_binary.specs.Arrays.{array_encoding};
 ghost use Rattle.ua_binary.specs.DataValues.{data_value_encoding};
@@ -11,7 +11,7 @@ ghost use Rattle.ua_read_write.specs.Attributes.{seen};
 ghost use Rattle.ua_read_write.specs.Reading.{is_readable, readable, refusal_in, attribute_read, read_of, all_read};
 ghost use Rattle.ua_read_write.specs.declared.timestamps.Timestamps.TheVariants as timestamp_choices;
 
-use crate::answer::Answer;
+use crate::answer::{Answer, copied, refused};
 use crate::attributes::{Attribute, attribute_at};
 use crate::timestamps::Timestamps;
 use std::alloc::{AllocError, Global};
@@ -95,7 +95,8 @@ pub fn refusal(space: &Space, request: &ReadValueId) -> Option<Status>
     }
 }
 
-/// What [`read`] answers for a whole attribute with both times, as a data value of its own.
+/// What [`read`] answers for a whole attribute with both times, as a data value of its own. A refusal takes no
+/// memory.
 pub fn sample(
     alloc: Global,
     space: &Space,
@@ -103,10 +104,13 @@ pub fn sample(
     node_id: &NodeId,
     attribute_id: u32,
 ) -> Result<DataValue, AllocError>
-    ensures { IfOk result (λ value. value ≡ attribute_read space.now.nodes clock timestamp_choices.Both node_id.now attribute_id None) }
+    ensures value { IfOk result (λ value. value ≡ attribute_read space.now.nodes clock timestamp_choices.Both node_id.now attribute_id None) }
+    ensures refused { IfErr (readable space.now.nodes node_id.now attribute_id None) (λ code. IsOk result) }
 {
-    let attribute = readable(space, node_id, attribute_id, &Text::null());
-    Answer::new(attribute, clock, Timestamps::Both).copy(alloc)
+    match readable(space, node_id, attribute_id, &Text::null()) {
+        Ok(attribute) => copied(alloc, attribute, clock, Timestamps::Both),
+        Err(status) => Ok(refused(status)),
+    }
 }
 
 // Writes the list of all answers.

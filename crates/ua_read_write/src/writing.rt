@@ -1,6 +1,6 @@
 //! The service Write.
 
-ghost use Rattle.std.specs.Prelude.{◌≡◌, ◌⊎◌, ◌++◌, true, length, IfOk, OnOk, OnErr};
+ghost use Rattle.std.specs.Prelude.{◌≡◌, ◌⊎◌, ◌++◌, true, length, Ok, IfErr, IfOk, OnOk, OnErr};
 ghost use Rattle.ua_space.specs.Values.{takes_at};
 ghost use Rattle.ua_read_write.specs.Writing.{stored_of, is_writable, judged, status_of, nodes_after, changes_of, write_of, WroteSome};
 
@@ -91,6 +91,7 @@ fn write_one(
     ensures nodes { OnOk result (space.new.nodes ≡ nodes_after clock write (judged space.old.nodes write) space.old.nodes) }
     ensures changed { OnOk result (changed.new.items ≡ changed.old.items ++ changes_of clock write (judged space.old.nodes write)) }
     ensures triples { space.new.triples ≡ space.old.triples }
+    ensures refused { IfErr (judged space.old.nodes write) (λ status. result ≡ Ok status) }
     ensures err { OnErr result ((space.new.nodes ≡ space.old.nodes) ⊎ (space.new.nodes ≡ nodes_after clock write (judged space.old.nodes write) space.old.nodes)) }
 {
     if let Err(status) = judged(space, &write) {

@@ -9,6 +9,7 @@ use ua_messages::{RequestHeader, Results};
 use ua_types::{
     Array, ByteString, ExpandedNodeId, LocalizedText, Moment, NodeId, QualifiedName, Status,
 };
+use ua_walks::Walk;
 
 /// Which references of a node are wanted (BrowseDirection, IEC 62541-4, section 5, Browse).
 #[derive(Clone, Copy, Debug, PartialEq, Eq)]
@@ -38,6 +39,14 @@ impl Enumeration for BrowseDirection {
     }
 
     ghost kept = { λ v. refl };
+}
+
+#[tactic(auto, unfolding(ua_binary::specs::Enumerations::enumeration_reading))]
+impl Walk for BrowseDirection {
+    fn walk(cursor: &mut Cursor<'_>) -> Result<(), TakeFault> {
+        i32::skip(cursor)?;
+        Ok(())
+    }
 }
 
 /// Which references of one node are wanted, and what of them (BrowseDescription, IEC 62541-4, section 5,
@@ -104,6 +113,19 @@ impl Wire for BrowseDescription {
     }
 }
 
+#[tactic(auto, unfolding(crate::specs::Browsing::browse_description_reading))]
+impl Walk for BrowseDescription {
+    fn walk(cursor: &mut Cursor<'_>) -> Result<(), TakeFault> {
+        NodeId::skip(cursor)?;
+        BrowseDirection::skip(cursor)?;
+        NodeId::skip(cursor)?;
+        bool::skip(cursor)?;
+        u32::skip(cursor)?;
+        u32::skip(cursor)?;
+        Ok(())
+    }
+}
+
 /// Asks for the references of nodes (Browse, IEC 62541-4, section 5, View Service Set).
 ///
 /// The fields from `view_id` to `view_version` are a ViewDescription in the standard.
@@ -145,6 +167,19 @@ impl Wire for BrowseRequest {
         self.view_version.encode(out)?;
         self.requested_max_references_per_node.encode(out)?;
         self.nodes_to_browse.encode(out)?;
+        Ok(())
+    }
+}
+
+#[tactic(auto, unfolding(crate::specs::Browsing::browse_request_reading))]
+impl Walk for BrowseRequest {
+    fn walk(cursor: &mut Cursor<'_>) -> Result<(), TakeFault> {
+        RequestHeader::skip(cursor)?;
+        NodeId::skip(cursor)?;
+        Moment::skip(cursor)?;
+        u32::skip(cursor)?;
+        u32::skip(cursor)?;
+        Array::<BrowseDescription>::skip(cursor)?;
         Ok(())
     }
 }
@@ -258,6 +293,16 @@ impl Wire for BrowseNextRequest {
         self.request_header.encode(out)?;
         self.release_continuation_points.encode(out)?;
         self.continuation_points.encode(out)?;
+        Ok(())
+    }
+}
+
+#[tactic(auto, unfolding(crate::specs::Browsing::browse_next_request_reading))]
+impl Walk for BrowseNextRequest {
+    fn walk(cursor: &mut Cursor<'_>) -> Result<(), TakeFault> {
+        RequestHeader::skip(cursor)?;
+        bool::skip(cursor)?;
+        Array::<ByteString>::skip(cursor)?;
         Ok(())
     }
 }

@@ -10,6 +10,7 @@ use ua_binary::{BorrowedDataValue, Cursor, TakeFault, Wire, write_list};
 use ua_messages::{RequestHeader, Results, TimestampsToReturn, object_of_bytes, type_ids};
 use ua_types::{Array, ByteString, ExtensionObject, Moment, NodeId, QualifiedName, Status, Text};
 use ua_values::DataValue;
+use ua_walks::Walk;
 
 /// The details of a reading of raw values (ReadRawModifiedDetails, IEC 62541-11, section 6). They travel
 /// in an ExtensionObject. At least two of start, end and count are given.
@@ -51,6 +52,18 @@ impl Wire for ReadRawModifiedDetails {
         self.end_time.encode(out)?;
         self.num_values_per_node.encode(out)?;
         self.return_bounds.encode(out)?;
+        Ok(())
+    }
+}
+
+#[tactic(auto, unfolding(crate::specs::History::read_raw_modified_details_reading))]
+impl Walk for ReadRawModifiedDetails {
+    fn walk(cursor: &mut Cursor<'_>) -> Result<(), TakeFault> {
+        bool::skip(cursor)?;
+        Moment::skip(cursor)?;
+        Moment::skip(cursor)?;
+        u32::skip(cursor)?;
+        bool::skip(cursor)?;
         Ok(())
     }
 }
@@ -129,6 +142,17 @@ impl Wire for HistoryReadValueId {
     }
 }
 
+#[tactic(auto, unfolding(crate::specs::History::history_read_value_id_reading))]
+impl Walk for HistoryReadValueId {
+    fn walk(cursor: &mut Cursor<'_>) -> Result<(), TakeFault> {
+        NodeId::skip(cursor)?;
+        Text::skip(cursor)?;
+        QualifiedName::skip(cursor)?;
+        ByteString::skip(cursor)?;
+        Ok(())
+    }
+}
+
 /// Asks for the history of nodes (HistoryRead, IEC 62541-4, section 5, Attribute Service Set).
 #[derive(Debug, Drop)]
 pub struct HistoryReadRequest {
@@ -163,6 +187,18 @@ impl Wire for HistoryReadRequest {
         self.timestamps_to_return.encode(out)?;
         self.release_continuation_points.encode(out)?;
         self.nodes_to_read.encode(out)?;
+        Ok(())
+    }
+}
+
+#[tactic(auto, unfolding(crate::specs::History::history_read_request_reading))]
+impl Walk for HistoryReadRequest {
+    fn walk(cursor: &mut Cursor<'_>) -> Result<(), TakeFault> {
+        RequestHeader::skip(cursor)?;
+        ExtensionObject::skip(cursor)?;
+        TimestampsToReturn::skip(cursor)?;
+        bool::skip(cursor)?;
+        Array::<HistoryReadValueId>::skip(cursor)?;
         Ok(())
     }
 }

@@ -14,6 +14,7 @@
 
 mod browsing;
 mod history;
+pub mod laws;
 mod reading;
 mod sessions;
 mod writing;

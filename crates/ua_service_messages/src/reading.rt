@@ -7,6 +7,7 @@ use ua_binary::{Cursor, TakeFault, Wire};
 use ua_messages::{ReadValueId, RequestHeader, Results, TimestampsToReturn};
 use ua_types::{Array, Duration};
 use ua_values::DataValue;
+use ua_walks::Walk;
 
 /// Asks for attributes of nodes (Read, IEC 62541-4, section 5, Attribute Service Set).
 #[derive(Debug, Drop)]
@@ -38,6 +39,17 @@ impl Wire for ReadRequest {
         self.max_age.encode(out)?;
         self.timestamps_to_return.encode(out)?;
         self.nodes_to_read.encode(out)?;
+        Ok(())
+    }
+}
+
+#[tactic(auto, unfolding(crate::specs::Reading::read_request_reading))]
+impl Walk for ReadRequest {
+    fn walk(cursor: &mut Cursor<'_>) -> Result<(), TakeFault> {
+        RequestHeader::skip(cursor)?;
+        Duration::skip(cursor)?;
+        TimestampsToReturn::skip(cursor)?;
+        Array::<ReadValueId>::skip(cursor)?;
         Ok(())
     }
 }

@@ -9,6 +9,7 @@ use ua_messages::{
     ApplicationDescription, DiagnosticInfos, EndpointDescription, RequestHeader, ResponseHeader,
 };
 use ua_types::{Array, ByteString, Duration, ExtensionObject, NodeId, Status, Text};
+use ua_walks::Walk;
 
 /// A signature (SignatureData, IEC 62541-4, section 7). Both fields are null where nothing is signed.
 #[derive(Debug, Drop)]
@@ -34,6 +35,15 @@ impl Wire for SignatureData {
     fn encode(&self, out: &mut Vec<u8>) -> Result<(), AllocError> {
         self.algorithm.encode(out)?;
         self.signature.encode(out)?;
+        Ok(())
+    }
+}
+
+#[tactic(auto, unfolding(crate::specs::Sessions::signature_data_reading))]
+impl Walk for SignatureData {
+    fn walk(cursor: &mut Cursor<'_>) -> Result<(), TakeFault> {
+        Text::skip(cursor)?;
+        ByteString::skip(cursor)?;
         Ok(())
     }
 }
@@ -69,6 +79,15 @@ impl Wire for SignedSoftwareCertificate {
     }
 }
 
+#[tactic(auto, unfolding(crate::specs::Sessions::signed_software_certificate_reading))]
+impl Walk for SignedSoftwareCertificate {
+    fn walk(cursor: &mut Cursor<'_>) -> Result<(), TakeFault> {
+        ByteString::skip(cursor)?;
+        ByteString::skip(cursor)?;
+        Ok(())
+    }
+}
+
 /// Says that the user stays anonymous (AnonymousIdentityToken, IEC 62541-4, section 7). It travels in an
 /// ExtensionObject.
 #[derive(Debug, Drop)]
@@ -91,6 +110,14 @@ impl Wire for AnonymousIdentityToken {
 
     fn encode(&self, out: &mut Vec<u8>) -> Result<(), AllocError> {
         self.policy_id.encode(out)?;
+        Ok(())
+    }
+}
+
+#[tactic(auto, unfolding(crate::specs::Sessions::anonymous_identity_token_reading))]
+impl Walk for AnonymousIdentityToken {
+    fn walk(cursor: &mut Cursor<'_>) -> Result<(), TakeFault> {
+        Text::skip(cursor)?;
         Ok(())
     }
 }
@@ -146,6 +173,22 @@ impl Wire for CreateSessionRequest {
         self.client_certificate.encode(out)?;
         self.requested_session_timeout.encode(out)?;
         self.max_response_message_size.encode(out)?;
+        Ok(())
+    }
+}
+
+#[tactic(auto, unfolding(crate::specs::Sessions::create_session_request_reading))]
+impl Walk for CreateSessionRequest {
+    fn walk(cursor: &mut Cursor<'_>) -> Result<(), TakeFault> {
+        RequestHeader::skip(cursor)?;
+        ApplicationDescription::skip(cursor)?;
+        Text::skip(cursor)?;
+        Text::skip(cursor)?;
+        Text::skip(cursor)?;
+        ByteString::skip(cursor)?;
+        ByteString::skip(cursor)?;
+        Duration::skip(cursor)?;
+        u32::skip(cursor)?;
         Ok(())
     }
 }
@@ -254,6 +297,19 @@ impl Wire for ActivateSessionRequest {
     }
 }
 
+#[tactic(auto, unfolding(crate::specs::Sessions::activate_session_request_reading))]
+impl Walk for ActivateSessionRequest {
+    fn walk(cursor: &mut Cursor<'_>) -> Result<(), TakeFault> {
+        RequestHeader::skip(cursor)?;
+        SignatureData::skip(cursor)?;
+        Array::<SignedSoftwareCertificate>::skip(cursor)?;
+        Array::<Text>::skip(cursor)?;
+        ExtensionObject::skip(cursor)?;
+        SignatureData::skip(cursor)?;
+        Ok(())
+    }
+}
+
 /// The response to [`ActivateSessionRequest`].
 #[derive(Debug, Drop)]
 pub struct ActivateSessionResponse {
@@ -316,6 +372,15 @@ impl Wire for CloseSessionRequest {
     fn encode(&self, out: &mut Vec<u8>) -> Result<(), AllocError> {
         self.request_header.encode(out)?;
         self.delete_subscriptions.encode(out)?;
+        Ok(())
+    }
+}
+
+#[tactic(auto, unfolding(crate::specs::Sessions::close_session_request_reading))]
+impl Walk for CloseSessionRequest {
+    fn walk(cursor: &mut Cursor<'_>) -> Result<(), TakeFault> {
+        RequestHeader::skip(cursor)?;
+        bool::skip(cursor)?;
         Ok(())
     }
 }

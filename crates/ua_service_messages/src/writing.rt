@@ -8,6 +8,7 @@ use ua_binary::{Cursor, TakeFault, Wire};
 use ua_messages::{RequestHeader, Results};
 use ua_types::{Array, NodeId, Status, Text};
 use ua_values::DataValue;
+use ua_walks::Walk;
 
 /// A new value for an attribute of a node (WriteValue, IEC 62541-4, section 5, Write).
 #[derive(Debug, Drop)]
@@ -46,6 +47,17 @@ impl Wire for WriteValue {
     }
 }
 
+#[tactic(auto, unfolding(crate::specs::Writing::write_value_reading))]
+impl Walk for WriteValue {
+    fn walk(cursor: &mut Cursor<'_>) -> Result<(), TakeFault> {
+        NodeId::skip(cursor)?;
+        u32::skip(cursor)?;
+        Text::skip(cursor)?;
+        DataValue::skip(cursor)?;
+        Ok(())
+    }
+}
+
 /// Asks to write attributes of nodes (Write, IEC 62541-4, section 5, Attribute Service Set).
 #[derive(Debug, Drop)]
 pub struct WriteRequest {
@@ -69,6 +81,15 @@ impl Wire for WriteRequest {
     fn encode(&self, out: &mut Vec<u8>) -> Result<(), AllocError> {
         self.request_header.encode(out)?;
         self.nodes_to_write.encode(out)?;
+        Ok(())
+    }
+}
+
+#[tactic(auto, unfolding(crate::specs::Writing::write_request_reading))]
+impl Walk for WriteRequest {
+    fn walk(cursor: &mut Cursor<'_>) -> Result<(), TakeFault> {
+        RequestHeader::skip(cursor)?;
+        Array::<WriteValue>::skip(cursor)?;
         Ok(())
     }
 }

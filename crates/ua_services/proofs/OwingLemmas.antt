@@ -12,7 +12,7 @@ use Rattle.server_messages.specs.declared.request.Request.{Request}
 use Rattle.server_messages.specs.declared.setting.Setting.{Setting}
 use Rattle.ua_services.specs.ServicesState.{Services}
 use Rattle.ua_messages.specs.declared.type_ids.TheConstants.{SET_PUBLISHING_MODE_RESPONSE, DELETE_SUBSCRIPTIONS_RESPONSE}
-use Rattle.ua_services.specs.Serving.{Act, Serving, reply_of, answered, faulted, served_by}
+use Rattle.ua_services.specs.Serving.{Occurrence, Serving, reply_of, answered, faulted, served_by}
 use Rattle.ua_services.specs.Services.{call_of, picked_of_subscriptions, picked_of_items, picked, serving_by, serving_of, ticking_of, forgotten}
 use Rattle.ua_service_messages.specs.Sessions.{create_session_request_reading, activate_session_request_reading, close_session_request_reading}
 use Rattle.ua_service_messages.specs.Browsing.{browse_request_reading, browse_next_request_reading}
@@ -87,7 +87,7 @@ use Rattle.ua_services.specs.SetPublishingMode.{set_publishing_listed, set_publi
 use Rattle.ua_services.specs.StatusResults.{statuses_body}
 use Rattle.ua_services.specs.SubServing.{world_at, called, no_reply, told_alone, nothing_done, and_then, session_over, timed_out, all_timed_out, timers_met}
 use Rattle.ua_services.specs.Owing.{OwesOnly, ServesOnly}
-use Rattle.ua_services.specs.declared.call.Call.{Call}
+use Rattle.ua_services.specs.declared.caller.Caller.{Caller}
 
 -- making a subscription doesn't halt them
 created_halts : (session : ℕ) (asked : Settings) (enabled : Bool) (subs : SubscriptionsState) (items : ItemsState) (clock : Moment) → (created session asked enabled subs items clock).state.halted ≡ subs.halted
@@ -103,27 +103,27 @@ module _ (Such : ℕ → Type 0) where
   either true x y p q = p
   either false x y p q = q
 
-  by_fields : {A : Type 0} (meaning : Setting → Call → A → Services → Serving) (setting : Setting) (call : Call) (state : Services) → OwesOnly Such state → Such call.conn →
-      ((request : A) → ServesOnly Such (meaning setting call request state)) → (r : Result A TakeFault) → ServesOnly Such (served_by meaning setting call state r)
-  by_fields meaning setting call state p q f (Ok request) = f request
-  by_fields meaning setting call state p q f (Err fault) = record { state = p; replies = (q, tt) }
+  by_fields : {A : Type 0} (meaning : Setting → Caller → A → Services → Serving) (setting : Setting) (caller : Caller) (state : Services) → OwesOnly Such state → Such caller.conn →
+      ((request : A) → ServesOnly Such (meaning setting caller request state)) → (r : Result A TakeFault) → ServesOnly Such (served_by meaning setting caller state r)
+  by_fields meaning setting caller state p q f (Ok request) = f request
+  by_fields meaning setting caller state p q f (Err fault) = record { state = p; replies = (q, tt) }
 
-  get_endpoints_only : (setting : Setting) (call : Call) (state : Services) → OwesOnly Such state → Such call.conn → (request : GetEndpointsRequest) → ServesOnly Such (get_endpoints_meaning setting call request state)
-  get_endpoints_only setting call state p q request = record { state = p; replies = (q, tt) }
+  get_endpoints_only : (setting : Setting) (caller : Caller) (state : Services) → OwesOnly Such state → Such caller.conn → (request : GetEndpointsRequest) → ServesOnly Such (get_endpoints_meaning setting caller request state)
+  get_endpoints_only setting caller state p q request = record { state = p; replies = (q, tt) }
 
-  taken_only : {A : Type 0} (call : Call) (state : Services) (clock : Moment) (acts : List Act) (body : A → List ℕ) → OwesOnly Such state → Such call.conn → (answer : Result A Status) (sessions : SessionsState) → ServesOnly Such (taken state call clock acts body answer sessions)
-  taken_only call state clock acts body p q (Ok x) sessions = record { state = p; replies = (q, tt) }
-  taken_only call state clock acts body p q (Err code) sessions = record { state = p; replies = (q, tt) }
+  taken_only : {A : Type 0} (caller : Caller) (state : Services) (clock : Moment) (occurrences : List Occurrence) (body : A → List ℕ) → OwesOnly Such state → Such caller.conn → (answer : Result A Status) (sessions : SessionsState) → ServesOnly Such (taken state caller clock occurrences body answer sessions)
+  taken_only caller state clock occurrences body p q (Ok x) sessions = record { state = p; replies = (q, tt) }
+  taken_only caller state clock occurrences body p q (Err code) sessions = record { state = p; replies = (q, tt) }
 
-  create_session_only : (setting : Setting) (call : Call) (state : Services) → OwesOnly Such state → Such call.conn → (request : CreateSessionRequest) → ServesOnly Such (create_session_meaning setting call request state)
-  create_session_only setting call state p q request =
-      let s = create_of state.sessions call.conn call.key in
-      taken_only call state setting.clock (spent_by state.sessions) (create_session_body setting call) p q s.answer s.state
+  create_session_only : (setting : Setting) (caller : Caller) (state : Services) → OwesOnly Such state → Such caller.conn → (request : CreateSessionRequest) → ServesOnly Such (create_session_meaning setting caller request state)
+  create_session_only setting caller state p q request =
+      let s = create_of state.sessions caller.conn caller.key in
+      taken_only caller state setting.clock (spent_by state.sessions) (create_session_body setting caller) p q s.answer s.state
 
-  activate_session_only : (setting : Setting) (call : Call) (state : Services) → OwesOnly Such state → Such call.conn → (request : ActivateSessionRequest) → ServesOnly Such (activate_session_meaning setting call request state)
-  activate_session_only setting call state p q request =
-      let s = activate_of state.sessions request.request_header.authentication_token call.conn call.key (is_anonymous request.user_identity_token) in
-      taken_only call state setting.clock (spent_by state.sessions) (activate_session_body setting call) p q s.answer s.state
+  activate_session_only : (setting : Setting) (caller : Caller) (state : Services) → OwesOnly Such state → Such caller.conn → (request : ActivateSessionRequest) → ServesOnly Such (activate_session_meaning setting caller request state)
+  activate_session_only setting caller state p q request =
+      let s = activate_of state.sessions request.request_header.authentication_token caller.conn caller.key (is_anonymous request.user_identity_token) in
+      taken_only caller state setting.clock (spent_by state.sessions) (activate_session_body setting caller) p q s.answer s.state
 
   -- ---- calls of the subscriptions
 
@@ -132,10 +132,10 @@ module _ (Such : ℕ → Type 0) where
   both_replied (x ∷ xs) ys p q = (p.0, both_replied xs ys p.1 q)
 
   called_only : {A : Type 0} (state : Services) (own : A → List Reply) (said : Said A) → ((x : A) → RepliedTo Such (own x)) → SaysOnly Such said → said.state.halted ≡ None → ServesOnly Such (called state own said)
-  called_only state own said q p going = record { state = (p.queued, going); replies = both_replied (own said.outcome.answer) said.outcome.world.turn.replies (q said.outcome.answer) p.replies }
+  called_only state own said q p going = record { state = (p.queued, going); replies = both_replied (own said.outcome.answer) said.outcome.world.round.replies (q said.outcome.answer) p.replies }
 
-  first_only : {A : Type 0} (state : Services) (call : Call) (body : A → List ℕ) (said : Said A) → Such call.conn → SaysOnly Such said → said.state.halted ≡ None → ServesOnly Such (called state (λ answer. reply_of call (body answer) ∷ []) said)
-  first_only state call body said q p going = record { state = (p.queued, going); replies = (q, p.replies) }
+  first_only : {A : Type 0} (state : Services) (caller : Caller) (body : A → List ℕ) (said : Said A) → Such caller.conn → SaysOnly Such said → said.state.halted ≡ None → ServesOnly Such (called state (λ answer. reply_of caller (body answer) ∷ []) said)
+  first_only state caller body said q p going = record { state = (p.queued, going); replies = (q, p.replies) }
 
   told_only : (state : Services) (w : World) → SaysOnly Such (told state.subs w) → state.subs.halted ≡ None → ServesOnly Such (told_alone state w)
   unfolding told_alone
@@ -154,156 +154,156 @@ module _ (Such : ℕ → Type 0) where
 
   -- ---- sessions
 
-  closed_only : (setting : Setting) (call : Call) (deleting : Bool) (state : Services) → OwesOnly Such state → Such call.conn → (answer : Result ℕ Status) (sessions : SessionsState) → ServesOnly Such (closed_by setting call deleting state answer sessions)
-  closed_only setting call deleting state p q (Ok number) sessions =
-      then_only (session_over setting deleting number (with_sessions state sessions)) (λ (after : Services). answered after call (close_session_body setting call))
+  closed_only : (setting : Setting) (caller : Caller) (deleting : Bool) (state : Services) → OwesOnly Such state → Such caller.conn → (answer : Result ℕ Status) (sessions : SessionsState) → ServesOnly Such (closed_by setting caller deleting state answer sessions)
+  closed_only setting caller deleting state p q (Ok number) sessions =
+      then_only (session_over setting deleting number (with_sessions state sessions)) (λ (after : Services). answered after caller (close_session_body setting caller))
       (over_only setting deleting number (with_sessions state sessions) p) (λ after owes. record { state = owes; replies = (q, tt) })
-  closed_only setting call deleting state p q (Err code) sessions = record { state = p; replies = (q, tt) }
+  closed_only setting caller deleting state p q (Err code) sessions = record { state = p; replies = (q, tt) }
 
-  close_session_only : (setting : Setting) (call : Call) (state : Services) → OwesOnly Such state → Such call.conn → (request : CloseSessionRequest) → ServesOnly Such (close_session_meaning setting call request state)
-  close_session_only setting call state p q request =
-      let s = close_of state.sessions request.request_header.authentication_token call.conn in
-      closed_only setting call request.delete_subscriptions state p q s.answer s.state
+  close_session_only : (setting : Setting) (caller : Caller) (state : Services) → OwesOnly Such state → Such caller.conn → (request : CloseSessionRequest) → ServesOnly Such (close_session_meaning setting caller request state)
+  close_session_only setting caller state p q request =
+      let s = close_of state.sessions request.request_header.authentication_token caller.conn in
+      closed_only setting caller request.delete_subscriptions state p q s.answer s.state
 
-  if_found_only : (serve : ℕ → Services → Serving) (setting : Setting) (call : Call) (state : Services) → OwesOnly Such state → Such call.conn → ((number : ℕ) (after : Services) → OwesOnly Such after → ServesOnly Such (serve number after)) → (answer : Result ℕ Status) (sessions : SessionsState) →
-      ServesOnly Such (if_found serve setting call state answer sessions)
-  if_found_only serve setting call state p q f (Ok number) sessions = f number (with_sessions state sessions) p
-  if_found_only serve setting call state p q f (Err code) sessions = record { state = p; replies = (q, tt) }
+  if_found_only : (serve : ℕ → Services → Serving) (setting : Setting) (caller : Caller) (state : Services) → OwesOnly Such state → Such caller.conn → ((number : ℕ) (after : Services) → OwesOnly Such after → ServesOnly Such (serve number after)) → (answer : Result ℕ Status) (sessions : SessionsState) →
+      ServesOnly Such (if_found serve setting caller state answer sessions)
+  if_found_only serve setting caller state p q f (Ok number) sessions = f number (with_sessions state sessions) p
+  if_found_only serve setting caller state p q f (Err code) sessions = record { state = p; replies = (q, tt) }
 
-  by_session : {A : Type 0} (meaning : Setting → Call → ℕ → A → Services → Serving) (setting : Setting) (call : Call) (token : NodeId) (state : Services) → OwesOnly Such state → Such call.conn →
-      ((number : ℕ) (request : A) (after : Services) → OwesOnly Such after → ServesOnly Such (meaning setting call number request after)) → (r : Result A TakeFault) → ServesOnly Such (served_in_session meaning setting call token state r)
-  by_session meaning setting call token state p q f (Ok request) =
-      let s = find_of state.sessions token call.conn in
-      if_found_only (λ number. meaning setting call number request) setting call state p q (λ number. f number request) s.answer s.state
-  by_session meaning setting call token state p q f (Err fault) = record { state = p; replies = (q, tt) }
+  by_session : {A : Type 0} (meaning : Setting → Caller → ℕ → A → Services → Serving) (setting : Setting) (caller : Caller) (token : NodeId) (state : Services) → OwesOnly Such state → Such caller.conn →
+      ((number : ℕ) (request : A) (after : Services) → OwesOnly Such after → ServesOnly Such (meaning setting caller number request after)) → (r : Result A TakeFault) → ServesOnly Such (served_in_session meaning setting caller token state r)
+  by_session meaning setting caller token state p q f (Ok request) =
+      let s = find_of state.sessions token caller.conn in
+      if_found_only (λ number. meaning setting caller number request) setting caller state p q (λ number. f number request) s.answer s.state
+  by_session meaning setting caller token state p q f (Err fault) = record { state = p; replies = (q, tt) }
 
-  read_listed_only : (setting : Setting) (call : Call) (state : Services) (timestamps : Timestamps) → OwesOnly Such state → Such call.conn → (r : Result (List ReadValueId) Status) → ServesOnly Such (read_listed setting call state timestamps r)
-  read_listed_only setting call state timestamps p q (Ok nodes) = record { state = p; replies = (q, tt) }
-  read_listed_only setting call state timestamps p q (Err code) = record { state = p; replies = (q, tt) }
+  read_listed_only : (setting : Setting) (caller : Caller) (state : Services) (timestamps : Timestamps) → OwesOnly Such state → Such caller.conn → (r : Result (List ReadValueId) Status) → ServesOnly Such (read_listed setting caller state timestamps r)
+  read_listed_only setting caller state timestamps p q (Ok nodes) = record { state = p; replies = (q, tt) }
+  read_listed_only setting caller state timestamps p q (Err code) = record { state = p; replies = (q, tt) }
 
-  read_timed_only : (setting : Setting) (call : Call) (state : Services) (nodes : Option (List ReadValueId)) → OwesOnly Such state → Such call.conn → (choice : Option Timestamps) → ServesOnly Such (read_timed setting call state nodes choice)
-  read_timed_only setting call state nodes p q None = record { state = p; replies = (q, tt) }
-  read_timed_only setting call state nodes p q (Some timestamps) = read_listed_only setting call state timestamps p q (operations_of setting.config nodes)
+  read_timed_only : (setting : Setting) (caller : Caller) (state : Services) (nodes : Option (List ReadValueId)) → OwesOnly Such state → Such caller.conn → (choice : Option Timestamps) → ServesOnly Such (read_timed setting caller state nodes choice)
+  read_timed_only setting caller state nodes p q None = record { state = p; replies = (q, tt) }
+  read_timed_only setting caller state nodes p q (Some timestamps) = read_listed_only setting caller state timestamps p q (operations_of setting.config nodes)
 
-  read_only : (setting : Setting) (call : Call) → Such call.conn → (session : ℕ) (request : ReadRequest) (state : Services) → OwesOnly Such state → ServesOnly Such (read_meaning setting call session request state)
-  read_only setting call q session request state p = read_timed_only setting call state request.nodes_to_read p q (timestamps_of request.timestamps_to_return)
+  read_only : (setting : Setting) (caller : Caller) → Such caller.conn → (session : ℕ) (request : ReadRequest) (state : Services) → OwesOnly Such state → ServesOnly Such (read_meaning setting caller session request state)
+  read_only setting caller q session request state p = read_timed_only setting caller state request.nodes_to_read p q (timestamps_of request.timestamps_to_return)
 
-  write_listed_only : (setting : Setting) (call : Call) (state : Services) → OwesOnly Such state → Such call.conn → (r : Result (List WriteValue) Status) → ServesOnly Such (write_listed setting call state r)
-  write_listed_only setting call state p q (Ok values) = record { state = p; replies = (q, tt) }
-  write_listed_only setting call state p q (Err code) = record { state = p; replies = (q, tt) }
+  write_listed_only : (setting : Setting) (caller : Caller) (state : Services) → OwesOnly Such state → Such caller.conn → (r : Result (List WriteValue) Status) → ServesOnly Such (write_listed setting caller state r)
+  write_listed_only setting caller state p q (Ok values) = record { state = p; replies = (q, tt) }
+  write_listed_only setting caller state p q (Err code) = record { state = p; replies = (q, tt) }
 
-  write_only : (setting : Setting) (call : Call) → Such call.conn → (session : ℕ) (request : WriteRequest) (state : Services) → OwesOnly Such state → ServesOnly Such (write_meaning setting call session request state)
-  write_only setting call q session request state p = write_listed_only setting call state p q (operations_of setting.config request.nodes_to_write)
+  write_only : (setting : Setting) (caller : Caller) → Such caller.conn → (session : ℕ) (request : WriteRequest) (state : Services) → OwesOnly Such state → ServesOnly Such (write_meaning setting caller session request state)
+  write_only setting caller q session request state p = write_listed_only setting caller state p q (operations_of setting.config request.nodes_to_write)
 
-  browse_listed_only : (setting : Setting) (call : Call) (session requested : ℕ) (state : Services) → OwesOnly Such state → Such call.conn → (r : Result (List BrowseDescription) Status) → ServesOnly Such (browse_listed setting call session requested state r)
-  browse_listed_only setting call session requested state p q (Ok descriptions) = record { state = p; replies = (q, tt) }
-  browse_listed_only setting call session requested state p q (Err code) = record { state = p; replies = (q, tt) }
+  browse_listed_only : (setting : Setting) (caller : Caller) (session requested : ℕ) (state : Services) → OwesOnly Such state → Such caller.conn → (r : Result (List BrowseDescription) Status) → ServesOnly Such (browse_listed setting caller session requested state r)
+  browse_listed_only setting caller session requested state p q (Ok descriptions) = record { state = p; replies = (q, tt) }
+  browse_listed_only setting caller session requested state p q (Err code) = record { state = p; replies = (q, tt) }
 
-  browse_only : (setting : Setting) (call : Call) → Such call.conn → (session : ℕ) (request : BrowseRequest) (state : Services) → OwesOnly Such state → ServesOnly Such (browse_meaning setting call session request state)
-  browse_only setting call q session request state p =
+  browse_only : (setting : Setting) (caller : Caller) → Such caller.conn → (session : ℕ) (request : BrowseRequest) (state : Services) → OwesOnly Such state → ServesOnly Such (browse_meaning setting caller session request state)
+  browse_only setting caller q session request state p =
       either (not (is_null_id request.view_id)) _ _ (record { state = p; replies = (q, tt) })
-      (browse_listed_only setting call session request.requested_max_references_per_node state p q (operations_of setting.config request.nodes_to_browse))
+      (browse_listed_only setting caller session request.requested_max_references_per_node state p q (operations_of setting.config request.nodes_to_browse))
 
-  browse_next_listed_only : (setting : Setting) (call : Call) (session : ℕ) (is_release : Bool) (state : Services) → OwesOnly Such state → Such call.conn → (r : Result (List (Option (List ℕ))) Status) →
-      ServesOnly Such (browse_next_listed setting call session is_release state r)
-  browse_next_listed_only setting call session is_release state p q (Ok points) = record { state = p; replies = (q, tt) }
-  browse_next_listed_only setting call session is_release state p q (Err code) = record { state = p; replies = (q, tt) }
+  browse_next_listed_only : (setting : Setting) (caller : Caller) (session : ℕ) (is_release : Bool) (state : Services) → OwesOnly Such state → Such caller.conn → (r : Result (List (Option (List ℕ))) Status) →
+      ServesOnly Such (browse_next_listed setting caller session is_release state r)
+  browse_next_listed_only setting caller session is_release state p q (Ok points) = record { state = p; replies = (q, tt) }
+  browse_next_listed_only setting caller session is_release state p q (Err code) = record { state = p; replies = (q, tt) }
 
-  browse_next_only : (setting : Setting) (call : Call) → Such call.conn → (session : ℕ) (request : BrowseNextRequest) (state : Services) → OwesOnly Such state → ServesOnly Such (browse_next_meaning setting call session request state)
-  browse_next_only setting call q session request state p =
-      browse_next_listed_only setting call session request.release_continuation_points state p q (operations_of setting.config request.continuation_points)
+  browse_next_only : (setting : Setting) (caller : Caller) → Such caller.conn → (session : ℕ) (request : BrowseNextRequest) (state : Services) → OwesOnly Such state → ServesOnly Such (browse_next_meaning setting caller session request state)
+  browse_next_only setting caller q session request state p =
+      browse_next_listed_only setting caller session request.release_continuation_points state p q (operations_of setting.config request.continuation_points)
 
-  history_ranged_only : (setting : Setting) (call : Call) (session : ℕ) (request : HistoryReadRequest) (state : Services) (times : Timestamps) (nodes : List HistoryReadValueId) → OwesOnly Such state → Such call.conn → (r : Result RawRange Status) →
-      ServesOnly Such (history_ranged setting call session request state times nodes r)
-  history_ranged_only setting call session request state times nodes p q (Ok range) = record { state = p; replies = (q, tt) }
-  history_ranged_only setting call session request state times nodes p q (Err code) = record { state = p; replies = (q, tt) }
+  history_ranged_only : (setting : Setting) (caller : Caller) (session : ℕ) (request : HistoryReadRequest) (state : Services) (times : Timestamps) (nodes : List HistoryReadValueId) → OwesOnly Such state → Such caller.conn → (r : Result RawRange Status) →
+      ServesOnly Such (history_ranged setting caller session request state times nodes r)
+  history_ranged_only setting caller session request state times nodes p q (Ok range) = record { state = p; replies = (q, tt) }
+  history_ranged_only setting caller session request state times nodes p q (Err code) = record { state = p; replies = (q, tt) }
 
-  history_listed_only : (setting : Setting) (call : Call) (session : ℕ) (request : HistoryReadRequest) (state : Services) (times : Timestamps) → OwesOnly Such state → Such call.conn → (r : Result (List HistoryReadValueId) Status) →
-      ServesOnly Such (history_listed setting call session request state times r)
-  history_listed_only setting call session request state times p q (Ok nodes) = history_ranged_only setting call session request state times nodes p q (details_judged setting.config request.history_read_details)
-  history_listed_only setting call session request state times p q (Err code) = record { state = p; replies = (q, tt) }
+  history_listed_only : (setting : Setting) (caller : Caller) (session : ℕ) (request : HistoryReadRequest) (state : Services) (times : Timestamps) → OwesOnly Such state → Such caller.conn → (r : Result (List HistoryReadValueId) Status) →
+      ServesOnly Such (history_listed setting caller session request state times r)
+  history_listed_only setting caller session request state times p q (Ok nodes) = history_ranged_only setting caller session request state times nodes p q (details_judged setting.config request.history_read_details)
+  history_listed_only setting caller session request state times p q (Err code) = record { state = p; replies = (q, tt) }
 
-  history_timed_only : (setting : Setting) (call : Call) (session : ℕ) (request : HistoryReadRequest) (state : Services) → OwesOnly Such state → Such call.conn → (choice : Option Timestamps) → ServesOnly Such (history_timed setting call session request state choice)
-  history_timed_only setting call session request state p q None = record { state = p; replies = (q, tt) }
-  history_timed_only setting call session request state p q (Some times) = history_listed_only setting call session request state times p q (operations_of setting.config request.nodes_to_read)
+  history_timed_only : (setting : Setting) (caller : Caller) (session : ℕ) (request : HistoryReadRequest) (state : Services) → OwesOnly Such state → Such caller.conn → (choice : Option Timestamps) → ServesOnly Such (history_timed setting caller session request state choice)
+  history_timed_only setting caller session request state p q None = record { state = p; replies = (q, tt) }
+  history_timed_only setting caller session request state p q (Some times) = history_listed_only setting caller session request state times p q (operations_of setting.config request.nodes_to_read)
 
-  history_read_only : (setting : Setting) (call : Call) → Such call.conn → (session : ℕ) (request : HistoryReadRequest) (state : Services) → OwesOnly Such state → ServesOnly Such (history_read_meaning setting call session request state)
-  history_read_only setting call q session request state p = history_timed_only setting call session request state p q (some_times (timestamps_of request.timestamps_to_return))
+  history_read_only : (setting : Setting) (caller : Caller) → Such caller.conn → (session : ℕ) (request : HistoryReadRequest) (state : Services) → OwesOnly Such state → ServesOnly Such (history_read_meaning setting caller session request state)
+  history_read_only setting caller q session request state p = history_timed_only setting caller session request state p q (some_times (timestamps_of request.timestamps_to_return))
 
   -- ---- subscriptions
 
-  create_subscription_only : (setting : Setting) (call : Call) → Such call.conn → (session : ℕ) (request : CreateSubscriptionRequest) (state : Services) → OwesOnly Such state → ServesOnly Such (create_subscription_meaning setting call session request state)
-  create_subscription_only setting call q session request state p =
-      first_only state call (create_subscription_body setting call) (created session (settings_asked request) request.publishing_enabled state.subs state.items setting.clock) q (create_owes_only Such state.subs state.items setting.clock session (settings_asked request) request.publishing_enabled p.0) (created_halts session (settings_asked request) request.publishing_enabled state.subs state.items setting.clock ∙ p.1)
+  create_subscription_only : (setting : Setting) (caller : Caller) → Such caller.conn → (session : ℕ) (request : CreateSubscriptionRequest) (state : Services) → OwesOnly Such state → ServesOnly Such (create_subscription_meaning setting caller session request state)
+  create_subscription_only setting caller q session request state p =
+      first_only state caller (create_subscription_body setting caller) (created session (settings_asked request) request.publishing_enabled state.subs state.items setting.clock) q (create_owes_only Such state.subs state.items setting.clock session (settings_asked request) request.publishing_enabled p.0) (created_halts session (settings_asked request) request.publishing_enabled state.subs state.items setting.clock ∙ p.1)
 
-  modify_subscription_only : (setting : Setting) (call : Call) → Such call.conn → (session : ℕ) (request : ModifySubscriptionRequest) (state : Services) → OwesOnly Such state → ServesOnly Such (modify_subscription_meaning setting call session request state)
-  modify_subscription_only setting call q session request state p =
-      first_only state call (modify_subscription_body setting call) (said state.subs (modified session request.subscription_id (settings_wanted request) (world_at setting state))) q (modify_owes_only Such state.subs state.items setting.clock session request.subscription_id (settings_wanted request) p.0) p.1
+  modify_subscription_only : (setting : Setting) (caller : Caller) → Such caller.conn → (session : ℕ) (request : ModifySubscriptionRequest) (state : Services) → OwesOnly Such state → ServesOnly Such (modify_subscription_meaning setting caller session request state)
+  modify_subscription_only setting caller q session request state p =
+      first_only state caller (modify_subscription_body setting caller) (said state.subs (modified session request.subscription_id (settings_wanted request) (world_at setting state))) q (modify_owes_only Such state.subs state.items setting.clock session request.subscription_id (settings_wanted request) p.0) p.1
 
-  publishing_listed_only : (setting : Setting) (call : Call) (session : ℕ) (enabled : Bool) (state : Services) → OwesOnly Such state → Such call.conn → (r : Result (List ℕ) Status) → ServesOnly Such (set_publishing_listed setting call session enabled state r)
-  publishing_listed_only setting call session enabled state p q (Ok numbers) =
-      first_only state call (statuses_body SET_PUBLISHING_MODE_RESPONSE setting call) (said state.subs (named_all session (SetMode enabled) (world_at setting state) numbers)) q (set_mode_owes_only Such state.subs state.items setting.clock session numbers enabled p.0) p.1
-  publishing_listed_only setting call session enabled state p q (Err code) = record { state = p; replies = (q, tt) }
+  publishing_listed_only : (setting : Setting) (caller : Caller) (session : ℕ) (enabled : Bool) (state : Services) → OwesOnly Such state → Such caller.conn → (r : Result (List ℕ) Status) → ServesOnly Such (set_publishing_listed setting caller session enabled state r)
+  publishing_listed_only setting caller session enabled state p q (Ok numbers) =
+      first_only state caller (statuses_body SET_PUBLISHING_MODE_RESPONSE setting caller) (said state.subs (named_all session (SetMode enabled) (world_at setting state) numbers)) q (set_mode_owes_only Such state.subs state.items setting.clock session numbers enabled p.0) p.1
+  publishing_listed_only setting caller session enabled state p q (Err code) = record { state = p; replies = (q, tt) }
 
-  set_publishing_mode_only : (setting : Setting) (call : Call) → Such call.conn → (session : ℕ) (request : SetPublishingModeRequest) (state : Services) → OwesOnly Such state → ServesOnly Such (set_publishing_mode_meaning setting call session request state)
-  set_publishing_mode_only setting call q session request state p = publishing_listed_only setting call session request.publishing_enabled state p q (operations_of setting.config request.subscription_ids)
+  set_publishing_mode_only : (setting : Setting) (caller : Caller) → Such caller.conn → (session : ℕ) (request : SetPublishingModeRequest) (state : Services) → OwesOnly Such state → ServesOnly Such (set_publishing_mode_meaning setting caller session request state)
+  set_publishing_mode_only setting caller q session request state p = publishing_listed_only setting caller session request.publishing_enabled state p q (operations_of setting.config request.subscription_ids)
 
-  subscriptions_deleted_only : (setting : Setting) (call : Call) (session : ℕ) (state : Services) → OwesOnly Such state → Such call.conn → (r : Result (List ℕ) Status) → ServesOnly Such (delete_subscriptions_listed setting call session state r)
-  subscriptions_deleted_only setting call session state p q (Ok numbers) =
-      first_only state call (statuses_body DELETE_SUBSCRIPTIONS_RESPONSE setting call) (said state.subs (deleted session (world_at setting state) numbers)) q (delete_owes_only Such state.subs state.items setting.clock session numbers p.0) p.1
-  subscriptions_deleted_only setting call session state p q (Err code) = record { state = p; replies = (q, tt) }
+  subscriptions_deleted_only : (setting : Setting) (caller : Caller) (session : ℕ) (state : Services) → OwesOnly Such state → Such caller.conn → (r : Result (List ℕ) Status) → ServesOnly Such (delete_subscriptions_listed setting caller session state r)
+  subscriptions_deleted_only setting caller session state p q (Ok numbers) =
+      first_only state caller (statuses_body DELETE_SUBSCRIPTIONS_RESPONSE setting caller) (said state.subs (deleted session (world_at setting state) numbers)) q (delete_owes_only Such state.subs state.items setting.clock session numbers p.0) p.1
+  subscriptions_deleted_only setting caller session state p q (Err code) = record { state = p; replies = (q, tt) }
 
-  delete_subscriptions_only : (setting : Setting) (call : Call) → Such call.conn → (session : ℕ) (request : DeleteSubscriptionsRequest) (state : Services) → OwesOnly Such state → ServesOnly Such (delete_subscriptions_meaning setting call session request state)
-  delete_subscriptions_only setting call q session request state p = subscriptions_deleted_only setting call session state p q (operations_of setting.config request.subscription_ids)
+  delete_subscriptions_only : (setting : Setting) (caller : Caller) → Such caller.conn → (session : ℕ) (request : DeleteSubscriptionsRequest) (state : Services) → OwesOnly Such state → ServesOnly Such (delete_subscriptions_meaning setting caller session request state)
+  delete_subscriptions_only setting caller q session request state p = subscriptions_deleted_only setting caller session state p q (operations_of setting.config request.subscription_ids)
 
-  publish_only : (setting : Setting) (call : Call) → Such call.conn → (session : ℕ) (request : PublishRequest) (state : Services) → OwesOnly Such state → ServesOnly Such (publish_meaning setting call session request state)
-  publish_only setting call q session request state p =
+  publish_only : (setting : Setting) (caller : Caller) → Such caller.conn → (session : ℕ) (request : PublishRequest) (state : Services) → OwesOnly Such state → ServesOnly Such (publish_meaning setting caller session request state)
+  publish_only setting caller q session request state p =
       let acks = acknowledged_in request.subscription_acknowledgements in
       either (nat_lt setting.config.operations (length acks)) _ _ (record { state = p; replies = (q, tt) })
-      (told_only state _ (publish_owes_only Such state.subs state.items setting.clock session (publish_call call) acks q p.0) p.1)
+      (told_only state _ (publish_owes_only Such state.subs state.items setting.clock session (publish_call caller) acks q p.0) p.1)
 
-  republish_only : (setting : Setting) (call : Call) → Such call.conn → (session : ℕ) (request : RepublishRequest) (state : Services) → OwesOnly Such state → ServesOnly Such (republish_meaning setting call session request state)
-  republish_only setting call q session request state p =
-      first_only state call (republish_answer setting call) (said state.subs (republished session request.subscription_id request.retransmit_sequence_number (world_at setting state))) q (republish_owes_only Such state.subs state.items setting.clock session request.subscription_id request.retransmit_sequence_number p.0) p.1
+  republish_only : (setting : Setting) (caller : Caller) → Such caller.conn → (session : ℕ) (request : RepublishRequest) (state : Services) → OwesOnly Such state → ServesOnly Such (republish_meaning setting caller session request state)
+  republish_only setting caller q session request state p =
+      first_only state caller (republish_answer setting caller) (said state.subs (republished session request.subscription_id request.retransmit_sequence_number (world_at setting state))) q (republish_owes_only Such state.subs state.items setting.clock session request.subscription_id request.retransmit_sequence_number p.0) p.1
 
   -- ---- monitored items
 
-  items_called_only : (setting : Setting) (call : Call) (number : ℕ) (state : Services) (done : Itemed) → OwesOnly Such state → Such call.conn → (before : Option Vars) → ServesOnly Such (items_called_by setting call number state done before)
-  items_called_only setting call number state done p q None = record { state = p; replies = (q, tt) }
-  items_called_only setting call number state done p q (Some before) =
-      first_only (with_items state done.items) call (λ (x : Unit {0}). done.body) (told state.subs (met (world_at setting (with_items state done.items)) number (Items before))) q (items_owes_only Such state.subs done.items setting.clock number before p.0) p.1
+  items_called_only : (setting : Setting) (caller : Caller) (number : ℕ) (state : Services) (done : Itemed) → OwesOnly Such state → Such caller.conn → (before : Option Vars) → ServesOnly Such (items_called_by setting caller number state done before)
+  items_called_only setting caller number state done p q None = record { state = p; replies = (q, tt) }
+  items_called_only setting caller number state done p q (Some before) =
+      first_only (with_items state done.items) caller (λ (x : Unit {0}). done.body) (told state.subs (met (world_at setting (with_items state done.items)) number (Items before))) q (items_owes_only Such state.subs done.items setting.clock number before p.0) p.1
 
-  subscriptions_only : (setting : Setting) (call : Call) (token : NodeId) (body : List ℕ) (state : Services) (id : ℕ) → OwesOnly Such state → Such call.conn → ServesOnly Such (picked_of_subscriptions setting call token body state id)
-  subscriptions_only setting call token body state id p q =
-      let none : ServesOnly Such (faulted state call status.BAD_SERVICE_UNSUPPORTED setting.clock) = record { state = p; replies = (q, tt) } in
-      either _ _ _ (by_session create_subscription_meaning setting call token state p q (create_subscription_only setting call q) (message_of create_subscription_request_reading body))
-      (either _ _ _ (by_session modify_subscription_meaning setting call token state p q (modify_subscription_only setting call q) (message_of modify_subscription_request_reading body))
-      (either _ _ _ (by_session set_publishing_mode_meaning setting call token state p q (set_publishing_mode_only setting call q) (message_of set_publishing_mode_request_reading body))
-      (either _ _ _ (by_session delete_subscriptions_meaning setting call token state p q (delete_subscriptions_only setting call q) (message_of delete_subscriptions_request_reading body))
-      (either _ _ _ (by_session publish_meaning setting call token state p q (publish_only setting call q) (message_of publish_request_reading body))
-      (either _ _ _ (by_session republish_meaning setting call token state p q (republish_only setting call q) (message_of republish_request_reading body))
+  subscriptions_only : (setting : Setting) (caller : Caller) (token : NodeId) (body : List ℕ) (state : Services) (id : ℕ) → OwesOnly Such state → Such caller.conn → ServesOnly Such (picked_of_subscriptions setting caller token body state id)
+  subscriptions_only setting caller token body state id p q =
+      let none : ServesOnly Such (faulted state caller status.BAD_SERVICE_UNSUPPORTED setting.clock) = record { state = p; replies = (q, tt) } in
+      either _ _ _ (by_session create_subscription_meaning setting caller token state p q (create_subscription_only setting caller q) (message_of create_subscription_request_reading body))
+      (either _ _ _ (by_session modify_subscription_meaning setting caller token state p q (modify_subscription_only setting caller q) (message_of modify_subscription_request_reading body))
+      (either _ _ _ (by_session set_publishing_mode_meaning setting caller token state p q (set_publishing_mode_only setting caller q) (message_of set_publishing_mode_request_reading body))
+      (either _ _ _ (by_session delete_subscriptions_meaning setting caller token state p q (delete_subscriptions_only setting caller q) (message_of delete_subscriptions_request_reading body))
+      (either _ _ _ (by_session publish_meaning setting caller token state p q (publish_only setting caller q) (message_of publish_request_reading body))
+      (either _ _ _ (by_session republish_meaning setting caller token state p q (republish_only setting caller q) (message_of republish_request_reading body))
       none)))))
 
-  items_only : (setting : Setting) (call : Call) (token : NodeId) (body : List ℕ) (state : Services) (id : ℕ) → OwesOnly Such state → Such call.conn → ServesOnly Such (picked_of_items setting call token body state id)
-  items_only setting call token body state id p q =
-      either _ _ _ (by_session create_monitored_items_meaning setting call token state p q (λ session request after owes. items_called_only setting call request.subscription_id after (items_created setting call request after) owes q (own_vars session request.subscription_id after)) (message_of create_monitored_items_request_reading body))
-      (either _ _ _ (by_session modify_monitored_items_meaning setting call token state p q (λ session request after owes. items_called_only setting call request.subscription_id after (items_modified setting call request after) owes q (own_vars session request.subscription_id after)) (message_of modify_monitored_items_request_reading body))
-      (either _ _ _ (by_session set_monitoring_mode_meaning setting call token state p q (λ session request after owes. items_called_only setting call request.subscription_id after (items_moded setting call request after) owes q (own_vars session request.subscription_id after)) (message_of set_monitoring_mode_request_reading body))
-      (either _ _ _ (by_session delete_monitored_items_meaning setting call token state p q (λ session request after owes. items_called_only setting call request.subscription_id after (items_deleted setting call request after) owes q (own_vars session request.subscription_id after)) (message_of delete_monitored_items_request_reading body))
-      (subscriptions_only setting call token body state id p q))))
+  items_only : (setting : Setting) (caller : Caller) (token : NodeId) (body : List ℕ) (state : Services) (id : ℕ) → OwesOnly Such state → Such caller.conn → ServesOnly Such (picked_of_items setting caller token body state id)
+  items_only setting caller token body state id p q =
+      either _ _ _ (by_session create_monitored_items_meaning setting caller token state p q (λ session request after owes. items_called_only setting caller request.subscription_id after (items_created setting caller request after) owes q (own_vars session request.subscription_id after)) (message_of create_monitored_items_request_reading body))
+      (either _ _ _ (by_session modify_monitored_items_meaning setting caller token state p q (λ session request after owes. items_called_only setting caller request.subscription_id after (items_modified setting caller request after) owes q (own_vars session request.subscription_id after)) (message_of modify_monitored_items_request_reading body))
+      (either _ _ _ (by_session set_monitoring_mode_meaning setting caller token state p q (λ session request after owes. items_called_only setting caller request.subscription_id after (items_moded setting caller request after) owes q (own_vars session request.subscription_id after)) (message_of set_monitoring_mode_request_reading body))
+      (either _ _ _ (by_session delete_monitored_items_meaning setting caller token state p q (λ session request after owes. items_called_only setting caller request.subscription_id after (items_deleted setting caller request after) owes q (own_vars session request.subscription_id after)) (message_of delete_monitored_items_request_reading body))
+      (subscriptions_only setting caller token body state id p q))))
 
-  picked_only : (setting : Setting) (call : Call) (token : NodeId) (body : List ℕ) (state : Services) (id : ℕ) → OwesOnly Such state → Such call.conn → ServesOnly Such (picked setting call token body state id)
-  picked_only setting call token body state id p q =
-      either _ _ _ (by_fields get_endpoints_meaning setting call state p q (get_endpoints_only setting call state p q) (message_of get_endpoints_request_reading body))
-      (either _ _ _ (by_fields create_session_meaning setting call state p q (create_session_only setting call state p q) (message_of create_session_request_reading body))
-      (either _ _ _ (by_fields activate_session_meaning setting call state p q (activate_session_only setting call state p q) (message_of activate_session_request_reading body))
-      (either _ _ _ (by_fields close_session_meaning setting call state p q (close_session_only setting call state p q) (message_of close_session_request_reading body))
-      (either _ _ _ (by_session read_meaning setting call token state p q (read_only setting call q) (message_of read_request_reading body))
-      (either _ _ _ (by_session write_meaning setting call token state p q (write_only setting call q) (message_of write_request_reading body))
-      (either _ _ _ (by_session browse_meaning setting call token state p q (browse_only setting call q) (message_of browse_request_reading body))
-      (either _ _ _ (by_session browse_next_meaning setting call token state p q (browse_next_only setting call q) (message_of browse_next_request_reading body))
-      (either _ _ _ (by_session history_read_meaning setting call token state p q (history_read_only setting call q) (message_of history_read_request_reading body))
-      (items_only setting call token body state id p q)))))))))
+  picked_only : (setting : Setting) (caller : Caller) (token : NodeId) (body : List ℕ) (state : Services) (id : ℕ) → OwesOnly Such state → Such caller.conn → ServesOnly Such (picked setting caller token body state id)
+  picked_only setting caller token body state id p q =
+      either _ _ _ (by_fields get_endpoints_meaning setting caller state p q (get_endpoints_only setting caller state p q) (message_of get_endpoints_request_reading body))
+      (either _ _ _ (by_fields create_session_meaning setting caller state p q (create_session_only setting caller state p q) (message_of create_session_request_reading body))
+      (either _ _ _ (by_fields activate_session_meaning setting caller state p q (activate_session_only setting caller state p q) (message_of activate_session_request_reading body))
+      (either _ _ _ (by_fields close_session_meaning setting caller state p q (close_session_only setting caller state p q) (message_of close_session_request_reading body))
+      (either _ _ _ (by_session read_meaning setting caller token state p q (read_only setting caller q) (message_of read_request_reading body))
+      (either _ _ _ (by_session write_meaning setting caller token state p q (write_only setting caller q) (message_of write_request_reading body))
+      (either _ _ _ (by_session browse_meaning setting caller token state p q (browse_only setting caller q) (message_of browse_request_reading body))
+      (either _ _ _ (by_session browse_next_meaning setting caller token state p q (browse_next_only setting caller q) (message_of browse_next_request_reading body))
+      (either _ _ _ (by_session history_read_meaning setting caller token state p q (history_read_only setting caller q) (message_of history_read_request_reading body))
+      (items_only setting caller token body state id p q)))))))))
 
   by_header : (setting : Setting) (request : Request) (state : Services) (id : Result ℕ TakeFault) (header : Result RequestHeader TakeFault) → OwesOnly Such state → Such request.conn →
       ServesOnly Such (serving_by setting request state id header)

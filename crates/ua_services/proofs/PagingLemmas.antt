@@ -1,23 +1,27 @@
 -- Things that are asked for, done one after the other with a session's continuation points.
-use Rattle.std.proofs.Common.{◌≡◌, ℕ, ◌≤◌, ◌^◌, true, List, [], ◌∷◌, ◌++◌, Result, Ok, Err, refl, sym, ap, subst, ◌∙◌, arith}
+use Rattle.std.proofs.Common.{◌≡◌, ℕ, ◌≤◌, ◌^◌, Bool, true, false, if◌then◌else◌, List, [], ◌∷◌, ◌++◌, Option, Some, Result, Ok, Err, refl, sym, ap, subst, ◌∙◌, arith}
 use Rattle.std.specs.List.{fold}
 use Rattle.std.proofs.lemmas.Bool.{leb-true, le-leb}
-use Rattle.ua_types.proofs.NumberMaps.{insert_removed}
+use Rattle.std.specs.Ordering.{nat_cmp}
+use Rattle.std.specs.FinMap.{FinMap, get, insert}
+use Rattle.ua_types.proofs.NumberMaps.{insert_removed, remove_given, get_inserted}
 use Rattle.ua_types.specs.Answers.{Step}
 use Rattle.ua_types.specs.declared.refusal.Refusal.{Refusal}
 use Rattle.ua_types.specs.declared.refusal.Refusal.TheVariants as refusals
 use Rattle.ua_types.specs.declared.status.Status.{Status}
 use Rattle.ua_session.specs.Points.{PointsState, TakesSerial, is_overspent}
-use Rattle.ua_session.specs.Sessions.{without_points}
+use Rattle.ua_session.specs.Sessions.{SessionsState, with_points}
 use Rattle.server_messages.specs.declared.halt.Halt.{Halt}
 use Rattle.server_messages.specs.declared.halt.Halt.TheVariants.{Memory, Exhausted}
 use Rattle.server_messages.specs.declared.served.Served.{Served}
 use Rattle.server_messages.specs.declared.setting.Setting.{Setting}
-use Rattle.ua_services.specs.Paging.{Done, AllDone, told_as, with_one, all_done, Rises, paged, Tells, DoesOne, DoesAll}
-use Rattle.ua_services.specs.Serving.{Serves, refusal_by, given, given_of}
+use Rattle.ua_services.specs.Paging.{Done, AllDone, told_as, with_one, all_done, Rises, paged, results_body_of, Tells, DoesOne, DoesAll}
+use Rattle.ua_services.specs.Serving.{Judges, refusal_by, given, given_of, replied, reply_of, rows_of}
+use Rattle.ua_services.specs.Serving.Occurrence.{Spent}
 use Rattle.ua_services.specs.ServicesState.{Services}
 use Rattle.ua_services.specs.SessionServing.{with_sessions}
-use Rattle.ua_services.specs.declared.call.Call.{Call}
+use Rattle.ua_services.specs.declared.caller.Caller.{Caller}
+use Rattle.ua_services.specs.declared.unserved.Unserved.TheVariants.{Halted}
 use Rattle.ua_services.proofs.SubLemmas.{any_spent}
 
 -- ---- one thing
@@ -66,20 +70,32 @@ module _ {A R : Type 0} (f : PointsState → A → Done R) where
 
 -- ---- the answer
 
--- points that were taken out and put back with what was done
-pub put_back : {R : Type 0} (encoding : R → List ℕ) (setting : Setting) (call : Call) (session type_id : ℕ) (state : Services) (b : AllDone R) →
-    paged encoding setting call session type_id (with_sessions state (without_points state.sessions session)) b ≡ paged encoding setting call session type_id state b
-put_back encoding setting call session type_id state b =
-    ap (λ held. record (paged encoding setting call session type_id state b) { state = with_sessions state (record state.sessions { points = held }) }) (insert_removed state.sessions.points session b.points)
+-- a key that is set once more has the value that it was set to last
+insert_again : {V : Type 0} (m : FinMap nat_cmp V) (k : ℕ) (v w : V) → insert (insert m k v) k w ≡ insert m k w
+insert_again m k v w = sym (insert_removed (insert m k v) k w) ∙ ap (λ n. insert n k w) (remove_given m k v) ∙ insert_removed m k w
+
+-- the points of a session that has a place for them are there
+pub points_are_there : {V : Type 0} (m opened : FinMap nat_cmp V) (k : ℕ) (v : V) (found : Option V) → opened ≡ insert m k v → found ≡ get opened k → found ≡ Some v
+points_are_there m opened k v found is e = e ∙ ap (λ n. get n k) is ∙ get_inserted m k v
+
+-- points take a serial or spend the last one, and fire no row
+no_rows : (spent : Bool) → rows_of (if spent then Spent ∷ [] else []) ≡ []
+no_rows true = refl
+no_rows false = refl
 
 -- what was answered of all, and a halt in the middle
-module _ {R : Type 0} (encoding : R → List ℕ) (setting : Setting) (call : Call) (session type_id : ℕ) (state mid new : Services) (b done : AllDone R) (is : mid ≡ with_sessions state (without_points state.sessions session)) where
-  pub served_all : (served : Served) → given new served ≡ given_of (paged encoding setting call session type_id mid b) → b ≡ done → given new served ≡ given_of (paged encoding setting call session type_id state done)
-  served_all served h e =
-      h ∙ ap (λ (s : Services). given_of (paged encoding setting call session type_id s b)) is
-      ∙ ap given_of (put_back encoding setting call session type_id state b)
-      ∙ ap (λ (x : AllDone R). given_of (paged encoding setting call session type_id state x)) e
+pub served_all : {R : Type 0} (encoding : R → List ℕ) (setting : Setting) (caller : Caller) (session type_id : ℕ) (state : Services) (opened left : SessionsState) (before : PointsState) (served : Served) (b done : AllDone R)
+    → opened ≡ with_points state.sessions session before → left ≡ with_points opened session b.points
+    → served ≡ replied (reply_of caller (results_body_of encoding setting caller type_id b.results)) → b ≡ done
+    → given (with_sessions state left) served ≡ given_of (paged encoding setting caller session type_id state done)
+served_all encoding setting caller session type_id state opened left before served b done is e answered all =
+    let state_is : left ≡ with_points state.sessions session b.points =
+    e ∙ ap (λ s. with_points s session b.points) is ∙ ap (λ held. record state.sessions { points = held }) (insert_again state.sessions.points session before b.points) in
+    ap (λ s. given (with_sessions state s) served) state_is
+    ∙ ap (given (with_sessions state (with_points state.sessions session b.points))) answered
+    ∙ ap (λ rows. given (with_sessions state (with_points state.sessions session b.points)) (record { replies = reply_of caller (results_body_of encoding setting caller type_id b.results) ∷ []; rows = rows })) (sym (no_rows (is_overspent b.points)))
+    ∙ ap (λ x. given_of (paged encoding setting caller session type_id state x)) all
 
-pub halted_all : {R : Type 0} (encoding : R → List ℕ) (setting : Setting) (call : Call) (session type_id : ℕ) (state after : Services) (halt : Halt) (new : PointsState) (said : AllDone R) → DoesAll (Err halt) new said → Serves (Err halt) after (paged encoding setting call session type_id state said)
-halted_all encoding setting call session type_id state after Memory new said h = tt
-halted_all encoding setting call session type_id state after Exhausted new said h = any_spent (is_overspent said.points) h
+pub halted_all : {R : Type 0} (encoding : R → List ℕ) (setting : Setting) (caller : Caller) (session type_id : ℕ) (state after : Services) (halt : Halt) (new : PointsState) (said : AllDone R) → DoesAll (Err halt) new said → Judges setting caller (Err (Halted halt)) after (paged encoding setting caller session type_id state said)
+halted_all encoding setting caller session type_id state after Memory new said h = refl
+halted_all encoding setting caller session type_id state after Exhausted new said h = any_spent (is_overspent said.points) h

@@ -1,49 +1,38 @@
 -- What a step of the sessions comes to.
-use Rattle.std.proofs.Common.{◌≡◌, ℕ, true, List, Result, Ok, Err, IsOk, refl, sym, ap, subst, ◌∙◌}
+use Rattle.std.proofs.Common.{◌≡◌, ℕ, true, not, List, Result, Ok, Err, IsOk, refl, ap, subst, ◌∙◌}
 use Rattle.std.specs.List.{list_any}
 use Rattle.std.proofs.lemmas.Bool.{false≢true}
-use Rattle.ua_types.specs.Answers.{Step, step}
+use Rattle.ua_types.specs.Answers.{Step}
 use Rattle.ua_types.specs.declared.moment.Moment.{Moment}
 use Rattle.ua_types.specs.declared.refusal.Refusal.{Refusal}
-use Rattle.ua_types.specs.declared.refusal.Refusal.TheVariants.{Service, Exhausted}
 use Rattle.ua_types.specs.declared.status.Status.{Status}
-use Rattle.ua_messages.specs.ServiceFaults.{fault_body}
-use Rattle.server_messages.specs.declared.halt.Halt.{Halt}
 use Rattle.server_messages.specs.declared.halt.Halt.TheVariants as halts
-use Rattle.server_messages.specs.declared.served.Served.{Served}
+use Rattle.server_messages.specs.declared.setting.Setting.{Setting}
 use Rattle.ua_session.specs.Sessions.{SessionsState, TakesNonce, is_spent}
 use Rattle.ua_services.specs.ServicesState.{Services}
-use Rattle.ua_services.specs.Serving.{Act, Serves, refusal_by, is_spent as is_spent_act, given, given_of, replied, reply_of}
+use Rattle.ua_services.specs.Serving.{Occurrence, Judges, refusal_of, is_spent as is_spent_occurrence}
 use Rattle.ua_services.specs.SessionServing.{spent_by, with_sessions, taken, stepped}
-use Rattle.ua_services.specs.declared.call.Call.{Call}
+use Rattle.ua_services.specs.declared.caller.Caller.{Caller}
+use Rattle.ua_services.specs.declared.unserved.Unserved.{Unserved}
+use Rattle.ua_services.specs.declared.unserved.Unserved.TheVariants.{Fault, Halted}
 use Rattle.ua_services.proofs.SubLemmas.{any_spent}
 
-module _ {A : Type 0} (old new : SessionsState) (said : Step A Status SessionsState) (refusal : Refusal) where
-  pub refused_by_status : (code : Status) → refusal ≡ Service code → TakesNonce (Err refusal) old new said → said ≡ step (Err code) new
-  refused_by_status code is takes = subst (λ (r : Refusal). TakesNonce {A = A} (Err r) old new said) is takes
+occurrences_of : {A : Type 0} (state : Services) (caller : Caller) (clock : Moment) (occurrences : List Occurrence) (body : A → List ℕ) (answer : Result A Status) (sessions : SessionsState) → IsOk answer → (taken state caller clock occurrences body answer sessions).occurrences ≡ occurrences
+occurrences_of state caller clock occurrences body (Ok x) sessions ok = refl
+occurrences_of state caller clock occurrences body (Err code) sessions ok = absurd (false≢true ok)
 
-  pub refused_by_nonces : refusal ≡ Exhausted → TakesNonce (Err refusal) old new said → (is_spent old ≡ true) × IsOk said.answer × (new ≡ old)
-  refused_by_nonces is takes = subst (λ (r : Refusal). TakesNonce {A = A} (Err r) old new said) is takes
+not_refused : {A : Type 0} (state : Services) (caller : Caller) (clock : Moment) (occurrences : List Occurrence) (body : A → List ℕ) (answer : Result A Status) (sessions : SessionsState) → IsOk answer → not (taken state caller clock occurrences body answer sessions).is_refused ≡ true
+not_refused state caller clock occurrences body (Ok x) sessions ok = refl
+not_refused state caller clock occurrences body (Err code) sessions ok = absurd (false≢true ok)
 
-module _ {A : Type 0} (state : Services) (call : Call) (clock : Moment) (acts : List Act) (body : A → List ℕ) (said : Step A Status SessionsState) (sessions : SessionsState) (served : Served) where
-  pub refused_with : (code : Status) → said ≡ step (Err code) sessions → served ≡ replied (reply_of call (fault_body call.handle code clock)) → given (with_sessions state sessions) served ≡ given_of (stepped state call clock acts body said)
-  refused_with code is gives =
-      ap (given (with_sessions state sessions)) gives ∙ ap (λ (s : Step A Status SessionsState). given_of (stepped state call clock acts body s)) (sym is)
+-- a refusal of the sessions is that of the service: a status is told, want of memory comes to a step that is good, and where the
+-- nonces are used up, a step that gives one says so
+module _ {A : Type 0} (state : Services) (caller : Caller) (setting : Setting) (body : A → List ℕ) (said : Step A Status SessionsState) (sessions : SessionsState) where
+  judged_as : (u : Unserved) → TakesNonce (Err (refusal_of u)) state.sessions sessions said → Judges setting caller (Err u) (with_sessions state sessions) (stepped state caller setting.clock (spent_by state.sessions) body said)
+  judged_as (Fault code) h = ap (stepped state caller setting.clock (spent_by state.sessions) body) h
+  judged_as (Halted halts.Memory) h = not_refused state caller setting.clock (spent_by state.sessions) body said.answer said.state h.1
+  judged_as (Halted halts.Exhausted) h =
+      ap (list_any is_spent_occurrence) (occurrences_of state caller setting.clock (spent_by state.sessions) body said.answer said.state h.1) ∙ any_spent (is_spent state.sessions) h.0
 
-acts_of : {A : Type 0} (state : Services) (call : Call) (clock : Moment) (acts : List Act) (body : A → List ℕ) (answer : Result A Status) (sessions : SessionsState) → IsOk answer → (taken state call clock acts body answer sessions).acts ≡ acts
-acts_of state call clock acts body (Ok x) sessions ok = refl
-acts_of state call clock acts body (Err code) sessions ok = absurd (false≢true ok)
-
--- where the nonces are used up, a step that gives one says so
-pub exhausted_with : {A : Type 0} (state : Services) (call : Call) (clock : Moment) (body : A → List ℕ) (said : Step A Status SessionsState) → is_spent state.sessions ≡ true → IsOk said.answer →
-    list_any is_spent_act (stepped state call clock (spent_by state.sessions) body said).acts ≡ true
-exhausted_with state call clock body said spent ok =
-    ap (list_any is_spent_act) (acts_of state call clock (spent_by state.sessions) body said.answer said.state ok) ∙ any_spent (is_spent state.sessions) spent
-
--- a refusal that is no status halts the server, and says why
-pub halts_with : {A : Type 0} (state after : Services) (call : Call) (clock : Moment) (body : A → List ℕ) (said : Step A Status SessionsState) (sessions : SessionsState) (refusal : Refusal) (halt : Halt) → refusal ≡ refusal_by (Err halt) →
-    TakesNonce (Err refusal) state.sessions sessions said → Serves (Err halt) after (stepped state call clock (spent_by state.sessions) body said)
-halts_with state after call clock body said sessions refusal halts.Memory is takes = tt
-halts_with state after call clock body said sessions refusal halts.Exhausted is takes =
-    let spent = refused_by_nonces state.sessions sessions said refusal is takes in
-    exhausted_with state call clock body said spent.0 spent.1
+  pub refused_as : (refusal : Refusal) (u : Unserved) → refusal ≡ refusal_of u → TakesNonce (Err refusal) state.sessions sessions said → Judges setting caller (Err u) (with_sessions state sessions) (stepped state caller setting.clock (spent_by state.sessions) body said)
+  refused_as refusal u is h = judged_as u (subst (λ (r : Refusal). TakesNonce {A = A} (Err r) state.sessions sessions said) is h)

@@ -18,7 +18,7 @@ use Rattle.ua_services.specs.SessionServing.{with_sessions}
 use Rattle.ua_subscriptions.specs.declared.answered.Answered.{Answered}
 use Rattle.ua_subscriptions.specs.declared.call.Call.{Call as SubCall}
 use Rattle.ua_subscriptions.specs.declared.call.Call.TheVariants.{Delete, Timer}
-use Rattle.ua_subscriptions.specs.declared.turn.Turn.{Turn}
+use Rattle.ua_subscriptions.specs.declared.round.Round.{Round}
 use Rattle.server_messages.specs.declared.fired.Fired.{Fired}
 use Rattle.server_messages.specs.declared.halt.Halt.{Halt}
 use Rattle.server_messages.specs.declared.halt.Halt.TheVariants.{Memory, Exhausted}
@@ -26,19 +26,20 @@ use Rattle.server_messages.specs.declared.reply.Reply.{Reply}
 use Rattle.server_messages.specs.declared.served.Served.{Served}
 use Rattle.server_messages.specs.declared.setting.Setting.{Setting}
 use Rattle.ua_services.specs.ServicesState.{Services}
-use Rattle.ua_services.specs.Serving.{Act, Serving, Serves, is_spent, given, given_of, rows_of, reply_of}
-use Rattle.ua_services.specs.Serving.Act.{Fire, Spent}
-use Rattle.ua_services.specs.declared.call.Call.{Call}
-use Rattle.ua_services.specs.SubServing.{with_subs, fires, uncounted, is_uncounted, acts_of, called, no_reply, told_alone, nothing_done, both, and_then, session_over, timed_out, all_timed_out, timers_met, world_at}
+use Rattle.ua_services.specs.Serving.{Occurrence, Serving, Serves, is_spent, given, given_of, rows_of, reply_of, Judges}
+use Rattle.ua_services.specs.Serving.Occurrence.{Fire, Spent}
+use Rattle.ua_services.specs.declared.caller.Caller.{Caller}
+use Rattle.ua_services.specs.declared.unserved.Unserved.TheVariants.{Halted}
+use Rattle.ua_services.specs.SubServing.{with_subs, fires, uncounted, is_uncounted, occurrences_of, called, no_reply, told_alone, nothing_done, both, and_then, session_over, timed_out, all_timed_out, timers_met, world_at}
 
 -- ---- rows, and serials that are spent
 
-pub rows_joined : (xs ys : List Act) → rows_of (xs ++ ys) ≡ rows_of xs ++ rows_of ys
+pub rows_joined : (xs ys : List Occurrence) → rows_of (xs ++ ys) ≡ rows_of xs ++ rows_of ys
 rows_joined [] ys = refl
 rows_joined (Fire fired ∷ xs) ys = ap (λ (rows : List Fired). fired ∷ rows) (rows_joined xs ys)
 rows_joined (Spent ∷ xs) ys = rows_joined xs ys
 
-rows_fired : (rows : List Fired) (more : List Act) → rows_of more ≡ [] → rows_of (fires rows ++ more) ≡ rows
+rows_fired : (rows : List Fired) (more : List Occurrence) → rows_of more ≡ [] → rows_of (fires rows ++ more) ≡ rows
 rows_fired [] more none = none
 rows_fired (fired ∷ rows) more none = ap (λ (rs : List Fired). fired ∷ rs) (rows_fired rows more none)
 
@@ -46,15 +47,15 @@ pub no_rows : (b : Bool) → rows_of (cond b (Spent ∷ []) []) ≡ []
 no_rows true = refl
 no_rows false = refl
 
-pub rows_of_turn : (halted : Option Halt) (turn : Turn) → rows_of (acts_of halted turn) ≡ turn.rows
-rows_of_turn halted turn = rows_fired turn.rows (uncounted halted turn) (no_rows (is_uncounted halted turn))
+pub rows_of_round : (halted : Option Halt) (round : Round) → rows_of (occurrences_of halted round) ≡ round.rows
+rows_of_round halted round = rows_fired round.rows (uncounted halted round) (no_rows (is_uncounted halted round))
 
-spent_left : (xs ys : List Act) → list_any is_spent xs ≡ true → list_any is_spent (xs ++ ys) ≡ true
+spent_left : (xs ys : List Occurrence) → list_any is_spent xs ≡ true → list_any is_spent (xs ++ ys) ≡ true
 spent_left [] ys e = absurd cc
 spent_left (Fire fired ∷ xs) ys e = spent_left xs ys e
 spent_left (Spent ∷ xs) ys e = refl
 
-spent_right : (xs ys : List Act) → list_any is_spent ys ≡ true → list_any is_spent (xs ++ ys) ≡ true
+spent_right : (xs ys : List Occurrence) → list_any is_spent ys ≡ true → list_any is_spent (xs ++ ys) ≡ true
 spent_right [] ys e = e
 spent_right (Fire fired ∷ xs) ys e = spent_right xs ys e
 spent_right (Spent ∷ xs) ys e = refl
@@ -62,9 +63,9 @@ spent_right (Spent ∷ xs) ys e = refl
 pub any_spent : (b : Bool) → b ≡ true → list_any is_spent (cond b (Spent ∷ []) []) ≡ true
 any_spent b e = ap (λ (t : Bool). list_any is_spent (cond t (Spent ∷ []) [])) e
 
-counted_out : (halted : Option Halt) (turn : Turn) → Halts halted Exhausted turn → is_uncounted halted turn ≡ true
-counted_out None turn h = h
-counted_out (Some halt) turn h = refl
+counted_out : (halted : Option Halt) (round : Round) → Halts halted Exhausted round → is_uncounted halted round ≡ true
+counted_out None round h = h
+counted_out (Some halt) round h = refl
 
 -- ---- one call
 
@@ -72,18 +73,18 @@ module _ {A : Type 0} (state : Services) (own : A → List Reply) (said : Said A
   pub called_gives : (x : Answered A) (new : SubscriptionsState) (items : ItemsState) (served : Served) → subs.Serves (Ok x) state.subs new items said → served ≡ record { replies = own x.answer ++ x.replies; rows = x.rows } →
       given (with_subs state new items) served ≡ given_of (called state own said)
   called_gives x new items served h e =
-      let turn = said.outcome.world.turn in
+      let round = said.outcome.world.round in
       ap (given (with_subs state new items)) e
       ∙ ap (λ (y : Answered A). given (with_subs state new items) (record { replies = own y.answer ++ y.replies; rows = y.rows })) h.1
-      ∙ ap (λ (s : SubscriptionsState). given (with_subs state s items) (record { replies = own said.outcome.answer ++ turn.replies; rows = turn.rows })) h.2
-      ∙ ap (λ (i : ItemsState). given (with_subs state said.state i) (record { replies = own said.outcome.answer ++ turn.replies; rows = turn.rows })) h.3
-      ∙ ap (λ (rows : List Fired). given (with_subs state said.state said.outcome.world.items) (record { replies = own said.outcome.answer ++ turn.replies; rows = rows })) (sym (rows_of_turn state.subs.halted turn))
+      ∙ ap (λ (s : SubscriptionsState). given (with_subs state s items) (record { replies = own said.outcome.answer ++ round.replies; rows = round.rows })) h.2
+      ∙ ap (λ (i : ItemsState). given (with_subs state said.state i) (record { replies = own said.outcome.answer ++ round.replies; rows = round.rows })) h.3
+      ∙ ap (λ (rows : List Fired). given (with_subs state said.state said.outcome.world.items) (record { replies = own said.outcome.answer ++ round.replies; rows = rows })) (sym (rows_of_round state.subs.halted round))
 
   pub called_halts : (halt : Halt) (new : SubscriptionsState) (items : ItemsState) → subs.Serves (Err halt) state.subs new items said → Serves (Err halt) (with_subs state new items) (called state own said)
   called_halts Memory new items h = tt
   called_halts Exhausted new items h =
-      let turn = said.outcome.world.turn in
-      spent_right (fires turn.rows) (uncounted state.subs.halted turn) (any_spent (is_uncounted state.subs.halted turn) (counted_out state.subs.halted turn h.1))
+      let round = said.outcome.world.round in
+      spent_right (fires round.rows) (uncounted state.subs.halted round) (any_spent (is_uncounted state.subs.halted round) (counted_out state.subs.halted round h.1))
 
 -- a call that answers Publish requests alone
 module _ (state : Services) (w : World) where
@@ -96,14 +97,20 @@ module _ (state : Services) (w : World) where
   unfolding told_alone
   told_halts halt new items h = called_halts state no_reply (told state.subs w) halt new items h
 
+  -- the same of a service that refuses no such call
+  pub told_judged : (setting : Setting) (caller : Caller) (halt : Halt) (new : SubscriptionsState) (items : ItemsState) → subs.Serves (Err halt) state.subs new items (told state.subs w) → Judges setting caller (Err (Halted halt)) (with_subs state new items) (told_alone state w)
+  unfolding told_alone
+  told_judged setting caller Memory new items h = refl
+  told_judged setting caller Exhausted new items h = called_halts state no_reply (told state.subs w) Exhausted new items h
+
 -- a call whose answer is told first, and then what else is served
-pub called_first : {A : Type 0} (state : Services) (call : Call) (body : A → List ℕ) (said : Said A) (x : Answered A) (new : SubscriptionsState) (items : ItemsState) (others : Served) (bytes : List ℕ) (served : Served) → subs.Serves (Ok x) state.subs new items said →
-    others ≡ record { replies = x.replies; rows = x.rows } → bytes ≡ body x.answer → served ≡ record { replies = reply_of call bytes ∷ others.replies; rows = others.rows } →
-    given (with_subs state new items) served ≡ given_of (called state (λ answer. reply_of call (body answer) ∷ []) said)
-called_first state call body said x new items others bytes served h o b e =
-    called_gives state (λ answer. reply_of call (body answer) ∷ []) said x new items served h
-    (e ∙ ap (λ (bs : List ℕ). let s : Served = record { replies = reply_of call bs ∷ others.replies; rows = others.rows } in s) b
-    ∙ ap (λ (more : Served). let s : Served = record { replies = reply_of call (body x.answer) ∷ more.replies; rows = more.rows } in s) o)
+pub called_first : {A : Type 0} (state : Services) (caller : Caller) (body : A → List ℕ) (said : Said A) (x : Answered A) (new : SubscriptionsState) (items : ItemsState) (others : Served) (bytes : List ℕ) (served : Served) → subs.Serves (Ok x) state.subs new items said →
+    others ≡ record { replies = x.replies; rows = x.rows } → bytes ≡ body x.answer → served ≡ record { replies = reply_of caller bytes ∷ others.replies; rows = others.rows } →
+    given (with_subs state new items) served ≡ given_of (called state (λ answer. reply_of caller (body answer) ∷ []) said)
+called_first state caller body said x new items others bytes served h o b e =
+    called_gives state (λ answer. reply_of caller (body answer) ∷ []) said x new items served h
+    (e ∙ ap (λ (bs : List ℕ). let s : Served = record { replies = reply_of caller bs ∷ others.replies; rows = others.rows } in s) b
+    ∙ ap (λ (more : Served). let s : Served = record { replies = reply_of caller (body x.answer) ∷ more.replies; rows = more.rows } in s) o)
 
 -- ---- one step behind another
 
@@ -112,8 +119,8 @@ pub joined_gives : (s t : Serving) (mid new : Services) (a b all : Served) → g
 joined_gives s t mid new a b all p q e =
     ap (given new) e
     ∙ ap (λ (g : _). given new (record { replies = g.served.replies ++ b.replies; rows = g.served.rows ++ b.rows })) p
-    ∙ ap (λ (g : _). given g.state (record { replies = s.replies ++ g.served.replies; rows = rows_of s.acts ++ g.served.rows })) q
-    ∙ ap (λ (rows : List Fired). given t.state (record { replies = s.replies ++ t.replies; rows = rows })) (sym (rows_joined s.acts t.acts))
+    ∙ ap (λ (g : _). given g.state (record { replies = s.replies ++ g.served.replies; rows = rows_of s.occurrences ++ g.served.rows })) q
+    ∙ ap (λ (rows : List Fired). given t.state (record { replies = s.replies ++ t.replies; rows = rows })) (sym (rows_joined s.occurrences t.occurrences))
 
 pub then_gives : (s : Serving) (more : Services → Serving) (mid new : Services) (a b all : Served) → given mid a ≡ given_of s → given new b ≡ given_of (more mid) → all ≡ record { replies = a.replies ++ b.replies; rows = a.rows ++ b.rows } →
     given new all ≡ given_of (and_then s more)
@@ -121,11 +128,11 @@ then_gives s more mid new a b all p q e = joined_gives s (more s.state) mid new 
 
 pub first_halts : (s t : Serving) (halt : Halt) (after other : Services) → Serves (Err halt) after s → Serves (Err halt) other (both s t)
 first_halts s t Memory after other h = tt
-first_halts s t Exhausted after other h = spent_left s.acts t.acts h
+first_halts s t Exhausted after other h = spent_left s.occurrences t.occurrences h
 
 pub second_halts : (s t : Serving) (halt : Halt) (after other : Services) → Serves (Err halt) after t → Serves (Err halt) other (both s t)
 second_halts s t Memory after other h = tt
-second_halts s t Exhausted after other h = spent_right s.acts t.acts h
+second_halts s t Exhausted after other h = spent_right s.occurrences t.occurrences h
 
 -- ---- sessions that have timed out
 
@@ -153,16 +160,16 @@ module _ (setting : Setting) where
       ∙ ap given_of (sym (taken_on numbers i d (nothing_done state) lt))
       ∙ ap (λ (n : ℕ). given_of (all_timed_out setting state (take n numbers))) next
 
-  all_keep : (numbers : List ℕ) (s : Serving) → list_any is_spent s.acts ≡ true → list_any is_spent (fold (timed_out setting) s numbers).acts ≡ true
+  all_keep : (numbers : List ℕ) (s : Serving) → list_any is_spent s.occurrences ≡ true → list_any is_spent (fold (timed_out setting) s numbers).occurrences ≡ true
   unfolding timed_out
   all_keep [] s e = e
-  all_keep (number ∷ numbers) s e = all_keep numbers (timed_out setting s number) (spent_left s.acts (session_over setting false number s.state).acts e)
+  all_keep (number ∷ numbers) s e = all_keep numbers (timed_out setting s number) (spent_left s.occurrences (session_over setting false number s.state).occurrences e)
 
-  stops_at : (numbers : List ℕ) (i d : ℕ) (s : Serving) → i < length numbers → list_any is_spent (session_over setting false (slice_index_or numbers i d) (fold (timed_out setting) s (take i numbers)).state).acts ≡ true →
-      list_any is_spent (fold (timed_out setting) s numbers).acts ≡ true
+  stops_at : (numbers : List ℕ) (i d : ℕ) (s : Serving) → i < length numbers → list_any is_spent (session_over setting false (slice_index_or numbers i d) (fold (timed_out setting) s (take i numbers)).state).occurrences ≡ true →
+      list_any is_spent (fold (timed_out setting) s numbers).occurrences ≡ true
   unfolding timed_out
   stops_at [] i d s lt h = absurd (omega (arith, lt))
-  stops_at (number ∷ numbers) zero d s lt h = all_keep numbers (timed_out setting s number) (spent_right s.acts (session_over setting false number s.state).acts h)
+  stops_at (number ∷ numbers) zero d s lt h = all_keep numbers (timed_out setting s number) (spent_right s.occurrences (session_over setting false number s.state).occurrences h)
   stops_at (number ∷ numbers) (suc i) d s lt h = stops_at numbers i d (timed_out setting s number) (omega (arith, lt)) h
 
   -- a halt at one session is one of all
@@ -170,7 +177,7 @@ module _ (setting : Setting) where
       Serves (Err halt) after (session_over setting false (slice_index_or numbers i d) mid) → Serves (Err halt) after (all_timed_out setting state numbers)
   halts_among Memory numbers i d state mid after served lt p h = tt
   halts_among Exhausted numbers i d state mid after served lt p h =
-      stops_at numbers i d _ lt (subst (λ (m : Services). list_any is_spent (session_over setting false (slice_index_or numbers i d) m).acts ≡ true) (ap (λ (g : _). g.state) p) h)
+      stops_at numbers i d _ lt (subst (λ (m : Services). list_any is_spent (session_over setting false (slice_index_or numbers i d) m).occurrences ≡ true) (ap (λ (g : _). g.state) p) h)
 
 -- ---- as many answers as were asked for
 
@@ -221,7 +228,7 @@ says_nothing : (setting : Setting) (state : Services) (numbers : List ℕ) → n
 unfolding told_alone
 says_nothing setting state numbers none not_due =
     ap (λ (ns : List ℕ). (and_then (all_timed_out setting state ns) (timers_met setting)).replies) none
-    ∙ ap (λ (ns : List ℕ). (all_met Timer (world_at setting state) ns).turn.replies) not_due
+    ∙ ap (λ (ns : List ℕ). (all_met Timer (world_at setting state) ns).round.replies) not_due
 
 -- a tick at which nothing is due answers no one
 pub idle_is_silent : (setting : Setting) (state : Services) → is_idle setting state ≡ true → (ticking_of setting state).replies ≡ []

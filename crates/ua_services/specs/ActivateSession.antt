@@ -18,7 +18,7 @@ use Rattle.server_messages.specs.declared.setting.Setting.{Setting}
 use Rattle.ua_services.specs.ServicesState.{Services}
 use Rattle.ua_services.specs.Serving.{Serving}
 use Rattle.ua_services.specs.SessionServing.{spent_by, stepped}
-use Rattle.ua_services.specs.declared.call.Call.{Call}
+use Rattle.ua_services.specs.declared.caller.Caller.{Caller}
 
 -- an identity without a body, or else one that can be read as an AnonymousIdentityToken
 abbrev pub is_anonymous_by : ExtensionObjectBody → Result AnonymousIdentityToken StructureFault → Bool
@@ -38,12 +38,12 @@ activate_session_response clock handle nonce = record {
   diagnostic_infos = record {};
 }
 
-abbrev pub activate_session_body : Setting → Call → List ℕ → List ℕ
-activate_session_body setting call nonce =
-    body_encoding activate_session_response_encoding ACTIVATE_SESSION_RESPONSE (activate_session_response setting.clock call.handle nonce)
+abbrev pub activate_session_body : Setting → Caller → List ℕ → List ℕ
+activate_session_body setting caller nonce =
+    body_encoding activate_session_response_encoding ACTIVATE_SESSION_RESPONSE (activate_session_response setting.clock caller.handle nonce)
 
 -- the session that the request's header names belongs to the connection that the request came by
-abbrev pub activate_session_meaning : Setting → Call → ActivateSessionRequest → Services → Serving
-activate_session_meaning setting call request state =
-    stepped state call setting.clock (spent_by state.sessions) (activate_session_body setting call)
-    (activate_of state.sessions request.request_header.authentication_token call.conn call.key (is_anonymous request.user_identity_token))
+abbrev pub activate_session_meaning : Setting → Caller → ActivateSessionRequest → Services → Serving
+activate_session_meaning setting caller request state =
+    stepped state caller setting.clock (spent_by state.sessions) (activate_session_body setting caller)
+    (activate_of state.sessions request.request_header.authentication_token caller.conn caller.key (is_anonymous request.user_identity_token))

@@ -14,16 +14,16 @@ use Rattle.ua_services.specs.Operations.{operations_of}
 use Rattle.ua_services.specs.Paging.{all_done}
 use Rattle.ua_services.specs.ServicesState.{Services}
 use Rattle.ua_services.specs.Serving.{Serving, faulted}
-use Rattle.ua_services.specs.declared.call.Call.{Call}
+use Rattle.ua_services.specs.declared.caller.Caller.{Caller}
 
-abbrev pub browse_listed : Setting → Call → ℕ → ℕ → Services → Result (List BrowseDescription) Status → Serving
-browse_listed setting call session requested state (Ok descriptions) =
-    browsed setting call session BROWSE_RESPONSE state
+abbrev pub browse_listed : Setting → Caller → ℕ → ℕ → Services → Result (List BrowseDescription) Status → Serving
+browse_listed setting caller session requested state (Ok descriptions) =
+    browsed setting caller session BROWSE_RESPONSE state
     (all_done (λ points d. browse_told (browse_of state.space points (page_size setting.config.references requested) d)) (points_of state.sessions session) descriptions)
-browse_listed setting call session requested state (Err code) = faulted state call code setting.clock
+browse_listed setting caller session requested state (Err code) = faulted state caller code setting.clock
 
 -- there are no views, which is judged first of all; then the list, then each node
-abbrev pub browse_meaning : Setting → Call → ℕ → BrowseRequest → Services → Serving
-browse_meaning setting call session request state =
-    if not (is_null_id request.view_id) then faulted state call status.BAD_VIEW_ID_UNKNOWN setting.clock
-    else browse_listed setting call session request.requested_max_references_per_node state (operations_of setting.config request.nodes_to_browse)
+abbrev pub browse_meaning : Setting → Caller → ℕ → BrowseRequest → Services → Serving
+browse_meaning setting caller session request state =
+    if not (is_null_id request.view_id) then faulted state caller status.BAD_VIEW_ID_UNKNOWN setting.clock
+    else browse_listed setting caller session request.requested_max_references_per_node state (operations_of setting.config request.nodes_to_browse)

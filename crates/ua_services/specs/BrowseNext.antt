@@ -17,7 +17,7 @@ use Rattle.ua_services.specs.Operations.{operations_of}
 use Rattle.ua_services.specs.Paging.{all_done}
 use Rattle.ua_services.specs.ServicesState.{Services}
 use Rattle.ua_services.specs.Serving.{Serving, faulted}
-use Rattle.ua_services.specs.declared.call.Call.{Call}
+use Rattle.ua_services.specs.declared.caller.Caller.{Caller}
 
 -- a point that is given up shows no references
 abbrev pub emptied : Step (Unit {0}) Status PointsState → Step Page Status PointsState
@@ -31,13 +31,13 @@ gone_on_by space is_release points (Some serial) = if is_release then emptied (r
 abbrev pub go_on_of : SpaceState → Bool → PointsState → Option (List ℕ) → Step Page Status PointsState
 go_on_of space is_release points bytes = gone_on_by space is_release points (serial_of bytes)
 
-abbrev pub browse_next_listed : Setting → Call → ℕ → Bool → Services → Result (List (Option (List ℕ))) Status → Serving
-browse_next_listed setting call session is_release state (Ok named) =
-    browsed setting call session BROWSE_NEXT_RESPONSE state
+abbrev pub browse_next_listed : Setting → Caller → ℕ → Bool → Services → Result (List (Option (List ℕ))) Status → Serving
+browse_next_listed setting caller session is_release state (Ok named) =
+    browsed setting caller session BROWSE_NEXT_RESPONSE state
     (all_done (λ points bytes. browse_told (go_on_of state.space is_release points bytes)) (points_of state.sessions session) named)
-browse_next_listed setting call session is_release state (Err code) = faulted state call code setting.clock
+browse_next_listed setting caller session is_release state (Err code) = faulted state caller code setting.clock
 
 -- the list is judged first, then each point
-abbrev pub browse_next_meaning : Setting → Call → ℕ → BrowseNextRequest → Services → Serving
-browse_next_meaning setting call session request state =
-    browse_next_listed setting call session request.release_continuation_points state (operations_of setting.config request.continuation_points)
+abbrev pub browse_next_meaning : Setting → Caller → ℕ → BrowseNextRequest → Services → Serving
+browse_next_meaning setting caller session request state =
+    browse_next_listed setting caller session request.release_continuation_points state (operations_of setting.config request.continuation_points)

@@ -12,7 +12,7 @@ use Rattle.server_messages.specs.declared.setting.Setting.{Setting}
 use Rattle.ua_services.specs.Paging.{Done, AllDone, told_as, paged}
 use Rattle.ua_services.specs.ServicesState.{Services}
 use Rattle.ua_services.specs.Serving.{Serving}
-use Rattle.ua_services.specs.declared.call.Call.{Call}
+use Rattle.ua_services.specs.declared.caller.Caller.{Caller}
 
 -- a page with the point for the next one; what is refused has its status and nothing else
 abbrev pub result_of : Result Page Status → BrowseResult
@@ -23,5 +23,5 @@ abbrev pub browse_told : Step Page Status PointsState → Done BrowseResult
 browse_told said = told_as result_of said
 
 -- the answer of all results
-abbrev pub browsed : Setting → Call → ℕ → ℕ → Services → AllDone BrowseResult → Serving
-browsed setting call session type_id state done = paged browse_result_encoding setting call session type_id state done
+abbrev pub browsed : Setting → Caller → ℕ → ℕ → Services → AllDone BrowseResult → Serving
+browsed setting caller session type_id state done = paged browse_result_encoding setting caller session type_id state done

@@ -13,22 +13,22 @@ use Rattle.ua_services.specs.ServicesState.{Services}
 use Rattle.ua_services.specs.Serving.{Serving, answered, faulted}
 use Rattle.ua_services.specs.SessionServing.{with_sessions}
 use Rattle.ua_services.specs.SubServing.{and_then, session_over}
-use Rattle.ua_services.specs.declared.call.Call.{Call}
+use Rattle.ua_services.specs.declared.caller.Caller.{Caller}
 
-abbrev pub close_session_body : Setting → Call → List ℕ
-close_session_body setting call =
-    body_encoding close_session_response_encoding CLOSE_SESSION_RESPONSE (record { response_header = plain_header call.handle (record { 0 = 0 }) setting.clock })
+abbrev pub close_session_body : Setting → Caller → List ℕ
+close_session_body setting caller =
+    body_encoding close_session_response_encoding CLOSE_SESSION_RESPONSE (record { response_header = plain_header caller.handle (record { 0 = 0 }) setting.clock })
 
 -- the Publish requests that wait are answered before the close itself
-abbrev pub closed_by : Setting → Call → Bool → Services → Result ℕ Status → SessionsState → Serving
-closed_by setting call deleting state (Ok number) sessions =
-    and_then (session_over setting deleting number (with_sessions state sessions)) (λ (after : Services). answered after call (close_session_body setting call))
-closed_by setting call deleting state (Err code) sessions = faulted (with_sessions state sessions) call code setting.clock
+abbrev pub closed_by : Setting → Caller → Bool → Services → Result ℕ Status → SessionsState → Serving
+closed_by setting caller deleting state (Ok number) sessions =
+    and_then (session_over setting deleting number (with_sessions state sessions)) (λ (after : Services). answered after caller (close_session_body setting caller))
+closed_by setting caller deleting state (Err code) sessions = faulted (with_sessions state sessions) caller code setting.clock
 
-abbrev pub closed : Setting → Call → Bool → Services → Step ℕ Status SessionsState → Serving
-closed setting call deleting state step = closed_by setting call deleting state step.answer step.state
+abbrev pub closed : Setting → Caller → Bool → Services → Step ℕ Status SessionsState → Serving
+closed setting caller deleting state step = closed_by setting caller deleting state step.answer step.state
 
 -- the session that the request's header names is no more; its subscriptions are deleted, or left to their lifetime
-abbrev pub close_session_meaning : Setting → Call → CloseSessionRequest → Services → Serving
-close_session_meaning setting call request state =
-    closed setting call request.delete_subscriptions state (close_of state.sessions request.request_header.authentication_token call.conn)
+abbrev pub close_session_meaning : Setting → Caller → CloseSessionRequest → Services → Serving
+close_session_meaning setting caller request state =
+    closed setting caller request.delete_subscriptions state (close_of state.sessions request.request_header.authentication_token caller.conn)

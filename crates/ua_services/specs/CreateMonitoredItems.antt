@@ -14,23 +14,23 @@ use Rattle.ua_services.specs.ItemServing.{Itemed, items_refused, items_answered,
 use Rattle.ua_services.specs.Operations.{operations_of}
 use Rattle.ua_services.specs.ServicesState.{Services}
 use Rattle.ua_services.specs.Serving.{Serving}
-use Rattle.ua_services.specs.declared.call.Call.{Call}
+use Rattle.ua_services.specs.declared.caller.Caller.{Caller}
 
-abbrev pub create_listed : Setting → Call → ℕ → Services → Timestamps → Result (List MonitoredItemCreateRequest) Status → Itemed
-create_listed setting call number state times (Ok requests) =
-    items_answered monitored_item_create_result_encoding CREATE_MONITORED_ITEMS_RESPONSE setting call
+abbrev pub create_listed : Setting → Caller → ℕ → Services → Timestamps → Result (List MonitoredItemCreateRequest) Status → Itemed
+create_listed setting caller number state times (Ok requests) =
+    items_answered monitored_item_create_result_encoding CREATE_MONITORED_ITEMS_RESPONSE setting caller
     (all_served (create_one state.space.nodes setting.clock number times) state.items requests)
-create_listed setting call number state times (Err code) = items_refused setting call state code
+create_listed setting caller number state times (Err code) = items_refused setting caller state code
 
-abbrev pub create_timed : Setting → Call → ℕ → Services → Option (List MonitoredItemCreateRequest) → Option Timestamps → Itemed
-create_timed setting call number state requests None = items_refused setting call state status.BAD_TIMESTAMPS_TO_RETURN_INVALID
-create_timed setting call number state requests (Some times) = create_listed setting call number state times (operations_of setting.config requests)
+abbrev pub create_timed : Setting → Caller → ℕ → Services → Option (List MonitoredItemCreateRequest) → Option Timestamps → Itemed
+create_timed setting caller number state requests None = items_refused setting caller state status.BAD_TIMESTAMPS_TO_RETURN_INVALID
+create_timed setting caller number state requests (Some times) = create_listed setting caller number state times (operations_of setting.config requests)
 
 -- the times that are wanted are judged first, then the list, then each item is made
-unfoldable pub items_created : Setting → Call → CreateMonitoredItemsRequest → Services → Itemed
-items_created setting call request state =
-    create_timed setting call request.subscription_id state request.items_to_create (timestamps_of request.timestamps_to_return)
+unfoldable pub items_created : Setting → Caller → CreateMonitoredItemsRequest → Services → Itemed
+items_created setting caller request state =
+    create_timed setting caller request.subscription_id state request.items_to_create (timestamps_of request.timestamps_to_return)
 
-abbrev pub create_monitored_items_meaning : Setting → Call → ℕ → CreateMonitoredItemsRequest → Services → Serving
-create_monitored_items_meaning setting call session request state =
-    items_called setting call session request.subscription_id state (items_created setting call request state)
+abbrev pub create_monitored_items_meaning : Setting → Caller → ℕ → CreateMonitoredItemsRequest → Services → Serving
+create_monitored_items_meaning setting caller session request state =
+    items_called setting caller session request.subscription_id state (items_created setting caller request state)

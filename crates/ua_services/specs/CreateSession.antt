@@ -16,7 +16,7 @@ use Rattle.ua_services.specs.EndpointList.{endpoint_of}
 use Rattle.ua_services.specs.ServicesState.{Services}
 use Rattle.ua_services.specs.Serving.{Serving}
 use Rattle.ua_services.specs.SessionServing.{spent_by, stepped}
-use Rattle.ua_services.specs.declared.call.Call.{Call}
+use Rattle.ua_services.specs.declared.caller.Caller.{Caller}
 
 -- what a client is told of its new session. Nothing is certified or signed
 abbrev pub create_session_response : Configuration → Moment → ℕ → Created → CreateSessionResponse
@@ -33,11 +33,11 @@ create_session_response config clock handle session = record {
   max_request_message_size = config.max_message;
 }
 
-abbrev pub create_session_body : Setting → Call → Created → List ℕ
-create_session_body setting call session =
-    body_encoding create_session_response_encoding CREATE_SESSION_RESPONSE (create_session_response setting.config setting.clock call.handle session)
+abbrev pub create_session_body : Setting → Caller → Created → List ℕ
+create_session_body setting caller session =
+    body_encoding create_session_response_encoding CREATE_SESSION_RESPONSE (create_session_response setting.config setting.clock caller.handle session)
 
 -- a session for the client of the connection that the request came by
-abbrev pub create_session_meaning : Setting → Call → CreateSessionRequest → Services → Serving
-create_session_meaning setting call request state =
-    stepped state call setting.clock (spent_by state.sessions) (create_session_body setting call) (create_of state.sessions call.conn call.key)
+abbrev pub create_session_meaning : Setting → Caller → CreateSessionRequest → Services → Serving
+create_session_meaning setting caller request state =
+    stepped state caller setting.clock (spent_by state.sessions) (create_session_body setting caller) (create_of state.sessions caller.conn caller.key)

@@ -14,31 +14,31 @@ use Rattle.ua_subscriptions.specs.declared.subscriptions.Created.{Created}
 use Rattle.ua_services.specs.ServicesState.{Services}
 use Rattle.ua_services.specs.Serving.{Serving, reply_of}
 use Rattle.ua_services.specs.SubServing.{called}
-use Rattle.ua_services.specs.declared.call.Call.{Call}
+use Rattle.ua_services.specs.declared.caller.Caller.{Caller}
 
 -- what the client asks of its subscription; the publishing interval is the server's
 abbrev pub settings_asked : CreateSubscriptionRequest → Settings
 settings_asked request = record {
-  keep_count = request.requested_max_keep_alive_count;
-  life_count = request.requested_lifetime_count;
+  keep_alive_count = request.requested_max_keep_alive_count;
+  lifetime_count = request.requested_lifetime_count;
   notifications = request.max_notifications_per_publish;
   priority = request.priority;
 }
 
 -- what it is told of it, or why there is none
-abbrev pub create_subscription_body : Setting → Call → Result Created Status → List ℕ
-create_subscription_body setting call (Ok created) =
+abbrev pub create_subscription_body : Setting → Caller → Result Created Status → List ℕ
+create_subscription_body setting caller (Ok created) =
     body_encoding create_subscription_response_encoding CREATE_SUBSCRIPTION_RESPONSE (record {
-      response_header = plain_header call.handle (record { 0 = 0 }) setting.clock;
+      response_header = plain_header caller.handle (record { 0 = 0 }) setting.clock;
       subscription_id = created.number;
       revised_publishing_interval = setting.config.publish_duration;
-      revised_lifetime_count = created.revised.life_count;
-      revised_max_keep_alive_count = created.revised.keep_count;
+      revised_lifetime_count = created.revised.lifetime_count;
+      revised_max_keep_alive_count = created.revised.keep_alive_count;
     })
-create_subscription_body setting call (Err code) = fault_body call.handle code setting.clock
+create_subscription_body setting caller (Err code) = fault_body caller.handle code setting.clock
 
 -- a subscription for the session
-abbrev pub create_subscription_meaning : Setting → Call → ℕ → CreateSubscriptionRequest → Services → Serving
-create_subscription_meaning setting call session request state =
-    called state (λ answer. reply_of call (create_subscription_body setting call answer) ∷ [])
+abbrev pub create_subscription_meaning : Setting → Caller → ℕ → CreateSubscriptionRequest → Services → Serving
+create_subscription_meaning setting caller session request state =
+    called state (λ answer. reply_of caller (create_subscription_body setting caller answer) ∷ [])
     (created session (settings_asked request) request.publishing_enabled state.subs state.items setting.clock)

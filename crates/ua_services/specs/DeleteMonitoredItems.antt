@@ -10,18 +10,18 @@ use Rattle.ua_services.specs.ItemServing.{Itemed, items_refused, items_answered,
 use Rattle.ua_services.specs.Operations.{operations_of}
 use Rattle.ua_services.specs.ServicesState.{Services}
 use Rattle.ua_services.specs.Serving.{Serving}
-use Rattle.ua_services.specs.declared.call.Call.{Call}
+use Rattle.ua_services.specs.declared.caller.Caller.{Caller}
 
-abbrev pub deleted_listed : Setting → Call → ℕ → Services → Result (List ℕ) Status → Itemed
-deleted_listed setting call number state (Ok numbers) =
-    items_answered status_encoding DELETE_MONITORED_ITEMS_RESPONSE setting call (all_served (delete_one number) state.items numbers)
-deleted_listed setting call number state (Err code) = items_refused setting call state code
+abbrev pub deleted_listed : Setting → Caller → ℕ → Services → Result (List ℕ) Status → Itemed
+deleted_listed setting caller number state (Ok numbers) =
+    items_answered status_encoding DELETE_MONITORED_ITEMS_RESPONSE setting caller (all_served (delete_one number) state.items numbers)
+deleted_listed setting caller number state (Err code) = items_refused setting caller state code
 
 -- the list is judged first, then each item goes
-unfoldable pub items_deleted : Setting → Call → DeleteMonitoredItemsRequest → Services → Itemed
-items_deleted setting call request state =
-    deleted_listed setting call request.subscription_id state (operations_of setting.config request.monitored_item_ids)
+unfoldable pub items_deleted : Setting → Caller → DeleteMonitoredItemsRequest → Services → Itemed
+items_deleted setting caller request state =
+    deleted_listed setting caller request.subscription_id state (operations_of setting.config request.monitored_item_ids)
 
-abbrev pub delete_monitored_items_meaning : Setting → Call → ℕ → DeleteMonitoredItemsRequest → Services → Serving
-delete_monitored_items_meaning setting call session request state =
-    items_called setting call session request.subscription_id state (items_deleted setting call request state)
+abbrev pub delete_monitored_items_meaning : Setting → Caller → ℕ → DeleteMonitoredItemsRequest → Services → Serving
+delete_monitored_items_meaning setting caller session request state =
+    items_called setting caller session request.subscription_id state (items_deleted setting caller request state)

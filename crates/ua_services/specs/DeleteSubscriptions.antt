@@ -11,16 +11,16 @@ use Rattle.ua_services.specs.ServicesState.{Services}
 use Rattle.ua_services.specs.Serving.{Serving, reply_of, faulted}
 use Rattle.ua_services.specs.StatusResults.{statuses_body}
 use Rattle.ua_services.specs.SubServing.{called, world_at}
-use Rattle.ua_services.specs.declared.call.Call.{Call}
+use Rattle.ua_services.specs.declared.caller.Caller.{Caller}
 
-abbrev pub delete_subscriptions_listed : Setting → Call → ℕ → Services → Result (List ℕ) Status → Serving
-delete_subscriptions_listed setting call session state (Ok numbers) =
-    called state (λ statuses. reply_of call (statuses_body DELETE_SUBSCRIPTIONS_RESPONSE setting call statuses) ∷ [])
+abbrev pub delete_subscriptions_listed : Setting → Caller → ℕ → Services → Result (List ℕ) Status → Serving
+delete_subscriptions_listed setting caller session state (Ok numbers) =
+    called state (λ statuses. reply_of caller (statuses_body DELETE_SUBSCRIPTIONS_RESPONSE setting caller statuses) ∷ [])
     (said state.subs (deleted session (world_at setting state) numbers))
-delete_subscriptions_listed setting call session state (Err code) = faulted state call code setting.clock
+delete_subscriptions_listed setting caller session state (Err code) = faulted state caller code setting.clock
 
 -- the list is judged first; then each subscription goes. Where the session has none left, its Publish requests are answered
 -- after this one
-abbrev pub delete_subscriptions_meaning : Setting → Call → ℕ → DeleteSubscriptionsRequest → Services → Serving
-delete_subscriptions_meaning setting call session request state =
-    delete_subscriptions_listed setting call session state (operations_of setting.config request.subscription_ids)
+abbrev pub delete_subscriptions_meaning : Setting → Caller → ℕ → DeleteSubscriptionsRequest → Services → Serving
+delete_subscriptions_meaning setting caller session request state =
+    delete_subscriptions_listed setting caller session state (operations_of setting.config request.subscription_ids)

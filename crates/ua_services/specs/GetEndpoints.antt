@@ -7,9 +7,9 @@ use Rattle.server_messages.specs.declared.setting.Setting.{Setting}
 use Rattle.ua_services.specs.EndpointList.{endpoints_response}
 use Rattle.ua_services.specs.ServicesState.{Services}
 use Rattle.ua_services.specs.Serving.{Serving, answered}
-use Rattle.ua_services.specs.declared.call.Call.{Call}
+use Rattle.ua_services.specs.declared.caller.Caller.{Caller}
 
-abbrev pub get_endpoints_meaning : Setting → Call → GetEndpointsRequest → Services → Serving
-get_endpoints_meaning setting call request state =
-    answered state call (body_encoding get_endpoints_response_encoding GET_ENDPOINTS_RESPONSE
-    (endpoints_response setting.config setting.clock call.handle request.profile_uris))
+abbrev pub get_endpoints_meaning : Setting → Caller → GetEndpointsRequest → Services → Serving
+get_endpoints_meaning setting caller request state =
+    answered state caller (body_encoding get_endpoints_response_encoding GET_ENDPOINTS_RESPONSE
+    (endpoints_response setting.config setting.clock caller.handle request.profile_uris))

@@ -31,7 +31,7 @@ use Rattle.ua_services.specs.Operations.{operations_of}
 use Rattle.ua_services.specs.Paging.{Done, told_as, all_done, paged}
 use Rattle.ua_services.specs.ServicesState.{Services}
 use Rattle.ua_services.specs.Serving.{Serving, faulted}
-use Rattle.ua_services.specs.declared.call.Call.{Call}
+use Rattle.ua_services.specs.declared.caller.Caller.{Caller}
 use Rattle.ua_services.specs.declared.history_read.Wanted.{Wanted}
 
 -- ---- the request
@@ -84,27 +84,27 @@ node_read history nodes wanted points asked =
 -- ---- the service
 
 -- all nodes, one after the other
-abbrev pub history_read_of : Setting → Call → ℕ → Services → Wanted → List HistoryReadValueId → Serving
-history_read_of setting call session state wanted nodes =
-    paged history_read_result_encoding setting call session HISTORY_READ_RESPONSE state
+abbrev pub history_read_of : Setting → Caller → ℕ → Services → Wanted → List HistoryReadValueId → Serving
+history_read_of setting caller session state wanted nodes =
+    paged history_read_result_encoding setting caller session HISTORY_READ_RESPONSE state
     (all_done (λ points asked. node_read state.history state.space.nodes wanted points asked) (points_of state.sessions session) nodes)
 
-abbrev pub history_ranged : Setting → Call → ℕ → HistoryReadRequest → Services → Timestamps → List HistoryReadValueId → Result RawRange Status → Serving
-history_ranged setting call session request state times nodes (Ok range) =
-    history_read_of setting call session state (record { timestamps = times; is_release = request.release_continuation_points; range = range }) nodes
-history_ranged setting call session request state times nodes (Err code) = faulted state call code setting.clock
+abbrev pub history_ranged : Setting → Caller → ℕ → HistoryReadRequest → Services → Timestamps → List HistoryReadValueId → Result RawRange Status → Serving
+history_ranged setting caller session request state times nodes (Ok range) =
+    history_read_of setting caller session state (record { timestamps = times; is_release = request.release_continuation_points; range = range }) nodes
+history_ranged setting caller session request state times nodes (Err code) = faulted state caller code setting.clock
 
-abbrev pub history_listed : Setting → Call → ℕ → HistoryReadRequest → Services → Timestamps → Result (List HistoryReadValueId) Status → Serving
-history_listed setting call session request state times (Ok nodes) =
-    history_ranged setting call session request state times nodes (details_judged setting.config request.history_read_details)
-history_listed setting call session request state times (Err code) = faulted state call code setting.clock
+abbrev pub history_listed : Setting → Caller → ℕ → HistoryReadRequest → Services → Timestamps → Result (List HistoryReadValueId) Status → Serving
+history_listed setting caller session request state times (Ok nodes) =
+    history_ranged setting caller session request state times nodes (details_judged setting.config request.history_read_details)
+history_listed setting caller session request state times (Err code) = faulted state caller code setting.clock
 
-abbrev pub history_timed : Setting → Call → ℕ → HistoryReadRequest → Services → Option Timestamps → Serving
-history_timed setting call session request state None = faulted state call status.BAD_TIMESTAMPS_TO_RETURN_INVALID setting.clock
-history_timed setting call session request state (Some times) =
-    history_listed setting call session request state times (operations_of setting.config request.nodes_to_read)
+abbrev pub history_timed : Setting → Caller → ℕ → HistoryReadRequest → Services → Option Timestamps → Serving
+history_timed setting caller session request state None = faulted state caller status.BAD_TIMESTAMPS_TO_RETURN_INVALID setting.clock
+history_timed setting caller session request state (Some times) =
+    history_listed setting caller session request state times (operations_of setting.config request.nodes_to_read)
 
 -- the times that are wanted are judged first, then the list, then the details, then each node
-abbrev pub history_read_meaning : Setting → Call → ℕ → HistoryReadRequest → Services → Serving
-history_read_meaning setting call session request state =
-    history_timed setting call session request state (some_times (timestamps_of request.timestamps_to_return))
+abbrev pub history_read_meaning : Setting → Caller → ℕ → HistoryReadRequest → Services → Serving
+history_read_meaning setting caller session request state =
+    history_timed setting caller session request state (some_times (timestamps_of request.timestamps_to_return))

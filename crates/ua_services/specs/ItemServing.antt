@@ -1,11 +1,12 @@
 -- What the services of monitored items share: each names a subscription of its session.
-use Rattle.std.specs.Prelude.{ℕ, List, [], ◌∷◌, Option, Some, None, if◌then◌else◌}
+use Rattle.std.specs.Prelude.{◌≡◌, ℕ, Bool, true, false, List, [], ◌∷◌, Option, Some, None, if◌then◌else◌}
 use Rattle.ua_types.specs.declared.status.Status.{Status}
 use Rattle.ua_types.specs.declared.status.TheConstants.Status as status
 use Rattle.ua_messages.specs.Bodies.{body_encoding}
 use Rattle.ua_messages.specs.Headers.{plain_header}
 use Rattle.ua_messages.specs.ResultLists.{results_encoding, results_of}
 use Rattle.ua_messages.specs.ServiceFaults.{fault_body}
+use Rattle.server_messages.specs.declared.halt.Halt.TheVariants.{Memory, Exhausted}
 use Rattle.server_messages.specs.declared.setting.Setting.{Setting}
 use Rattle.ua_monitored_items.specs.Items.{ItemsState, Served}
 use Rattle.ua_state_table.specs.declared.vars.Vars.{Vars}
@@ -16,28 +17,38 @@ use Rattle.ua_subscriptions.specs.declared.call.Call.TheVariants.{Items}
 use Rattle.ua_services.specs.ServicesState.{Services}
 use Rattle.ua_services.specs.Serving.{Serving, reply_of, faulted}
 use Rattle.ua_services.specs.SubServing.{called, world_at}
-use Rattle.ua_services.specs.declared.call.Call.{Call}
+use Rattle.ua_services.specs.declared.caller.Caller.{Caller}
+use Rattle.ua_services.specs.declared.unserved.Unserved.{Unserved}
+use Rattle.ua_services.specs.declared.unserved.Unserved.TheVariants.{Fault, Halted}
 
 abbrev pub with_items : Services → ItemsState → Services
 with_items state items = record state { items = items }
 
 -- ---- what is done with the items
 
--- what the items are after a request, and its answer: a response, or a fault
+-- what the items are after a request, its answer, and whether that is a fault
 pub record Itemed : Type 0 where
   pub items : ItemsState
   pub body : List ℕ
+  pub is_refused : Bool
 
 -- a request that is refused leaves the items as they were
-abbrev pub items_refused : Setting → Call → Services → Status → Itemed
-items_refused setting call state code = record { items = state.items; body = fault_body call.handle code setting.clock }
+abbrev pub items_refused : Setting → Caller → Services → Status → Itemed
+items_refused setting caller state code = record { items = state.items; body = fault_body caller.handle code setting.clock; is_refused = true }
 
 -- one result for each thing, in the order of the request
-abbrev pub items_answered : {R : Type 0} → (R → List ℕ) → ℕ → Setting → Call → Served R → Itemed
-items_answered encoding type_id setting call served = record {
+abbrev pub items_answered : {R : Type 0} → (R → List ℕ) → ℕ → Setting → Caller → Served R → Itemed
+items_answered encoding type_id setting caller served = record {
   items = served.state;
-  body = body_encoding (results_encoding encoding) type_id (results_of (plain_header call.handle (record { 0 = 0 }) setting.clock) served.results);
+  body = body_encoding (results_encoding encoding) type_id (results_of (plain_header caller.handle (record { 0 = 0 }) setting.clock) served.results);
+  is_refused = false;
 }
+
+-- a request is refused with the status that is said, and the items are as they were; want of memory is answered to good ones alone
+abbrev pub Refuses : Setting → Caller → Unserved → Services → Services → Itemed → Type 0
+Refuses setting caller (Fault code) old new done = (done ≡ items_refused setting caller old code) × (new ≡ old)
+Refuses setting caller (Halted Memory) old new done = done.is_refused ≡ false
+Refuses setting caller (Halted Exhausted) old new done = ⊥
 
 -- ---- and the row that its subscription fires
 
@@ -46,14 +57,14 @@ abbrev pub own_vars : ℕ → ℕ → Services → Option Vars
 own_vars session number state = if is_own state.subs.table session number then vars_found number state.items state.subs.table else None
 
 -- its subscription fires a row, whatever became of the request
-abbrev pub fired_after : Setting → Call → ℕ → Services → Vars → List ℕ → Serving
-fired_after setting call number state before body =
-    called state (λ done. reply_of call body ∷ []) (told state.subs (met (world_at setting state) number (Items before)))
+abbrev pub fired_after : Setting → Caller → ℕ → Services → Vars → List ℕ → Serving
+fired_after setting caller number state before body =
+    called state (λ done. reply_of caller body ∷ []) (told state.subs (met (world_at setting state) number (Items before)))
 
-abbrev pub items_called_by : Setting → Call → ℕ → Services → Itemed → Option Vars → Serving
-items_called_by setting call number state done None = faulted state call status.BAD_SUBSCRIPTION_ID_INVALID setting.clock
-items_called_by setting call number state done (Some before) = fired_after setting call number (with_items state done.items) before done.body
+abbrev pub items_called_by : Setting → Caller → ℕ → Services → Itemed → Option Vars → Serving
+items_called_by setting caller number state done None = faulted state caller status.BAD_SUBSCRIPTION_ID_INVALID setting.clock
+items_called_by setting caller number state done (Some before) = fired_after setting caller number (with_items state done.items) before done.body
 
 -- the subscription is looked up first of all
-abbrev pub items_called : Setting → Call → ℕ → ℕ → Services → Itemed → Serving
-items_called setting call session number state done = items_called_by setting call number state done (own_vars session number state)
+abbrev pub items_called : Setting → Caller → ℕ → ℕ → Services → Itemed → Serving
+items_called setting caller session number state done = items_called_by setting caller number state done (own_vars session number state)

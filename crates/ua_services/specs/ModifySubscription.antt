@@ -15,30 +15,30 @@ use Rattle.ua_subscriptions.specs.declared.settings.Settings.{Settings}
 use Rattle.ua_services.specs.ServicesState.{Services}
 use Rattle.ua_services.specs.Serving.{Serving, reply_of}
 use Rattle.ua_services.specs.SubServing.{called, world_at}
-use Rattle.ua_services.specs.declared.call.Call.{Call}
+use Rattle.ua_services.specs.declared.caller.Caller.{Caller}
 
 -- what the client asks of its subscription from now on
 abbrev pub settings_wanted : ModifySubscriptionRequest → Settings
 settings_wanted request = record {
-  keep_count = request.requested_max_keep_alive_count;
-  life_count = request.requested_lifetime_count;
+  keep_alive_count = request.requested_max_keep_alive_count;
+  lifetime_count = request.requested_lifetime_count;
   notifications = request.max_notifications_per_publish;
   priority = request.priority;
 }
 
 -- what it is told of it, or why nothing changed
-abbrev pub modify_subscription_body : Setting → Call → Result Revised Status → List ℕ
-modify_subscription_body setting call (Ok revised) =
+abbrev pub modify_subscription_body : Setting → Caller → Result Revised Status → List ℕ
+modify_subscription_body setting caller (Ok revised) =
     body_encoding modify_subscription_response_encoding MODIFY_SUBSCRIPTION_RESPONSE (record {
-      response_header = plain_header call.handle (record { 0 = 0 }) setting.clock;
+      response_header = plain_header caller.handle (record { 0 = 0 }) setting.clock;
       revised_publishing_interval = setting.config.publish_duration;
-      revised_lifetime_count = revised.life_count;
-      revised_max_keep_alive_count = revised.keep_count;
+      revised_lifetime_count = revised.lifetime_count;
+      revised_max_keep_alive_count = revised.keep_alive_count;
     })
-modify_subscription_body setting call (Err code) = fault_body call.handle code setting.clock
+modify_subscription_body setting caller (Err code) = fault_body caller.handle code setting.clock
 
 -- the session's subscription gets other counts, another size of messages and another priority
-abbrev pub modify_subscription_meaning : Setting → Call → ℕ → ModifySubscriptionRequest → Services → Serving
-modify_subscription_meaning setting call session request state =
-    called state (λ answer. reply_of call (modify_subscription_body setting call answer) ∷ [])
+abbrev pub modify_subscription_meaning : Setting → Caller → ℕ → ModifySubscriptionRequest → Services → Serving
+modify_subscription_meaning setting caller session request state =
+    called state (λ answer. reply_of caller (modify_subscription_body setting caller answer) ∷ [])
     (said state.subs (modified session request.subscription_id (settings_wanted request) (world_at setting state)))

@@ -1,6 +1,6 @@
 -- What the services with continuation points share: things that are asked for are done one after the other, with the points that
 -- those before them left.
-use Rattle.std.specs.Prelude.{◌≡◌, ◌≤◌, ⊤, ℕ, true, List, [], ◌∷◌, ◌++◌, Result, Ok, Err, if◌then◌else◌}
+use Rattle.std.specs.Prelude.{◌≡◌, ◌≤◌, ⊤, ℕ, true, false, List, [], ◌∷◌, ◌++◌, Result, Ok, Err, if◌then◌else◌}
 use Rattle.std.specs.List.{fold}
 use Rattle.ua_types.specs.Answers.{Step}
 use Rattle.ua_types.specs.declared.refusal.Refusal.{Refusal}
@@ -15,10 +15,10 @@ use Rattle.server_messages.specs.declared.halt.Halt.{Halt}
 use Rattle.server_messages.specs.declared.halt.Halt.TheVariants.{Memory, Exhausted}
 use Rattle.server_messages.specs.declared.setting.Setting.{Setting}
 use Rattle.ua_services.specs.ServicesState.{Services}
-use Rattle.ua_services.specs.Serving.{Act, Serving, reply_of}
-use Rattle.ua_services.specs.Serving.Act.{Spent}
+use Rattle.ua_services.specs.Serving.{Occurrence, Serving, reply_of}
+use Rattle.ua_services.specs.Serving.Occurrence.{Spent}
 use Rattle.ua_services.specs.SessionServing.{with_sessions}
-use Rattle.ua_services.specs.declared.call.Call.{Call}
+use Rattle.ua_services.specs.declared.caller.Caller.{Caller}
 
 -- ---- one thing
 
@@ -54,20 +54,21 @@ Rises {A = A} f = (points : PointsState) (x : A) → points.made ≤ (f points x
 
 -- ---- the answer
 
-abbrev pub results_body_of : {R : Type 0} → (R → List ℕ) → Setting → Call → ℕ → List R → List ℕ
-results_body_of encoding setting call type_id results =
-    body_encoding (results_encoding encoding) type_id (results_of (plain_header call.handle (record { 0 = 0 }) setting.clock) results)
+abbrev pub results_body_of : {R : Type 0} → (R → List ℕ) → Setting → Caller → ℕ → List R → List ℕ
+results_body_of encoding setting caller type_id results =
+    body_encoding (results_encoding encoding) type_id (results_of (plain_header caller.handle (record { 0 = 0 }) setting.clock) results)
 
 -- a point takes a serial, and the last one may be spent
-abbrev pub spent_by_points : PointsState → List Act
+abbrev pub spent_by_points : PointsState → List Occurrence
 spent_by_points points = if is_overspent points then Spent ∷ [] else []
 
 -- the session has the points that are left, and all results are answered
-abbrev pub paged : {R : Type 0} → (R → List ℕ) → Setting → Call → ℕ → ℕ → Services → AllDone R → Serving
-paged encoding setting call session type_id state done = record {
+abbrev pub paged : {R : Type 0} → (R → List ℕ) → Setting → Caller → ℕ → ℕ → Services → AllDone R → Serving
+paged encoding setting caller session type_id state done = record {
   state = with_sessions state (with_points state.sessions session done.points);
-  replies = reply_of call (results_body_of encoding setting call type_id done.results) ∷ [];
-  acts = spent_by_points done.points;
+  replies = reply_of caller (results_body_of encoding setting caller type_id done.results) ∷ [];
+  occurrences = spent_by_points done.points;
+  is_refused = false;
 }
 
 -- ---- words of the contracts

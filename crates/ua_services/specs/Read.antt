@@ -16,22 +16,22 @@ use Rattle.server_messages.specs.declared.setting.Setting.{Setting}
 use Rattle.ua_services.specs.Operations.{operations_of}
 use Rattle.ua_services.specs.ServicesState.{Services}
 use Rattle.ua_services.specs.Serving.{Serving, answered, faulted}
-use Rattle.ua_services.specs.declared.call.Call.{Call}
+use Rattle.ua_services.specs.declared.caller.Caller.{Caller}
 
 -- the value of each attribute, in the order of the request
-abbrev pub read_response_body : Setting → Call → Services → Timestamps → List ReadValueId → List ℕ
-read_response_body setting call state timestamps nodes =
+abbrev pub read_response_body : Setting → Caller → Services → Timestamps → List ReadValueId → List ℕ
+read_response_body setting caller state timestamps nodes =
     body_encoding (results_encoding data_value_encoding) READ_RESPONSE
-    (results_of (plain_header call.handle (record { 0 = 0 }) setting.clock) (all_read state.space.nodes setting.clock timestamps nodes))
+    (results_of (plain_header caller.handle (record { 0 = 0 }) setting.clock) (all_read state.space.nodes setting.clock timestamps nodes))
 
-abbrev pub read_listed : Setting → Call → Services → Timestamps → Result (List ReadValueId) Status → Serving
-read_listed setting call state timestamps (Ok nodes) = answered state call (read_response_body setting call state timestamps nodes)
-read_listed setting call state timestamps (Err code) = faulted state call code setting.clock
+abbrev pub read_listed : Setting → Caller → Services → Timestamps → Result (List ReadValueId) Status → Serving
+read_listed setting caller state timestamps (Ok nodes) = answered state caller (read_response_body setting caller state timestamps nodes)
+read_listed setting caller state timestamps (Err code) = faulted state caller code setting.clock
 
-abbrev pub read_timed : Setting → Call → Services → Option (List ReadValueId) → Option Timestamps → Serving
-read_timed setting call state nodes None = faulted state call status.BAD_TIMESTAMPS_TO_RETURN_INVALID setting.clock
-read_timed setting call state nodes (Some timestamps) = read_listed setting call state timestamps (operations_of setting.config nodes)
+abbrev pub read_timed : Setting → Caller → Services → Option (List ReadValueId) → Option Timestamps → Serving
+read_timed setting caller state nodes None = faulted state caller status.BAD_TIMESTAMPS_TO_RETURN_INVALID setting.clock
+read_timed setting caller state nodes (Some timestamps) = read_listed setting caller state timestamps (operations_of setting.config nodes)
 
 -- the times that are wanted are judged first, then the list, then each attribute
-abbrev pub read_meaning : Setting → Call → ℕ → ReadRequest → Services → Serving
-read_meaning setting call session request state = read_timed setting call state request.nodes_to_read (timestamps_of request.timestamps_to_return)
+abbrev pub read_meaning : Setting → Caller → ℕ → ReadRequest → Services → Serving
+read_meaning setting caller session request state = read_timed setting caller state request.nodes_to_read (timestamps_of request.timestamps_to_return)

@@ -48,43 +48,43 @@ use Rattle.ua_services.specs.SubServing.{and_then, all_timed_out, timers_met}
 use Rattle.ua_services.specs.Write.{write_meaning}
 use Rattle.ua_services.specs.ServicesState.{Services}
 use Rattle.ua_services.specs.Serving.{Serving, faulted, served_by}
-use Rattle.ua_services.specs.declared.call.Call.{Call}
+use Rattle.ua_services.specs.declared.caller.Caller.{Caller}
 
-abbrev pub call_of : Request → ℕ → Call
+abbrev pub call_of : Request → ℕ → Caller
 call_of request handle = record { conn = request.conn; key = request.key; id = request.id; handle = handle }
 
 -- by its type id: what is watched, and what is told of it
-abbrev pub picked_of_subscriptions : Setting → Call → NodeId → List ℕ → Services → ℕ → Serving
-picked_of_subscriptions setting call token body state id =
-    if id == CREATE_SUBSCRIPTION_REQUEST then served_in_session create_subscription_meaning setting call token state (message_of create_subscription_request_reading body)
-    else if id == MODIFY_SUBSCRIPTION_REQUEST then served_in_session modify_subscription_meaning setting call token state (message_of modify_subscription_request_reading body)
-    else if id == SET_PUBLISHING_MODE_REQUEST then served_in_session set_publishing_mode_meaning setting call token state (message_of set_publishing_mode_request_reading body)
-    else if id == DELETE_SUBSCRIPTIONS_REQUEST then served_in_session delete_subscriptions_meaning setting call token state (message_of delete_subscriptions_request_reading body)
-    else if id == PUBLISH_REQUEST then served_in_session publish_meaning setting call token state (message_of publish_request_reading body)
-    else if id == REPUBLISH_REQUEST then served_in_session republish_meaning setting call token state (message_of republish_request_reading body)
-    else faulted state call status.BAD_SERVICE_UNSUPPORTED setting.clock
+abbrev pub picked_of_subscriptions : Setting → Caller → NodeId → List ℕ → Services → ℕ → Serving
+picked_of_subscriptions setting caller token body state id =
+    if id == CREATE_SUBSCRIPTION_REQUEST then served_in_session create_subscription_meaning setting caller token state (message_of create_subscription_request_reading body)
+    else if id == MODIFY_SUBSCRIPTION_REQUEST then served_in_session modify_subscription_meaning setting caller token state (message_of modify_subscription_request_reading body)
+    else if id == SET_PUBLISHING_MODE_REQUEST then served_in_session set_publishing_mode_meaning setting caller token state (message_of set_publishing_mode_request_reading body)
+    else if id == DELETE_SUBSCRIPTIONS_REQUEST then served_in_session delete_subscriptions_meaning setting caller token state (message_of delete_subscriptions_request_reading body)
+    else if id == PUBLISH_REQUEST then served_in_session publish_meaning setting caller token state (message_of publish_request_reading body)
+    else if id == REPUBLISH_REQUEST then served_in_session republish_meaning setting caller token state (message_of republish_request_reading body)
+    else faulted state caller status.BAD_SERVICE_UNSUPPORTED setting.clock
 
-abbrev pub picked_of_items : Setting → Call → NodeId → List ℕ → Services → ℕ → Serving
-picked_of_items setting call token body state id =
-    if id == CREATE_MONITORED_ITEMS_REQUEST then served_in_session create_monitored_items_meaning setting call token state (message_of create_monitored_items_request_reading body)
-    else if id == MODIFY_MONITORED_ITEMS_REQUEST then served_in_session modify_monitored_items_meaning setting call token state (message_of modify_monitored_items_request_reading body)
-    else if id == SET_MONITORING_MODE_REQUEST then served_in_session set_monitoring_mode_meaning setting call token state (message_of set_monitoring_mode_request_reading body)
-    else if id == DELETE_MONITORED_ITEMS_REQUEST then served_in_session delete_monitored_items_meaning setting call token state (message_of delete_monitored_items_request_reading body)
-    else picked_of_subscriptions setting call token body state id
+abbrev pub picked_of_items : Setting → Caller → NodeId → List ℕ → Services → ℕ → Serving
+picked_of_items setting caller token body state id =
+    if id == CREATE_MONITORED_ITEMS_REQUEST then served_in_session create_monitored_items_meaning setting caller token state (message_of create_monitored_items_request_reading body)
+    else if id == MODIFY_MONITORED_ITEMS_REQUEST then served_in_session modify_monitored_items_meaning setting caller token state (message_of modify_monitored_items_request_reading body)
+    else if id == SET_MONITORING_MODE_REQUEST then served_in_session set_monitoring_mode_meaning setting caller token state (message_of set_monitoring_mode_request_reading body)
+    else if id == DELETE_MONITORED_ITEMS_REQUEST then served_in_session delete_monitored_items_meaning setting caller token state (message_of delete_monitored_items_request_reading body)
+    else picked_of_subscriptions setting caller token body state id
 
 -- all that is served
-abbrev pub picked : Setting → Call → NodeId → List ℕ → Services → ℕ → Serving
-picked setting call token body state id =
-    if id == GET_ENDPOINTS_REQUEST then served_by get_endpoints_meaning setting call state (message_of get_endpoints_request_reading body)
-    else if id == CREATE_SESSION_REQUEST then served_by create_session_meaning setting call state (message_of create_session_request_reading body)
-    else if id == ACTIVATE_SESSION_REQUEST then served_by activate_session_meaning setting call state (message_of activate_session_request_reading body)
-    else if id == CLOSE_SESSION_REQUEST then served_by close_session_meaning setting call state (message_of close_session_request_reading body)
-    else if id == READ_REQUEST then served_in_session read_meaning setting call token state (message_of read_request_reading body)
-    else if id == WRITE_REQUEST then served_in_session write_meaning setting call token state (message_of write_request_reading body)
-    else if id == BROWSE_REQUEST then served_in_session browse_meaning setting call token state (message_of browse_request_reading body)
-    else if id == BROWSE_NEXT_REQUEST then served_in_session browse_next_meaning setting call token state (message_of browse_next_request_reading body)
-    else if id == HISTORY_READ_REQUEST then served_in_session history_read_meaning setting call token state (message_of history_read_request_reading body)
-    else picked_of_items setting call token body state id
+abbrev pub picked : Setting → Caller → NodeId → List ℕ → Services → ℕ → Serving
+picked setting caller token body state id =
+    if id == GET_ENDPOINTS_REQUEST then served_by get_endpoints_meaning setting caller state (message_of get_endpoints_request_reading body)
+    else if id == CREATE_SESSION_REQUEST then served_by create_session_meaning setting caller state (message_of create_session_request_reading body)
+    else if id == ACTIVATE_SESSION_REQUEST then served_by activate_session_meaning setting caller state (message_of activate_session_request_reading body)
+    else if id == CLOSE_SESSION_REQUEST then served_by close_session_meaning setting caller state (message_of close_session_request_reading body)
+    else if id == READ_REQUEST then served_in_session read_meaning setting caller token state (message_of read_request_reading body)
+    else if id == WRITE_REQUEST then served_in_session write_meaning setting caller token state (message_of write_request_reading body)
+    else if id == BROWSE_REQUEST then served_in_session browse_meaning setting caller token state (message_of browse_request_reading body)
+    else if id == BROWSE_NEXT_REQUEST then served_in_session browse_next_meaning setting caller token state (message_of browse_next_request_reading body)
+    else if id == HISTORY_READ_REQUEST then served_in_session history_read_meaning setting caller token state (message_of history_read_request_reading body)
+    else picked_of_items setting caller token body state id
 
 abbrev pub serving_by : Setting → Request → Services → Result ℕ TakeFault → Result RequestHeader TakeFault → Serving
 serving_by setting request state (Ok id) (Ok header) = picked setting (call_of request header.request_handle) header.authentication_token request.body state id

@@ -1,5 +1,5 @@
 -- What a request comes to, and what all services share.
-use Rattle.std.specs.Prelude.{◌≡◌, ⊤, ℕ, Bool, true, false, List, [], ◌∷◌, Result, Ok, Err}
+use Rattle.std.specs.Prelude.{◌≡◌, ⊤, ℕ, Bool, true, false, not, List, [], ◌∷◌, Result, Ok, Err}
 use Rattle.std.specs.List.{list_any}
 use Rattle.ua_types.specs.declared.moment.Moment.{Moment}
 use Rattle.ua_types.specs.declared.refusal.Refusal.{Refusal}
@@ -15,34 +15,37 @@ use Rattle.server_messages.specs.declared.reply.Reply.{Reply}
 use Rattle.server_messages.specs.declared.served.Served.{Served}
 use Rattle.server_messages.specs.declared.setting.Setting.{Setting}
 use Rattle.ua_services.specs.ServicesState.{Services}
-use Rattle.ua_services.specs.declared.call.Call.{Call}
+use Rattle.ua_services.specs.declared.caller.Caller.{Caller}
+use Rattle.ua_services.specs.declared.unserved.Unserved.{Unserved}
+use Rattle.ua_services.specs.declared.unserved.Unserved.TheVariants.{Fault, Halted}
 
 -- What is said of a service beside its replies: a row of the subscriptions' state table fired, or a serial of 64 bits has
 -- passed its last value
-pub data Act : Type 0 where
-  Fire : Fired → Act
-  Spent : Act
+pub data Occurrence : Type 0 where
+  Fire : Fired → Occurrence
+  Spent : Occurrence
 
--- what is kept after it, the replies, and the acts
+-- what is kept after it, the replies, what occurred, and whether the one reply is a fault, and nothing else was done
 pub record Serving : Type 0 where
   pub state : Services
   pub replies : List Reply
-  pub acts : List Act
+  pub occurrences : List Occurrence
+  pub is_refused : Bool
 
-abbrev pub reply_of : Call → List ℕ → Reply
-reply_of call body = record { conn = call.conn; id = call.id; handle = call.handle; body = body }
+abbrev pub reply_of : Caller → List ℕ → Reply
+reply_of caller body = record { conn = caller.conn; id = caller.id; handle = caller.handle; body = body }
 
 -- a request that is answered at once, and changes nothing
-abbrev pub answered : Services → Call → List ℕ → Serving
-answered state call body = record { state = state; replies = reply_of call body ∷ []; acts = [] }
+abbrev pub answered : Services → Caller → List ℕ → Serving
+answered state caller body = record { state = state; replies = reply_of caller body ∷ []; occurrences = []; is_refused = false }
 
-abbrev pub faulted : Services → Call → Status → Moment → Serving
-faulted state call code clock = answered state call (fault_body call.handle code clock)
+abbrev pub faulted : Services → Caller → Status → Moment → Serving
+faulted state caller code clock = record (answered state caller (fault_body caller.handle code clock)) { is_refused = true }
 
 -- every service: a request whose fields can't be read is answered by a fault
-abbrev pub served_by : {A : Type 0} → (Setting → Call → A → Services → Serving) → Setting → Call → Services → Result A TakeFault → Serving
-served_by meaning setting call state (Ok request) = meaning setting call request state
-served_by meaning setting call state (Err fault) = faulted state call status.BAD_DECODING_ERROR setting.clock
+abbrev pub served_by : {A : Type 0} → (Setting → Caller → A → Services → Serving) → Setting → Caller → Services → Result A TakeFault → Serving
+served_by meaning setting caller state (Ok request) = meaning setting caller request state
+served_by meaning setting caller state (Err fault) = faulted state caller status.BAD_DECODING_ERROR setting.clock
 
 -- the refusal that a status tells, or for which the server halts
 abbrev pub refusal_by : Result Status Halt → Refusal
@@ -50,14 +53,20 @@ refusal_by (Ok code) = refusals.Service code
 refusal_by (Err Memory) = refusals.Memory
 refusal_by (Err Exhausted) = refusals.Exhausted
 
+-- the refusal that keeps a request from being served
+abbrev pub refusal_of : Unserved → Refusal
+refusal_of (Fault code) = refusals.Service code
+refusal_of (Halted Memory) = refusals.Memory
+refusal_of (Halted Exhausted) = refusals.Exhausted
+
 -- ---- what the code gives of it
 
-abbrev pub rows_of : List Act → List Fired
+abbrev pub rows_of : List Occurrence → List Fired
 rows_of [] = []
-rows_of (Fire fired ∷ acts) = fired ∷ rows_of acts
-rows_of (Spent ∷ acts) = rows_of acts
+rows_of (Fire fired ∷ occurrences) = fired ∷ rows_of occurrences
+rows_of (Spent ∷ occurrences) = rows_of occurrences
 
-abbrev pub is_spent : Act → Bool
+abbrev pub is_spent : Occurrence → Bool
 is_spent (Fire fired) = false
 is_spent Spent = true
 
@@ -74,10 +83,22 @@ abbrev pub given : Services → Served → Given
 given state served = record { state = state; served = served }
 
 abbrev pub given_of : Serving → Given
-given_of s = given s.state (record { replies = s.replies; rows = rows_of s.acts })
+given_of s = given s.state (record { replies = s.replies; rows = rows_of s.occurrences })
 
 -- a call does what is said of it, unless memory ran out, or a serial that is said to be spent
 abbrev pub Serves : Result Served Halt → Services → Serving → Type 0
 Serves (Ok served) new said = given new served ≡ given_of said
 Serves (Err Memory) new said = ⊤
-Serves (Err Exhausted) new said = list_any is_spent said.acts ≡ true
+Serves (Err Exhausted) new said = list_any is_spent said.occurrences ≡ true
+
+-- A service does what is said of it, or its request is refused with the status that is said, and nothing else was done. Want of
+-- memory is answered to good requests alone
+abbrev pub Answers : Setting → Caller → (is_good : Bool) → Result Served Unserved → Services → Serving → Type 0
+Answers setting caller is_good (Ok served) new said = given new served ≡ given_of said
+Answers setting caller is_good (Err (Fault code)) new said = said ≡ faulted new caller code setting.clock
+Answers setting caller is_good (Err (Halted Memory)) new said = is_good ≡ true
+Answers setting caller is_good (Err (Halted Exhausted)) new said = list_any is_spent said.occurrences ≡ true
+
+-- a request that its service doesn't refuse is a good one
+abbrev pub Judges : Setting → Caller → Result Served Unserved → Services → Serving → Type 0
+Judges setting caller result new said = Answers setting caller (not said.is_refused) result new said

@@ -13,23 +13,23 @@ use Rattle.ua_services.specs.ItemServing.{Itemed, items_refused, items_answered,
 use Rattle.ua_services.specs.Operations.{operations_of}
 use Rattle.ua_services.specs.ServicesState.{Services}
 use Rattle.ua_services.specs.Serving.{Serving}
-use Rattle.ua_services.specs.declared.call.Call.{Call}
+use Rattle.ua_services.specs.declared.caller.Caller.{Caller}
 
-abbrev pub moded_all : Setting → Call → ℕ → Services → List ℕ → Option Mode → Itemed
-moded_all setting call number state numbers None = items_refused setting call state status.BAD_MONITORING_MODE_INVALID
-moded_all setting call number state numbers (Some mode) =
-    items_answered status_encoding SET_MONITORING_MODE_RESPONSE setting call
+abbrev pub moded_all : Setting → Caller → ℕ → Services → List ℕ → Option Mode → Itemed
+moded_all setting caller number state numbers None = items_refused setting caller state status.BAD_MONITORING_MODE_INVALID
+moded_all setting caller number state numbers (Some mode) =
+    items_answered status_encoding SET_MONITORING_MODE_RESPONSE setting caller
     (all_served (mode_one state.space.nodes setting.clock number mode) state.items numbers)
 
-abbrev pub moded_listed : Setting → Call → ℕ → Services → Option Mode → Result (List ℕ) Status → Itemed
-moded_listed setting call number state mode (Ok numbers) = moded_all setting call number state numbers mode
-moded_listed setting call number state mode (Err code) = items_refused setting call state code
+abbrev pub moded_listed : Setting → Caller → ℕ → Services → Option Mode → Result (List ℕ) Status → Itemed
+moded_listed setting caller number state mode (Ok numbers) = moded_all setting caller number state numbers mode
+moded_listed setting caller number state mode (Err code) = items_refused setting caller state code
 
 -- the list is judged first, then the mode, then each item gets it
-unfoldable pub items_moded : Setting → Call → SetMonitoringModeRequest → Services → Itemed
-items_moded setting call request state =
-    moded_listed setting call request.subscription_id state (mode_numbered request.monitoring_mode) (operations_of setting.config request.monitored_item_ids)
+unfoldable pub items_moded : Setting → Caller → SetMonitoringModeRequest → Services → Itemed
+items_moded setting caller request state =
+    moded_listed setting caller request.subscription_id state (mode_numbered request.monitoring_mode) (operations_of setting.config request.monitored_item_ids)
 
-abbrev pub set_monitoring_mode_meaning : Setting → Call → ℕ → SetMonitoringModeRequest → Services → Serving
-set_monitoring_mode_meaning setting call session request state =
-    items_called setting call session request.subscription_id state (items_moded setting call request state)
+abbrev pub set_monitoring_mode_meaning : Setting → Caller → ℕ → SetMonitoringModeRequest → Services → Serving
+set_monitoring_mode_meaning setting caller session request state =
+    items_called setting caller session request.subscription_id state (items_moded setting caller request state)

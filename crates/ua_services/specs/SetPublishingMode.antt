@@ -12,15 +12,15 @@ use Rattle.ua_services.specs.ServicesState.{Services}
 use Rattle.ua_services.specs.Serving.{Serving, reply_of, faulted}
 use Rattle.ua_services.specs.StatusResults.{statuses_body}
 use Rattle.ua_services.specs.SubServing.{called, world_at}
-use Rattle.ua_services.specs.declared.call.Call.{Call}
+use Rattle.ua_services.specs.declared.caller.Caller.{Caller}
 
-abbrev pub set_publishing_listed : Setting → Call → ℕ → Bool → Services → Result (List ℕ) Status → Serving
-set_publishing_listed setting call session enabled state (Ok numbers) =
-    called state (λ statuses. reply_of call (statuses_body SET_PUBLISHING_MODE_RESPONSE setting call statuses) ∷ [])
+abbrev pub set_publishing_listed : Setting → Caller → ℕ → Bool → Services → Result (List ℕ) Status → Serving
+set_publishing_listed setting caller session enabled state (Ok numbers) =
+    called state (λ statuses. reply_of caller (statuses_body SET_PUBLISHING_MODE_RESPONSE setting caller statuses) ∷ [])
     (said state.subs (named_all session (SetMode enabled) (world_at setting state) numbers))
-set_publishing_listed setting call session enabled state (Err code) = faulted state call code setting.clock
+set_publishing_listed setting caller session enabled state (Err code) = faulted state caller code setting.clock
 
 -- the list is judged first; then the notifications of each subscription are switched on or off
-abbrev pub set_publishing_mode_meaning : Setting → Call → ℕ → SetPublishingModeRequest → Services → Serving
-set_publishing_mode_meaning setting call session request state =
-    set_publishing_listed setting call session request.publishing_enabled state (operations_of setting.config request.subscription_ids)
+abbrev pub set_publishing_mode_meaning : Setting → Caller → ℕ → SetPublishingModeRequest → Services → Serving
+set_publishing_mode_meaning setting caller session request state =
+    set_publishing_listed setting caller session request.publishing_enabled state (operations_of setting.config request.subscription_ids)

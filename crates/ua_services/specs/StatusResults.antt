@@ -6,9 +6,9 @@ use Rattle.ua_messages.specs.Bodies.{body_encoding}
 use Rattle.ua_messages.specs.Headers.{plain_header}
 use Rattle.ua_messages.specs.ResultLists.{results_encoding, results_of}
 use Rattle.server_messages.specs.declared.setting.Setting.{Setting}
-use Rattle.ua_services.specs.declared.call.Call.{Call}
+use Rattle.ua_services.specs.declared.caller.Caller.{Caller}
 
 -- what became of each, in the order of the request
-abbrev pub statuses_body : ℕ → Setting → Call → List Status → List ℕ
-statuses_body type_id setting call statuses =
-    body_encoding (results_encoding status_encoding) type_id (results_of (plain_header call.handle (record { 0 = 0 }) setting.clock) statuses)
+abbrev pub statuses_body : ℕ → Setting → Caller → List Status → List ℕ
+statuses_body type_id setting caller statuses =
+    body_encoding (results_encoding status_encoding) type_id (results_of (plain_header caller.handle (record { 0 = 0 }) setting.clock) statuses)

@@ -6,40 +6,41 @@ use Rattle.ua_subscriptions.specs.Making.{timed}
 use Rattle.ua_subscriptions.specs.Scenes.{is_overspent}
 use Rattle.ua_subscriptions.specs.SubscriptionCalls.{SubscriptionsState, Said, told, world_of}
 use Rattle.ua_subscriptions.specs.Tables.{World}
-use Rattle.ua_subscriptions.specs.declared.turn.Turn.{Turn}
+use Rattle.ua_subscriptions.specs.declared.round.Round.{Round}
 use Rattle.server_messages.specs.declared.fired.Fired.{Fired}
 use Rattle.server_messages.specs.declared.halt.Halt.{Halt}
 use Rattle.server_messages.specs.declared.reply.Reply.{Reply}
 use Rattle.server_messages.specs.declared.setting.Setting.{Setting}
 use Rattle.ua_services.specs.ServicesState.{Services}
-use Rattle.ua_services.specs.Serving.{Act, Serving}
-use Rattle.ua_services.specs.Serving.Act.{Fire, Spent}
+use Rattle.ua_services.specs.Serving.{Occurrence, Serving}
+use Rattle.ua_services.specs.Serving.Occurrence.{Fire, Spent}
 
 abbrev pub with_subs : Services → SubscriptionsState → ItemsState → Services
 with_subs state subs items = record state { items = items; subs = subs }
 
-abbrev pub fires : List Fired → List Act
+abbrev pub fires : List Fired → List Occurrence
 fires [] = []
 fires (fired ∷ rows) = Fire fired ∷ fires rows
 
 -- messages can't be counted any more, or couldn't before
-abbrev pub is_uncounted : Option Halt → Turn → Bool
-is_uncounted None turn = is_overspent turn
-is_uncounted (Some halt) turn = true
+abbrev pub is_uncounted : Option Halt → Round → Bool
+is_uncounted None round = is_overspent round
+is_uncounted (Some halt) round = true
 
-abbrev pub uncounted : Option Halt → Turn → List Act
-uncounted halted turn = if is_uncounted halted turn then Spent ∷ [] else []
+abbrev pub uncounted : Option Halt → Round → List Occurrence
+uncounted halted round = if is_uncounted halted round then Spent ∷ [] else []
 
--- the rows that fired in a turn
-abbrev pub acts_of : Option Halt → Turn → List Act
-acts_of halted turn = fires turn.rows ++ uncounted halted turn
+-- the rows that fired in a round
+abbrev pub occurrences_of : Option Halt → Round → List Occurrence
+occurrences_of halted round = fires round.rows ++ uncounted halted round
 
 -- what a call of the subscriptions comes to: the reply to its own request, then those to Publish requests
 abbrev pub called : {A : Type 0} → Services → (A → List Reply) → Said A → Serving
 called state own said = record {
   state = with_subs state said.state said.outcome.world.items;
-  replies = own said.outcome.answer ++ said.outcome.world.turn.replies;
-  acts = acts_of state.subs.halted said.outcome.world.turn;
+  replies = own said.outcome.answer ++ said.outcome.world.round.replies;
+  occurrences = occurrences_of state.subs.halted said.outcome.world.round;
+  is_refused = false;
 }
 
 -- where a call of the subscriptions begins
@@ -56,10 +57,10 @@ told_alone state w = called state no_reply (told state.subs w)
 -- ---- one step of the services behind another
 
 abbrev pub nothing_done : Services → Serving
-nothing_done state = record { state = state; replies = []; acts = [] }
+nothing_done state = record { state = state; replies = []; occurrences = []; is_refused = false }
 
 abbrev pub both : Serving → Serving → Serving
-both s t = record { state = t.state; replies = s.replies ++ t.replies; acts = s.acts ++ t.acts }
+both s t = record { state = t.state; replies = s.replies ++ t.replies; occurrences = s.occurrences ++ t.occurrences; is_refused = false }
 
 abbrev pub and_then : Serving → (Services → Serving) → Serving
 and_then s more = both s (more s.state)

@@ -17,7 +17,7 @@ use Rattle.ua_services.specs.Operations.{operations_of}
 use Rattle.ua_services.specs.ServicesState.{Services}
 use Rattle.ua_services.specs.Serving.{Serving, answered, faulted}
 use Rattle.ua_services.specs.StatusResults.{statuses_body}
-use Rattle.ua_services.specs.declared.call.Call.{Call}
+use Rattle.ua_services.specs.declared.caller.Caller.{Caller}
 
 -- a variable whose values are kept
 abbrev pub is_historizing : Option VariableAttributes → Bool
@@ -44,13 +44,13 @@ with_written state writing = record state {
   items = sampled state.items writing.changed;
 }
 
-abbrev pub write_listed : Setting → Call → Services → Result (List WriteValue) Status → Serving
-write_listed setting call state (Ok values) =
+abbrev pub write_listed : Setting → Caller → Services → Result (List WriteValue) Status → Serving
+write_listed setting caller state (Ok values) =
     let writing = write_of setting.clock state.space.nodes values in
-    answered (with_written state writing) call (statuses_body WRITE_RESPONSE setting call writing.statuses)
-write_listed setting call state (Err code) = faulted state call code setting.clock
+    answered (with_written state writing) caller (statuses_body WRITE_RESPONSE setting caller writing.statuses)
+write_listed setting caller state (Err code) = faulted state caller code setting.clock
 
 -- the list is judged first, and then each value is judged and stored, shown to the items, and kept where its variable is
 -- historizing
-abbrev pub write_meaning : Setting → Call → ℕ → WriteRequest → Services → Serving
-write_meaning setting call session request state = write_listed setting call state (operations_of setting.config request.nodes_to_write)
+abbrev pub write_meaning : Setting → Caller → ℕ → WriteRequest → Services → Serving
+write_meaning setting caller session request state = write_listed setting caller state (operations_of setting.config request.nodes_to_write)

@@ -3,29 +3,24 @@
 ghost use Rattle.std.specs.Prelude.{◌≡◌, IfOk};
 ghost use Rattle.ua_services.specs.ActivateSession.{activate_session_meaning, activate_session_response, is_anonymous as is_anonymous_spec};
 
-use crate::call::Call;
-use crate::service::{Service, refuse, reply, status_told};
+use crate::caller::Caller;
+use crate::service::{Service, reply};
 use crate::services::Services;
-use server_messages::{Halt, Served, Setting};
+use crate::unserved::{Unserved, why_unserved};
+use server_messages::{Served, Setting};
 use std::alloc::{AllocError, Global};
-use ua_messages::{DiagnosticInfos, ResponseHeader, StructureFault, body, structure, type_ids};
+use ua_messages::{DiagnosticInfos, ResponseHeader, body, is_structure, type_ids};
 use ua_service_messages::{
     ActivateSessionRequest, ActivateSessionResponse, AnonymousIdentityToken,
 };
 use ua_types::{Array, ByteString, ExtensionObject, ExtensionObjectBody, Status};
 
 // Whether the user stays anonymous.
-fn is_anonymous(alloc: Global, identity: &ExtensionObject) -> Result<bool, AllocError>
-    ensures { IfOk result (λ is. is ≡ is_anonymous_spec identity.now) }
+fn is_anonymous(identity: &ExtensionObject) -> bool
+    ensures { result ≡ is_anonymous_spec identity.now }
 {
-    if matches!(&identity.body, ExtensionObjectBody::Absent) {
-        return Ok(true);
-    }
-    match structure::<AnonymousIdentityToken>(alloc, type_ids::ANONYMOUS_IDENTITY_TOKEN, identity) {
-        Ok(_) => Ok(true),
-        Err(StructureFault::Memory) => Err(AllocError),
-        Err(_) => Ok(false),
-    }
+    matches!(&identity.body, ExtensionObjectBody::Absent)
+        || is_structure::<AnonymousIdentityToken>(type_ids::ANONYMOUS_IDENTITY_TOKEN, identity)
 }
 
 fn response(
@@ -59,28 +54,25 @@ impl Service for ActivateSession {
     fn serve(
         alloc: Global,
         setting: &Setting,
-        call: &Call,
+        caller: &Caller,
         request: ActivateSessionRequest,
         services: &mut Services,
-    ) -> Result<Served, Halt> {
-        let is_anonymous = is_anonymous(alloc, &request.user_identity_token)?;
+    ) -> Result<Served, Unserved> {
+        let is_anonymous = is_anonymous(&request.user_identity_token);
         let token = &request.request_header.authentication_token;
         match services
             .sessions
-            .activate(token, call.conn, &call.key, is_anonymous)
+            .activate(token, caller.conn, &caller.key, is_anonymous)
         {
             Ok(nonce) => {
-                let response = response(alloc, setting, call.handle, &nonce)?;
+                let response = response(alloc, setting, caller.handle, &nonce)?;
                 Ok(reply(
                     alloc,
-                    call,
+                    caller,
                     body(alloc, type_ids::ACTIVATE_SESSION_RESPONSE, &response)?,
                 )?)
             }
-            Err(refusal) => {
-                let status = status_told(refusal)?;
-                Ok(refuse(alloc, call, status, setting.clock)?)
-            }
+            Err(refusal) => Err(why_unserved(refusal)),
         }
     }
 }

@@ -8,12 +8,12 @@ ghost use Rattle.ua_services.specs.BrowseResults.{browse_told};
 ghost use Rattle.ua_services.specs.RisingSerials.{browse_rises};
 
 use crate::browse_results::told;
-use crate::call::Call;
+use crate::caller::Caller;
 use crate::operations::into_operations;
 use crate::paging::{Pages, serve_pages};
-use crate::service::refuse;
 use crate::services::Services;
 use crate::session_service::SessionService;
+use crate::unserved::Unserved;
 use server_messages::{Halt, Served, Setting};
 use std::alloc::Global;
 use ua_browse::{browse, page_size};
@@ -42,7 +42,7 @@ struct FirstPages {
 impl Pages for FirstPages {
     type Asked = BrowseDescription;
 
-    type Told = BrowseResult;
+    type Answer = BrowseResult;
 
     const RESPONSE: u32 = type_ids::BROWSE_RESPONSE;
 
@@ -80,17 +80,17 @@ impl SessionService for Browse {
     fn serve(
         alloc: Global,
         setting: &Setting,
-        call: &Call,
+        caller: &Caller,
         session: u32,
         request: BrowseRequest,
         services: &mut Services,
-    ) -> Result<Served, Halt> {
+    ) -> Result<Served, Unserved> {
         if !request.view_id.is_null() {
-            return Ok(refuse(alloc, call, Status::BAD_VIEW_ID_UNKNOWN, setting.clock)?);
+            return Err(Unserved::Fault(Status::BAD_VIEW_ID_UNKNOWN));
         }
         let descriptions = match into_operations(&setting.config, request.nodes_to_browse) {
             Ok(descriptions) => descriptions,
-            Err(status) => return Ok(refuse(alloc, call, status, setting.clock)?),
+            Err(status) => return Err(Unserved::Fault(status)),
         };
         let requested = request.requested_max_references_per_node;
         let pages = FirstPages {
@@ -99,7 +99,7 @@ impl SessionService for Browse {
         serve_pages(
             alloc,
             setting,
-            call,
+            caller,
             session,
             services,
             &pages,

@@ -9,12 +9,12 @@ ghost use Rattle.ua_services.specs.BrowseResults.{browse_told};
 ghost use Rattle.ua_services.specs.RisingSerials.{go_on_rises};
 
 use crate::browse_results::told;
-use crate::call::Call;
+use crate::caller::Caller;
 use crate::operations::into_operations;
 use crate::paging::{Pages, serve_pages};
-use crate::service::refuse;
 use crate::services::Services;
 use crate::session_service::SessionService;
+use crate::unserved::Unserved;
 use server_messages::{Halt, Served, Setting};
 use std::alloc::Global;
 use ua_browse::{Page, browse_next, release};
@@ -66,7 +66,7 @@ struct NextPages {
 impl Pages for NextPages {
     type Asked = ByteString;
 
-    type Told = BrowseResult;
+    type Answer = BrowseResult;
 
     const RESPONSE: u32 = type_ids::BROWSE_NEXT_RESPONSE;
 
@@ -104,18 +104,18 @@ impl SessionService for BrowseNext {
     fn serve(
         alloc: Global,
         setting: &Setting,
-        call: &Call,
+        caller: &Caller,
         session: u32,
         request: BrowseNextRequest,
         services: &mut Services,
-    ) -> Result<Served, Halt> {
+    ) -> Result<Served, Unserved> {
         let named = match into_operations(&setting.config, request.continuation_points) {
             Ok(named) => named,
-            Err(status) => return Ok(refuse(alloc, call, status, setting.clock)?),
+            Err(status) => return Err(Unserved::Fault(status)),
         };
         let pages = NextPages {
             is_release: request.release_continuation_points,
         };
-        serve_pages(alloc, setting, call, session, services, &pages, named)
+        serve_pages(alloc, setting, caller, session, services, &pages, named)
     }
 }

@@ -4,25 +4,26 @@ ghost use Rattle.std.specs.Prelude.{◌≡◌, IfOk};
 ghost use Rattle.ua_services.specs.CloseSession.{close_session_body, close_session_meaning};
 ghost use Rattle.ua_services.specs.Serving.{replied, reply_of};
 
-use crate::call::Call;
-use crate::service::{Service, refuse, reply};
+use crate::caller::Caller;
+use crate::service::{Service, reply};
 use crate::services::Services;
 use crate::sub_serving::{end_session, joined};
-use server_messages::{Halt, Served, Setting};
+use crate::unserved::Unserved;
+use server_messages::{Served, Setting};
 use std::alloc::{AllocError, Global};
 use ua_messages::{ResponseHeader, body, type_ids};
 use ua_service_messages::{CloseSessionRequest, CloseSessionResponse};
 use ua_types::Status;
 
 // The answer, once the session is no more.
-fn closed(alloc: Global, setting: &Setting, call: &Call) -> Result<Served, AllocError>
-    ensures { IfOk result (λ served. served ≡ replied (reply_of call.now (close_session_body setting.now call.now))) }
+fn closed(alloc: Global, setting: &Setting, caller: &Caller) -> Result<Served, AllocError>
+    ensures { IfOk result (λ served. served ≡ replied (reply_of caller.now (close_session_body setting.now caller.now))) }
 {
     let response = CloseSessionResponse {
-        response_header: ResponseHeader::new(call.handle, Status(0), setting.clock),
+        response_header: ResponseHeader::new(caller.handle, Status(0), setting.clock),
     };
     let body = body(alloc, type_ids::CLOSE_SESSION_RESPONSE, &response)?;
-    reply(alloc, call, body)
+    reply(alloc, caller, body)
 }
 
 /// Ends a session, which need not have been activated. Its subscriptions are deleted, or left to their lifetime, as the
@@ -40,17 +41,17 @@ impl Service for CloseSession {
     fn serve(
         alloc: Global,
         setting: &Setting,
-        call: &Call,
+        caller: &Caller,
         request: CloseSessionRequest,
         services: &mut Services,
-    ) -> Result<Served, Halt> {
+    ) -> Result<Served, Unserved> {
         let token = &request.request_header.authentication_token;
-        let number = match services.sessions.close(token, call.conn) {
+        let number = match services.sessions.close(token, caller.conn) {
             Ok(number) => number,
-            Err(status) => return Ok(refuse(alloc, call, status, setting.clock)?),
+            Err(status) => return Err(Unserved::Fault(status)),
         };
         let deleting = request.delete_subscriptions;
         let ended = end_session(alloc, setting, number, deleting, services)?;
-        Ok(joined(ended, closed(alloc, setting, call)?)?)
+        Ok(joined(ended, closed(alloc, setting, caller)?)?)
     }
 }

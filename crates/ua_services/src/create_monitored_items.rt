@@ -2,13 +2,14 @@
 
 ghost use Rattle.ua_services.specs.CreateMonitoredItems.{items_created};
 
-use crate::call::Call;
+use crate::caller::Caller;
 use crate::item_serving::ItemService;
 use crate::operations::into_operations;
 use crate::services::Services;
+use crate::unserved::Unserved;
 use server_messages::Setting;
-use std::alloc::{AllocError, Global};
-use ua_messages::{ResponseHeader, fault, results_body, type_ids};
+use std::alloc::Global;
+use ua_messages::{ResponseHeader, results_body, type_ids};
 use ua_read_write::Timestamps;
 use ua_subscription_messages::CreateMonitoredItemsRequest;
 use ua_types::Status;
@@ -35,25 +36,24 @@ impl ItemService for CreateMonitoredItems {
     fn change_items(
         alloc: Global,
         setting: &Setting,
-        call: &Call,
+        caller: &Caller,
         request: CreateMonitoredItemsRequest,
         services: &mut Services,
-    ) -> Result<Vec<u8>, AllocError> {
+    ) -> Result<Vec<u8>, Unserved> {
         let Some(timestamps) = Timestamps::chosen(request.timestamps_to_return) else {
-            let status = Status::BAD_TIMESTAMPS_TO_RETURN_INVALID;
-            return fault(alloc, call.handle, status, setting.clock);
+            return Err(Unserved::Fault(Status::BAD_TIMESTAMPS_TO_RETURN_INVALID));
         };
         let number = request.subscription_id;
         let requests = match into_operations(&setting.config, request.items_to_create) {
             Ok(requests) => requests,
-            Err(status) => return fault(alloc, call.handle, status, setting.clock),
+            Err(status) => return Err(Unserved::Fault(status)),
         };
         let space = &services.space;
         let results = services
             .items
             .create(alloc, space, setting.clock, number, timestamps, requests)?;
-        let header = ResponseHeader::new(call.handle, Status(0), setting.clock);
+        let header = ResponseHeader::new(caller.handle, Status(0), setting.clock);
         let type_id = type_ids::CREATE_MONITORED_ITEMS_RESPONSE;
-        results_body(alloc, type_id, &header, results.as_slice())
+        Ok(results_body(alloc, type_id, &header, results.as_slice())?)
     }
 }

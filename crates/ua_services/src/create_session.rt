@@ -3,11 +3,12 @@
 ghost use Rattle.std.specs.Prelude.{◌≡◌, IfOk};
 ghost use Rattle.ua_services.specs.CreateSession.{create_session_meaning, create_session_response};
 
-use crate::call::Call;
+use crate::caller::Caller;
 use crate::endpoint_list::endpoint;
-use crate::service::{Service, refuse, reply, status_told};
+use crate::service::{Service, reply};
 use crate::services::Services;
-use server_messages::{Halt, Served, Setting};
+use crate::unserved::{Unserved, why_unserved};
+use server_messages::{Served, Setting};
 use std::alloc::{AllocError, Global};
 use ua_messages::{ResponseHeader, body, type_ids};
 use ua_service_messages::{CreateSessionRequest, CreateSessionResponse, SignatureData};
@@ -55,23 +56,20 @@ impl Service for CreateSession {
     fn serve(
         alloc: Global,
         setting: &Setting,
-        call: &Call,
+        caller: &Caller,
         _request: CreateSessionRequest,
         services: &mut Services,
-    ) -> Result<Served, Halt> {
-        match services.sessions.create(alloc, call.conn, &call.key) {
+    ) -> Result<Served, Unserved> {
+        match services.sessions.create(alloc, caller.conn, &caller.key) {
             Ok(session) => {
-                let response = response(alloc, setting, call.handle, session)?;
+                let response = response(alloc, setting, caller.handle, session)?;
                 Ok(reply(
                     alloc,
-                    call,
+                    caller,
                     body(alloc, type_ids::CREATE_SESSION_RESPONSE, &response)?,
                 )?)
             }
-            Err(refusal) => {
-                let status = status_told(refusal)?;
-                Ok(refuse(alloc, call, status, setting.clock)?)
-            }
+            Err(refusal) => Err(why_unserved(refusal)),
         }
     }
 }

@@ -3,11 +3,12 @@
 ghost use Rattle.std.specs.Prelude.{◌≡◌, IfOk};
 ghost use Rattle.ua_services.specs.CreateSubscription.{create_subscription_body, create_subscription_meaning};
 
-use crate::call::Call;
+use crate::caller::Caller;
 use crate::services::Services;
 use crate::session_service::SessionService;
 use crate::sub_serving::{apart, reply_first};
-use server_messages::{Halt, Served, Setting};
+use crate::unserved::Unserved;
+use server_messages::{Served, Setting};
 use std::alloc::{AllocError, Global};
 use ua_messages::{ResponseHeader, body, fault, type_ids};
 use ua_subscription_messages::{CreateSubscriptionRequest, CreateSubscriptionResponse};
@@ -18,23 +19,23 @@ use ua_types::Status;
 fn answer_body(
     alloc: Global,
     setting: &Setting,
-    call: &Call,
+    caller: &Caller,
     answer: Result<Created, Status>,
 ) -> Result<Vec<u8>, AllocError>
-    ensures { IfOk result (λ body. body.items ≡ create_subscription_body setting.now call.now answer) }
+    ensures { IfOk result (λ body. body.items ≡ create_subscription_body setting.now caller.now answer) }
 {
     match answer {
         Ok(created) => {
             let response = CreateSubscriptionResponse {
-                response_header: ResponseHeader::new(call.handle, Status(0), setting.clock),
+                response_header: ResponseHeader::new(caller.handle, Status(0), setting.clock),
                 subscription_id: created.number,
                 revised_publishing_interval: setting.config.publish_duration,
-                revised_lifetime_count: created.revised.life_count,
-                revised_max_keep_alive_count: created.revised.keep_count,
+                revised_lifetime_count: created.revised.lifetime_count,
+                revised_max_keep_alive_count: created.revised.keep_alive_count,
             };
             body(alloc, type_ids::CREATE_SUBSCRIPTION_RESPONSE, &response)
         }
-        Err(status) => fault(alloc, call.handle, status, setting.clock),
+        Err(status) => fault(alloc, caller.handle, status, setting.clock),
     }
 }
 
@@ -53,14 +54,14 @@ impl SessionService for CreateSubscription {
     fn serve(
         alloc: Global,
         setting: &Setting,
-        call: &Call,
+        caller: &Caller,
         session: u32,
         request: CreateSubscriptionRequest,
         services: &mut Services,
-    ) -> Result<Served, Halt> {
+    ) -> Result<Served, Unserved> {
         let settings = Settings {
-            keep_count: request.requested_max_keep_alive_count,
-            life_count: request.requested_lifetime_count,
+            keep_alive_count: request.requested_max_keep_alive_count,
+            lifetime_count: request.requested_lifetime_count,
             notifications: request.max_notifications_per_publish,
             priority: request.priority,
         };
@@ -70,7 +71,7 @@ impl SessionService for CreateSubscription {
             .subs
             .create(alloc, items, setting.clock, session, settings, enabled)?;
         let (answer, others) = apart(answered);
-        let body = answer_body(alloc, setting, call, answer)?;
-        Ok(reply_first(alloc, call, body, others)?)
+        let body = answer_body(alloc, setting, caller, answer)?;
+        Ok(reply_first(alloc, caller, body, others)?)
     }
 }

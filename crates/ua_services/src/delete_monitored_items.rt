@@ -2,14 +2,15 @@
 
 ghost use Rattle.ua_services.specs.DeleteMonitoredItems.{items_deleted};
 
-use crate::call::Call;
+use crate::caller::Caller;
 use crate::item_serving::ItemService;
 use crate::operations::operations;
 use crate::services::Services;
 use crate::status_results::statuses_body;
+use crate::unserved::Unserved;
 use server_messages::Setting;
-use std::alloc::{AllocError, Global};
-use ua_messages::{fault, type_ids};
+use std::alloc::Global;
+use ua_messages::type_ids;
 use ua_subscription_messages::DeleteMonitoredItemsRequest;
 
 /// Deletes monitored items of a subscription of the session, one after the other ([`ua_monitored_items::Items::delete`]).
@@ -33,18 +34,18 @@ impl ItemService for DeleteMonitoredItems {
     fn change_items(
         alloc: Global,
         setting: &Setting,
-        call: &Call,
+        caller: &Caller,
         request: DeleteMonitoredItemsRequest,
         services: &mut Services,
-    ) -> Result<Vec<u8>, AllocError> {
+    ) -> Result<Vec<u8>, Unserved> {
         let numbers = match operations(&setting.config, &request.monitored_item_ids) {
             Ok(numbers) => numbers,
-            Err(status) => return fault(alloc, call.handle, status, setting.clock),
+            Err(status) => return Err(Unserved::Fault(status)),
         };
         let statuses = services
             .items
             .delete(alloc, request.subscription_id, numbers)?;
         let type_id = type_ids::DELETE_MONITORED_ITEMS_RESPONSE;
-        statuses_body(alloc, type_id, setting, call, statuses.as_slice())
+        Ok(statuses_body(alloc, type_id, setting, caller, statuses.as_slice())?)
     }
 }

@@ -2,11 +2,12 @@
 
 ghost use Rattle.ua_services.specs.GetEndpoints.{get_endpoints_meaning};
 
-use crate::call::Call;
+use crate::caller::Caller;
 use crate::endpoint_list::endpoints_response;
 use crate::service::{Service, reply};
 use crate::services::Services;
-use server_messages::{Halt, Served, Setting};
+use crate::unserved::Unserved;
+use server_messages::{Served, Setting};
 use std::alloc::Global;
 use ua_messages::{GetEndpointsRequest, body, type_ids};
 
@@ -21,20 +22,20 @@ impl Service for GetEndpoints {
     fn serve(
         alloc: Global,
         setting: &Setting,
-        call: &Call,
+        caller: &Caller,
         request: GetEndpointsRequest,
         _services: &mut Services,
-    ) -> Result<Served, Halt> {
+    ) -> Result<Served, Unserved> {
         let response = endpoints_response(
             alloc,
             &setting.config,
             setting.clock,
-            call.handle,
+            caller.handle,
             &request.profile_uris,
         )?;
         Ok(reply(
             alloc,
-            call,
+            caller,
             body(alloc, type_ids::GET_ENDPOINTS_RESPONSE, &response)?,
         )?)
     }

@@ -1,6 +1,7 @@
 //! The service HistoryRead (IEC 62541-4, "HistoryRead").
 
-ghost use Rattle.std.specs.Prelude.{◌≡◌};
+ghost use Rattle.std.specs.Prelude.{◌≡◌, Err, IsOk};
+ghost use Rattle.ua_types.specs.declared.refusal.Refusal.TheVariants.{Memory};
 ghost use Rattle.ua_types.specs.Refusals.{GivesOrRefuses};
 ghost use Rattle.ua_messages.specs.declared.type_ids.TheConstants.{HISTORY_READ_RESPONSE};
 ghost use Rattle.ua_read_write.specs.Timestamps.{timestamps_of};
@@ -10,18 +11,18 @@ ghost use Rattle.ua_services.specs.HistoryResults.{history_result_of};
 ghost use Rattle.ua_services.specs.Paging.{DoesOne, told_as};
 ghost use Rattle.ua_services.specs.RisingSerials.{node_read_rises};
 
-use crate::call::Call;
+use crate::caller::Caller;
 use crate::history_results::{history_told, release_told};
 use crate::operations::into_operations;
 use crate::paging::{Pages, serve_pages};
-use crate::service::{refuse, status_told};
 use crate::services::Services;
 use crate::session_service::SessionService;
+use crate::unserved::{Unserved, why_unserved};
 use server_messages::{Halt, Served, Setting};
 use std::alloc::Global;
 use ua_browse::page_size;
 use ua_history::{History, RawRange, read_raw, release};
-use ua_messages::{StructureFault, TimestampsToReturn, structure, type_ids};
+use ua_messages::{StructureFault, TimestampsToReturn, received_structure, type_ids};
 use ua_read_write::Timestamps;
 use ua_service_messages::{
     HistoryReadRequest, HistoryReadResult, HistoryReadValueId, ReadRawModifiedDetails,
@@ -85,10 +86,11 @@ fn range_of(config: &Config, details: &ReadRawModifiedDetails) -> Result<RawRang
 
 // What the object asks for, or why it isn't served.
 fn judged(alloc: Global, config: &Config, object: &ExtensionObject) -> Result<RawRange, Refusal>
-    ensures { GivesOrRefuses result (details_judged config.now object.now) }
+    ensures gives { GivesOrRefuses result (details_judged config.now object.now) }
+    ensures memory { result ≡ Err Memory → IsOk (details_judged config.now object.now) }
 {
     let type_id = type_ids::READ_RAW_MODIFIED_DETAILS;
-    match structure::<ReadRawModifiedDetails>(alloc, type_id, object) {
+    match received_structure::<ReadRawModifiedDetails>(alloc, type_id, object) {
         Ok(details) => match range_of(config, &details) {
             Ok(range) => Ok(range),
             Err(status) => Err(Refusal::Service(status)),
@@ -120,7 +122,7 @@ fn page_told(
 impl Pages for Wanted {
     type Asked = HistoryReadValueId;
 
-    type Told = HistoryReadResult;
+    type Answer = HistoryReadResult;
 
     const RESPONSE: u32 = type_ids::HISTORY_READ_RESPONSE;
 
@@ -164,18 +166,17 @@ impl SessionService for HistoryRead {
     fn serve(
         alloc: Global,
         setting: &Setting,
-        call: &Call,
+        caller: &Caller,
         session: u32,
         request: HistoryReadRequest,
         services: &mut Services,
-    ) -> Result<Served, Halt> {
+    ) -> Result<Served, Unserved> {
         let Some(timestamps) = some_times(request.timestamps_to_return) else {
-            let status = Status::BAD_TIMESTAMPS_TO_RETURN_INVALID;
-            return Ok(refuse(alloc, call, status, setting.clock)?);
+            return Err(Unserved::Fault(Status::BAD_TIMESTAMPS_TO_RETURN_INVALID));
         };
         let nodes = match into_operations(&setting.config, request.nodes_to_read) {
             Ok(nodes) => nodes,
-            Err(status) => return Ok(refuse(alloc, call, status, setting.clock)?),
+            Err(status) => return Err(Unserved::Fault(status)),
         };
         match judged(alloc, &setting.config, &request.history_read_details) {
             Ok(range) => {
@@ -184,12 +185,9 @@ impl SessionService for HistoryRead {
                     is_release: request.release_continuation_points,
                     range,
                 };
-                serve_pages(alloc, setting, call, session, services, &wanted, nodes)
+                serve_pages(alloc, setting, caller, session, services, &wanted, nodes)
             }
-            Err(refusal) => {
-                let status = status_told(refusal)?;
-                Ok(refuse(alloc, call, status, setting.clock)?)
-            }
+            Err(refusal) => Err(why_unserved(refusal)),
         }
     }
 }

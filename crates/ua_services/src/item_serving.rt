@@ -1,22 +1,23 @@
 //! What the services of monitored items share: each names a subscription of its session.
 
-ghost use Rattle.std.specs.Prelude.{◌≡◌, ℕ, IfOk, OnOk};
+ghost use Rattle.std.specs.Prelude.{◌≡◌, ℕ, IfOk, IfErr, OnOk};
 ghost use Rattle.server_messages.specs.declared.setting.Setting.{Setting};
-ghost use Rattle.ua_services.specs.ItemServing.{Itemed, with_items, own_vars as own_vars_spec, fired_after, items_called};
-ghost use Rattle.ua_services.specs.Serving.{Serves};
+ghost use Rattle.ua_services.specs.ItemServing.{Itemed, Refuses, with_items, own_vars as own_vars_spec, fired_after, items_called};
+ghost use Rattle.ua_services.specs.Serving.{Judges};
 ghost use Rattle.ua_services.specs.ServicesState.{Services};
-ghost use Rattle.ua_services.specs.declared.call.Call.{Call};
+ghost use Rattle.ua_services.specs.declared.caller.Caller.{Caller};
 
-use crate::call::Call;
-use crate::service::refuse;
+use crate::caller::Caller;
 use crate::services::Services;
 use crate::session_service::SessionService;
 use crate::sub_serving::{reply_first, served_alone};
-use server_messages::{Halt, Served, Setting};
+use crate::unserved::Unserved;
+use server_messages::{Served, Setting};
 use std::alloc::{AllocError, Global};
-use ua_binary::Wire;
+use ua_messages::fault;
 use ua_state_table::Vars;
 use ua_types::Status;
+use ua_walks::Walk;
 
 /// A service of monitored items: a type of request, and what it changes of the items of a subscription.
 ///
@@ -25,28 +26,50 @@ use ua_types::Status;
 /// the request.
 pub trait ItemService {
     /// The request's fields.
-    type Request: Wire;
+    type Request: Walk;
 
     /// The subscription that a request names.
     ghost subscription: { Self.Request → ℕ };
 
     /// What becomes of the items, and the answer.
-    ghost change: { Setting → Call → Self.Request → Services → Itemed };
+    ghost change: { Setting → Caller → Self.Request → Services → Itemed };
 
     /// The number of the subscription that a request names.
     fn subscription_id(request: &Self::Request) -> u32
         ensures { result ≡ subscription request.now };
 
-    /// Changes the items as a request asks for, and gives the body of the answer, which may be a fault.
+    /// Changes the items as a request asks for, and gives the body of the answer. At an `Err` that isn't `Halted`
+    /// the items are as they were.
     fn change_items(
         alloc: Global,
         setting: &Setting,
-        call: &Call,
+        caller: &Caller,
+        request: Self::Request,
+        services: &mut Services,
+    ) -> Result<Vec<u8>, Unserved>
+        ensures body { IfOk result (λ body. body.items ≡ (change setting.now caller.now request services.old).body) }
+        ensures items { OnOk result (services.new ≡ with_items services.old (change setting.now caller.now request services.old).items) }
+        ensures refused { IfErr result (λ e. Refuses setting.now caller.now e services.old services.new (change setting.now caller.now request services.old)) };
+
+    /// Changes the items as a request asks for, and gives the body of the answer: that of a fault, where the request is
+    /// refused.
+    final fn answer_body(
+        alloc: Global,
+        setting: &Setting,
+        caller: &Caller,
         request: Self::Request,
         services: &mut Services,
     ) -> Result<Vec<u8>, AllocError>
-        ensures body { IfOk result (λ body. body.items ≡ (change setting.now call.now request services.old).body) }
-        ensures items { OnOk result (services.new ≡ with_items services.old (change setting.now call.now request services.old).items) };
+        ensures body { IfOk result (λ body. body.items ≡ (change setting.now caller.now request services.old).body) }
+        ensures items { OnOk result (services.new ≡ with_items services.old (change setting.now caller.now request services.old).items) }
+    {
+        match Self::change_items(alloc, setting, caller, request, services) {
+            Ok(body) => Ok(body),
+            Err(Unserved::Fault(status)) => fault(alloc, caller.handle, status, setting.clock),
+            // No serial is used up by what items are asked for.
+            Err(Unserved::Halted(_)) => Err(AllocError),
+        }
+    }
 }
 
 // The variables of a subscription, if it is one of the session's.
@@ -65,40 +88,39 @@ fn own_vars(services: &Services, session: u32, number: u32) -> Option<Vars>
 fn answer_items(
     alloc: Global,
     setting: &Setting,
-    call: &Call,
+    caller: &Caller,
     number: u32,
     before: Vars,
     body: Vec<u8>,
     services: &mut Services,
-) -> Result<Served, Halt>
-    ensures { Serves result services.new (fired_after setting.now call.now number services.old before body.items) }
+) -> Result<Served, Unserved>
+    ensures { Judges setting.now caller.now result services.new (fired_after setting.now caller.now number services.old before body.items) }
 {
     let items = &mut services.items;
     let answered = services
         .subs
         .items(alloc, items, setting.clock, number, before)?;
-    Ok(reply_first(alloc, call, body, served_alone(answered))?)
+    Ok(reply_first(alloc, caller, body, served_alone(answered))?)
 }
 
 impl<S: ItemService> SessionService for S {
     type Request = S::Request;
 
-    ghost meaning = { λ setting call session request state. items_called setting call session (S.subscription request) state (S.change setting call request state) };
+    ghost meaning = { λ setting caller session request state. items_called setting caller session (S.subscription request) state (S.change setting caller request state) };
 
     fn serve(
         alloc: Global,
         setting: &Setting,
-        call: &Call,
+        caller: &Caller,
         session: u32,
         request: S::Request,
         services: &mut Services,
-    ) -> Result<Served, Halt> {
+    ) -> Result<Served, Unserved> {
         let number = S::subscription_id(&request);
         let Some(before) = own_vars(services, session, number) else {
-            let status = Status::BAD_SUBSCRIPTION_ID_INVALID;
-            return Ok(refuse(alloc, call, status, setting.clock)?);
+            return Err(Unserved::Fault(Status::BAD_SUBSCRIPTION_ID_INVALID));
         };
-        let body = S::change_items(alloc, setting, call, request, services)?;
-        answer_items(alloc, setting, call, number, before, body, services)
+        let body = S::answer_body(alloc, setting, caller, request, services)?;
+        answer_items(alloc, setting, caller, number, before, body, services)
     }
 }

@@ -2,13 +2,14 @@
 
 ghost use Rattle.ua_services.specs.ModifyMonitoredItems.{items_modified};
 
-use crate::call::Call;
+use crate::caller::Caller;
 use crate::item_serving::ItemService;
 use crate::operations::operations;
 use crate::services::Services;
+use crate::unserved::Unserved;
 use server_messages::Setting;
-use std::alloc::{AllocError, Global};
-use ua_messages::{ResponseHeader, fault, results_body, type_ids};
+use std::alloc::Global;
+use ua_messages::{ResponseHeader, results_body, type_ids};
 use ua_read_write::Timestamps;
 use ua_subscription_messages::ModifyMonitoredItemsRequest;
 use ua_types::Status;
@@ -34,22 +35,21 @@ impl ItemService for ModifyMonitoredItems {
     fn change_items(
         alloc: Global,
         setting: &Setting,
-        call: &Call,
+        caller: &Caller,
         request: ModifyMonitoredItemsRequest,
         services: &mut Services,
-    ) -> Result<Vec<u8>, AllocError> {
+    ) -> Result<Vec<u8>, Unserved> {
         let Some(timestamps) = Timestamps::chosen(request.timestamps_to_return) else {
-            let status = Status::BAD_TIMESTAMPS_TO_RETURN_INVALID;
-            return fault(alloc, call.handle, status, setting.clock);
+            return Err(Unserved::Fault(Status::BAD_TIMESTAMPS_TO_RETURN_INVALID));
         };
         let requests = match operations(&setting.config, &request.items_to_modify) {
             Ok(requests) => requests,
-            Err(status) => return fault(alloc, call.handle, status, setting.clock),
+            Err(status) => return Err(Unserved::Fault(status)),
         };
         let number = request.subscription_id;
         let results = services.items.modify(alloc, number, timestamps, requests)?;
-        let header = ResponseHeader::new(call.handle, Status(0), setting.clock);
+        let header = ResponseHeader::new(caller.handle, Status(0), setting.clock);
         let type_id = type_ids::MODIFY_MONITORED_ITEMS_RESPONSE;
-        results_body(alloc, type_id, &header, results.as_slice())
+        Ok(results_body(alloc, type_id, &header, results.as_slice())?)
     }
 }

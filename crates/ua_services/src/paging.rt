@@ -6,12 +6,13 @@ ghost use Rattle.ua_history.specs.Histories.{HistoryState};
 ghost use Rattle.ua_session.specs.Points.{PointsState};
 ghost use Rattle.ua_session.specs.Sessions.{points_of};
 ghost use Rattle.ua_space.specs.Nodes.{SpaceState};
-ghost use Rattle.ua_services.specs.Paging.{Done, DoesOne, DoesAll, Rises, all_done, paged as paged_spec};
-ghost use Rattle.ua_services.specs.Serving.{Serves, given, given_of};
+ghost use Rattle.ua_services.specs.Paging.{Done, DoesOne, DoesAll, Rises, all_done, results_body_of, paged};
+ghost use Rattle.ua_services.specs.Serving.{Judges, replied, reply_of};
 
-use crate::call::Call;
+use crate::caller::Caller;
 use crate::service::reply;
 use crate::services::Services;
+use crate::unserved::Unserved;
 use server_messages::{Halt, Served, Setting};
 use std::alloc::{AllocError, Global};
 use ua_binary::Wire;
@@ -29,7 +30,7 @@ pub(crate) trait Pages {
     type Asked: Drop;
 
     /// Its result.
-    type Told: Wire;
+    type Answer: Wire;
 
     /// The type id of the response.
     const RESPONSE: u32;
@@ -37,7 +38,7 @@ pub(crate) trait Pages {
     ghost RESPONSE: { ℕ };
 
     /// What one comes to, with the points that are held.
-    ghost meaning: { Self → SpaceState → HistoryState → PointsState → Self.Asked → Done Self.Told };
+    ghost meaning: { Self → SpaceState → HistoryState → PointsState → Self.Asked → Done Self.Answer };
 
     /// The result of one. `Exhausted` where a point's serial is the last.
     fn page(
@@ -47,7 +48,7 @@ pub(crate) trait Pages {
         history: &History,
         points: &mut Points,
         asked: Self::Asked,
-    ) -> Result<Self::Told, Halt>
+    ) -> Result<Self::Answer, Halt>
         ensures { DoesOne result points.new (meaning self.now space.now history.now points.old asked) };
 
     /// No serial is given twice.
@@ -62,7 +63,7 @@ fn all_pages<P: Pages>(
     points: &mut Points,
     wanted: &P,
     list: Vec<P::Asked>,
-) -> Result<Vec<P::Told>, Halt>
+) -> Result<Vec<P::Answer>, Halt>
     ensures all { DoesAll (result_map_both (λ rs. rs.items) (λ halt. halt) result) points.new (all_done (P.meaning wanted.now space.now history.now) points.old list.items) }
     ensures count { IfOk result (λ rs. length rs.items ≡ length list.items) }
 {
@@ -76,44 +77,42 @@ fn all_pages<P: Pages>(
     Ok(results)
 }
 
-// Gives the session the points that are left, and answers with the results.
-fn paged<P: Pages>(
+// Answers with the results.
+fn answer<P: Pages>(
     alloc: Global,
     setting: &Setting,
-    call: &Call,
-    session: u32,
-    services: &mut Services,
-    points: Points,
-    results: &[P::Told],
+    caller: &Caller,
+    results: &[P::Answer],
 ) -> Result<Served, AllocError>
     requires { length results.now < 2 ^ 31 }
-    ensures { IfOk result (λ served. given services.new served ≡ given_of
-        (paged_spec P.Told.encoding setting.now call.now session P.RESPONSE services.old (record { results = results.now; points = points }))) }
+    ensures { IfOk result (λ served. served ≡ replied (reply_of caller.now (results_body_of P.Answer.encoding setting.now caller.now P.RESPONSE results.now))) }
 {
-    services.sessions.put_points(session, points)?;
-    let header = ResponseHeader::new(call.handle, Status(0), setting.clock);
+    let header = ResponseHeader::new(caller.handle, Status(0), setting.clock);
     let body = results_body(alloc, P::RESPONSE, &header, results)?;
-    reply(alloc, call, body)
+    reply(alloc, caller, body)
 }
 
 /// Answers with the first page of each thing that is asked for, and leaves the session the points for the next ones.
 pub(crate) fn serve_pages<P: Pages>(
     alloc: Global,
     setting: &Setting,
-    call: &Call,
+    caller: &Caller,
     session: u32,
     services: &mut Services,
     wanted: &P,
     list: Vec<P::Asked>,
-) -> Result<Served, Halt>
+) -> Result<Served, Unserved>
     requires { length list.items < 2 ^ 31 }
-    ensures { Serves result services.new (paged_spec P.Told.encoding setting.now call.now session P.RESPONSE services.old
+    ensures { Judges setting.now caller.now result services.new (paged P.Answer.encoding setting.now caller.now session P.RESPONSE services.old
         (all_done (P.meaning wanted.now services.old.space services.old.history) (points_of services.old.sessions session) list.items)) }
 {
-    let mut points = services.sessions.take_points(alloc, session);
+    services.sessions.open_points(alloc, session)?;
     let (space, history) = (&services.space, &services.history);
-    match all_pages(alloc, space, history, &mut points, wanted, list) {
-        Ok(results) => Ok(paged::<P>(alloc, setting, call, session, services, points, &results)?),
-        Err(halt) => Err(halt),
+    let Some(points) = services.sessions.points_mut(session) else {
+        unreachable!();
+    };
+    match all_pages(alloc, space, history, points, wanted, list) {
+        Ok(results) => Ok(answer::<P>(alloc, setting, caller, &results)?),
+        Err(halt) => Err(Unserved::Halted(halt)),
     }
 }

@@ -3,15 +3,15 @@
 ghost use Rattle.std.specs.Prelude.{◌≡◌};
 ghost use Rattle.ua_subscriptions.specs.Publishing.{published};
 ghost use Rattle.ua_services.specs.Publish.{acknowledged_in, publish_call, publish_meaning};
-ghost use Rattle.ua_services.specs.Serving.{Serves};
+ghost use Rattle.ua_services.specs.Serving.{Judges};
 ghost use Rattle.ua_services.specs.SubServing.{told_alone, world_at};
 
-use crate::call::Call;
-use crate::service::refuse;
+use crate::caller::Caller;
 use crate::services::Services;
 use crate::session_service::SessionService;
 use crate::sub_serving::served_alone;
-use server_messages::{Halt, Served, Setting};
+use crate::unserved::Unserved;
+use server_messages::{Served, Setting};
 use std::alloc::Global;
 use ua_subscription_messages::{PublishRequest, SubscriptionAcknowledgement};
 use ua_subscriptions::PublishCall;
@@ -33,17 +33,17 @@ fn acknowledged(
 fn taken(
     alloc: Global,
     setting: &Setting,
-    call: &Call,
+    caller: &Caller,
     session: u32,
     acknowledgements: &[SubscriptionAcknowledgement],
     services: &mut Services,
-) -> Result<Served, Halt>
-    ensures { Serves result services.new (told_alone services.old (published session (publish_call call.now) acknowledgements.now (world_at setting.now services.old))) }
+) -> Result<Served, Unserved>
+    ensures { Judges setting.now caller.now result services.new (told_alone services.old (published session (publish_call caller.now) acknowledgements.now (world_at setting.now services.old))) }
 {
     let publish = PublishCall {
-        conn: call.conn,
-        id: call.id,
-        handle: call.handle,
+        conn: caller.conn,
+        id: caller.id,
+        handle: caller.handle,
         results: Listed::new(alloc),
     };
     let items = &mut services.items;
@@ -70,15 +70,15 @@ impl SessionService for Publish {
     fn serve(
         alloc: Global,
         setting: &Setting,
-        call: &Call,
+        caller: &Caller,
         session: u32,
         request: PublishRequest,
         services: &mut Services,
-    ) -> Result<Served, Halt> {
+    ) -> Result<Served, Unserved> {
         let acknowledgements = acknowledged(&request.subscription_acknowledgements);
         if acknowledgements.len() > setting.config.operations as usize {
-            return Ok(refuse(alloc, call, Status::BAD_TOO_MANY_OPERATIONS, setting.clock)?);
+            return Err(Unserved::Fault(Status::BAD_TOO_MANY_OPERATIONS));
         }
-        taken(alloc, setting, call, session, acknowledgements, services)
+        taken(alloc, setting, caller, session, acknowledgements, services)
     }
 }

@@ -2,12 +2,13 @@
 
 ghost use Rattle.ua_services.specs.Read.{read_meaning};
 
-use crate::call::Call;
+use crate::caller::Caller;
 use crate::operations::operations;
-use crate::service::{refuse, reply};
+use crate::service::reply;
 use crate::services::Services;
 use crate::session_service::SessionService;
-use server_messages::{Halt, Served, Setting};
+use crate::unserved::Unserved;
+use server_messages::{Served, Setting};
 use std::alloc::Global;
 use ua_messages::ResponseHeader;
 use ua_read_write::{Timestamps, read_body};
@@ -30,27 +31,22 @@ impl SessionService for Read {
     fn serve(
         alloc: Global,
         setting: &Setting,
-        call: &Call,
+        caller: &Caller,
         _session: u32,
         request: ReadRequest,
         services: &mut Services,
-    ) -> Result<Served, Halt> {
+    ) -> Result<Served, Unserved> {
         let Some(timestamps) = Timestamps::chosen(request.timestamps_to_return) else {
-            return Ok(refuse(
-                alloc,
-                call,
-                Status::BAD_TIMESTAMPS_TO_RETURN_INVALID,
-                setting.clock,
-            )?);
+            return Err(Unserved::Fault(Status::BAD_TIMESTAMPS_TO_RETURN_INVALID));
         };
         match operations(&setting.config, &request.nodes_to_read) {
             Ok(nodes) => {
-                let header = ResponseHeader::new(call.handle, Status(0), setting.clock);
+                let header = ResponseHeader::new(caller.handle, Status(0), setting.clock);
                 let space = &services.space;
                 let body = read_body(alloc, space, setting.clock, timestamps, &header, nodes)?;
-                Ok(reply(alloc, call, body)?)
+                Ok(reply(alloc, caller, body)?)
             }
-            Err(status) => Ok(refuse(alloc, call, status, setting.clock)?),
+            Err(status) => Err(Unserved::Fault(status)),
         }
     }
 }

@@ -3,12 +3,13 @@
 ghost use Rattle.std.specs.Prelude.{◌≡◌, IfOk};
 ghost use Rattle.ua_services.specs.Republish.{republish_answer, republish_meaning};
 
-use crate::call::Call;
+use crate::caller::Caller;
 use crate::services::Services;
 use crate::session_service::SessionService;
 use crate::sub_serving::{apart, reply_first};
+use crate::unserved::Unserved;
 use bytes::Bytes;
-use server_messages::{Halt, Served, Setting};
+use server_messages::{Served, Setting};
 use std::alloc::{AllocError, Global};
 use ua_messages::{ResponseHeader, fault};
 use ua_subscription_messages::{RepublishRequest, republish_body};
@@ -18,17 +19,17 @@ use ua_types::Status;
 fn answer_body(
     alloc: Global,
     setting: &Setting,
-    call: &Call,
+    caller: &Caller,
     answer: Result<Bytes, Status>,
 ) -> Result<Vec<u8>, AllocError>
-    ensures { IfOk result (λ body. body.items ≡ republish_answer setting.now call.now answer) }
+    ensures { IfOk result (λ body. body.items ≡ republish_answer setting.now caller.now answer) }
 {
     match answer {
         Ok(message) => {
-            let header = ResponseHeader::new(call.handle, Status(0), setting.clock);
+            let header = ResponseHeader::new(caller.handle, Status(0), setting.clock);
             republish_body(alloc, &header, message.as_slice())
         }
-        Err(status) => fault(alloc, call.handle, status, setting.clock),
+        Err(status) => fault(alloc, caller.handle, status, setting.clock),
     }
 }
 
@@ -46,11 +47,11 @@ impl SessionService for Republish {
     fn serve(
         alloc: Global,
         setting: &Setting,
-        call: &Call,
+        caller: &Caller,
         session: u32,
         request: RepublishRequest,
         services: &mut Services,
-    ) -> Result<Served, Halt> {
+    ) -> Result<Served, Unserved> {
         let number = request.subscription_id;
         let wanted = request.retransmit_sequence_number;
         let items = &mut services.items;
@@ -58,7 +59,7 @@ impl SessionService for Republish {
             .subs
             .republish(alloc, items, setting.clock, session, number, wanted)?;
         let (answer, others) = apart(answered);
-        let body = answer_body(alloc, setting, call, answer)?;
-        Ok(reply_first(alloc, call, body, others)?)
+        let body = answer_body(alloc, setting, caller, answer)?;
+        Ok(reply_first(alloc, caller, body, others)?)
     }
 }

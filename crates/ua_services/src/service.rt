@@ -1,32 +1,34 @@
 //! What every service is.
 
-ghost use Rattle.std.specs.Prelude.{◌≡◌, ℕ, List, IfOk, ◌∷◌, []};
+ghost use Rattle.std.specs.Prelude.{◌≡◌, ℕ, List, IfOk, ◌∷◌, [], is_ok};
 ghost use Rattle.ua_messages.specs.Bodies.{message_of};
 ghost use Rattle.ua_messages.specs.ServiceFaults.{fault_body};
 ghost use Rattle.server_messages.specs.declared.setting.Setting.{Setting};
 ghost use Rattle.ua_services.specs.ServicesState.{Services};
-ghost use Rattle.ua_services.specs.Serving.{Serving, Serves, served_by, reply_of, replied, refusal_by};
-ghost use Rattle.ua_services.specs.declared.call.Call.{Call};
+ghost use Rattle.ua_services.specs.Serving.{Serving, Answers, Judges, served_by, reply_of, replied, refusal_by};
+ghost use Rattle.ua_services.specs.declared.caller.Caller.{Caller};
 
-use crate::call::Call;
+use crate::caller::Caller;
 use crate::services::Services;
+use crate::unserved::Unserved;
 use bytes::Bytes;
 use server_messages::{Halt, Reply, Served, Setting};
 use std::alloc::{AllocError, Global};
-use ua_binary::{TakeFault, Wire};
-use ua_messages::{fault, message};
+use ua_binary::TakeFault;
+use ua_messages::{fault, received};
 use ua_types::{Listed, Moment, Refusal, Status};
+use ua_walks::Walk;
 
 /// The reply to a call, with this body.
-pub(crate) fn reply(alloc: Global, call: &Call, body: Vec<u8>) -> Result<Served, AllocError>
-    ensures { IfOk result (λ served. served ≡ replied (reply_of call.now body.items)) }
+pub(crate) fn reply(alloc: Global, caller: &Caller, body: Vec<u8>) -> Result<Served, AllocError>
+    ensures { IfOk result (λ served. served ≡ replied (reply_of caller.now body.items)) }
 {
     let body = Bytes::from_vec(body)?;
     let mut replies = Listed::new(alloc);
     replies.push(Reply {
-        conn: call.conn,
-        id: call.id,
-        handle: call.handle,
+        conn: caller.conn,
+        id: caller.id,
+        handle: caller.handle,
         body,
     })?;
     Ok(Served {
@@ -49,52 +51,53 @@ pub(crate) fn status_told(refusal: Refusal) -> Result<Status, Halt>
 /// The fault with this status, in the place of a response.
 pub(crate) fn refuse(
     alloc: Global,
-    call: &Call,
+    caller: &Caller,
     status: Status,
     clock: Moment,
 ) -> Result<Served, AllocError>
-    ensures { IfOk result (λ served. served ≡ replied (reply_of call.now (fault_body call.now.handle status clock))) }
+    ensures { IfOk result (λ served. served ≡ replied (reply_of caller.now (fault_body caller.now.handle status clock))) }
 {
-    reply(alloc, call, fault(alloc, call.handle, status, clock)?)
+    reply(alloc, caller, fault(alloc, caller.handle, status, clock)?)
 }
 
 /// A service: a type of request, and what is done about it.
 ///
 /// Implementors write `serve`, and say what it means. [`Services::serve`] calls [`Service::take`],
-/// which refuses a request whose fields can't be read, once for all services.
+/// which refuses a request whose fields can't be read, once for all services. A refusal is a status, whose fault is
+/// written in one place ([`Services::serve`]): so no refusal wants memory.
 pub trait Service {
     /// The request's fields.
-    type Request: Wire;
+    type Request: Walk;
 
     /// What a request comes to.
-    ghost meaning: { Setting → Call → Self.Request → Services → Serving };
+    ghost meaning: { Setting → Caller → Self.Request → Services → Serving };
 
-    /// Does what a request asks for.
+    /// Does what a request asks for, or refuses it. Want of memory is answered to a request that isn't refused.
     fn serve(
         alloc: Global,
         setting: &Setting,
-        call: &Call,
+        caller: &Caller,
         request: Self::Request,
         services: &mut Services,
-    ) -> Result<Served, Halt>
-        ensures { Serves result services.new (meaning setting.now call.now request services.old) };
+    ) -> Result<Served, Unserved>
+        ensures { Judges setting.now caller.now result services.new (meaning setting.now caller.now request services.old) };
 
-    /// Reads a request's fields and serves it. One whose fields can't be read gets the fault
-    /// `BAD_DECODING_ERROR`.
+    /// Reads a request's fields and serves it. One whose fields can't be read is refused with
+    /// `BAD_DECODING_ERROR`, however little memory there is.
     final fn take(
         alloc: Global,
         setting: &Setting,
-        call: &Call,
+        caller: &Caller,
         body: &[u8],
         services: &mut Services,
-    ) -> Result<Served, Halt>
-        ensures { Serves result services.new
-            (served_by meaning setting.now call.now services.old (message_of Self.Request.reading body.now)) }
+    ) -> Result<Served, Unserved>
+        ensures { Answers setting.now caller.now (is_ok (message_of Self.Request.reading body.now)) result services.new
+            (served_by meaning setting.now caller.now services.old (message_of Self.Request.reading body.now)) }
     {
-        match message::<Self::Request>(alloc, body) {
-            Ok(request) => Self::serve(alloc, setting, call, request, services),
-            Err(TakeFault::Memory) => Err(Halt::Memory),
-            Err(_) => Ok(refuse(alloc, call, Status::BAD_DECODING_ERROR, setting.clock)?),
+        match received::<Self::Request>(alloc, body) {
+            Ok(request) => Self::serve(alloc, setting, caller, request, services),
+            Err(TakeFault::Memory) => Err(Unserved::Halted(Halt::Memory)),
+            Err(_) => Err(Unserved::Fault(Status::BAD_DECODING_ERROR)),
         }
     }
 }

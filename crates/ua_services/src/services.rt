@@ -1,14 +1,14 @@
 //! What is served.
 
 ghost use Rattle.std.specs.Prelude.{◌≡◌, true, IsOk};
-ghost use Rattle.ua_services.specs.Serving.{Serves};
+ghost use Rattle.ua_services.specs.Serving.{Answers, Serves};
 ghost use Rattle.ua_services.specs.ServicesState.{no_services_used};
-ghost use Rattle.ua_services.specs.Services.{serving_of, ticking_of, is_idle, forgotten};
+ghost use Rattle.ua_services.specs.Services.{serving_of, picked, ticking_of, is_idle, forgotten};
 
 use crate::activate_session::ActivateSession;
 use crate::browse::Browse;
 use crate::browse_next::BrowseNext;
-use crate::call::Call;
+use crate::caller::Caller;
 use crate::close_session::CloseSession;
 use crate::create_monitored_items::CreateMonitoredItems;
 use crate::create_session::CreateSession;
@@ -27,17 +27,18 @@ use crate::session_service::SessionService;
 use crate::set_monitoring_mode::SetMonitoringMode;
 use crate::set_publishing_mode::SetPublishingMode;
 use crate::sub_serving::{end_sessions, fire_timers, joined};
+use crate::unserved::Unserved;
 use crate::write::Write;
 use server_messages::{Halt, Request, Served, Setting};
 use std::alloc::Global;
 use ua_binary::TakeFault;
 use ua_history::History;
-use ua_messages::{RequestHeader, message, message_id, type_ids};
+use ua_messages::{RequestHeader, message_id, received, type_ids};
 use ua_monitored_items::Items;
 use ua_session::Sessions;
 use ua_space::Space;
 use ua_subscriptions::Subscriptions;
-use ua_types::{Config, Status};
+use ua_types::{Config, NodeId, Status};
 
 /// The services, and what they keep.
 ///
@@ -88,75 +89,94 @@ impl Services {
         ensures { Serves result self.new (serving_of setting.now request.now self.old) }
     {
         let body = request.body.as_slice();
-        let mut call = Call {
+        let mut caller = Caller {
             conn: request.conn,
             key: request.key,
             id: request.id,
             handle: 0,
         };
         let Ok(type_id) = message_id(body) else {
-            return Ok(refuse(alloc, &call, Status::BAD_DECODING_ERROR, setting.clock)?);
+            return Ok(refuse(alloc, &caller, Status::BAD_DECODING_ERROR, setting.clock)?);
         };
-        let header: RequestHeader = match message(alloc, body) {
+        let header: RequestHeader = match received(alloc, body) {
             Ok(header) => header,
             Err(TakeFault::Memory) => return Err(Halt::Memory),
             Err(_) => {
-                return Ok(refuse(alloc, &call, Status::BAD_DECODING_ERROR, setting.clock)?);
+                return Ok(refuse(alloc, &caller, Status::BAD_DECODING_ERROR, setting.clock)?);
             }
         };
-        call.handle = header.request_handle;
+        caller.handle = header.request_handle;
         let token = &header.authentication_token;
+        match self.pick(alloc, setting, &caller, token, type_id, body) {
+            Ok(served) => Ok(served),
+            Err(Unserved::Fault(status)) => Ok(refuse(alloc, &caller, status, setting.clock)?),
+            Err(Unserved::Halted(halt)) => Err(halt),
+        }
+    }
+
+    // Does what a request of this type asks for, or refuses it.
+    fn pick(
+        &mut self,
+        alloc: Global,
+        setting: &Setting,
+        caller: &Caller,
+        token: &NodeId,
+        type_id: u32,
+        body: &[u8],
+    ) -> Result<Served, Unserved>
+        ensures { Answers setting.now caller.now true result self.new (picked setting.now caller.now token.now body.now self.old type_id) }
+    {
         match type_id {
             type_ids::GET_ENDPOINTS_REQUEST => {
-                GetEndpoints::take(alloc, setting, &call, body, self)
+                GetEndpoints::take(alloc, setting, caller, body, self)
             }
             type_ids::CREATE_SESSION_REQUEST => {
-                CreateSession::take(alloc, setting, &call, body, self)
+                CreateSession::take(alloc, setting, caller, body, self)
             }
             type_ids::ACTIVATE_SESSION_REQUEST => {
-                ActivateSession::take(alloc, setting, &call, body, self)
+                ActivateSession::take(alloc, setting, caller, body, self)
             }
             type_ids::CLOSE_SESSION_REQUEST => {
-                CloseSession::take(alloc, setting, &call, body, self)
+                CloseSession::take(alloc, setting, caller, body, self)
             }
-            type_ids::READ_REQUEST => Read::take(alloc, setting, &call, token, body, self),
-            type_ids::WRITE_REQUEST => Write::take(alloc, setting, &call, token, body, self),
-            type_ids::BROWSE_REQUEST => Browse::take(alloc, setting, &call, token, body, self),
+            type_ids::READ_REQUEST => Read::take(alloc, setting, caller, token, body, self),
+            type_ids::WRITE_REQUEST => Write::take(alloc, setting, caller, token, body, self),
+            type_ids::BROWSE_REQUEST => Browse::take(alloc, setting, caller, token, body, self),
             type_ids::BROWSE_NEXT_REQUEST => {
-                BrowseNext::take(alloc, setting, &call, token, body, self)
+                BrowseNext::take(alloc, setting, caller, token, body, self)
             }
             type_ids::HISTORY_READ_REQUEST => {
-                HistoryRead::take(alloc, setting, &call, token, body, self)
+                HistoryRead::take(alloc, setting, caller, token, body, self)
             }
             type_ids::CREATE_MONITORED_ITEMS_REQUEST => {
-                CreateMonitoredItems::take(alloc, setting, &call, token, body, self)
+                CreateMonitoredItems::take(alloc, setting, caller, token, body, self)
             }
             type_ids::MODIFY_MONITORED_ITEMS_REQUEST => {
-                ModifyMonitoredItems::take(alloc, setting, &call, token, body, self)
+                ModifyMonitoredItems::take(alloc, setting, caller, token, body, self)
             }
             type_ids::SET_MONITORING_MODE_REQUEST => {
-                SetMonitoringMode::take(alloc, setting, &call, token, body, self)
+                SetMonitoringMode::take(alloc, setting, caller, token, body, self)
             }
             type_ids::DELETE_MONITORED_ITEMS_REQUEST => {
-                DeleteMonitoredItems::take(alloc, setting, &call, token, body, self)
+                DeleteMonitoredItems::take(alloc, setting, caller, token, body, self)
             }
             type_ids::CREATE_SUBSCRIPTION_REQUEST => {
-                CreateSubscription::take(alloc, setting, &call, token, body, self)
+                CreateSubscription::take(alloc, setting, caller, token, body, self)
             }
             type_ids::MODIFY_SUBSCRIPTION_REQUEST => {
-                ModifySubscription::take(alloc, setting, &call, token, body, self)
+                ModifySubscription::take(alloc, setting, caller, token, body, self)
             }
             type_ids::SET_PUBLISHING_MODE_REQUEST => {
-                SetPublishingMode::take(alloc, setting, &call, token, body, self)
+                SetPublishingMode::take(alloc, setting, caller, token, body, self)
             }
             type_ids::DELETE_SUBSCRIPTIONS_REQUEST => {
-                DeleteSubscriptions::take(alloc, setting, &call, token, body, self)
+                DeleteSubscriptions::take(alloc, setting, caller, token, body, self)
             }
-            type_ids::PUBLISH_REQUEST => Publish::take(alloc, setting, &call, token, body, self),
+            type_ids::PUBLISH_REQUEST => Publish::take(alloc, setting, caller, token, body, self),
             type_ids::REPUBLISH_REQUEST => {
-                Republish::take(alloc, setting, &call, token, body, self)
+                Republish::take(alloc, setting, caller, token, body, self)
             }
-            _ => Ok(refuse(alloc, &call, Status::BAD_SERVICE_UNSUPPORTED, setting.clock)?),
+            _ => Err(Unserved::Fault(Status::BAD_SERVICE_UNSUPPORTED)),
         }
     }
 

@@ -3,19 +3,20 @@
 ghost use Rattle.std.specs.Prelude.{ℕ};
 ghost use Rattle.ua_messages.specs.Bodies.{message_of};
 ghost use Rattle.server_messages.specs.declared.setting.Setting.{Setting};
-ghost use Rattle.ua_services.specs.InSession.{served_in_session};
+ghost use Rattle.ua_services.specs.InSession.{served_in_session, is_admitted};
 ghost use Rattle.ua_services.specs.ServicesState.{Services};
-ghost use Rattle.ua_services.specs.Serving.{Serving, Serves};
-ghost use Rattle.ua_services.specs.declared.call.Call.{Call};
+ghost use Rattle.ua_services.specs.Serving.{Serving, Answers, Judges};
+ghost use Rattle.ua_services.specs.declared.caller.Caller.{Caller};
 
-use crate::call::Call;
-use crate::service::refuse;
+use crate::caller::Caller;
 use crate::services::Services;
+use crate::unserved::Unserved;
 use server_messages::{Halt, Served, Setting};
 use std::alloc::Global;
-use ua_binary::{TakeFault, Wire};
-use ua_messages::message;
+use ua_binary::TakeFault;
+use ua_messages::received;
 use ua_types::{NodeId, Status};
+use ua_walks::Walk;
 
 /// A service of a session: a type of request, and what is done about it once its session is found.
 ///
@@ -24,51 +25,53 @@ use ua_types::{NodeId, Status};
 /// ([`ua_session::Sessions::find`]).
 pub trait SessionService {
     /// The request's fields.
-    type Request: Wire;
+    type Request: Walk;
 
     /// What a request comes to.
-    ghost meaning: { Setting → Call → ℕ → Self.Request → Services → Serving };
+    ghost meaning: { Setting → Caller → ℕ → Self.Request → Services → Serving };
 
-    /// Does what a request asks for. `session` is the number of the session that was found: a service that needs
-    /// its continuation points takes them out, uses them and puts them back
-    /// ([`ua_session::Sessions::take_points`]). `Memory` where an allocation fails, `Exhausted` where a serial of 64
-    /// bits ran out.
+    /// Does what a request asks for, or refuses it. `session` is the number of the session that was found: a service that needs
+    /// its continuation points uses them in their place ([`ua_session::Sessions::points_mut`]). Want of memory is answered to a
+    /// request that isn't refused, `Exhausted` where a serial of 64 bits ran out.
     fn serve(
         alloc: Global,
         setting: &Setting,
-        call: &Call,
+        caller: &Caller,
         session: u32,
         request: Self::Request,
         services: &mut Services,
-    ) -> Result<Served, Halt>
-        ensures { Serves result services.new (meaning setting.now call.now session request services.old) };
+    ) -> Result<Served, Unserved>
+        ensures { Judges setting.now caller.now result services.new (meaning setting.now caller.now session request services.old) };
 
     /// Reads a request's fields, finds the session that the token in its header names, and serves it.
     ///
     /// The faults, in this order: `BAD_DECODING_ERROR` where the fields can't be read,
     /// `BAD_SESSION_ID_INVALID` where no session has the token, `BAD_SECURE_CHANNEL_ID_INVALID` on another
-    /// connection than the session's, `BAD_SESSION_NOT_ACTIVATED` before ActivateSession.
+    /// connection than the session's, `BAD_SESSION_NOT_ACTIVATED` before ActivateSession. They come however little
+    /// memory there is.
     final fn take(
         alloc: Global,
         setting: &Setting,
-        call: &Call,
+        caller: &Caller,
         token: &NodeId,
         body: &[u8],
         services: &mut Services,
-    ) -> Result<Served, Halt>
-        ensures { Serves result services.new
-            (served_in_session meaning setting.now call.now token.now services.old (message_of Self.Request.reading body.now)) }
+    ) -> Result<Served, Unserved>
+        ensures { Answers setting.now caller.now (is_admitted token.now caller.now.conn services.old.sessions (message_of Self.Request.reading body.now)) result services.new
+            (served_in_session meaning setting.now caller.now token.now services.old (message_of Self.Request.reading body.now)) }
     {
-        let request = match message::<Self::Request>(alloc, body) {
-            Ok(request) => request,
-            Err(TakeFault::Memory) => return Err(Halt::Memory),
-            Err(_) => {
-                return Ok(refuse(alloc, call, Status::BAD_DECODING_ERROR, setting.clock)?);
-            }
+        let request = match received::<Self::Request>(alloc, body) {
+            Ok(request) => Some(request),
+            Err(TakeFault::Memory) => None,
+            Err(_) => return Err(Unserved::Fault(Status::BAD_DECODING_ERROR)),
         };
-        match services.sessions.find(token, call.conn) {
-            Ok(session) => Self::serve(alloc, setting, call, session, request, services),
-            Err(status) => Ok(refuse(alloc, call, status, setting.clock)?),
+        let session = match services.sessions.find(token, caller.conn) {
+            Ok(session) => session,
+            Err(status) => return Err(Unserved::Fault(status)),
+        };
+        match request {
+            Some(request) => Self::serve(alloc, setting, caller, session, request, services),
+            None => Err(Unserved::Halted(Halt::Memory)),
         }
     }
 }

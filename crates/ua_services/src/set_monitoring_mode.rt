@@ -2,14 +2,15 @@
 
 ghost use Rattle.ua_services.specs.SetMonitoringMode.{items_moded};
 
-use crate::call::Call;
+use crate::caller::Caller;
 use crate::item_serving::ItemService;
 use crate::operations::operations;
 use crate::services::Services;
 use crate::status_results::statuses_body;
+use crate::unserved::Unserved;
 use server_messages::Setting;
-use std::alloc::{AllocError, Global};
-use ua_messages::{fault, type_ids};
+use std::alloc::Global;
+use ua_messages::type_ids;
 use ua_monitored_items::Mode;
 use ua_subscription_messages::SetMonitoringModeRequest;
 use ua_types::Status;
@@ -36,17 +37,16 @@ impl ItemService for SetMonitoringMode {
     fn change_items(
         alloc: Global,
         setting: &Setting,
-        call: &Call,
+        caller: &Caller,
         request: SetMonitoringModeRequest,
         services: &mut Services,
-    ) -> Result<Vec<u8>, AllocError> {
+    ) -> Result<Vec<u8>, Unserved> {
         let numbers = match operations(&setting.config, &request.monitored_item_ids) {
             Ok(numbers) => numbers,
-            Err(status) => return fault(alloc, call.handle, status, setting.clock),
+            Err(status) => return Err(Unserved::Fault(status)),
         };
         let Some(mode) = Mode::numbered(request.monitoring_mode) else {
-            let status = Status::BAD_MONITORING_MODE_INVALID;
-            return fault(alloc, call.handle, status, setting.clock);
+            return Err(Unserved::Fault(Status::BAD_MONITORING_MODE_INVALID));
         };
         let number = request.subscription_id;
         let space = &services.space;
@@ -54,6 +54,6 @@ impl ItemService for SetMonitoringMode {
             .items
             .set_mode(alloc, space, setting.clock, number, mode, numbers)?;
         let type_id = type_ids::SET_MONITORING_MODE_RESPONSE;
-        statuses_body(alloc, type_id, setting, call, statuses.as_slice())
+        Ok(statuses_body(alloc, type_id, setting, caller, statuses.as_slice())?)
     }
 }

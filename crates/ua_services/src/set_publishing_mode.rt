@@ -2,14 +2,14 @@
 
 ghost use Rattle.ua_services.specs.SetPublishingMode.{set_publishing_mode_meaning};
 
-use crate::call::Call;
+use crate::caller::Caller;
 use crate::operations::operations;
-use crate::service::refuse;
 use crate::services::Services;
 use crate::session_service::SessionService;
 use crate::status_results::statuses_body;
 use crate::sub_serving::{apart, reply_first};
-use server_messages::{Halt, Served, Setting};
+use crate::unserved::Unserved;
+use server_messages::{Served, Setting};
 use std::alloc::Global;
 use ua_messages::type_ids;
 use ua_subscription_messages::SetPublishingModeRequest;
@@ -28,14 +28,14 @@ impl SessionService for SetPublishingMode {
     fn serve(
         alloc: Global,
         setting: &Setting,
-        call: &Call,
+        caller: &Caller,
         session: u32,
         request: SetPublishingModeRequest,
         services: &mut Services,
-    ) -> Result<Served, Halt> {
+    ) -> Result<Served, Unserved> {
         let numbers = match operations(&setting.config, &request.subscription_ids) {
             Ok(numbers) => numbers,
-            Err(status) => return Ok(refuse(alloc, call, status, setting.clock)?),
+            Err(status) => return Err(Unserved::Fault(status)),
         };
         let enabled = request.publishing_enabled;
         let items = &mut services.items;
@@ -44,7 +44,7 @@ impl SessionService for SetPublishingMode {
             .set_mode(alloc, items, setting.clock, session, numbers, enabled)?;
         let (statuses, others) = apart(answered);
         let type_id = type_ids::SET_PUBLISHING_MODE_RESPONSE;
-        let body = statuses_body(alloc, type_id, setting, call, statuses.as_slice())?;
-        Ok(reply_first(alloc, call, body, others)?)
+        let body = statuses_body(alloc, type_id, setting, caller, statuses.as_slice())?;
+        Ok(reply_first(alloc, caller, body, others)?)
     }
 }

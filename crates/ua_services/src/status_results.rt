@@ -3,7 +3,7 @@
 ghost use Rattle.std.specs.Prelude.{◌≡◌, ◌<◌, ◌^◌, length, IfOk};
 ghost use Rattle.ua_services.specs.StatusResults.{statuses_body as statuses_body_spec};
 
-use crate::call::Call;
+use crate::caller::Caller;
 use server_messages::Setting;
 use std::alloc::{AllocError, Global};
 use ua_messages::{ResponseHeader, results_body};
@@ -14,12 +14,12 @@ pub(crate) fn statuses_body(
     alloc: Global,
     type_id: u32,
     setting: &Setting,
-    call: &Call,
+    caller: &Caller,
     statuses: &[Status],
 ) -> Result<Vec<u8>, AllocError>
     requires { length statuses.now < 2 ^ 31 }
-    ensures { IfOk result (λ body. body.items ≡ statuses_body_spec type_id setting.now call.now statuses.now) }
+    ensures { IfOk result (λ body. body.items ≡ statuses_body_spec type_id setting.now caller.now statuses.now) }
 {
-    let header = ResponseHeader::new(call.handle, Status(0), setting.clock);
+    let header = ResponseHeader::new(caller.handle, Status(0), setting.clock);
     results_body(alloc, type_id, &header, statuses)
 }

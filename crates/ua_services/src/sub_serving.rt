@@ -6,7 +6,7 @@ ghost use Rattle.ua_subscriptions.specs.Ranks.{is_any_due};
 ghost use Rattle.ua_services.specs.Serving.{Serves, reply_of};
 ghost use Rattle.ua_services.specs.SubServing.{session_over, all_timed_out, timers_met};
 
-use crate::call::Call;
+use crate::caller::Caller;
 use crate::service::reply;
 use crate::services::Services;
 use server_messages::{Halt, Served, Setting};
@@ -39,13 +39,13 @@ pub(crate) fn served_alone(answered: Answered<()>) -> Served
 /// The reply to a call with this body, before what else is served.
 pub(crate) fn reply_first(
     alloc: Global,
-    call: &Call,
+    caller: &Caller,
     body: Vec<u8>,
     others: Served,
 ) -> Result<Served, AllocError>
-    ensures { IfOk result (λ served. served ≡ record { replies = reply_of call.now body.items ∷ others.replies; rows = others.rows }) }
+    ensures { IfOk result (λ served. served ≡ record { replies = reply_of caller.now body.items ∷ others.replies; rows = others.rows }) }
 {
-    joined(reply(alloc, call, body)?, others)
+    joined(reply(alloc, caller, body)?, others)
 }
 
 /// What was served before, and then more.

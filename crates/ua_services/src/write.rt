@@ -4,13 +4,14 @@ ghost use Rattle.std.specs.Prelude.{◌≡◌, OnOk};
 ghost use Rattle.ua_space.specs.Values.{variable_at};
 ghost use Rattle.ua_services.specs.Write.{is_historizing as is_historizing_spec, all_kept, write_meaning};
 
-use crate::call::Call;
+use crate::caller::Caller;
 use crate::operations::into_operations;
-use crate::service::{refuse, reply};
+use crate::service::reply;
 use crate::services::Services;
 use crate::session_service::SessionService;
 use crate::status_results::statuses_body;
-use server_messages::{Halt, Served, Setting};
+use crate::unserved::Unserved;
+use server_messages::{Served, Setting};
 use std::alloc::{AllocError, Global};
 use ua_history::History;
 use ua_messages::type_ids;
@@ -64,14 +65,14 @@ impl SessionService for Write {
     fn serve(
         alloc: Global,
         setting: &Setting,
-        call: &Call,
+        caller: &Caller,
         _session: u32,
         request: WriteRequest,
         services: &mut Services,
-    ) -> Result<Served, Halt> {
+    ) -> Result<Served, Unserved> {
         let values = match into_operations(&setting.config, request.nodes_to_write) {
             Ok(values) => values,
-            Err(status) => return Ok(refuse(alloc, call, status, setting.clock)?),
+            Err(status) => return Err(Unserved::Fault(status)),
         };
         let Written { statuses, changed } = write(
             alloc,
@@ -82,7 +83,7 @@ impl SessionService for Write {
         services.items.sample(alloc, changed.as_slice())?;
         keep_all(alloc, &services.space, &mut services.history, changed)?;
         let type_id = type_ids::WRITE_RESPONSE;
-        let body = statuses_body(alloc, type_id, setting, call, statuses.as_slice())?;
-        Ok(reply(alloc, call, body)?)
+        let body = statuses_body(alloc, type_id, setting, caller, statuses.as_slice())?;
+        Ok(reply(alloc, caller, body)?)
     }
 }

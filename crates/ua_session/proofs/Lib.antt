@@ -2,3 +2,4 @@ pub mod TableLemmas
 pub mod DueLemmas
 pub mod HeldLemmas
 pub mod PointLemmas
+pub mod LentPoints

@@ -6,3 +6,4 @@ pub mod PointLaws
 pub mod Codes
 pub mod SessionTables
 pub mod Sessions
+pub mod PointLends

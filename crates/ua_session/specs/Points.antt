@@ -1,5 +1,5 @@
 -- Continuation points of a session: where long answers go on (ContinuationPoint, IEC 62541-4, section 7).
-use Rattle.std.specs.Prelude.{◌≡◌, ℕ, ◌+◌, ◌^◌, ◌==◌, Bool, true, nat_le, List, length, Option, Some, None, Result, Ok, Err, if◌then◌else◌}
+use Rattle.std.specs.Prelude.{◌≡◌, ℕ, ◌+◌, ◌-◌, ◌^◌, ◌==◌, Bool, true, nat_le, List, length, Option, Some, None, Result, Ok, Err, if◌then◌else◌}
 use Rattle.std.specs.FinMap.{FinMap, insert, remove, empty, len}
 use Rattle.std.specs.Int.{w64, from_le_bytes}
 use Rattle.std.specs.Ordering.{nat_cmp}
@@ -39,6 +39,10 @@ hold_of s point = if is_full s then step (Err status.BAD_NO_CONTINUATION_POINTS)
 -- a point in the place of another, which is held no more
 unfoldable pub replace_of : PointsState → ℕ → Point → Step ℕ Status PointsState
 replace_of s serial point = step (Ok (s.made + 1)) (without_point (with_point s point) serial)
+
+-- the last serial of 64 bits was given
+abbrev pub is_at_last : PointsState → Bool
+is_at_last s = nat_le (2 ^ 64 - 1) s.made
 
 -- a serial past the last one of 64 bits was given
 abbrev pub is_overspent : PointsState → Bool

@@ -94,11 +94,11 @@ abbrev pub next_nonce : SessionsState → List ℕ → List ℕ
 next_nonce s key = nonce_of key (s.nonces + 1)
 
 -- A call takes the step that is said of it, unless memory ran out, or the nonces did where one is to be given: then the state is
--- the old one
+-- the old one. Neither takes the place of a refusal, nor want of memory that of the nonces' end
 abbrev pub TakesNonce : {A : Type 0} → Result A Refusal → SessionsState → SessionsState → Step A Status SessionsState → Type 0
 TakesNonce (Ok x) old new said = said ≡ step (Ok x) new
 TakesNonce (Err (Service status)) old new said = said ≡ step (Err status) new
-TakesNonce (Err Memory) old new said = new ≡ old
+TakesNonce (Err Memory) old new said = (is_spent old ≡ false) × IsOk said.answer × (new ≡ old)
 TakesNonce (Err Exhausted) old new said = (is_spent old ≡ true) × IsOk said.answer × (new ≡ old)
 
 abbrev pub refused : {A : Type 0} → SessionsState → Status → Step A Status SessionsState
@@ -193,6 +193,3 @@ points_of s number = unwrap_or (get s.points number) (no_points s.most_points)
 
 abbrev pub with_points : SessionsState → ℕ → PointsState → SessionsState
 with_points s number points = record s { points = insert s.points number points }
-
-abbrev pub without_points : SessionsState → ℕ → SessionsState
-without_points s number = record s { points = remove s.points number }

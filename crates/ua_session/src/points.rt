@@ -1,10 +1,12 @@
 //! Continuation points: where a long answer goes on.
 
-ghost use Rattle.std.specs.Prelude.{◌≡◌, IfOk, option_map};
+ghost use Rattle.std.specs.Prelude.{◌≡◌, true, false, Err, IfOk, option_map};
 ghost use Rattle.std.specs.FinMap as map;
 ghost use Rattle.std.specs.Int.{w64, to_le_bytes};
 ghost use Rattle.std.specs.Option.{option_copied};
-ghost use Rattle.ua_session.specs.Points.{TakesSerial, no_points, hold_of, put_of, replace_of, without_point, serial_of};
+ghost use Rattle.ua_types.specs.declared.refusal.Refusal.TheVariants.{Service, Exhausted};
+ghost use Rattle.ua_types.specs.declared.status.TheConstants.Status as status;
+ghost use Rattle.ua_session.specs.Points.{TakesSerial, is_full, is_at_last, no_points, hold_of, put_of, replace_of, without_point, serial_of};
 
 use std::alloc::{AllocError, Global};
 use std::collections::BTreeMap;
@@ -100,11 +102,13 @@ impl Points {
 
     /// Keeps a point, and says its serial.
     ///
-    /// `BAD_NO_CONTINUATION_POINTS` where as many are held as may be. `Exhausted` where no serial is left, and `Memory`.
-    /// At an `Err` nothing changed.
+    /// `BAD_NO_CONTINUATION_POINTS` where as many are held as may be. `Exhausted` where no serial is left. Both come
+    /// however little memory there is; else `Memory`. At an `Err` nothing changed.
     #[tactic(auto, unfolding(crate::specs::Points::hold_of))]
     pub fn hold(&mut self, point: Point) -> Result<u64, Refusal>
-        ensures { TakesSerial result self.old self.new (hold_of self.old point) }
+        ensures taken { TakesSerial result self.old self.new (hold_of self.old point) }
+        ensures full { is_full self.old ≡ true → result ≡ Err (Service status.BAD_NO_CONTINUATION_POINTS) }
+        ensures spent { is_full self.old ≡ false → is_at_last self.old ≡ true → result ≡ Err Exhausted }
     {
         if self.len() >= self.most as usize {
             return Err(Refusal::Service(Status::BAD_NO_CONTINUATION_POINTS));
@@ -114,7 +118,8 @@ impl Points {
 
     // Keeps a point under the next serial.
     fn put(&mut self, point: Point) -> Result<u64, Refusal>
-        ensures { TakesSerial result self.old self.new (put_of self.old point) }
+        ensures taken { TakesSerial result self.old self.new (put_of self.old point) }
+        ensures spent { is_at_last self.old ≡ true → result ≡ Err Exhausted }
     {
         if self.made == u64::MAX {
             return Err(Refusal::Exhausted);
@@ -143,10 +148,12 @@ impl Points {
     /// Puts a point in the place of the one with this serial, and says its serial, which is a new one. Where none
     /// has the serial, the point is added.
     ///
-    /// `Exhausted` where no serial is left, and `Memory`. At an `Err` nothing changed.
+    /// `Exhausted` where no serial is left, however little memory there is, and `Memory`. At an `Err` nothing
+    /// changed.
     #[tactic(auto, unfolding(crate::specs::Points::replace_of))]
     pub fn replace(&mut self, serial: u64, point: Point) -> Result<u64, Refusal>
-        ensures { TakesSerial result self.old self.new (replace_of self.old serial point) }
+        ensures taken { TakesSerial result self.old self.new (replace_of self.old serial point) }
+        ensures spent { is_at_last self.old ≡ true → result ≡ Err Exhausted }
     {
         let next = self.put(point)?;
         self.held.remove(&serial);

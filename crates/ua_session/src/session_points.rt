@@ -1,7 +1,10 @@
 //! The continuation points of each session.
 
-ghost use Rattle.std.specs.Prelude.{◌≡◌, OnOk};
+ghost use Rattle.std.specs.Prelude.{◌≡◌, OnOk, OnErr, is_some};
+ghost use Rattle.std.specs.Borrow.{sem};
 ghost use Rattle.std.specs.FinMap as map;
+ghost use Rattle.std.specs.Option.{option_copied_mut};
+ghost use Rattle.ua_session.specs.PointLends.{lends_entry};
 ghost use Rattle.ua_session.specs.Sessions.{without};
 
 use crate::points::Points;
@@ -39,12 +42,19 @@ impl SessionPoints {
         }
     }
 
-    /// Takes those of the session with this number out. Takes no memory.
-    pub fn take(&mut self, number: u32) -> Option<Points>
-        ensures found { result ≡ map.get self.old number }
-        ensures rest { self.new ≡ map.remove self.old number }
+    /// Whether the session with this number has any entry.
+    pub fn contains(&self, number: u32) -> bool
+        ensures { result ≡ is_some (map.get self.now number) }
     {
-        self.entries.remove(&number)
+        self.entries.contains_key(&number)
+    }
+
+    /// Those of the session with this number, to be changed in their place. Takes no memory.
+    pub fn get_mut(&mut self, number: u32) -> Option<&mut Points>
+        ensures* writes_back { sem 𝓛 (lends_entry self.entry number result) }
+        ensures found { option_copied_mut result ≡ map.get self.old number }
+    {
+        self.entries.get_mut(&number)
     }
 
     /// Drops those of the session with this number. Takes no memory.
@@ -63,9 +73,10 @@ impl SessionPoints {
         }
     }
 
-    /// Gives these to the session with this number.
+    /// Gives these to the session with this number. At an `Err` nothing changed.
     pub fn insert(&mut self, number: u32, points: Points) -> Result<(), AllocError>
-        ensures { OnOk result (self.new ≡ map.insert self.old number points) }
+        ensures ok { OnOk result (self.new ≡ map.insert self.old number points) }
+        ensures err { OnErr result (self.new ≡ self.old) }
     {
         self.entries.insert(number, points)?;
         Ok(())

@@ -1,9 +1,13 @@
 //! Sessions.
 
-ghost use Rattle.std.specs.Prelude.{◌≡◌, ◌≤ℤ◌, ◌+◌, ◌-◌, ◌^◌, ◌<◌, int_lt, true, false, [], option_map, is_some, IsOk, IfOk, OnOk, OnErr};
+ghost use Rattle.std.specs.Prelude.{◌≡◌, ◌≢◌, ◌≤ℤ◌, ◌+◌, ◌-◌, ◌^◌, ◌<◌, int_lt, true, false, [], option_map, is_some, Err, IsOk, IfOk, OnOk, OnErr};
+ghost use Rattle.std.specs.Borrow.{sem};
 ghost use Rattle.std.specs.FinMap as map;
+ghost use Rattle.std.specs.Option.{option_copied_mut};
 ghost use Rattle.ua_types.specs.Answers.{step};
-ghost use Rattle.ua_session.specs.Sessions.{TakesNonce, no_sessions, named as named_spec, with_session, with_new_session, with_nonce, next_nonce as next_nonce_spec, deadline_of, is_spent, create_of, find_of, activate_of, close_of, without, ticked, ended_by, points_of, with_points, without_points};
+ghost use Rattle.ua_types.specs.declared.refusal.Refusal.TheVariants.{Memory};
+ghost use Rattle.ua_session.specs.Sessions.{TakesNonce, no_sessions, named as named_spec, with_session, with_new_session, with_nonce, next_nonce as next_nonce_spec, deadline_of, is_spent, create_of, find_of, activate_of, close_of, without, ticked, ended_by, points_of, with_points};
+ghost use Rattle.ua_session.specs.PointLends.{lends_points};
 
 use crate::nonces::nonce;
 use crate::points::Points;
@@ -174,7 +178,8 @@ impl Sessions {
     /// nonce for it. It isn't activated.
     ///
     /// `BAD_TOO_MANY_SESSIONS` where as many are held as the configuration allows, or the numbers are
-    /// used up. `Exhausted` where no serial is left for the nonce. At an `Err` nothing changed.
+    /// used up. `Exhausted` where no serial is left for the nonce. Both come however little memory there is. At an
+    /// `Err` nothing changed.
     #[tactic(auto, unfolding(crate::specs::Sessions::create_of))]
     pub fn create(&mut self, alloc: Global, conn: u64, key: &[u8; 32]) -> Result<Created, Refusal>
         ensures { TakesNonce result self.old self.new (create_of self.old conn key.now) }
@@ -240,7 +245,8 @@ impl Sessions {
         key: &[u8; 32],
         is_anonymous: bool,
     ) -> Result<[u8; 32], Refusal>
-        ensures { TakesNonce result self.old self.new (activate_of self.old token.now conn key.now is_anonymous) }
+        ensures taken { TakesNonce result self.old self.new (activate_of self.old token.now conn key.now is_anonymous) }
+        ensures memory { result ≢ Err Memory }
     {
         let Some((number, session)) = self.named(token) else {
             return Err(Refusal::Service(Status::BAD_SESSION_ID_INVALID));
@@ -307,23 +313,26 @@ impl Sessions {
         Ok(ended)
     }
 
-    /// Takes the continuation points of a session out, to be used and put back ([`Sessions::put_points`]).
-    /// Takes no memory.
-    pub fn take_points(&mut self, alloc: Global, number: u32) -> Points
-        ensures points { result ≡ points_of self.old number }
-        ensures rest { self.new ≡ without_points self.old number }
+    /// Gives a session a place for its continuation points, if it has none yet, which is all that takes memory here.
+    /// At an `Err` nothing changed.
+    pub fn open_points(&mut self, alloc: Global, number: u32) -> Result<(), AllocError>
+        ensures ok { OnOk result (self.new ≡ with_points self.old number (points_of self.old number)) }
+        ensures err { OnErr result (self.new ≡ self.old) }
+        ensures there { is_some (map.get self.old.points number) ≡ true → IsOk result }
     {
-        match self.points.take(number) {
-            Some(points) => points,
-            None => Points::new(alloc, self.most_points),
+        if !self.points.contains(number) {
+            self.points
+                .insert(number, Points::new(alloc, self.most_points))?;
         }
+        Ok(())
     }
 
-    /// Gives a session these continuation points. The error is want of memory: the points are then lost, and
-    /// nothing is said of the sessions.
-    pub fn put_points(&mut self, number: u32, points: Points) -> Result<(), AllocError>
-        ensures { OnOk result (self.new ≡ with_points self.old number points) }
+    /// The continuation points of a session that has a place for them ([`Sessions::open_points`]), to be used there.
+    /// Takes no memory.
+    pub fn points_mut(&mut self, number: u32) -> Option<&mut Points>
+        ensures* writes_back { sem 𝓛 (lends_points self.entry number result) }
+        ensures found { option_copied_mut result ≡ map.get self.old.points number }
     {
-        self.points.insert(number, points)
+        self.points.get_mut(number)
     }
 }

@@ -14,16 +14,16 @@ keeps_N1 c s at em0 f h = grind (arith, f, h)
 pub keeps_N2 : (c : Circumstances) (s : Standing) → s.vars.state ≡ Normal → (s.vars.enabled && s.vars.more) ≡ true → AreFair c → IsSteady s → IsSteady (after c N2 s)
 keeps_N2 c s at em1 f h = grind (arith, f, h)
 
-pub keeps_N3 : (c : Circumstances) (s : Standing) → s.vars.state ≡ Normal → 2 ≤ s.vars.life → s.vars.queued ≡ true → (s.vars.enabled && s.vars.available) ≡ true → AreFair c → IsSteady s → IsSteady (after c N3 s)
+pub keeps_N3 : (c : Circumstances) (s : Standing) → s.vars.state ≡ Normal → 2 ≤ s.vars.lifetime → s.vars.queued ≡ true → (s.vars.enabled && s.vars.available) ≡ true → AreFair c → IsSteady s → IsSteady (after c N3 s)
 keeps_N3 c s at l2 q1 ea1 f h = grind (arith, f, h)
 
-pub keeps_N4 : (c : Circumstances) (s : Standing) → s.vars.state ≡ Normal → 2 ≤ s.vars.life → s.vars.queued ≡ true → (s.vars.enabled && s.vars.available) ≡ false → AreFair c → IsSteady s → IsSteady (after c N4 s)
+pub keeps_N4 : (c : Circumstances) (s : Standing) → s.vars.state ≡ Normal → 2 ≤ s.vars.lifetime → s.vars.queued ≡ true → (s.vars.enabled && s.vars.available) ≡ false → AreFair c → IsSteady s → IsSteady (after c N4 s)
 keeps_N4 c s at l2 q1 ea0 f h = grind (arith, f, h)
 
-pub keeps_N5 : (c : Circumstances) (s : Standing) → s.vars.state ≡ Normal → 2 ≤ s.vars.life → s.vars.queued ≡ false → AreFair c → IsSteady s → IsSteady (after c N5 s)
+pub keeps_N5 : (c : Circumstances) (s : Standing) → s.vars.state ≡ Normal → 2 ≤ s.vars.lifetime → s.vars.queued ≡ false → AreFair c → IsSteady s → IsSteady (after c N5 s)
 keeps_N5 c s at l2 q0 f h = grind (arith, f, h)
 
-pub keeps_N6 : (c : Circumstances) (s : Standing) → s.vars.state ≡ Normal → 2 ≤ s.vars.life → (s.vars.enabled && s.vars.available) ≡ false → AreFair c → IsSteady s → IsSteady (after c N6 s)
+pub keeps_N6 : (c : Circumstances) (s : Standing) → s.vars.state ≡ Normal → 2 ≤ s.vars.lifetime → (s.vars.enabled && s.vars.available) ≡ false → AreFair c → IsSteady s → IsSteady (after c N6 s)
 keeps_N6 c s at l2 ea0 f h = grind (arith, f, h)
 
 pub keeps_L1 : (c : Circumstances) (s : Standing) → s.vars.state ≡ Late → (s.vars.enabled && s.vars.available) ≡ true → AreFair c → IsSteady s → IsSteady (after c L1 s)
@@ -32,22 +32,22 @@ keeps_L1 c s at ea1 f h = grind (arith, f, h)
 pub keeps_L2 : (c : Circumstances) (s : Standing) → s.vars.state ≡ Late → (s.vars.enabled && s.vars.available) ≡ false → AreFair c → IsSteady s → IsSteady (after c L2 s)
 keeps_L2 c s at ea0 f h = grind (arith, f, h)
 
-pub keeps_L3 : (c : Circumstances) (s : Standing) → s.vars.state ≡ Late → 2 ≤ s.vars.life → AreFair c → IsSteady s → IsSteady (after c L3 s)
+pub keeps_L3 : (c : Circumstances) (s : Standing) → s.vars.state ≡ Late → 2 ≤ s.vars.lifetime → AreFair c → IsSteady s → IsSteady (after c L3 s)
 keeps_L3 c s at l2 f h = grind (arith, f, h)
 
 pub keeps_K1 : (c : Circumstances) (s : Standing) → s.vars.state ≡ KeepAlive → AreFair c → IsSteady s → IsSteady (after c K1 s)
 keeps_K1 c s at f h = grind (arith, f, h)
 
-pub keeps_K2 : (c : Circumstances) (s : Standing) → s.vars.state ≡ KeepAlive → 2 ≤ s.vars.life → s.vars.queued ≡ true → (s.vars.enabled && s.vars.available) ≡ true → AreFair c → IsSteady s → IsSteady (after c K2 s)
+pub keeps_K2 : (c : Circumstances) (s : Standing) → s.vars.state ≡ KeepAlive → 2 ≤ s.vars.lifetime → s.vars.queued ≡ true → (s.vars.enabled && s.vars.available) ≡ true → AreFair c → IsSteady s → IsSteady (after c K2 s)
 keeps_K2 c s at l2 q1 ea1 f h = grind (arith, f, h)
 
-pub keeps_K3 : (c : Circumstances) (s : Standing) → s.vars.state ≡ KeepAlive → 2 ≤ s.vars.life → s.vars.queued ≡ true → s.vars.keep ≡ 1 → (s.vars.enabled && s.vars.available) ≡ false → AreFair c → IsSteady s → IsSteady (after c K3 s)
+pub keeps_K3 : (c : Circumstances) (s : Standing) → s.vars.state ≡ KeepAlive → 2 ≤ s.vars.lifetime → s.vars.queued ≡ true → s.vars.keep_alive ≡ 1 → (s.vars.enabled && s.vars.available) ≡ false → AreFair c → IsSteady s → IsSteady (after c K3 s)
 keeps_K3 c s at l2 q1 k1 ea0 f h = grind (arith, f, h)
 
-pub keeps_K4 : (c : Circumstances) (s : Standing) → s.vars.state ≡ KeepAlive → 2 ≤ s.vars.life → 2 ≤ s.vars.keep → (s.vars.enabled && s.vars.available) ≡ false → AreFair c → IsSteady s → IsSteady (after c K4 s)
+pub keeps_K4 : (c : Circumstances) (s : Standing) → s.vars.state ≡ KeepAlive → 2 ≤ s.vars.lifetime → 2 ≤ s.vars.keep_alive → (s.vars.enabled && s.vars.available) ≡ false → AreFair c → IsSteady s → IsSteady (after c K4 s)
 keeps_K4 c s at l2 k2 ea0 f h = grind (arith, f, h)
 
-pub keeps_K5 : (c : Circumstances) (s : Standing) → s.vars.state ≡ KeepAlive → 2 ≤ s.vars.life → s.vars.queued ≡ false → AreFair c → IsSteady s → IsSteady (after c K5 s)
+pub keeps_K5 : (c : Circumstances) (s : Standing) → s.vars.state ≡ KeepAlive → 2 ≤ s.vars.lifetime → s.vars.queued ≡ false → AreFair c → IsSteady s → IsSteady (after c K5 s)
 keeps_K5 c s at l2 q0 f h = grind (arith, f, h)
 
 pub keeps_G1 : (c : Circumstances) (s : Standing) → AreFair c → IsSteady s → IsSteady (after c G1 s)

@@ -48,8 +48,8 @@ holds_as_answered : (v : Vars) (e : TableEvent) → IsLively v → holds v e ≡
 holds_as_answered v e h = fun_ext by
   where
     by : (c : Condition) → holds v e c ≡ answered e (answers v) c
-    by KeepAboveOne = above_one v.keep h.keep
-    by LifeAboveOne = above_one v.life h.life
+    by KeepAboveOne = above_one v.keep_alive h.keep_alive
+    by LifeAboveOne = above_one v.lifetime h.lifetime
     by Full = refl
     by Room = refl
     by EnabledMore = refl

@@ -26,7 +26,7 @@ above n h e = grind arith
 is_one : (n : ℕ) → (n == 1) ≡ true → n ≡ 1
 is_one n e = grind arith
 
-timer_normal : (c : Circumstances) (s : Standing) (ea q se : Bool) → s.vars.state ≡ Normal → 2 ≤ s.vars.life → (s.vars.enabled && s.vars.available) ≡ ea → s.vars.queued ≡ q → AreFair c → IsSteady s → Leaves c s (cond q (cond ea N3 (cond se N6 N4)) (cond (not se || ea) N5 N6))
+timer_normal : (c : Circumstances) (s : Standing) (ea q se : Bool) → s.vars.state ≡ Normal → 2 ≤ s.vars.lifetime → (s.vars.enabled && s.vars.available) ≡ ea → s.vars.queued ≡ q → AreFair c → IsSteady s → Leaves c s (cond q (cond ea N3 (cond se N6 N4)) (cond (not se || ea) N5 N6))
 timer_normal c s true true se at l e q f h _ = keeps_N3 c s at l q e f h
 timer_normal c s false true true at l e q f h _ = keeps_N6 c s at l e f h
 timer_normal c s false true false at l e q f h _ = keeps_N4 c s at l q e f h
@@ -35,7 +35,7 @@ timer_normal c s true false false at l e q f h _ = keeps_N5 c s at l q f h
 timer_normal c s false false true at l e q f h _ = keeps_N6 c s at l e f h
 timer_normal c s false false false at l e q f h _ = keeps_N5 c s at l q f h
 
-timer_keepalive : (c : Circumstances) (s : Standing) (ea q k1 : Bool) → s.vars.state ≡ KeepAlive → 2 ≤ s.vars.life → (s.vars.enabled && s.vars.available) ≡ ea → s.vars.queued ≡ q → (s.vars.keep == 1) ≡ k1 → AreFair c → IsSteady s → Leaves c s (cond q (cond ea K2 (cond k1 K3 K4)) (cond (k1 || ea) K5 K4))
+timer_keepalive : (c : Circumstances) (s : Standing) (ea q k1 : Bool) → s.vars.state ≡ KeepAlive → 2 ≤ s.vars.lifetime → (s.vars.enabled && s.vars.available) ≡ ea → s.vars.queued ≡ q → (s.vars.keep_alive == 1) ≡ k1 → AreFair c → IsSteady s → Leaves c s (cond q (cond ea K2 (cond k1 K3 K4)) (cond (k1 || ea) K5 K4))
 timer_keepalive c s true true k1 at l e q k f h _ = keeps_K2 c s at l q e f h
 timer_keepalive c s false true true at l e q k f h _ = keeps_K3 c s at l q (is_one _ k) e f h
 timer_keepalive c s false true false at l e q k f h _ = keeps_K4 c s at l (above _ h.keep_least k) e f h
@@ -44,13 +44,13 @@ timer_keepalive c s true false false at l e q k f h _ = keeps_K5 c s at l q f h
 timer_keepalive c s false false true at l e q k f h _ = keeps_K5 c s at l q f h
 timer_keepalive c s false false false at l e q k f h _ = keeps_K4 c s at l (above _ h.keep_least k) e f h
 
-timer_above : (c : Circumstances) (s : Standing) (t : State) → s.vars.state ≡ t → 2 ≤ s.vars.life → AreFair c → IsSteady s → Leaves c s (timer_row t (answers s.vars))
+timer_above : (c : Circumstances) (s : Standing) (t : State) → s.vars.state ≡ t → 2 ≤ s.vars.lifetime → AreFair c → IsSteady s → Leaves c s (timer_row t (answers s.vars))
 timer_above c s Normal at l f h = timer_normal c s (s.vars.enabled && s.vars.available) s.vars.queued s.vars.sent at l refl refl f h
 timer_above c s Late at l f h = λ _. keeps_L3 c s at l f h
-timer_above c s KeepAlive at l f h = timer_keepalive c s (s.vars.enabled && s.vars.available) s.vars.queued (s.vars.keep == 1) at l refl refl refl f h
+timer_above c s KeepAlive at l f h = timer_keepalive c s (s.vars.enabled && s.vars.available) s.vars.queued (s.vars.keep_alive == 1) at l refl refl refl f h
 timer_above c s Closed at l f h = absurd (h.live at)
 
-timer_any : (c : Circumstances) (s : Standing) (last : Bool) → (s.vars.life == 1) ≡ last → AreFair c → IsSteady s → Leaves c s (cond last G6 (timer_row s.vars.state (answers s.vars)))
+timer_any : (c : Circumstances) (s : Standing) (last : Bool) → (s.vars.lifetime == 1) ≡ last → AreFair c → IsSteady s → Leaves c s (cond last G6 (timer_row s.vars.state (answers s.vars)))
 timer_any c s true e f h = λ live. absurd (live refl)
 timer_any c s false e f h = timer_above c s s.vars.state refl (above _ h.life_least e) f h
 
@@ -70,7 +70,7 @@ publish_any c s Closed at f h = absurd (h.live at)
 
 leaves : (c : Circumstances) (s : Standing) (e : TableEvent) → AreFair c → IsSteady s → Leaves c s (chosen s.vars e)
 leaves c s Publish f h = publish_any c s s.vars.state refl f h
-leaves c s Timer f h = timer_any c s (s.vars.life == 1) refl f h
+leaves c s Timer f h = timer_any c s (s.vars.lifetime == 1) refl f h
 leaves c s Modify f h = λ _. keeps_G1 c s f h
 leaves c s SetMode f h = λ _. keeps_G2 c s f h
 leaves c s (Republish true) f h = λ _. keeps_G3 c s f h
@@ -83,10 +83,10 @@ leaves c s (Create true) f h = λ live. absurd (live refl)
 leaves c s (Create false) f h = λ _. begins c s f
 
 -- steady subscriptions are sound
-early : (s : Standing) → IsSteady s → s.vars.state ≢ Late → 2 ≤ s.vars.life
+early : (s : Standing) → IsSteady s → s.vars.state ≢ Late → 2 ≤ s.vars.lifetime
 early s h not_late = by s.vars.state refl
   where
-    by : (t : State) → s.vars.state ≡ t → 2 ≤ s.vars.life
+    by : (t : State) → s.vars.state ≡ t → 2 ≤ s.vars.lifetime
     by Late e = absurd (not_late e)
     by Normal e = grind (arith, h)
     by KeepAlive e = grind (arith, h)
@@ -112,7 +112,7 @@ calm_told s h q = by s.vars.state s.vars.more refl refl
     by Closed true e m = absurd (h.live e)
 
 pub steady_is_sound : (s : Standing) → IsSteady s → IsSound s.vars
-steady_is_sound s h _ = record { life = h.life_least; keep = h.keep_least; early = early s h; more = more_both s h; asked = λ q. (calm_early s h q, calm_told s h q) }
+steady_is_sound s h _ = record { lifetime = h.life_least; keep_alive = h.keep_least; early = early s h; more = more_both s h; asked = λ q. (calm_early s h q, calm_told s h q) }
 
 head_same : (x y : RowId) → x ∷ [] ≡ y ∷ [] → x ≡ y
 head_same x y e = cc
@@ -125,16 +125,16 @@ pub stays_steady : (c : Circumstances) (s : Standing) (e : TableEvent) (r : RowI
 stays_steady c s e r f h ok fired = subst (Leaves c s) (fired_is_chosen s e r h ok fired) (leaves c s e f h)
 
 -- fewer timers found a request than the keep-alive count says
-pub patient : (s : Standing) → IsSteady s → s.answerable < s.keep_count
+pub patient : (s : Standing) → IsSteady s → s.answerable < s.keep_alive_count
 patient s h = by s.vars.state refl
   where
-    other : s.vars.state ≢ KeepAlive → s.answerable < s.keep_count
+    other : s.vars.state ≢ KeepAlive → s.answerable < s.keep_alive_count
     other e = let none = h.none_passed e in let counts = h.revised in grind (arith, none, counts)
 
-    alive : s.vars.state ≡ KeepAlive → s.answerable < s.keep_count
+    alive : s.vars.state ≡ KeepAlive → s.answerable < s.keep_alive_count
     alive e = let passed = h.alive_passed e in let least = h.keep_least in grind (arith, passed, least)
 
-    by : (t : State) → s.vars.state ≡ t → s.answerable < s.keep_count
+    by : (t : State) → s.vars.state ≡ t → s.answerable < s.keep_alive_count
     by KeepAlive e = alive e
     by Normal e = other (λ at. absurd (cc))
     by Late e = other (λ at. absurd (cc))
@@ -183,9 +183,9 @@ live_fits Late n = refl
 live_fits KeepAlive n = refl
 live_fits Closed n = absurd (n refl)
 
-last_life : (s : Standing) (last : Bool) → (s.vars.life == 1) ≡ last → IsSteady s → cond last G6 (timer_row s.vars.state (answers s.vars)) ≡ G6 → s.vars.life ≡ 1
+last_life : (s : Standing) (last : Bool) → (s.vars.lifetime == 1) ≡ last → IsSteady s → cond last G6 (timer_row s.vars.state (answers s.vars)) ≡ G6 → s.vars.lifetime ≡ 1
 last_life s true e h at = is_one _ e
-last_life s false e h at = absurd (not_last s.vars.state (s.vars.enabled && s.vars.available) s.vars.queued s.vars.sent (s.vars.keep == 1) (s.vars.enabled && s.vars.more) (s.vars.life == 1) h.live at)
+last_life s false e h at = absurd (not_last s.vars.state (s.vars.enabled && s.vars.available) s.vars.queued s.vars.sent (s.vars.keep_alive == 1) (s.vars.enabled && s.vars.more) (s.vars.lifetime == 1) h.live at)
 
 publish_is_no_end : (t : State) (em ea q se k1 l1 : Bool) → t ≢ Closed → publish_row t (record { enabled_available = ea; enabled_more = em; queued = q; sent = se; last_keep = k1; last_life = l1 }) ≡ G6 → ⊥
 publish_is_no_end Normal true ea q se k1 l1 n e = absurd (cc)
@@ -195,7 +195,7 @@ publish_is_no_end Late em false q se k1 l1 n e = absurd (cc)
 publish_is_no_end KeepAlive em ea q se k1 l1 n e = absurd (cc)
 publish_is_no_end Closed em ea q se k1 l1 n e = absurd (n refl)
 
-late_at_last : (s : Standing) → IsSteady s → s.vars.life ≡ 1 → s.vars.state ≡ Late
+late_at_last : (s : Standing) → IsSteady s → s.vars.lifetime ≡ 1 → s.vars.state ≡ Late
 late_at_last s h e = by s.vars.state refl
   where
     two : s.vars.state ≢ Late → s.vars.state ≡ Late
@@ -214,12 +214,12 @@ unasked_when_late s h at = by s.vars.queued refl
     by false e = e
     by true e = absurd (calm_early s h e at)
 
-times_out : (s : Standing) → IsSteady s → s.vars.life ≡ 1 → TimesOut s Timer
+times_out : (s : Standing) → IsSteady s → s.vars.lifetime ≡ 1 → TimesOut s Timer
 times_out s h e = let counted = h.life_counted in let late = late_at_last s h e in record { at_timer = refl; at_last = omega arith; late = late; unasked = unasked_when_late s h late }
 
 ends : (s : Standing) (e : TableEvent) → IsSteady s → fits s.vars.state e ≡ true → chosen s.vars e ≡ G6 → TimesOut s e
-ends s Timer h ok at = times_out s h (last_life s (s.vars.life == 1) refl h at)
-ends s Publish h ok at = absurd (publish_is_no_end s.vars.state (s.vars.enabled && s.vars.more) (s.vars.enabled && s.vars.available) s.vars.queued s.vars.sent (s.vars.keep == 1) (s.vars.life == 1) h.live at)
+ends s Timer h ok at = times_out s h (last_life s (s.vars.lifetime == 1) refl h at)
+ends s Publish h ok at = absurd (publish_is_no_end s.vars.state (s.vars.enabled && s.vars.more) (s.vars.enabled && s.vars.available) s.vars.queued s.vars.sent (s.vars.keep_alive == 1) (s.vars.lifetime == 1) h.live at)
 ends s Modify h ok at = absurd (cc)
 ends s SetMode h ok at = absurd (cc)
 ends s (Republish true) h ok at = absurd (cc)
@@ -236,10 +236,10 @@ pub ends_at_last : (s : Standing) (e : TableEvent) → IsSteady s → fits s.var
 ends_at_last s e h ok fired = ends s e h ok (fired_is_chosen s e G6 h ok fired)
 
 -- and at that one it does
-pub ends_then : (s : Standing) → IsSteady s → s.started + 1 ≡ s.life_count → fires s.vars Timer ≡ G6 ∷ []
+pub ends_then : (s : Standing) → IsSteady s → s.started + 1 ≡ s.lifetime_count → fires s.vars Timer ≡ G6 ∷ []
 ends_then s h e = one_row s.vars Timer (steady_is_sound s h) (live_fits s.vars.state h.live) ∙ ap (λ r. r ∷ []) at_last
   where
-    last : (s.vars.life == 1) ≡ true
+    last : (s.vars.lifetime == 1) ≡ true
     last = let counted = h.life_counted in let least = h.life_least in grind (arith, counted, least)
 
     at_last : chosen s.vars Timer ≡ G6

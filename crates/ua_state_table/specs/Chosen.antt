@@ -23,8 +23,8 @@ answers v = record {
   enabled_more = v.enabled && v.more;
   queued = v.queued;
   sent = v.sent;
-  last_keep = v.keep == 1;
-  last_life = v.life == 1;
+  last_keep = v.keep_alive == 1;
+  last_life = v.lifetime == 1;
 }
 
 -- at a timer that isn't the last

@@ -18,11 +18,11 @@ holds v e NotQueued = not v.queued
 holds v e Sent = v.sent
 holds v e NotSent = not v.sent
 holds v e NotSentOrEnabledAvailable = not v.sent || v.enabled && v.available
-holds v e KeepOne = v.keep == 1
-holds v e KeepAboveOne = nat_lt 1 v.keep
-holds v e KeepOneOrEnabledAvailable = v.keep == 1 || v.enabled && v.available
-holds v e LifeOne = v.life == 1
-holds v e LifeAboveOne = nat_lt 1 v.life
+holds v e KeepOne = v.keep_alive == 1
+holds v e KeepAboveOne = nat_lt 1 v.keep_alive
+holds v e KeepOneOrEnabledAvailable = v.keep_alive == 1 || v.enabled && v.available
+holds v e LifeOne = v.lifetime == 1
+holds v e LifeAboveOne = nat_lt 1 v.lifetime
 holds v e Kept = is_kept e
 holds v e NotKept = not (is_kept e)
 holds v e Deleting = is_deleting e

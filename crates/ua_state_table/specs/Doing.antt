@@ -14,8 +14,8 @@ use Rattle.ua_state_table.specs.StateTable.{printed, actions_of, next_of}
 -- none, or the counts were set
 pub record Standing : Type 0 where
   pub vars : Vars
-  pub keep_count : ℕ
-  pub life_count : ℕ
+  pub keep_alive_count : ℕ
+  pub lifetime_count : ℕ
   pub started : ℕ
   pub answerable : ℕ
 
@@ -30,25 +30,25 @@ pub record Circumstances : Type 0 where
   -- E, as asked
   pub enabled : Bool
   -- the counts, as asked and revised
-  pub keep_count : ℕ
-  pub life_count : ℕ
+  pub keep_alive_count : ℕ
+  pub lifetime_count : ℕ
 
 abbrev pub with_vars : Standing → Vars → Standing
 with_vars s v = record s { vars = v }
 
 abbrev pub done : Circumstances → Standing → Action → Standing
-done c s Initialise = let v : Vars = s.vars in record s { vars = record v { enabled = c.enabled; more = false; sent = false; keep = c.keep_count; life = c.life_count }; keep_count = c.keep_count; life_count = c.life_count; started = 0 }
-done c s StartTimer = let v : Vars = s.vars in record s { vars = record v { life = v.life - 1 }; started = s.started + 1 }
+done c s Initialise = let v : Vars = s.vars in record s { vars = record v { enabled = c.enabled; more = false; sent = false; keep_alive = c.keep_alive_count; lifetime = c.lifetime_count }; keep_alive_count = c.keep_alive_count; lifetime_count = c.lifetime_count; started = 0 }
+done c s StartTimer = let v : Vars = s.vars in record s { vars = record v { lifetime = v.lifetime - 1 }; started = s.started + 1 }
 done c s Enqueue = let v : Vars = s.vars in with_vars s (record v { queued = true })
 done c s Dequeue = let v : Vars = s.vars in with_vars s (record v { queued = v.queued && c.queued })
-done c s ResetLife = let v : Vars = s.vars in record s { vars = record v { life = s.life_count }; started = 0 }
-done c s ResetKeep = let v : Vars = s.vars in with_vars s (record v { keep = s.keep_count })
-done c s CountKeep = let v : Vars = s.vars in with_vars s (record v { keep = v.keep - 1 })
+done c s ResetLife = let v : Vars = s.vars in record s { vars = record v { lifetime = s.lifetime_count }; started = 0 }
+done c s ResetKeep = let v : Vars = s.vars in with_vars s (record v { keep_alive = s.keep_alive_count })
+done c s CountKeep = let v : Vars = s.vars in with_vars s (record v { keep_alive = v.keep_alive - 1 })
 done c s SendNotifications = let v : Vars = s.vars in with_vars s (record v { available = c.available; more = c.left_over; queued = v.queued && c.queued })
 done c s SetSent = let v : Vars = s.vars in with_vars s (record v { sent = true })
 done c s DeleteItems = let v : Vars = s.vars in with_vars s (record v { available = false })
-done c s Update = record s { keep_count = c.keep_count; life_count = c.life_count }
-done c s LimitKeep = let v : Vars = s.vars in with_vars s (record v { keep = min v.keep s.keep_count })
+done c s Update = record s { keep_alive_count = c.keep_alive_count; lifetime_count = c.lifetime_count }
+done c s LimitKeep = let v : Vars = s.vars in with_vars s (record v { keep_alive = min v.keep_alive s.keep_alive_count })
 done c s SetEnabled = let v : Vars = s.vars in with_vars s (record v { enabled = c.enabled })
 done c s ClearMore = let v : Vars = s.vars in with_vars s (record v { more = false })
 done c s CallItems = let v : Vars = s.vars in with_vars s (record v { available = c.available })

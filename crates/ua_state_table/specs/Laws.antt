@@ -9,7 +9,7 @@ use Rattle.ua_state_table.specs.Doing.{Standing, with_vars}
 -- it times out: at the timer that finds one life left, as late, and with no request queued
 pub record TimesOut (s : Standing) (e : TableEvent) : Type 0 where
   pub at_timer : e ≡ Timer
-  pub at_last : s.started + 1 ≡ s.life_count
+  pub at_last : s.started + 1 ≡ s.lifetime_count
   pub late : s.vars.state ≡ Late
   pub unasked : s.vars.queued ≡ false
 

@@ -17,22 +17,22 @@ abbrev pub is_waiting : Vars → Bool
 is_waiting v = waits_in v.state (v.enabled && v.more)
 
 -- the counts that a client is given
-pub record AreRevised (keep_count life_count : ℕ) : Type 0 where
-  pub keep : 2 ≤ keep_count
-  pub life : 3 * keep_count ≤ life_count
+pub record AreRevised (keep_alive_count lifetime_count : ℕ) : Type 0 where
+  pub keep_alive : 2 ≤ keep_alive_count
+  pub lifetime : 3 * keep_alive_count ≤ lifetime_count
 
 pub record IsSteady (s : Standing) : Type 0 where
   pub live : s.vars.state ≢ Closed
-  pub revised : AreRevised s.keep_count s.life_count
+  pub revised : AreRevised s.keep_alive_count s.lifetime_count
   -- the counters
-  pub keep_least : 1 ≤ s.vars.keep
-  pub keep_most : s.vars.keep ≤ s.keep_count
-  pub life_least : 1 ≤ s.vars.life
-  pub life_counted : s.vars.life + s.started ≡ s.life_count
+  pub keep_least : 1 ≤ s.vars.keep_alive
+  pub keep_most : s.vars.keep_alive ≤ s.keep_alive_count
+  pub life_least : 1 ≤ s.vars.lifetime
+  pub life_counted : s.vars.lifetime + s.started ≡ s.lifetime_count
   -- where it stands, and how many timers passed
-  pub normal_life : s.vars.state ≡ Normal → s.life_count ≤ s.vars.life + 1
-  pub alive_life : s.vars.state ≡ KeepAlive → s.life_count + s.vars.keep ≤ s.vars.life + s.keep_count + 1
-  pub alive_passed : s.vars.state ≡ KeepAlive → s.answerable + s.vars.keep ≤ s.keep_count
+  pub normal_life : s.vars.state ≡ Normal → s.lifetime_count ≤ s.vars.lifetime + 1
+  pub alive_life : s.vars.state ≡ KeepAlive → s.lifetime_count + s.vars.keep_alive ≤ s.vars.lifetime + s.keep_alive_count + 1
+  pub alive_passed : s.vars.state ≡ KeepAlive → s.answerable + s.vars.keep_alive ≤ s.keep_alive_count
   pub none_passed : s.vars.state ≢ KeepAlive → s.answerable ≡ 0
   -- values left over
   pub alive_told : s.vars.state ≡ KeepAlive → s.vars.more ≡ false
@@ -43,6 +43,6 @@ pub record IsSteady (s : Standing) : Type 0 where
 
 -- notifications are sent as long as values and requests are left
 pub record AreFair (c : Circumstances) : Type 0 where
-  pub revised : AreRevised c.keep_count c.life_count
+  pub revised : AreRevised c.keep_alive_count c.lifetime_count
   pub left_available : c.left_over ≡ true → c.available ≡ true
   pub left_unasked : c.left_over ≡ true → c.queued ≡ false

@@ -24,8 +24,8 @@ pub fn reachable(vars: &Vars) -> bool
 {
     let early = vars.state != State::Late;
     vars.state == State::Closed
-        || vars.keep >= 1
-            && (vars.life >= 2 || vars.life == 1 && !early)
+        || vars.keep_alive >= 1
+            && (vars.lifetime >= 2 || vars.lifetime == 1 && !early)
             && (!vars.more || vars.enabled && vars.available)
             && (!vars.queued || early && !vars.more)
 }
@@ -53,7 +53,7 @@ pub fn choose(vars: &Vars, event: TableEvent) -> RowId
         TableEvent::Create { full: false } => RowId::C2,
         TableEvent::Publish => publish_row(vars),
         TableEvent::Timer => {
-            if vars.life == 1 {
+            if vars.lifetime == 1 {
                 RowId::G6
             } else {
                 timer_row(vars)
@@ -106,7 +106,7 @@ fn timer_row(vars: &Vars) -> RowId
         State::KeepAlive => {
             if vars.queued && has_values {
                 RowId::K2
-            } else if vars.keep != 1 && !has_values {
+            } else if vars.keep_alive != 1 && !has_values {
                 RowId::K4
             } else if vars.queued {
                 RowId::K3

@@ -71,12 +71,12 @@ impl Condition {
             Condition::Sent => vars.sent,
             Condition::NotSent => !vars.sent,
             Condition::NotSentOrEnabledAvailable => !vars.sent || vars.enabled && vars.available,
-            Condition::KeepOne => vars.keep == 1,
-            Condition::KeepAboveOne => vars.keep > 1,
-            Condition::KeepOneOrEnabledAvailable => vars.keep == 1
+            Condition::KeepOne => vars.keep_alive == 1,
+            Condition::KeepAboveOne => vars.keep_alive > 1,
+            Condition::KeepOneOrEnabledAvailable => vars.keep_alive == 1
                 || vars.enabled && vars.available,
-            Condition::LifeOne => vars.life == 1,
-            Condition::LifeAboveOne => vars.life > 1,
+            Condition::LifeOne => vars.lifetime == 1,
+            Condition::LifeAboveOne => vars.lifetime > 1,
             Condition::Kept => event.is_kept(),
             Condition::NotKept => !event.is_kept(),
             Condition::Deleting => event.is_deleting(),

@@ -41,7 +41,7 @@ pub fn steady_is_sound()
 /// found none or the counts were set, are fewer than the keep-alive count.
 #[tactic(auto, using(crate::proofs::SteadyLemmas::patient))]
 pub fn skips_no_keep_alive()
-    ensures { (s : Standing) → IsSteady s → s.answerable < s.keep_count }
+    ensures { (s : Standing) → IsSteady s → s.answerable < s.keep_alive_count }
 {}
 
 /// A steady subscription times out at exactly the timer that finds one life left, counted from its
@@ -51,7 +51,7 @@ pub fn skips_no_keep_alive()
 pub fn times_out_at_the_last_life()
     ensures only { (s : Standing) (e : TableEvent) → IsSteady s → IsTrue (fits s.vars.state e) →
         fires s.vars e ≡ G6 ∷ [] → TimesOut s e }
-    ensures then { (s : Standing) → IsSteady s → s.started + 1 ≡ s.life_count → fires s.vars Timer ≡ G6 ∷ [] }
+    ensures then { (s : Standing) → IsSteady s → s.started + 1 ≡ s.lifetime_count → fires s.vars Timer ≡ G6 ∷ [] }
 {}
 
 /// A subscription stays steady while values come, requests are answered elsewhere, and a request is

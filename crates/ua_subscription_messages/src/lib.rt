@@ -12,6 +12,7 @@
 
 mod enumerations;
 mod kept_messages;
+pub mod laws;
 mod monitored_items;
 mod monitoring_parameters;
 mod publishing;

@@ -8,6 +8,7 @@ use std::alloc::{AllocError, Global};
 use ua_binary::{Cursor, TakeFault, Wire};
 use ua_messages::{ReadValueId, RequestHeader, Results, TimestampsToReturn};
 use ua_types::{Array, Duration, ExtensionObject, Status};
+use ua_walks::Walk;
 
 /// One item to make: an element of [`CreateMonitoredItemsRequest`].
 #[derive(Debug, Drop)]
@@ -40,6 +41,16 @@ impl Wire for MonitoredItemCreateRequest {
         self.item_to_monitor.encode(out)?;
         self.monitoring_mode.encode(out)?;
         self.requested_parameters.encode(out)?;
+        Ok(())
+    }
+}
+
+#[tactic(auto, unfolding(crate::specs::MonitoredItems::monitored_item_create_request_reading))]
+impl Walk for MonitoredItemCreateRequest {
+    fn walk(cursor: &mut Cursor<'_>) -> Result<(), TakeFault> {
+        ReadValueId::skip(cursor)?;
+        MonitoringMode::skip(cursor)?;
+        MonitoringParameters::skip(cursor)?;
         Ok(())
     }
 }
@@ -78,6 +89,17 @@ impl Wire for CreateMonitoredItemsRequest {
         self.subscription_id.encode(out)?;
         self.timestamps_to_return.encode(out)?;
         self.items_to_create.encode(out)?;
+        Ok(())
+    }
+}
+
+#[tactic(auto, unfolding(crate::specs::MonitoredItems::create_monitored_items_request_reading))]
+impl Walk for CreateMonitoredItemsRequest {
+    fn walk(cursor: &mut Cursor<'_>) -> Result<(), TakeFault> {
+        RequestHeader::skip(cursor)?;
+        u32::skip(cursor)?;
+        TimestampsToReturn::skip(cursor)?;
+        Array::<MonitoredItemCreateRequest>::skip(cursor)?;
         Ok(())
     }
 }
@@ -162,6 +184,15 @@ impl Wire for MonitoredItemModifyRequest {
     }
 }
 
+#[tactic(auto, unfolding(crate::specs::MonitoredItems::monitored_item_modify_request_reading))]
+impl Walk for MonitoredItemModifyRequest {
+    fn walk(cursor: &mut Cursor<'_>) -> Result<(), TakeFault> {
+        u32::skip(cursor)?;
+        MonitoringParameters::skip(cursor)?;
+        Ok(())
+    }
+}
+
 /// Changes how items of a subscription are monitored (ModifyMonitoredItems, IEC 62541-4, section 5,
 /// MonitoredItem Service Set).
 #[derive(Debug, Drop)]
@@ -196,6 +227,17 @@ impl Wire for ModifyMonitoredItemsRequest {
         self.subscription_id.encode(out)?;
         self.timestamps_to_return.encode(out)?;
         self.items_to_modify.encode(out)?;
+        Ok(())
+    }
+}
+
+#[tactic(auto, unfolding(crate::specs::MonitoredItems::modify_monitored_items_request_reading))]
+impl Walk for ModifyMonitoredItemsRequest {
+    fn walk(cursor: &mut Cursor<'_>) -> Result<(), TakeFault> {
+        RequestHeader::skip(cursor)?;
+        u32::skip(cursor)?;
+        TimestampsToReturn::skip(cursor)?;
+        Array::<MonitoredItemModifyRequest>::skip(cursor)?;
         Ok(())
     }
 }
@@ -282,6 +324,17 @@ impl Wire for SetMonitoringModeRequest {
     }
 }
 
+#[tactic(auto, unfolding(crate::specs::MonitoredItems::set_monitoring_mode_request_reading))]
+impl Walk for SetMonitoringModeRequest {
+    fn walk(cursor: &mut Cursor<'_>) -> Result<(), TakeFault> {
+        RequestHeader::skip(cursor)?;
+        u32::skip(cursor)?;
+        MonitoringMode::skip(cursor)?;
+        Array::<u32>::skip(cursor)?;
+        Ok(())
+    }
+}
+
 /// What became of each item, in the order of the request: the response to
 /// [`SetMonitoringModeRequest`].
 pub type SetMonitoringModeResponse = Results<Status>;
@@ -316,6 +369,16 @@ impl Wire for DeleteMonitoredItemsRequest {
         self.request_header.encode(out)?;
         self.subscription_id.encode(out)?;
         self.monitored_item_ids.encode(out)?;
+        Ok(())
+    }
+}
+
+#[tactic(auto, unfolding(crate::specs::MonitoredItems::delete_monitored_items_request_reading))]
+impl Walk for DeleteMonitoredItemsRequest {
+    fn walk(cursor: &mut Cursor<'_>) -> Result<(), TakeFault> {
+        RequestHeader::skip(cursor)?;
+        u32::skip(cursor)?;
+        Array::<u32>::skip(cursor)?;
         Ok(())
     }
 }

@@ -8,6 +8,7 @@ use std::alloc::{AllocError, Global};
 use ua_binary::{Cursor, TakeFault, Wire};
 use ua_types::{Duration, ExtensionObject};
 use ua_values::Double;
+use ua_walks::Walk;
 
 /// How a client wants an item to be monitored (MonitoringParameters, IEC 62541-4, section 7).
 #[derive(Debug, Drop)]
@@ -46,6 +47,18 @@ impl Wire for MonitoringParameters {
         self.filter.encode(out)?;
         self.queue_size.encode(out)?;
         self.discard_oldest.encode(out)?;
+        Ok(())
+    }
+}
+
+#[tactic(auto, unfolding(crate::specs::MonitoringParameters::monitoring_parameters_reading))]
+impl Walk for MonitoringParameters {
+    fn walk(cursor: &mut Cursor<'_>) -> Result<(), TakeFault> {
+        u32::skip(cursor)?;
+        Duration::skip(cursor)?;
+        ExtensionObject::skip(cursor)?;
+        u32::skip(cursor)?;
+        bool::skip(cursor)?;
         Ok(())
     }
 }
@@ -90,6 +103,16 @@ impl Wire for DataChangeFilter {
         self.trigger.encode(out)?;
         self.deadband_type.encode(out)?;
         self.deadband_value.encode(out)?;
+        Ok(())
+    }
+}
+
+#[tactic(auto, unfolding(crate::specs::MonitoringParameters::data_change_filter_reading))]
+impl Walk for DataChangeFilter {
+    fn walk(cursor: &mut Cursor<'_>) -> Result<(), TakeFault> {
+        DataChangeTrigger::skip(cursor)?;
+        u32::skip(cursor)?;
+        Double::skip(cursor)?;
         Ok(())
     }
 }

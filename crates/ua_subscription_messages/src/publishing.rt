@@ -9,6 +9,7 @@ use ua_binary::{Cursor, TakeFault, Wire};
 use ua_messages::{DiagnosticInfo, DiagnosticInfos, RequestHeader, ResponseHeader};
 use ua_types::{Array, ExtensionObject, Moment, Status};
 use ua_values::DataValue;
+use ua_walks::Walk;
 
 /// A message that the client has and the server need not keep: an element of [`PublishRequest`]
 /// (SubscriptionAcknowledgement, IEC 62541-4, section 5, Subscription Service Set, Publish).
@@ -44,6 +45,15 @@ impl Wire for SubscriptionAcknowledgement {
     }
 }
 
+#[tactic(auto, unfolding(crate::specs::Publishing::subscription_acknowledgement_reading))]
+impl Walk for SubscriptionAcknowledgement {
+    fn walk(cursor: &mut Cursor<'_>) -> Result<(), TakeFault> {
+        u32::skip(cursor)?;
+        u32::skip(cursor)?;
+        Ok(())
+    }
+}
+
 /// Acknowledges messages, and waits for the next one of any subscription of its session (Publish,
 /// IEC 62541-4, section 5, Subscription Service Set).
 #[derive(Debug, Drop)]
@@ -70,6 +80,15 @@ impl Wire for PublishRequest {
     fn encode(&self, out: &mut Vec<u8>) -> Result<(), AllocError> {
         self.request_header.encode(out)?;
         self.subscription_acknowledgements.encode(out)?;
+        Ok(())
+    }
+}
+
+#[tactic(auto, unfolding(crate::specs::Publishing::publish_request_reading))]
+impl Walk for PublishRequest {
+    fn walk(cursor: &mut Cursor<'_>) -> Result<(), TakeFault> {
+        RequestHeader::skip(cursor)?;
+        Array::<SubscriptionAcknowledgement>::skip(cursor)?;
         Ok(())
     }
 }
@@ -279,6 +298,16 @@ impl Wire for RepublishRequest {
         self.request_header.encode(out)?;
         self.subscription_id.encode(out)?;
         self.retransmit_sequence_number.encode(out)?;
+        Ok(())
+    }
+}
+
+#[tactic(auto, unfolding(crate::specs::Publishing::republish_request_reading))]
+impl Walk for RepublishRequest {
+    fn walk(cursor: &mut Cursor<'_>) -> Result<(), TakeFault> {
+        RequestHeader::skip(cursor)?;
+        u32::skip(cursor)?;
+        u32::skip(cursor)?;
         Ok(())
     }
 }

@@ -6,6 +6,7 @@ use std::alloc::{AllocError, Global};
 use ua_binary::{Cursor, TakeFault, Wire};
 use ua_messages::{RequestHeader, ResponseHeader, Results};
 use ua_types::{Array, Duration, Status};
+use ua_walks::Walk;
 
 /// Asks for a subscription (CreateSubscription, IEC 62541-4, section 5, Subscription Service Set).
 #[derive(Debug, Drop)]
@@ -54,6 +55,20 @@ impl Wire for CreateSubscriptionRequest {
         self.max_notifications_per_publish.encode(out)?;
         self.publishing_enabled.encode(out)?;
         self.priority.encode(out)?;
+        Ok(())
+    }
+}
+
+#[tactic(auto, unfolding(crate::specs::Subscriptions::create_subscription_request_reading))]
+impl Walk for CreateSubscriptionRequest {
+    fn walk(cursor: &mut Cursor<'_>) -> Result<(), TakeFault> {
+        RequestHeader::skip(cursor)?;
+        Duration::skip(cursor)?;
+        u32::skip(cursor)?;
+        u32::skip(cursor)?;
+        u32::skip(cursor)?;
+        bool::skip(cursor)?;
+        u8::skip(cursor)?;
         Ok(())
     }
 }
@@ -148,6 +163,20 @@ impl Wire for ModifySubscriptionRequest {
     }
 }
 
+#[tactic(auto, unfolding(crate::specs::Subscriptions::modify_subscription_request_reading))]
+impl Walk for ModifySubscriptionRequest {
+    fn walk(cursor: &mut Cursor<'_>) -> Result<(), TakeFault> {
+        RequestHeader::skip(cursor)?;
+        u32::skip(cursor)?;
+        Duration::skip(cursor)?;
+        u32::skip(cursor)?;
+        u32::skip(cursor)?;
+        u32::skip(cursor)?;
+        u8::skip(cursor)?;
+        Ok(())
+    }
+}
+
 /// The server's choices: the response to [`ModifySubscriptionRequest`].
 #[derive(Debug, Drop)]
 pub struct ModifySubscriptionResponse {
@@ -219,6 +248,16 @@ impl Wire for SetPublishingModeRequest {
     }
 }
 
+#[tactic(auto, unfolding(crate::specs::Subscriptions::set_publishing_mode_request_reading))]
+impl Walk for SetPublishingModeRequest {
+    fn walk(cursor: &mut Cursor<'_>) -> Result<(), TakeFault> {
+        RequestHeader::skip(cursor)?;
+        bool::skip(cursor)?;
+        Array::<u32>::skip(cursor)?;
+        Ok(())
+    }
+}
+
 /// What became of each subscription, in the order of the request: the response to
 /// [`SetPublishingModeRequest`].
 pub type SetPublishingModeResponse = Results<Status>;
@@ -249,6 +288,15 @@ impl Wire for DeleteSubscriptionsRequest {
     fn encode(&self, out: &mut Vec<u8>) -> Result<(), AllocError> {
         self.request_header.encode(out)?;
         self.subscription_ids.encode(out)?;
+        Ok(())
+    }
+}
+
+#[tactic(auto, unfolding(crate::specs::Subscriptions::delete_subscriptions_request_reading))]
+impl Walk for DeleteSubscriptionsRequest {
+    fn walk(cursor: &mut Cursor<'_>) -> Result<(), TakeFault> {
+        RequestHeader::skip(cursor)?;
+        Array::<u32>::skip(cursor)?;
         Ok(())
     }
 }

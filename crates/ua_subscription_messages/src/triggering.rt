@@ -6,6 +6,7 @@ use std::alloc::{AllocError, Global};
 use ua_binary::{Cursor, TakeFault, Wire};
 use ua_messages::{DiagnosticInfos, RequestHeader, ResponseHeader};
 use ua_types::{Array, Status};
+use ua_walks::Walk;
 
 /// Adds and removes links from one monitored item to others, whose values are reported when it reports
 /// (SetTriggering, IEC 62541-4, section 5, MonitoredItem Service Set).
@@ -43,6 +44,18 @@ impl Wire for SetTriggeringRequest {
         self.triggering_item_id.encode(out)?;
         self.links_to_add.encode(out)?;
         self.links_to_remove.encode(out)?;
+        Ok(())
+    }
+}
+
+#[tactic(auto, unfolding(crate::specs::Triggering::set_triggering_request_reading))]
+impl Walk for SetTriggeringRequest {
+    fn walk(cursor: &mut Cursor<'_>) -> Result<(), TakeFault> {
+        RequestHeader::skip(cursor)?;
+        u32::skip(cursor)?;
+        u32::skip(cursor)?;
+        Array::<u32>::skip(cursor)?;
+        Array::<u32>::skip(cursor)?;
         Ok(())
     }
 }

@@ -59,9 +59,9 @@ module _ (Such : ℕ → Type 0) where
   all_refused_only session code w h =
       let part : SessionSubscriptions = part_at session w.table.sessions in
       record {
-        turn = record {
-          replies = all_append (λ (reply : Reply). Such reply.conn) w.turn.replies (map (refused_of w.turn.clock code) part.requests) h.turn.replies (all_refused_to w.turn.clock code part.requests (part_only Such session w.table.sessions h.queued));
-          asked = h.turn.asked;
+        round = record {
+          replies = all_append (λ (reply : Reply). Such reply.conn) w.round.replies (map (refused_of w.round.clock code) part.requests) h.round.replies (all_refused_to w.round.clock code part.requests (part_only Such session w.table.sessions h.queued));
+          asked = h.round.asked;
         };
         queued = set_only Such session w.table.sessions (without_requests part) h.queued tt;
       }
@@ -78,18 +78,18 @@ module _ (Such : ℕ → Type 0) where
   pub refused_one_only : (session : ℕ) (asked : Settings) (enabled : Bool) (w : World) → OwesOnly Such w → OwesOnly Such (refused_one session asked enabled w)
   unfolding refused_one
   refused_one_only session asked enabled w h =
-      let c = scene (with_call w.turn 0 (Create true asked enabled)) (unborn session) no_part w.items in
-      let after = fired_only Such c (record { turn = record { replies = h.turn.replies; asked = h.turn.asked }; requests = tt }) in
-      record { turn = after.turn; queued = h.queued }
+      let c = scene (with_call w.round 0 (Create true asked enabled)) (unborn session) no_part w.items in
+      let after = fired_only Such c (record { round = record { replies = h.round.replies; asked = h.round.asked }; requests = tt }) in
+      record { round = after.round; queued = h.queued }
 
   pub added_only : (session number : ℕ) (asked : Settings) (enabled : Bool) (w : World) → OwesOnly Such w → OwesOnly Such (added session number asked enabled w)
   unfolding added
   added_only session number asked enabled w h =
       let part : SessionSubscriptions = part_at session w.table.sessions in
-      let c = scene (with_call w.turn number (Create false asked enabled)) (unborn session) part w.items in
-      let after = fired_only Such c (record { turn = record { replies = h.turn.replies; asked = h.turn.asked }; requests = part_only Such session w.table.sessions h.queued }) in
+      let c = scene (with_call w.round number (Create false asked enabled)) (unborn session) part w.items in
+      let after = fired_only Such c (record { round = record { replies = h.round.replies; asked = h.round.asked }; requests = part_only Such session w.table.sessions h.queued }) in
       record {
-        turn = after.turn;
+        round = after.round;
         queued = inserted_only Such session (remove_entry (is_at (nat_cmp session)) w.table.sessions) (with_number number (fired c).part) (removed_only Such session w.table.sessions h.queued) after.requests;
       }
 
@@ -102,7 +102,7 @@ module _ (Such : ℕ → Type 0) where
   republished_only session number wanted w h = either (λ (o : Outcome (Result (List ℕ) Status)). OwesOnly Such o.world) (is_own w.table session number) _ _ (met_only Such w number (Republish (is_some (kept_at number wanted w.table))) h) h
 
   pub timed_only : (w : World) → OwesOnly Such w → OwesOnly Such (timed w)
-  timed_only w h = all_met_only Such Timer (due_numbers w.turn.clock w.table.subscriptions) w h
+  timed_only w h = all_met_only Such Timer (due_numbers w.round.clock w.table.subscriptions) w h
 
   -- ---- Publish
 
@@ -112,12 +112,12 @@ module _ (Such : ℕ → Type 0) where
 
   answered_to_only : (numbers : List ℕ) (call : PublishCall) (w : World) → Such call.conn → OwesOnly Such w → OwesOnly Such (answered_to numbers call w)
   unfolding answered_to
-  answered_to_only [] call w a h = record { turn = record { replies = one_more Such w.turn.replies _ h.turn.replies a; asked = h.turn.asked }; queued = h.queued }
+  answered_to_only [] call w a h = record { round = record { replies = one_more Such w.round.replies _ h.round.replies a; asked = h.round.asked }; queued = h.queued }
   answered_to_only (n ∷ ns) call w a h =
-      best_only (first_of (waiting_of w.table.subscriptions (n ∷ ns))) (n ∷ ns) (asked_by w call) (record { turn = record { replies = h.turn.replies; asked = a }; queued = h.queued })
+      best_only (first_of (waiting_of w.table.subscriptions (n ∷ ns))) (n ∷ ns) (asked_by w call) (record { round = record { replies = h.round.replies; asked = a }; queued = h.queued })
 
   answered_by_only : (note : Option TimeoutNote) (session : ℕ) (call : PublishCall) (w : World) → Such call.conn → OwesOnly Such w → OwesOnly Such (answered_by note session call w)
-  answered_by_only (Some note) session call w a h = record { turn = record { replies = one_more Such w.turn.replies _ h.turn.replies a; asked = h.turn.asked }; queued = h.queued }
+  answered_by_only (Some note) session call w a h = record { round = record { replies = one_more Such w.round.replies _ h.round.replies a; asked = h.round.asked }; queued = h.queued }
   answered_by_only None session call w a h = answered_to_only (part_at session w.table.sessions).numbers call w a h
 
   pub published_only : (session : ℕ) (call : PublishCall) (acks : List SubscriptionAcknowledgement) (w : World) → Such call.conn → OwesOnly Such w → OwesOnly Such (published session call acks w)
@@ -127,14 +127,14 @@ module _ (Such : ℕ → Type 0) where
       let all = acknowledged_all session w.table.subscriptions acks in
       answered_by_only (note_of session w.table.sessions) session (with_results call all.results) _ a
       (record {
-        turn = h.turn;
+        round = h.round;
         queued = set_only Such session w.table.sessions (part_without_note part) h.queued (part_only Such session w.table.sessions h.queued);
       })
 
   -- ---- the end of a session
 
   without_session_only : (session : ℕ) (w : World) → OwesOnly Such w → OwesOnly Such (without_session session w)
-  without_session_only session w h = record { turn = h.turn; queued = removed_only Such session w.table.sessions h.queued }
+  without_session_only session w h = record { round = h.round; queued = removed_only Such session w.table.sessions h.queued }
 
   pub session_ended_only : (session : ℕ) (deleting : Bool) (w : World) → OwesOnly Such w → OwesOnly Such (session_ended session deleting w)
   unfolding session_ended

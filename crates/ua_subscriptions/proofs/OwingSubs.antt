@@ -25,23 +25,23 @@ use Rattle.ua_subscriptions.proofs.OwingTables.{met_only}
 module _ (Such : ℕ → Type 0) where
   -- nothing is answered yet where a call begins
   world_of_only : (s : SubscriptionsState) (items : ItemsState) (clock : Moment) → QueuedBy Such s.table.sessions → OwesOnly Such (world_of s items clock)
-  world_of_only s items clock h = record { turn = record { replies = tt; asked = tt }; queued = h }
+  world_of_only s items clock h = record { round = record { replies = tt; asked = tt }; queued = h }
 
   said_only : {A : Type 0} (s : SubscriptionsState) (o : Outcome A) → OwesOnly Such o.world → SaysOnly Such (said s o)
-  said_only s o h = record { queued = h.queued; replies = h.turn.replies }
+  said_only s o h = record { queued = h.queued; replies = h.round.replies }
 
   told_only : (s : SubscriptionsState) (w : World) → OwesOnly Such w → SaysOnly Such (told s w)
-  told_only s w h = record { queued = h.queued; replies = h.turn.replies }
+  told_only s w h = record { queued = h.queued; replies = h.round.replies }
 
   -- ---- CreateSubscription
 
   refused_says : (s : SubscriptionsState) (session : ℕ) (asked : Settings) (enabled : Bool) (w : World) → OwesOnly Such w → SaysOnly Such (refused session asked enabled s w)
   unfolding refused
-  refused_says s session asked enabled w h = let after = refused_one_only Such session asked enabled w h in record { queued = after.queued; replies = after.turn.replies }
+  refused_says s session asked enabled w h = let after = refused_one_only Such session asked enabled w h in record { queued = after.queued; replies = after.round.replies }
 
   created_one_says : (s : SubscriptionsState) (session : ℕ) (asked : Settings) (enabled : Bool) (w : World) → OwesOnly Such w → SaysOnly Such (created_one session asked enabled s w)
   unfolding created_one
-  created_one_says s session asked enabled w h = let after = added_only Such session (s.made + 1) asked enabled w h in record { queued = after.queued; replies = after.turn.replies }
+  created_one_says s session asked enabled w h = let after = added_only Such session (s.made + 1) asked enabled w h in record { queued = after.queued; replies = after.round.replies }
 
   pub create_owes_only : (s : SubscriptionsState) (items : ItemsState) (clock : Moment) (session : ℕ) (asked : Settings) (enabled : Bool) → QueuedBy Such s.table.sessions → SaysOnly Such (created session asked enabled s items clock)
   unfolding created

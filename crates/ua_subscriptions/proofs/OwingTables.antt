@@ -7,9 +7,9 @@ use Rattle.ua_monitored_items.specs.Items.{ItemsState}
 use Rattle.ua_subscriptions.specs.declared.call.Call.{Call}
 use Rattle.ua_subscriptions.specs.declared.session_part.SessionSubscriptions.{SessionSubscriptions}
 use Rattle.ua_subscriptions.specs.declared.subscription.Subscription.{Subscription}
-use Rattle.ua_subscriptions.specs.declared.turn.Turn.{Turn}
+use Rattle.ua_subscriptions.specs.declared.round.Round.{Round}
 use Rattle.ua_subscriptions.specs.Firing.{fired}
-use Rattle.ua_subscriptions.specs.Owing.{AllBy, QueuedBy, TurnOwesOnly, OwesOnly}
+use Rattle.ua_subscriptions.specs.Owing.{AllBy, QueuedBy, RoundOwesOnly, OwesOnly}
 use Rattle.ua_subscriptions.specs.Scenes.{scene}
 use Rattle.ua_subscriptions.specs.Subscriptions.{no_part}
 use Rattle.ua_subscriptions.specs.Tables.{World, OneMet, met_found, with_call, met, all_met, part_at, part_of, set_part, subscription_at}
@@ -45,24 +45,24 @@ module _ (Such : ℕ → Type 0) where
   -- ---- what comes to subscriptions under their numbers
 
   record OneOwesOnly (m : OneMet) : Type 0 where
-    turn : TurnOwesOnly Such m.turn
+    round : RoundOwesOnly Such m.round
     queued : QueuedBy Such m.sessions
 
-  found_only : (turn : Turn) (subscriptions : List (ℕ × Subscription)) (sessions : List (ℕ × SessionSubscriptions)) (items : ItemsState) (s : Option Subscription) → TurnOwesOnly Such turn → QueuedBy Such sessions →
-      OneOwesOnly (met_found turn subscriptions sessions items s)
-  found_only turn subscriptions sessions items None h g = record { turn = h; queued = g }
-  found_only turn subscriptions sessions items (Some s) h g =
-      let c = scene turn s (part_of s.session sessions) items in
-      let after = fired_only Such c (record { turn = h; requests = part_of_only s.session sessions g }) in
-      record { turn = after.turn; queued = set_part_only s.session sessions (fired c).part g after.requests }
+  found_only : (round : Round) (subscriptions : List (ℕ × Subscription)) (sessions : List (ℕ × SessionSubscriptions)) (items : ItemsState) (s : Option Subscription) → RoundOwesOnly Such round → QueuedBy Such sessions →
+      OneOwesOnly (met_found round subscriptions sessions items s)
+  found_only round subscriptions sessions items None h g = record { round = h; queued = g }
+  found_only round subscriptions sessions items (Some s) h g =
+      let c = scene round s (part_of s.session sessions) items in
+      let after = fired_only Such c (record { round = h; requests = part_of_only s.session sessions g }) in
+      record { round = after.round; queued = set_part_only s.session sessions (fired c).part g after.requests }
 
   pub met_only : (w : World) (own : ℕ) (call : Call) → OwesOnly Such w → OwesOnly Such (met w own call)
   unfolding met
   met_only w own call h =
-      let turn = with_call w.turn own call in
-      let before : TurnOwesOnly Such turn = record { replies = h.turn.replies; asked = h.turn.asked } in
-      let m = found_only turn w.table.subscriptions w.table.sessions w.items (subscription_at own w.table.subscriptions) before h.queued in
-      record { turn = m.turn; queued = m.queued }
+      let round = with_call w.round own call in
+      let before : RoundOwesOnly Such round = record { replies = h.round.replies; asked = h.round.asked } in
+      let m = found_only round w.table.subscriptions w.table.sessions w.items (subscription_at own w.table.subscriptions) before h.queued in
+      record { round = m.round; queued = m.queued }
 
   pub all_met_only : (call : Call) (numbers : List ℕ) (w : World) → OwesOnly Such w → OwesOnly Such (all_met call w numbers)
   all_met_only call [] w h = h

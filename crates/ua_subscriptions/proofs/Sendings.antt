@@ -2,33 +2,33 @@
 use Rattle.std.proofs.Common.{◌≡◌, ◌≤◌, ◌<◌, length, ℕ, ◌+◌, ◌^◌, Bool, true, false, List, [], ◌∷◌, drop, Option, Some, None, refl, arith, cond, sym, ap, ◌∙◌, subst}
 use Rattle.ua_subscriptions.specs.declared.publish_call.PublishCall.{PublishCall}
 use Rattle.ua_subscriptions.specs.declared.subscription.Subscription.{Subscription}
-use Rattle.ua_subscriptions.specs.declared.turn.Turn.{Turn}
+use Rattle.ua_subscriptions.specs.declared.round.Round.{Round}
 use Rattle.ua_subscriptions.specs.Queues.{first_of}
 use Rattle.ua_subscriptions.specs.Scenes.{Noting, Sending, sending, with_asked, note_sent, rest_sent, is_overspent, answered_by}
 
-pub answered_place : (asked : Option PublishCall) (turn : Turn) (s : Subscription) (more : Bool) (message : List ℕ) → (answered_by asked turn s more message).place ≡ turn.place
-answered_place None turn s more message = refl
-answered_place (Some call) turn s more message = refl
+pub answered_place : (asked : Option PublishCall) (round : Round) (s : Subscription) (more : Bool) (message : List ℕ) → (answered_by asked round s more message).message_count ≡ round.message_count
+answered_place None round s more message = refl
+answered_place (Some call) round s more message = refl
 
 same_some : {a b : PublishCall} → Some a ≡ Some b → b ≡ a
 same_some h = cc
 
--- a message takes the next place
-pub note_place : (n : Noting) → (note_sent n).turn.place ≡ n.turn.place + 1
+-- a message is counted
+pub note_place : (n : Noting) → (note_sent n).round.message_count ≡ n.round.message_count + 1
 unfolding note_sent
-note_place n = answered_place n.turn.asked _ _ _ _
+note_place n = answered_place n.round.asked _ _ _ _
 
-rest_place_if : (more : Bool) (call : PublishCall) (calls : List PublishCall) (n : Noting) → n.turn.place ≤ (rest_sent calls (note_sent (with_asked n call))).noting.turn.place → n.turn.place ≤ (cond more (rest_sent calls (note_sent (with_asked n call))) (sending n (call ∷ calls))).noting.turn.place
+rest_place_if : (more : Bool) (call : PublishCall) (calls : List PublishCall) (n : Noting) → n.round.message_count ≤ (rest_sent calls (note_sent (with_asked n call))).noting.round.message_count → n.round.message_count ≤ (cond more (rest_sent calls (note_sent (with_asked n call))) (sending n (call ∷ calls))).noting.round.message_count
 rest_place_if true call calls n h = h
 rest_place_if false call calls n h = grind arith
 
 -- places only rise
-pub rest_place : (calls : List PublishCall) (n : Noting) → n.turn.place ≤ (rest_sent calls n).noting.turn.place
+pub rest_place : (calls : List PublishCall) (n : Noting) → n.round.message_count ≤ (rest_sent calls n).noting.round.message_count
 rest_place [] n = grind arith
 rest_place (call ∷ calls) n = rest_place_if n.subscription.more call calls n (grind (arith, rest_place calls (note_sent (with_asked n call)), note_place (with_asked n call)))
 
 -- a message that can't be counted isn't the last
-pub rest_overspent : (calls : List PublishCall) (n : Noting) → n.turn.place + 1 ≡ 2 ^ 64 → is_overspent (rest_sent calls (note_sent n)).noting.turn ≡ true
+pub rest_overspent : (calls : List PublishCall) (n : Noting) → n.round.message_count + 1 ≡ 2 ^ 64 → is_overspent (rest_sent calls (note_sent n)).noting.round ≡ true
 rest_overspent calls n h = grind (arith, rest_place calls (note_sent n), note_place n, h)
 
 more_if : (more : Bool) (s t : Sending) → more ≡ true → cond more s t ≡ s

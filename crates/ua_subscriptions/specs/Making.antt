@@ -19,27 +19,27 @@ use Rattle.ua_subscriptions.specs.Messages.{has_number}
 use Rattle.ua_subscriptions.specs.Named.{Outcome, outcome, is_own}
 use Rattle.ua_subscriptions.specs.Ranks.{due_numbers}
 use Rattle.ua_subscriptions.specs.Scenes.{Scene, scene}
-use Rattle.ua_subscriptions.specs.Settings.{revised_keep, revised_life}
+use Rattle.ua_subscriptions.specs.Settings.{revised_keep_alive_count, revised_lifetime_count}
 use Rattle.ua_subscriptions.specs.Subscriptions.{unborn, no_part}
 use Rattle.ua_subscriptions.specs.Tables.{TableState, World, with_call, met, all_met, part_at, subscription_at}
 
 -- ---- CreateSubscription
 
 abbrev pub revised_of : Settings → Revised
-revised_of asked = record { keep_count = revised_keep asked.keep_count; life_count = revised_life (revised_keep asked.keep_count) asked.life_count }
+revised_of asked = record { keep_alive_count = revised_keep_alive_count asked.keep_alive_count; lifetime_count = revised_lifetime_count (revised_keep_alive_count asked.keep_alive_count) asked.lifetime_count }
 
 abbrev pub refused_scene : ℕ → Settings → Bool → World → Scene
-refused_scene session asked enabled w = fired (scene (with_call w.turn 0 (Create true asked enabled)) (unborn session) no_part w.items)
+refused_scene session asked enabled w = fired (scene (with_call w.round 0 (Create true asked enabled)) (unborn session) no_part w.items)
 
 -- one is refused: only the row is told
 unfoldable pub refused_one : ℕ → Settings → Bool → World → World
 refused_one session asked enabled w =
     let c = refused_scene session asked enabled w in
-    record w { turn = c.turn; items = c.items }
+    record w { round = c.round; items = c.items }
 
 abbrev pub added_scene : ℕ → ℕ → Settings → Bool → World → Scene
 added_scene session number asked enabled w =
-    fired (scene (with_call w.turn number (Create false asked enabled)) (unborn session) (part_at session w.table.sessions) w.items)
+    fired (scene (with_call w.round number (Create false asked enabled)) (unborn session) (part_at session w.table.sessions) w.items)
 
 abbrev pub with_number : ℕ → SessionSubscriptions → SessionSubscriptions
 with_number number part = record part { numbers = insert_key nat_cmp part.numbers number }
@@ -49,7 +49,7 @@ unfoldable pub added : ℕ → ℕ → Settings → Bool → World → World
 added session number asked enabled w =
     let c = added_scene session number asked enabled w in
     record {
-      turn = c.turn;
+      round = c.round;
       table = record {
         subscriptions = insert_entry nat_cmp w.table.subscriptions number c.subscription;
         sessions = insert_entry nat_cmp (remove_entry (is_at (nat_cmp session)) w.table.sessions) session (with_number number c.part);
@@ -90,4 +90,4 @@ republished session number wanted w =
 
 -- those that are due fire the row of their timer, the best first
 abbrev pub timed : World → World
-timed w = all_met Timer w (due_numbers w.turn.clock w.table.subscriptions)
+timed w = all_met Timer w (due_numbers w.round.clock w.table.subscriptions)

@@ -12,7 +12,7 @@ use Rattle.ua_subscriptions.specs.declared.call.Call.{Call}
 use Rattle.ua_subscriptions.specs.declared.call.Call.TheVariants.{Delete}
 use Rattle.ua_subscriptions.specs.declared.session_part.SessionSubscriptions.{SessionSubscriptions}
 use Rattle.ua_subscriptions.specs.declared.subscription.Subscription.{Subscription}
-use Rattle.ua_subscriptions.specs.declared.turn.Turn.{Turn}
+use Rattle.ua_subscriptions.specs.declared.round.Round.{Round}
 use Rattle.ua_subscriptions.specs.Answers.{refused_of}
 use Rattle.ua_subscriptions.specs.Scenes.{is_overspent}
 use Rattle.ua_subscriptions.specs.Subscriptions.{is_of}
@@ -30,7 +30,7 @@ outcome x w = record { answer = x; world = w }
 abbrev pub Comes : {A : Type 0} → Result A Halt → World → Outcome A → Type 0
 Comes (Ok x) new said = outcome x new ≡ said
 Comes (Err Memory) new said = ⊤
-Comes (Err Exhausted) new said = is_overspent said.world.turn ≡ true
+Comes (Err Exhausted) new said = is_overspent said.world.round ≡ true
 
 -- ---- subscriptions that are named
 
@@ -58,11 +58,11 @@ named_all session call w numbers = fold (named_one session call) (outcome [] w) 
 
 -- ---- requests that wait in vain
 
-abbrev pub with_replies : Turn → List Reply → Turn
-with_replies turn replies = record turn { replies = turn.replies ++ replies }
+abbrev pub with_replies : Round → List Reply → Round
+with_replies round replies = record round { replies = round.replies ++ replies }
 
-abbrev pub requests_refused : ℕ → Status → Turn → List (ℕ × SessionSubscriptions) → Turn
-requests_refused session code turn sessions = with_replies turn (map (refused_of turn.clock code) (part_at session sessions).requests)
+abbrev pub requests_refused : ℕ → Status → Round → List (ℕ × SessionSubscriptions) → Round
+requests_refused session code round sessions = with_replies round (map (refused_of round.clock code) (part_at session sessions).requests)
 
 abbrev pub without_requests : SessionSubscriptions → SessionSubscriptions
 without_requests part = record part { requests = [] }
@@ -75,7 +75,7 @@ unfoldable pub all_refused : ℕ → Status → World → World
 all_refused session code w =
     let table : TableState = w.table in
     record w {
-      turn = requests_refused session code w.turn table.sessions;
+      round = requests_refused session code w.round table.sessions;
       table = record table { sessions = sessions_without_requests session table.sessions };
     }
 

@@ -4,7 +4,7 @@ use Rattle.std.specs.List.{AllByRecursion}
 use Rattle.server_messages.specs.declared.reply.Reply.{Reply}
 use Rattle.ua_subscriptions.specs.declared.publish_call.PublishCall.{PublishCall}
 use Rattle.ua_subscriptions.specs.declared.session_part.SessionSubscriptions.{SessionSubscriptions}
-use Rattle.ua_subscriptions.specs.declared.turn.Turn.{Turn}
+use Rattle.ua_subscriptions.specs.declared.round.Round.{Round}
 use Rattle.ua_subscriptions.specs.SubscriptionCalls.{Said}
 use Rattle.ua_subscriptions.specs.Tables.{World}
 
@@ -25,17 +25,17 @@ abbrev pub AskedBy : (ℕ → Type 0) → Option PublishCall → Type 0
 AskedBy Such None = ⊤
 AskedBy Such (Some call) = Such call.conn
 
--- what a turn has answered, and what it has yet to answer
-pub record TurnOwesOnly (Such : ℕ → Type 0) (turn : Turn) : Type 0 where
-  pub replies : RepliedTo Such turn.replies
-  pub asked : AskedBy Such turn.asked
+-- what a round has answered, and what it has yet to answer
+pub record RoundOwesOnly (Such : ℕ → Type 0) (round : Round) : Type 0 where
+  pub replies : RepliedTo Such round.replies
+  pub asked : AskedBy Such round.asked
 
 -- every connection that is answered, or waits for a reply, is such a one
 pub record OwesOnly (Such : ℕ → Type 0) (w : World) : Type 0 where
-  pub turn : TurnOwesOnly Such w.turn
+  pub round : RoundOwesOnly Such w.round
   pub queued : QueuedBy Such w.table.sessions
 
 -- a call answers such connections alone, and leaves such alone waiting
 pub record SaysOnly {A : Type 0} (Such : ℕ → Type 0) (s : Said A) : Type 0 where
   pub queued : QueuedBy Such s.state.table.sessions
-  pub replies : RepliedTo Such s.outcome.world.turn.replies
+  pub replies : RepliedTo Such s.outcome.world.round.replies

@@ -15,7 +15,7 @@ use Rattle.ua_subscriptions.specs.declared.ranks.Rank.{Rank}
 use Rattle.ua_subscriptions.specs.declared.session_part.SessionSubscriptions.{SessionSubscriptions}
 use Rattle.ua_subscriptions.specs.declared.session_part.TimeoutNote.{TimeoutNote}
 use Rattle.ua_subscriptions.specs.declared.subscription.Subscription.{Subscription}
-use Rattle.ua_subscriptions.specs.declared.turn.Turn.{Turn}
+use Rattle.ua_subscriptions.specs.declared.round.Round.{Round}
 use Rattle.ua_subscriptions.specs.Answers.{published_of, refused_of}
 use Rattle.ua_subscriptions.specs.Messages.{has_number, timeout_message}
 use Rattle.ua_subscriptions.specs.Queues.{first_of}
@@ -85,16 +85,16 @@ abbrev pub without_note : ℕ → List (ℕ × SessionSubscriptions) → List (�
 without_note session sessions = set_value (is_at (nat_cmp session)) sessions (part_without_note (part_at session sessions))
 
 -- a request is answered by the note that a subscription has timed out: under that one's number, with nothing kept
-abbrev pub note_told : Turn → PublishCall → TimeoutNote → Turn
-note_told turn call note = with_reply turn (published_of turn.clock call note.subscription [] false (timeout_message note.number turn.clock))
+abbrev pub note_told : Round → PublishCall → TimeoutNote → Round
+note_told round call note = with_reply round (published_of round.clock call note.subscription [] false (timeout_message note.number round.clock))
 
 -- ---- who answers
 
-abbrev pub with_turn : World → Turn → World
-with_turn w turn = record w { turn = turn }
+abbrev pub with_round : World → Round → World
+with_round w round = record w { round = round }
 
 abbrev pub asked_by : World → PublishCall → World
-asked_by w call = let turn : Turn = w.turn in with_turn w (record turn { asked = Some call })
+asked_by w call = let round : Round = w.round in with_round w (record round { asked = Some call })
 
 abbrev pub met_by_best : Option Rank → List ℕ → World → World
 met_by_best (Some rank) numbers w = met w rank.number Publish
@@ -102,11 +102,11 @@ met_by_best None numbers w = all_met Publish w numbers
 
 -- the best of some subscriptions that waits meets a request alone, or else all of them do
 unfoldable pub answered_to : List ℕ → PublishCall → World → World
-answered_to [] call w = with_turn w (with_reply w.turn (refused_of w.turn.clock status.BAD_NO_SUBSCRIPTION call))
+answered_to [] call w = with_round w (with_reply w.round (refused_of w.round.clock status.BAD_NO_SUBSCRIPTION call))
 answered_to (n ∷ ns) call w = met_by_best (first_of (waiting_of w.table.subscriptions (n ∷ ns))) (n ∷ ns) (asked_by w call)
 
 abbrev pub answered_by : Option TimeoutNote → ℕ → PublishCall → World → World
-answered_by (Some note) session call w = with_turn w (note_told w.turn call note)
+answered_by (Some note) session call w = with_round w (note_told w.round call note)
 answered_by None session call w = answered_to (part_at session w.table.sessions).numbers call w
 
 abbrev pub with_results : PublishCall → List Status → PublishCall

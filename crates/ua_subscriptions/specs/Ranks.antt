@@ -12,9 +12,9 @@ use Rattle.ua_subscriptions.specs.declared.subscription.Subscription.{Subscripti
 use Rattle.ua_subscriptions.specs.Tables.{subscription_at}
 
 abbrev pub rank_of : ℕ → Subscription → Rank
-rank_of number s = record { priority = record { 0 = s.priority }; place = s.place; number = number }
+rank_of number s = record { priority = record { 0 = s.priority }; message_count = s.message_count; number = number }
 
--- by the highest priority, then by the least place, then by the least number
+-- by the highest priority, then by the least recent message, then by the least number
 abbrev pub rank_cmp : Rank → Rank → Ordering
 rank_cmp = order.ghosts.cmp
 

@@ -17,139 +17,139 @@ use Rattle.ua_subscriptions.specs.declared.publish_call.PublishCall.{PublishCall
 use Rattle.ua_subscriptions.specs.declared.session_part.SessionSubscriptions.{SessionSubscriptions}
 use Rattle.ua_subscriptions.specs.declared.settings.Settings.{Settings}
 use Rattle.ua_subscriptions.specs.declared.subscription.Subscription.{Subscription}
-use Rattle.ua_subscriptions.specs.declared.turn.Turn.{Turn}
+use Rattle.ua_subscriptions.specs.declared.round.Round.{Round}
 use Rattle.ua_subscriptions.specs.Answers.{number_of, published_of, refused_of}
 use Rattle.ua_subscriptions.specs.Calls.{settings_of, asks_enabled}
 use Rattle.ua_subscriptions.specs.Messages.{number_after, data_message, keep_alive_message}
 use Rattle.ua_subscriptions.specs.Queues.{first_of}
-use Rattle.ua_subscriptions.specs.Settings.{revised_keep, revised_life, revised_notifications}
+use Rattle.ua_subscriptions.specs.Settings.{revised_keep_alive_count, revised_lifetime_count, revised_notifications}
 
 -- what a row sees and changes: its subscription, what that one's session has of subscriptions, and the items
 pub record Scene : Type 0 where
-  pub turn : Turn
+  pub round : Round
   pub subscription : Subscription
   pub part : SessionSubscriptions
   pub items : ItemsState
 
-abbrev pub scene : Turn → Subscription → SessionSubscriptions → ItemsState → Scene
-scene turn s part items = record { turn = turn; subscription = s; part = part; items = items }
+abbrev pub scene : Round → Subscription → SessionSubscriptions → ItemsState → Scene
+scene round s part items = record { round = round; subscription = s; part = part; items = items }
 
 abbrev pub with_subscription : Scene → Subscription → Scene
 with_subscription c s = record c { subscription = s }
 
 -- ---- counts, as asked and revised
 
-abbrev pub with_settings : Turn → Settings → Subscription → Subscription
-with_settings turn asked s = record s {
-  keep_count = revised_keep asked.keep_count;
-  life_count = revised_life (revised_keep asked.keep_count) asked.life_count;
-  notifications = revised_notifications turn.bounds.notifications asked.notifications;
+abbrev pub with_settings : Round → Settings → Subscription → Subscription
+with_settings round asked s = record s {
+  keep_alive_count = revised_keep_alive_count asked.keep_alive_count;
+  lifetime_count = revised_lifetime_count (revised_keep_alive_count asked.keep_alive_count) asked.lifetime_count;
+  notifications = revised_notifications round.bounds.notifications asked.notifications;
   priority = asked.priority;
 }
 
-abbrev pub updated : Turn → Subscription → Subscription
-updated turn s = with_settings turn (settings_of turn.call) s
+abbrev pub updated : Round → Subscription → Subscription
+updated round s = with_settings round (settings_of round.call) s
 
 -- it begins: the counters are the counts, and no message was sent
-abbrev pub initialised : Turn → Subscription → Subscription
-initialised turn s =
-    let t : Subscription = updated turn s in
-    record t { enabled = asks_enabled turn.call; more = false; sent = false; keep = t.keep_count; life = t.life_count; place = 0; number = 0; kept = [] }
+abbrev pub initialised : Round → Subscription → Subscription
+initialised round s =
+    let t : Subscription = updated round s in
+    record t { enabled = asks_enabled round.call; more = false; sent = false; keep_alive = t.keep_alive_count; lifetime = t.lifetime_count; message_count = 0; number = 0; kept = [] }
 
 -- ---- the timer
 
 -- the next timer comes a publishing interval from now
-abbrev pub started : Turn → Subscription → Subscription
-started turn s = record s { due = record { 0 = saturate_signed w64 (turn.clock.0 +ℤ pos turn.bounds.publish_time) }; life = s.life - 1 }
+abbrev pub started : Round → Subscription → Subscription
+started round s = record s { due = record { 0 = saturate_signed w64 (round.clock.0 +ℤ pos round.bounds.publish_time) }; lifetime = s.lifetime - 1 }
 
 abbrev pub life_reset : Subscription → Subscription
-life_reset s = record s { life = s.life_count }
+life_reset s = record s { lifetime = s.lifetime_count }
 
 -- ---- Publish requests
 
-abbrev pub with_reply : Turn → Reply → Turn
-with_reply turn reply = record turn { replies = turn.replies ++ reply ∷ [] }
+abbrev pub with_reply : Round → Reply → Round
+with_reply round reply = record round { replies = round.replies ++ reply ∷ [] }
 
-abbrev pub with_refused : Turn → Option PublishCall → Turn
-with_refused turn None = turn
-with_refused turn (Some call) = with_reply turn (refused_of turn.clock status.BAD_TOO_MANY_PUBLISH_REQUESTS call)
+abbrev pub with_refused : Round → Option PublishCall → Round
+with_refused round None = round
+with_refused round (Some call) = with_reply round (refused_of round.clock status.BAD_TOO_MANY_PUBLISH_REQUESTS call)
 
--- what happens while a request is queued: the turn, and the session's part
+-- what happens while a request is queued: the round, and the session's part
 pub record Queueing : Type 0 where
-  pub turn : Turn
+  pub round : Round
   pub part : SessionSubscriptions
 
 -- a request is queued; where as many wait as may, the oldest is answered that they are too many
-abbrev pub enqueued_by : Option PublishCall → Turn → SessionSubscriptions → Queueing
-enqueued_by None turn part = record { turn = turn; part = part }
-enqueued_by (Some call) turn part =
-    if nat_le turn.bounds.publish_queue (length part.requests)
-    then record { turn = with_refused (record turn { asked = None }) (first_of part.requests); part = record part { requests = drop 1 part.requests ++ call ∷ [] } }
-    else record { turn = record turn { asked = None }; part = record part { requests = part.requests ++ call ∷ [] } }
+abbrev pub enqueued_by : Option PublishCall → Round → SessionSubscriptions → Queueing
+enqueued_by None round part = record { round = round; part = part }
+enqueued_by (Some call) round part =
+    if nat_le round.bounds.publish_queue (length part.requests)
+    then record { round = with_refused (record round { asked = None }) (first_of part.requests); part = record part { requests = drop 1 part.requests ++ call ∷ [] } }
+    else record { round = record round { asked = None }; part = record part { requests = part.requests ++ call ∷ [] } }
 
-unfoldable pub enqueued : Turn → SessionSubscriptions → Queueing
-enqueued turn part = enqueued_by turn.asked turn part
+unfoldable pub enqueued : Round → SessionSubscriptions → Queueing
+enqueued round part = enqueued_by round.asked round part
 
 abbrev pub with_queueing : Scene → Queueing → Scene
-with_queueing c q = record c { turn = q.turn; part = q.part }
+with_queueing c q = record c { round = q.round; part = q.part }
 
-abbrev pub dequeued : Turn → SessionSubscriptions → Queueing
-dequeued turn part = record { turn = record turn { asked = first_of part.requests }; part = record part { requests = drop 1 part.requests } }
+abbrev pub dequeued : Round → SessionSubscriptions → Queueing
+dequeued round part = record { round = record round { asked = first_of part.requests }; part = record part { requests = drop 1 part.requests } }
 
 -- ---- messages
 
 -- one more message of all
-abbrev pub counted : Turn → Turn
-counted turn = record turn { place = turn.place + 1 }
+abbrev pub counted : Round → Round
+counted round = record round { message_count = round.message_count + 1 }
 
-abbrev pub answered_by : Option PublishCall → Turn → Subscription → Bool → List ℕ → Turn
-answered_by None turn s more message = turn
-answered_by (Some call) turn s more message =
-    with_reply (record turn { asked = None }) (published_of turn.clock call turn.own (map number_of s.kept) more message)
+abbrev pub answered_by : Option PublishCall → Round → Subscription → Bool → List ℕ → Round
+answered_by None round s more message = round
+answered_by (Some call) round s more message =
+    with_reply (record round { asked = None }) (published_of round.clock call round.own (map number_of s.kept) more message)
 
 -- the request that is answered now brings this message
-abbrev pub answered : Turn → Subscription → Bool → List ℕ → Turn
-answered turn s more message = answered_by turn.asked turn s more message
+abbrev pub answered : Round → Subscription → Bool → List ℕ → Round
+answered round s more message = answered_by round.asked round s more message
 
 -- a message is kept, and the oldest goes where there are more than may be
 abbrev pub kept_with : ℕ → List KeptMessage → KeptMessage → List KeptMessage
 kept_with bound kept message = if nat_lt bound (length kept + 1) then drop 1 (kept ++ message ∷ []) else kept ++ message ∷ []
 
-abbrev pub placed : Turn → Subscription → Subscription
-placed turn s = record s { place = turn.place }
+abbrev pub placed : Round → Subscription → Subscription
+placed round s = record s { message_count = round.message_count }
 
 -- a message with nothing to tell has the next number and doesn't use it up
-abbrev pub keep_alive_sent : Turn → Subscription → Turn
-keep_alive_sent turn s = answered (counted turn) (placed (counted turn) s) false (keep_alive_message (number_after s.number) turn.clock)
+abbrev pub keep_alive_sent : Round → Subscription → Round
+keep_alive_sent round s = answered (counted round) (placed (counted round) s) false (keep_alive_message (number_after s.number) round.clock)
 
--- what happens while a message is made: the turn, the subscription, and the items
+-- what happens while a message is made: the round, the subscription, and the items
 pub record Noting : Type 0 where
-  pub turn : Turn
+  pub round : Round
   pub subscription : Subscription
   pub items : ItemsState
 
-abbrev pub noting : Turn → Subscription → ItemsState → Noting
-noting turn s items = record { turn = turn; subscription = s; items = items }
+abbrev pub noting : Round → Subscription → ItemsState → Noting
+noting round s items = record { round = round; subscription = s; items = items }
 
-abbrev pub items_noted : Turn → Subscription → ItemsState → ItemsState
-items_noted turn s items = record items { items = (taken_of items.items s.notifications (numbers_of turn.own items.items)).items }
+abbrev pub items_noted : Round → Subscription → ItemsState → ItemsState
+items_noted round s items = record items { items = (taken_of items.items s.notifications (numbers_of round.own items.items)).items }
 
-abbrev pub message_made : Turn → Subscription → ItemsState → List ℕ
-message_made turn s items = data_message (number_after s.number) turn.clock (taken_of items.items s.notifications (numbers_of turn.own items.items)).notes
+abbrev pub message_made : Round → Subscription → ItemsState → List ℕ
+message_made round s items = data_message (number_after s.number) round.clock (taken_of items.items s.notifications (numbers_of round.own items.items)).notes
 
-abbrev pub subscription_noted : Turn → Subscription → ItemsState → Subscription
-subscription_noted turn s items = record s {
-  more = is_available (items_noted turn s items) turn.own;
-  place = turn.place + 1;
+abbrev pub subscription_noted : Round → Subscription → ItemsState → Subscription
+subscription_noted round s items = record s {
+  more = is_available (items_noted round s items) round.own;
+  message_count = round.message_count + 1;
   number = number_after s.number;
-  kept = kept_with turn.bounds.kept s.kept (record { number = number_after s.number; bytes = message_made turn s items });
+  kept = kept_with round.bounds.kept s.kept (record { number = number_after s.number; bytes = message_made round s items });
 }
 
 -- a message with the first values of the subscription's items is sent and kept; `more` says whether values are left
 unfoldable pub note_sent : Noting → Noting
 note_sent n =
-    let after = subscription_noted n.turn n.subscription n.items in
-    record { turn = answered (counted n.turn) after after.more (message_made n.turn n.subscription n.items); subscription = after; items = items_noted n.turn n.subscription n.items }
+    let after = subscription_noted n.round n.subscription n.items in
+    record { round = answered (counted n.round) after after.more (message_made n.round n.subscription n.items); subscription = after; items = items_noted n.round n.subscription n.items }
 
 -- and the requests that wait yet
 pub record Sending : Type 0 where
@@ -160,7 +160,7 @@ abbrev pub sending : Noting → List PublishCall → Sending
 sending n calls = record { noting = n; requests = calls }
 
 abbrev pub with_asked : Noting → PublishCall → Noting
-with_asked n call = let turn : Turn = n.turn in record n { turn = record turn { asked = Some call } }
+with_asked n call = let round : Round = n.round in record n { round = record round { asked = Some call } }
 
 -- further requests are answered as long as values are left
 abbrev pub rest_sent : List PublishCall → Noting → Sending
@@ -173,48 +173,48 @@ notes_sent calls n = rest_sent calls (note_sent n)
 abbrev pub with_sending : Scene → Sending → Scene
 with_sending c sent =
     let part : SessionSubscriptions = c.part in
-    record { turn = sent.noting.turn; subscription = sent.noting.subscription; part = record part { requests = sent.requests }; items = sent.noting.items }
+    record { round = sent.noting.round; subscription = sent.noting.subscription; part = record part { requests = sent.requests }; items = sent.noting.items }
 
 -- ---- the end
 
 abbrev pub items_deleted : Scene → Scene
 items_deleted c =
     let s : Subscription = c.subscription in
-    record c { subscription = record s { kept = [] }; items = ended c.items c.turn.own }
+    record c { subscription = record s { kept = [] }; items = ended c.items c.round.own }
 
 -- its session is to be told, under the number of its next message
 abbrev pub timeout_noted : Scene → Scene
 timeout_noted c =
     let part : SessionSubscriptions = c.part in
-    record c { part = record part { notes = part.notes ++ record { subscription = c.turn.own; number = number_after c.subscription.number } ∷ [] } }
+    record c { part = record part { notes = part.notes ++ record { subscription = c.round.own; number = number_after c.subscription.number } ∷ [] } }
 
 -- ---- all actions
 
 -- The call's own answer, and what a client asked of its items, is not the table's business: whoever calls does it.
 abbrev pub done : Scene → Action → Scene
 done c RefuseTooMany = c
-done c Initialise = with_subscription c (initialised c.turn c.subscription)
-done c StartTimer = with_subscription c (started c.turn c.subscription)
+done c Initialise = with_subscription c (initialised c.round c.subscription)
+done c StartTimer = with_subscription c (started c.round c.subscription)
 done c Answer = c
 done c DeleteAcknowledged = c
-done c Enqueue = with_queueing c (enqueued c.turn c.part)
-done c Dequeue = with_queueing c (dequeued c.turn c.part)
+done c Enqueue = with_queueing c (enqueued c.round c.part)
+done c Dequeue = with_queueing c (dequeued c.round c.part)
 done c ResetLife = with_subscription c (life_reset c.subscription)
-done c ResetKeep = let s : Subscription = c.subscription in with_subscription c (record s { keep = s.keep_count })
-done c CountKeep = let s : Subscription = c.subscription in with_subscription c (record s { keep = s.keep - 1 })
-done c SendNotifications = with_sending c (notes_sent c.part.requests (noting c.turn c.subscription c.items))
-done c SendKeepAlive = record c { turn = keep_alive_sent c.turn c.subscription; subscription = placed (counted c.turn) c.subscription }
+done c ResetKeep = let s : Subscription = c.subscription in with_subscription c (record s { keep_alive = s.keep_alive_count })
+done c CountKeep = let s : Subscription = c.subscription in with_subscription c (record s { keep_alive = s.keep_alive - 1 })
+done c SendNotifications = with_sending c (notes_sent c.part.requests (noting c.round c.subscription c.items))
+done c SendKeepAlive = record c { round = keep_alive_sent c.round c.subscription; subscription = placed (counted c.round) c.subscription }
 done c SetSent = let s : Subscription = c.subscription in with_subscription c (record s { sent = true })
 done c DeleteItems = items_deleted c
 done c NoteTimeout = timeout_noted c
-done c Update = with_subscription c (updated c.turn c.subscription)
-done c LimitKeep = let s : Subscription = c.subscription in with_subscription c (record s { keep = min s.keep s.keep_count })
-done c SetEnabled = let s : Subscription = c.subscription in with_subscription c (record s { enabled = asks_enabled c.turn.call })
+done c Update = with_subscription c (updated c.round c.subscription)
+done c LimitKeep = let s : Subscription = c.subscription in with_subscription c (record s { keep_alive = min s.keep_alive s.keep_alive_count })
+done c SetEnabled = let s : Subscription = c.subscription in with_subscription c (record s { enabled = asks_enabled c.round.call })
 done c ClearMore = let s : Subscription = c.subscription in with_subscription c (record s { more = false })
 done c AnswerKept = c
 done c RefuseNotKept = c
 done c CallItems = c
-done c LimitMore = let s : Subscription = c.subscription in with_subscription c (record s { more = s.more && is_available c.items c.turn.own })
+done c LimitMore = let s : Subscription = c.subscription in with_subscription c (record s { more = s.more && is_available c.items c.round.own })
 done c LeaveSession = let s : Subscription = c.subscription in with_subscription c (record s { session = None })
 
 abbrev pub all_done : Scene → List Action → Scene
@@ -230,11 +230,11 @@ row_done row c = moved_to (next_of row c.subscription.state) (all_done c (action
 -- ---- what the code does of it
 
 -- messages past the last number of 64 bits were counted
-abbrev pub is_overspent : Turn → Bool
-is_overspent turn = nat_le (2 ^ 64) turn.place
+abbrev pub is_overspent : Round → Bool
+is_overspent round = nat_le (2 ^ 64) round.message_count
 
 -- a call leaves the scene that is said of it, unless memory ran out, or messages can't be counted any more
 abbrev pub Acts : Result Unit Halt → Scene → Scene → Type 0
 Acts (Ok done) new said = new ≡ said
 Acts (Err Memory) new said = ⊤
-Acts (Err Exhausted) new said = is_overspent said.turn ≡ true
+Acts (Err Exhausted) new said = is_overspent said.round ≡ true

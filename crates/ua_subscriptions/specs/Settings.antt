@@ -14,15 +14,15 @@ bounds_of config = record {
 }
 
 abbrev pub no_settings : Settings
-no_settings = record { keep_count = 0; life_count = 0; notifications = 0; priority = 0 }
+no_settings = record { keep_alive_count = 0; lifetime_count = 0; notifications = 0; priority = 0 }
 
 -- a keep-alive count is from 2 to 65535
-abbrev pub revised_keep : ℕ → ℕ
-revised_keep asked = min (max asked 2) 65535
+abbrev pub revised_keep_alive_count : ℕ → ℕ
+revised_keep_alive_count asked = min (max asked 2) 65535
 
 -- a lifetime count is from three times the keep-alive count to 196605
-abbrev pub revised_life : ℕ → ℕ → ℕ
-revised_life keep asked = min (max asked (3 * keep)) 196605
+abbrev pub revised_lifetime_count : ℕ → ℕ → ℕ
+revised_lifetime_count keep_alive asked = min (max asked (3 * keep_alive)) 196605
 
 -- a message has at most as many notifications as the server allows, which is also what 0 asks for
 abbrev pub revised_notifications : ℕ → ℕ → ℕ

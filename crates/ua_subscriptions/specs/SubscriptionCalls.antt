@@ -12,7 +12,7 @@ use Rattle.ua_subscriptions.specs.declared.call.Call.TheVariants.{Timer}
 use Rattle.ua_subscriptions.specs.declared.settings.Bounds.{Bounds}
 use Rattle.ua_subscriptions.specs.declared.settings.Settings.{Settings}
 use Rattle.ua_subscriptions.specs.declared.subscriptions.Created.{Created}
-use Rattle.ua_subscriptions.specs.declared.turn.Turn.{Turn}
+use Rattle.ua_subscriptions.specs.declared.round.Round.{Round}
 use Rattle.ua_subscriptions.specs.Making.{revised_of, refused_one, added}
 use Rattle.ua_subscriptions.specs.Named.{Outcome, outcome}
 use Rattle.ua_subscriptions.specs.Scenes.{is_overspent}
@@ -25,18 +25,18 @@ pub record SubscriptionsState : Type 0 where
   pub bounds : Bounds
   pub halted : Option Halt
   pub made : ℕ
-  pub place : ℕ
+  pub message_count : ℕ
   pub table : TableState
 
 abbrev pub no_subscriptions : Configuration → SubscriptionsState
-no_subscriptions config = record { bounds = bounds_of config; halted = None; made = 0; place = 0; table = no_table }
+no_subscriptions config = record { bounds = bounds_of config; halted = None; made = 0; message_count = 0; table = no_table }
 
-abbrev pub turn_of : SubscriptionsState → Moment → Turn
-turn_of s clock = record { bounds = s.bounds; clock = clock; own = 0; call = Timer; asked = None; place = s.place; replies = []; rows = [] }
+abbrev pub round_of : SubscriptionsState → Moment → Round
+round_of s clock = record { bounds = s.bounds; clock = clock; own = 0; call = Timer; asked = None; message_count = s.message_count; replies = []; rows = [] }
 
 -- where a call begins
 abbrev pub world_of : SubscriptionsState → ItemsState → Moment → World
-world_of s items clock = world (turn_of s clock) s.table items
+world_of s items clock = world (round_of s clock) s.table items
 
 -- ---- what a call leaves
 
@@ -46,7 +46,7 @@ pub record Said (A : Type 0) : Type 0 where
   pub state : SubscriptionsState
 
 abbrev pub left_by : SubscriptionsState → World → SubscriptionsState
-left_by s w = record s { place = w.turn.place; table = w.table }
+left_by s w = record s { message_count = w.round.message_count; table = w.table }
 
 abbrev pub said : {A : Type 0} → SubscriptionsState → Outcome A → Said A
 said s o = record { outcome = o; state = left_by s o.world }
@@ -56,27 +56,27 @@ abbrev pub told : SubscriptionsState → World → Said Unit
 told s w = said s (outcome tt w)
 
 abbrev pub answered_of : {A : Type 0} → Outcome A → Answered A
-answered_of o = record { answer = o.answer; replies = o.world.turn.replies; rows = o.world.turn.rows }
+answered_of o = record { answer = o.answer; replies = o.world.round.replies; rows = o.world.round.rows }
 
 -- why a call ends: as an earlier one did; or for want of memory, or since messages can't be counted any more
-abbrev pub Halts : Option Halt → Halt → Turn → Type 0
-Halts (Some before) halt turn = halt ≡ before
-Halts None Memory turn = ⊤
-Halts None Exhausted turn = is_overspent turn ≡ true
+abbrev pub Halts : Option Halt → Halt → Round → Type 0
+Halts (Some before) halt round = halt ≡ before
+Halts None Memory round = ⊤
+Halts None Exhausted round = is_overspent round ≡ true
 
 -- a call gives and leaves what is said of it; or it ends for good
 abbrev pub Serves : {A : Type 0} → Result (Answered A) Halt → SubscriptionsState → SubscriptionsState → ItemsState → Said A → Type 0
 Serves (Ok x) old new items s = (old.halted ≡ None) × (x ≡ answered_of s.outcome) × (new ≡ s.state) × (items ≡ s.outcome.world.items)
-Serves (Err halt) old new items s = (new.halted ≡ Some halt) × Halts old.halted halt s.outcome.world.turn
+Serves (Err halt) old new items s = (new.halted ≡ Some halt) × Halts old.halted halt s.outcome.world.round
 
 -- how the code ends a call
 pub record Settled (A : Type 0) : Type 0 where
   pub result : Result (Answered A) Halt
   pub state : SubscriptionsState
 
-abbrev pub settled : {A : Type 0} → SubscriptionsState → Turn → Result A Halt → Settled A
-settled s turn (Ok x) = record { result = Ok (record { answer = x; replies = turn.replies; rows = turn.rows }); state = record s { place = turn.place } }
-settled s turn (Err halt) = record { result = Err halt; state = record s { halted = Some halt } }
+abbrev pub settled : {A : Type 0} → SubscriptionsState → Round → Result A Halt → Settled A
+settled s round (Ok x) = record { result = Ok (record { answer = x; replies = round.replies; rows = round.rows }); state = record s { message_count = round.message_count } }
+settled s round (Err halt) = record { result = Err halt; state = record s { halted = Some halt } }
 
 -- ---- CreateSubscription
 

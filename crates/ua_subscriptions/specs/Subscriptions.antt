@@ -19,14 +19,14 @@ unborn session = record {
   enabled = false;
   more = false;
   sent = false;
-  keep = 0;
-  life = 0;
-  keep_count = 0;
-  life_count = 0;
+  keep_alive = 0;
+  lifetime = 0;
+  keep_alive_count = 0;
+  lifetime_count = 0;
   notifications = 0;
   priority = 0;
   due = record { 0 = pos 0 };
-  place = 0;
+  message_count = 0;
   number = 0;
   kept = [];
 }
@@ -44,8 +44,8 @@ vars_with s waits items own = record {
   available = is_available items own;
   more = s.more;
   sent = s.sent;
-  keep = s.keep;
-  life = s.life;
+  keep_alive = s.keep_alive;
+  lifetime = s.lifetime;
 }
 
 abbrev pub vars_of : Subscription → SessionSubscriptions → ItemsState → ℕ → Vars
@@ -53,7 +53,7 @@ vars_of s part items own = vars_with s (is_any part.requests) items own
 
 -- the variables of one that isn't there
 abbrev pub no_vars : Vars
-no_vars = record { state = Closed; enabled = false; queued = false; available = false; more = false; sent = false; keep = 0; life = 0 }
+no_vars = record { state = Closed; enabled = false; queued = false; available = false; more = false; sent = false; keep_alive = 0; lifetime = 0 }
 
 abbrev pub is_of : Option ℕ → ℕ → Bool
 is_of None session = false

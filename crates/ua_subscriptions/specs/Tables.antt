@@ -9,7 +9,7 @@ use Rattle.ua_monitored_items.specs.Items.{ItemsState}
 use Rattle.ua_subscriptions.specs.declared.call.Call.{Call}
 use Rattle.ua_subscriptions.specs.declared.session_part.SessionSubscriptions.{SessionSubscriptions}
 use Rattle.ua_subscriptions.specs.declared.subscription.Subscription.{Subscription}
-use Rattle.ua_subscriptions.specs.declared.turn.Turn.{Turn}
+use Rattle.ua_subscriptions.specs.declared.round.Round.{Round}
 use Rattle.ua_subscriptions.specs.Firing.{fired, is_closed}
 use Rattle.ua_subscriptions.specs.Scenes.{Scene, scene, is_overspent}
 use Rattle.ua_subscriptions.specs.Subscriptions.{no_part, vars_of}
@@ -58,63 +58,63 @@ set_part (Some session) sessions part = set_value (is_at (nat_cmp session)) sess
 
 -- what a row leaves, where the sessions' parts lie under their numbers
 pub record Met : Type 0 where
-  pub turn : Turn
+  pub round : Round
   pub subscription : Subscription
   pub sessions : List (ℕ × SessionSubscriptions)
   pub items : ItemsState
 
 abbrev pub met_by : Scene → Option ℕ → List (ℕ × SessionSubscriptions) → Met
-met_by c session sessions = record { turn = c.turn; subscription = c.subscription; sessions = set_part session sessions c.part; items = c.items }
+met_by c session sessions = record { round = c.round; subscription = c.subscription; sessions = set_part session sessions c.part; items = c.items }
 
-abbrev pub met_in : Turn → Subscription → List (ℕ × SessionSubscriptions) → ItemsState → Met
-met_in turn s sessions items = met_by (fired (scene turn s (part_of s.session sessions) items)) s.session sessions
+abbrev pub met_in : Round → Subscription → List (ℕ × SessionSubscriptions) → ItemsState → Met
+met_in round s sessions items = met_by (fired (scene round s (part_of s.session sessions) items)) s.session sessions
 
--- what a row leaves, where the subscriptions lie under their numbers, too, and whether the one whose turn it was is closed
+-- what a row leaves, where the subscriptions lie under their numbers, too, and whether the one that the round was at is closed
 pub record OneMet : Type 0 where
-  pub turn : Turn
+  pub round : Round
   pub subscriptions : List (ℕ × Subscription)
   pub sessions : List (ℕ × SessionSubscriptions)
   pub items : ItemsState
   pub closed : Bool
 
-abbrev pub one_met : Turn → List (ℕ × Subscription) → List (ℕ × SessionSubscriptions) → ItemsState → Bool → OneMet
-one_met turn subscriptions sessions items closed = record { turn = turn; subscriptions = subscriptions; sessions = sessions; items = items; closed = closed }
+abbrev pub one_met : Round → List (ℕ × Subscription) → List (ℕ × SessionSubscriptions) → ItemsState → Bool → OneMet
+one_met round subscriptions sessions items closed = record { round = round; subscriptions = subscriptions; sessions = sessions; items = items; closed = closed }
 
 abbrev pub one_met_by : List (ℕ × Subscription) → ℕ → Met → OneMet
-one_met_by subscriptions own m = one_met m.turn (set_value (is_at (nat_cmp own)) subscriptions m.subscription) m.sessions m.items (is_closed m.subscription)
+one_met_by subscriptions own m = one_met m.round (set_value (is_at (nat_cmp own)) subscriptions m.subscription) m.sessions m.items (is_closed m.subscription)
 
-abbrev pub met_found : Turn → List (ℕ × Subscription) → List (ℕ × SessionSubscriptions) → ItemsState → Option Subscription → OneMet
-met_found turn subscriptions sessions items None = one_met turn subscriptions sessions items false
-met_found turn subscriptions sessions items (Some s) = one_met_by subscriptions turn.own (met_in turn s sessions items)
+abbrev pub met_found : Round → List (ℕ × Subscription) → List (ℕ × SessionSubscriptions) → ItemsState → Option Subscription → OneMet
+met_found round subscriptions sessions items None = one_met round subscriptions sessions items false
+met_found round subscriptions sessions items (Some s) = one_met_by subscriptions round.own (met_in round s sessions items)
 
-abbrev pub met_at : Turn → List (ℕ × Subscription) → List (ℕ × SessionSubscriptions) → ItemsState → OneMet
-met_at turn subscriptions sessions items = met_found turn subscriptions sessions items (subscription_at turn.own subscriptions)
+abbrev pub met_at : Round → List (ℕ × Subscription) → List (ℕ × SessionSubscriptions) → ItemsState → OneMet
+met_at round subscriptions sessions items = met_found round subscriptions sessions items (subscription_at round.own subscriptions)
 
 -- ---- a subscription under its number
 
--- a turn, the table and the items, as the one thing that requests change
+-- a round, the table and the items, as the one thing that requests change
 pub record World : Type 0 where
-  pub turn : Turn
+  pub round : Round
   pub table : TableState
   pub items : ItemsState
 
-abbrev pub world : Turn → TableState → ItemsState → World
-world turn table items = record { turn = turn; table = table; items = items }
+abbrev pub world : Round → TableState → ItemsState → World
+world round table items = record { round = round; table = table; items = items }
 
 -- one that is closed is no more
 abbrev pub without_closed : ℕ → OneMet → World
 without_closed own m = record {
-  turn = m.turn;
+  round = m.round;
   table = record { subscriptions = if m.closed then remove_entry (is_at (nat_cmp own)) m.subscriptions else m.subscriptions; sessions = m.sessions };
   items = m.items;
 }
 
-abbrev pub with_call : Turn → ℕ → Call → Turn
-with_call turn own call = record turn { own = own; call = call }
+abbrev pub with_call : Round → ℕ → Call → Round
+with_call round own call = record round { own = own; call = call }
 
 -- what comes to the subscription of a number fires one row; nothing happens where there is none
 unfoldable pub met : World → ℕ → Call → World
-met w own call = without_closed own (met_at (with_call w.turn own call) w.table.subscriptions w.table.sessions w.items)
+met w own call = without_closed own (met_at (with_call w.round own call) w.table.subscriptions w.table.sessions w.items)
 
 -- it comes to several, one after the other
 abbrev pub meet_each : Call → World → ℕ → World
@@ -129,4 +129,4 @@ all_met call w numbers = fold (meet_each call) w numbers
 abbrev pub Meets : {A : Type 0} → Result A Halt → World → World → Type 0
 Meets (Ok done) new said = new ≡ said
 Meets (Err Memory) new said = ⊤
-Meets (Err Exhausted) new said = is_overspent said.turn ≡ true
+Meets (Err Exhausted) new said = is_overspent said.round ≡ true

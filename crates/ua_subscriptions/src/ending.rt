@@ -7,9 +7,9 @@ ghost use Rattle.ua_subscriptions.specs.Tables.{world, Meets};
 use crate::call::Call;
 use crate::publish_call::PublishCall;
 use crate::queue::Queue;
+use crate::round::Round;
 use crate::session_part::SessionSubscriptions;
 use crate::table::LiveSubscriptions;
-use crate::turn::Turn;
 use server_messages::Halt;
 use std::alloc::Global;
 use ua_monitored_items::Items;
@@ -22,20 +22,20 @@ impl LiveSubscriptions {
     pub(crate) fn end_session(
         &mut self,
         alloc: Global,
-        turn: &mut Turn,
+        round: &mut Round,
         items: &mut Items,
         session: u32,
         deleting: bool,
     ) -> Result<(), Halt>
-        ensures { Meets result (world turn.new self.new items.new) (session_ended session deleting (world turn.old self.old items.old)) }
+        ensures { Meets result (world round.new self.new items.new) (session_ended session deleting (world round.old self.old items.old)) }
     {
         let numbers = self.numbers(alloc, session)?;
         let call = Call::SessionEnd { deleting };
-        match self.fire_all(alloc, turn, items, numbers.as_slice(), call) {
+        match self.fire_all(alloc, round, items, numbers.as_slice(), call) {
             Ok(()) => {}
             Err(halt) => return Err(halt),
         }
-        self.refuse_all(alloc, turn, session, Status::BAD_SESSION_CLOSED)?;
+        self.refuse_all(alloc, round, session, Status::BAD_SESSION_CLOSED)?;
         let _ = self.sessions.remove(&session);
         Ok(())
     }

@@ -7,9 +7,9 @@ ghost use Rattle.ua_subscriptions.specs.Subscriptions.{no_vars};
 
 use crate::acting::do_row;
 use crate::call::Call;
+use crate::round::Round;
 use crate::session_part::SessionSubscriptions;
 use crate::subscription::Subscription;
-use crate::turn::Turn;
 use server_messages::{Fired, Halt};
 use std::alloc::Global;
 use ua_monitored_items::Items;
@@ -23,8 +23,8 @@ const NO_VARS: Vars = Vars {
     available: false,
     more: false,
     sent: false,
-    keep: 0,
-    life: 0,
+    keep_alive: 0,
+    lifetime: 0,
 };
 
 /// Whether it is no more.
@@ -36,29 +36,29 @@ pub(crate) fn is_closed(subscription: &Subscription) -> bool
 
 // The variables that the row is chosen by.
 fn before(
-    turn: &Turn,
+    round: &Round,
     subscription: &Subscription,
     part: &SessionSubscriptions,
     items: &Items,
 ) -> Vars
-    ensures { result ≡ before_of (scene turn.now subscription.now part.now items.now) }
+    ensures { result ≡ before_of (scene round.now subscription.now part.now items.now) }
 {
-    match turn.call {
+    match round.call {
         Call::Create { .. } => NO_VARS,
         Call::Items { before } => before,
-        _ => subscription.vars(part.waits(), items, turn.own),
+        _ => subscription.vars(part.waits(), items, round.own),
     }
 }
 
 // The variables after a row that chose by these.
 fn after(
-    turn: &Turn,
+    round: &Round,
     before: Vars,
     subscription: &Subscription,
     part: &SessionSubscriptions,
     items: &Items,
 ) -> Vars
-    ensures { result ≡ vars_after before (scene turn.now subscription.now part.now items.now) }
+    ensures { result ≡ vars_after before (scene round.now subscription.now part.now items.now) }
 {
     if is_closed(subscription) {
         Vars {
@@ -66,7 +66,7 @@ fn after(
             ..before
         }
     } else {
-        subscription.vars(part.waits(), items, turn.own)
+        subscription.vars(part.waits(), items, round.own)
     }
 }
 
@@ -74,28 +74,28 @@ fn after(
 /// of what is left.
 #[tactic(auto, unfolding(crate::specs::Firing::fired))]
 pub(crate) fn fire(
-    turn: &mut Turn,
+    round: &mut Round,
     alloc: Global,
     subscription: &mut Subscription,
     part: &mut SessionSubscriptions,
     items: &mut Items,
 ) -> Result<(), Halt>
-    ensures { Acts result (scene turn.new subscription.new part.new items.new) (fired (scene turn.old subscription.old part.old items.old)) }
+    ensures { Acts result (scene round.new subscription.new part.new items.new) (fired (scene round.old subscription.old part.old items.old)) }
 {
-    let before = before(turn, subscription, part, items);
-    let event = turn.call.event();
+    let before = before(round, subscription, part, items);
+    let event = round.call.event();
     let row = choose(&before, event);
-    do_row(turn, alloc, subscription, part, items, row)?;
-    let after = after(turn, before, subscription, part, items);
-    turn.rows.push(Fired {
-        subscription: turn.own,
+    do_row(round, alloc, subscription, part, items, row)?;
+    let after = after(round, before, subscription, part, items);
+    round.rows.push(Fired {
+        subscription: round.own,
         event,
         before,
         row,
         after,
     })?;
     if is_closed(subscription) {
-        part.numbers.remove(turn.own);
+        part.numbers.remove(round.own);
     }
     Ok(())
 }

@@ -27,17 +27,17 @@ mod firing;
 mod making;
 mod messages;
 mod named;
-mod numbers;
+mod number_set;
 mod publish_call;
 mod publishing;
 mod queue;
 mod ranks;
+mod round;
 mod session_part;
 mod settings;
 mod subscription;
 mod subscriptions;
 mod table;
-mod turn;
 mod waiting;
 
 pub use acting::number_after;
@@ -45,13 +45,15 @@ pub use answered::Answered;
 pub use call::Call;
 pub use making::Revised;
 pub use messages::KeptMessage;
-pub use numbers::Numbers;
+pub use number_set::NumberSet;
 pub use publish_call::PublishCall;
 pub use queue::Queue;
 pub use ranks::{Rank, Ranks};
+pub use round::Round;
 pub use session_part::{SessionSubscriptions, TimeoutNote};
-pub use settings::{Bounds, Settings, revised_keep, revised_life, revised_notifications};
+pub use settings::{
+    Bounds, Settings, revised_keep_alive_count, revised_lifetime_count, revised_notifications,
+};
 pub use subscription::Subscription;
 pub use subscriptions::{Created, Subscriptions};
 pub use table::LiveSubscriptions;
-pub use turn::Turn;

@@ -9,11 +9,11 @@ ghost use Rattle.ua_subscriptions.specs.Ranks.{is_any_due};
 use crate::call::Call;
 use crate::firing::fire;
 use crate::publishing::message;
+use crate::round::Round;
 use crate::session_part::SessionSubscriptions;
-use crate::settings::{Settings, revised_keep, revised_life};
+use crate::settings::{Settings, revised_keep_alive_count, revised_lifetime_count};
 use crate::subscription::Subscription;
 use crate::table::LiveSubscriptions;
-use crate::turn::Turn;
 use bytes::Bytes;
 use server_messages::Halt;
 use std::alloc::{AllocError, Global};
@@ -25,9 +25,9 @@ use ua_types::Status;
 #[derive(Clone, Copy, Debug, PartialEq, Eq, Drop)]
 pub struct Revised {
     /// The keep-alive count, from 2 to 65535.
-    pub keep_count: u32,
+    pub keep_alive_count: u32,
     /// The lifetime count, from three times the keep-alive count to 196605.
-    pub life_count: u32,
+    pub lifetime_count: u32,
 }
 
 impl Revised {
@@ -35,10 +35,10 @@ impl Revised {
     pub fn new(settings: Settings) -> Revised
         ensures { result ≡ revised_of settings }
     {
-        let keep_count = revised_keep(settings.keep_count);
+        let keep_alive_count = revised_keep_alive_count(settings.keep_alive_count);
         Revised {
-            keep_count,
-            life_count: revised_life(keep_count, settings.life_count),
+            keep_alive_count,
+            lifetime_count: revised_lifetime_count(keep_alive_count, settings.lifetime_count),
         }
     }
 }
@@ -60,23 +60,23 @@ impl LiveSubscriptions {
     pub(crate) fn refuse(
         &self,
         alloc: Global,
-        turn: &mut Turn,
+        round: &mut Round,
         items: &mut Items,
         session: u32,
         settings: Settings,
         enabled: bool,
     ) -> Result<(), Halt>
-        ensures { Meets result (world turn.new self.now items.new) (refused_one session settings enabled (world turn.old self.now items.old)) }
+        ensures { Meets result (world round.new self.now items.new) (refused_one session settings enabled (world round.old self.now items.old)) }
     {
-        turn.own = 0;
-        turn.call = Call::Create {
+        round.own = 0;
+        round.call = Call::Create {
             full: true,
             settings,
             enabled,
         };
         let mut subscription = Subscription::unborn(alloc, session);
         fire(
-            turn,
+            round,
             alloc,
             &mut subscription,
             &mut SessionSubscriptions::new(alloc),
@@ -89,17 +89,17 @@ impl LiveSubscriptions {
     pub(crate) fn add(
         &mut self,
         alloc: Global,
-        turn: &mut Turn,
+        round: &mut Round,
         items: &mut Items,
         session: u32,
         number: u32,
         settings: Settings,
         enabled: bool,
     ) -> Result<(), Halt>
-        ensures { Meets result (world turn.new self.new items.new) (added session number settings enabled (world turn.old self.old items.old)) }
+        ensures { Meets result (world round.new self.new items.new) (added session number settings enabled (world round.old self.old items.old)) }
     {
-        turn.own = number;
-        turn.call = Call::Create {
+        round.own = number;
+        round.call = Call::Create {
             full: false,
             settings,
             enabled,
@@ -109,7 +109,7 @@ impl LiveSubscriptions {
             None => SessionSubscriptions::new(alloc),
         };
         let mut subscription = Subscription::unborn(alloc, session);
-        match fire(turn, alloc, &mut subscription, &mut part, items) {
+        match fire(round, alloc, &mut subscription, &mut part, items) {
             Ok(()) => {}
             Err(halt) => return Err(halt),
         }
@@ -124,18 +124,18 @@ impl LiveSubscriptions {
     pub(crate) fn modify(
         &mut self,
         alloc: Global,
-        turn: &mut Turn,
+        round: &mut Round,
         items: &mut Items,
         session: u32,
         number: u32,
         settings: Settings,
     ) -> Result<Result<Revised, Status>, Halt>
-        ensures { Comes result (world turn.new self.new items.new) (modified session number settings (world turn.old self.old items.old)) }
+        ensures { Comes result (world round.new self.new items.new) (modified session number settings (world round.old self.old items.old)) }
     {
         if !self.is_own(session, number) {
             return Ok(Err(Status::BAD_SUBSCRIPTION_ID_INVALID));
         }
-        match self.fire_one(alloc, turn, items, number, Call::Modify { settings }) {
+        match self.fire_one(alloc, round, items, number, Call::Modify { settings }) {
             Ok(()) => Ok(Ok(Revised::new(settings))),
             Err(halt) => Err(halt),
         }
@@ -146,20 +146,20 @@ impl LiveSubscriptions {
     pub(crate) fn republish(
         &mut self,
         alloc: Global,
-        turn: &mut Turn,
+        round: &mut Round,
         items: &mut Items,
         session: u32,
         number: u32,
         wanted: u32,
     ) -> Result<Result<Bytes, Status>, Halt>
-        ensures { Comes result (world turn.new self.new items.new) (republished session number wanted (world turn.old self.old items.old)) }
+        ensures { Comes result (world round.new self.new items.new) (republished session number wanted (world round.old self.old items.old)) }
     {
         if !self.is_own(session, number) {
             return Ok(Err(Status::BAD_SUBSCRIPTION_ID_INVALID));
         }
         let bytes = self.kept_bytes(number, wanted)?;
         let kept = bytes.is_some();
-        match self.fire_one(alloc, turn, items, number, Call::Republish { kept }) {
+        match self.fire_one(alloc, round, items, number, Call::Republish { kept }) {
             Ok(()) => Ok(bytes.ok_or(Status::BAD_MESSAGE_NOT_AVAILABLE)),
             Err(halt) => Err(halt),
         }
@@ -171,17 +171,17 @@ impl LiveSubscriptions {
     pub(crate) fn timers(
         &mut self,
         alloc: Global,
-        turn: &mut Turn,
+        round: &mut Round,
         items: &mut Items,
     ) -> Result<(), Halt>
-        ensures timed { Meets result (world turn.new self.new items.new) (timed (world turn.old self.old items.old)) }
-        ensures none { is_any_due turn.old.clock self.old.subscriptions ≡ false → IsOk result }
+        ensures timed { Meets result (world round.new self.new items.new) (timed (world round.old self.old items.old)) }
+        ensures none { is_any_due round.old.clock self.old.subscriptions ≡ false → IsOk result }
     {
-        let numbers = self.due(alloc, turn.clock)?;
+        let numbers = self.due(alloc, round.clock)?;
         if numbers.is_empty() {
             return Ok(());
         }
-        self.fire_all(alloc, turn, items, numbers.as_slice(), Call::Timer)
+        self.fire_all(alloc, round, items, numbers.as_slice(), Call::Timer)
     }
 
     /// The message of a subscription with this number, as it was first sent, if it is kept.

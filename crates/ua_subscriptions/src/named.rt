@@ -9,10 +9,10 @@ ghost use Rattle.ua_monitored_items.specs.Items.{ItemsState};
 use crate::call::Call;
 use crate::publish_call::PublishCall;
 use crate::queue::Queue;
+use crate::round::Round;
 use crate::session_part::SessionSubscriptions;
 use crate::subscription::Subscription;
 use crate::table::LiveSubscriptions;
-use crate::turn::Turn;
 use server_messages::Halt;
 use std::alloc::{AllocError, Global};
 use std::collections::BTreeMap;
@@ -21,16 +21,18 @@ use ua_types::{Listed, Status};
 
 // Answers requests with a fault, the oldest first.
 fn refuse_requests(
-    turn: &mut Turn,
+    round: &mut Round,
     alloc: Global,
     requests: &mut Queue<PublishCall>,
     status: Status,
 ) -> Result<(), AllocError>
-    ensures turn { OnOk result (turn.new ≡ with_replies turn.old (map (refused_of turn.old.clock status) requests.old)) }
+    ensures round { OnOk result (round.new ≡ with_replies round.old (map (refused_of round.old.clock status) requests.old)) }
     ensures requests { OnOk result (requests.new ≡ []) }
 {
     while let Some(call) = requests.pop() {
-        turn.replies.push(call.refused(alloc, turn.clock, status)?)?;
+        round
+            .replies
+            .push(call.refused(alloc, round.clock, status)?)?;
     }
     Ok(())
 }
@@ -58,18 +60,18 @@ impl LiveSubscriptions {
     pub(crate) fn fire_own(
         &mut self,
         alloc: Global,
-        turn: &mut Turn,
+        round: &mut Round,
         items: &mut Items,
         session: u32,
         number: u32,
         call: Call,
     ) -> Result<Status, Halt>
-        ensures { Comes result (world turn.new self.new items.new) (own_met session call (world turn.old self.old items.old) number) }
+        ensures { Comes result (world round.new self.new items.new) (own_met session call (world round.old self.old items.old) number) }
     {
         if !self.is_own(session, number) {
             return Ok(Status::BAD_SUBSCRIPTION_ID_INVALID);
         }
-        match self.fire_one(alloc, turn, items, number, call) {
+        match self.fire_one(alloc, round, items, number, call) {
             Ok(()) => Ok(Status::GOOD),
             Err(halt) => Err(halt),
         }
@@ -80,17 +82,17 @@ impl LiveSubscriptions {
     pub(crate) fn fire_named(
         &mut self,
         alloc: Global,
-        turn: &mut Turn,
+        round: &mut Round,
         items: &mut Items,
         session: u32,
         numbers: &[u32],
         call: Call,
     ) -> Result<Listed<Status>, Halt>
-        ensures { Comes result (world turn.new self.new items.new) (named_all session call (world turn.old self.old items.old) numbers.now) }
+        ensures { Comes result (world round.new self.new items.new) (named_all session call (world round.old self.old items.old) numbers.now) }
     {
         let mut results = Listed::new(alloc);
         for number in numbers {
-            match self.fire_own(alloc, turn, items, session, *number, call) {
+            match self.fire_own(alloc, round, items, session, *number, call) {
                 Ok(status) => results.push(status)?,
                 Err(halt) => return Err(halt),
             }
@@ -103,13 +105,13 @@ impl LiveSubscriptions {
     pub(crate) fn refuse_all(
         &mut self,
         alloc: Global,
-        turn: &mut Turn,
+        round: &mut Round,
         session: u32,
         status: Status,
     ) -> Result<(), AllocError>
-        ensures { OnOk result ((items : ItemsState) → world turn.new self.new items ≡ all_refused session status (world turn.old self.old items)) }
+        ensures { OnOk result ((items : ItemsState) → world round.new self.new items ≡ all_refused session status (world round.old self.old items)) }
     {
-        refuse_at(turn, alloc, &mut self.sessions, session, status)
+        refuse_at(round, alloc, &mut self.sessions, session, status)
     }
 
     // Whether a session has no subscription.
@@ -128,17 +130,17 @@ impl LiveSubscriptions {
     pub(crate) fn delete(
         &mut self,
         alloc: Global,
-        turn: &mut Turn,
+        round: &mut Round,
         items: &mut Items,
         session: u32,
         numbers: &[u32],
     ) -> Result<Listed<Status>, Halt>
-        ensures { Comes result (world turn.new self.new items.new) (deleted session (world turn.old self.old items.old) numbers.now) }
+        ensures { Comes result (world round.new self.new items.new) (deleted session (world round.old self.old items.old) numbers.now) }
     {
-        match self.fire_named(alloc, turn, items, session, numbers, Call::Delete) {
+        match self.fire_named(alloc, round, items, session, numbers, Call::Delete) {
             Ok(results) => {
                 if self.has_none(session) {
-                    self.refuse_all(alloc, turn, session, Status::BAD_NO_SUBSCRIPTION)?;
+                    self.refuse_all(alloc, round, session, Status::BAD_NO_SUBSCRIPTION)?;
                 }
                 Ok(results)
             }
@@ -149,17 +151,17 @@ impl LiveSubscriptions {
 
 // Answers those of the session under its number.
 fn refuse_at(
-    turn: &mut Turn,
+    round: &mut Round,
     alloc: Global,
     sessions: &mut BTreeMap<u32, SessionSubscriptions>,
     session: u32,
     status: Status,
 ) -> Result<(), AllocError>
-    ensures turn { OnOk result (turn.new ≡ requests_refused session status turn.old sessions.old.entries) }
+    ensures round { OnOk result (round.new ≡ requests_refused session status round.old sessions.old.entries) }
     ensures sessions { OnOk result (sessions.new.entries ≡ sessions_without_requests session sessions.old.entries) }
 {
     match sessions.get_mut(&session) {
         None => Ok(()),
-        Some(part) => refuse_requests(turn, alloc, &mut part.requests, status),
+        Some(part) => refuse_requests(round, alloc, &mut part.requests, status),
     }
 }

@@ -12,10 +12,10 @@ use crate::messages::{KeptMessage, timeout_message};
 use crate::named::is_own;
 use crate::publish_call::PublishCall;
 use crate::queue::Queue;
+use crate::round::Round;
 use crate::session_part::{SessionSubscriptions, TimeoutNote};
 use crate::subscription::Subscription;
 use crate::table::LiveSubscriptions;
-use crate::turn::Turn;
 use server_messages::Halt;
 use std::alloc::{AllocError, Global};
 use std::collections::BTreeMap;
@@ -110,18 +110,18 @@ fn take_note(
 
 // Answers a request by the note that a subscription has timed out.
 fn tell_note(
-    turn: &mut Turn,
+    round: &mut Round,
     alloc: Global,
     call: PublishCall,
     note: TimeoutNote,
 ) -> Result<(), AllocError>
-    ensures { OnOk result (turn.new ≡ note_told turn.old call note) }
+    ensures { OnOk result (round.new ≡ note_told round.old call note) }
 {
-    let bytes = timeout_message(alloc, note.number, turn.clock)?;
+    let bytes = timeout_message(alloc, note.number, round.clock)?;
     let none = Queue::new(alloc);
     let message = bytes.as_slice();
-    let reply = call.published(alloc, turn.clock, note.subscription, &none, false, message)?;
-    turn.replies.push(reply)
+    let reply = call.published(alloc, round.clock, note.subscription, &none, false, message)?;
+    round.replies.push(reply)
 }
 
 impl LiveSubscriptions {
@@ -130,22 +130,22 @@ impl LiveSubscriptions {
     fn publish_to(
         &mut self,
         alloc: Global,
-        turn: &mut Turn,
+        round: &mut Round,
         items: &mut Items,
         numbers: &[u32],
         call: PublishCall,
     ) -> Result<(), Halt>
-        ensures { Meets result (world turn.new self.new items.new) (answered_to numbers.now call (world turn.old self.old items.old)) }
+        ensures { Meets result (world round.new self.new items.new) (answered_to numbers.now call (world round.old self.old items.old)) }
     {
         if numbers.is_empty() {
-            turn.replies.push(call.refused(alloc, turn.clock, Status::BAD_NO_SUBSCRIPTION)?)?;
+            round.replies.push(call.refused(alloc, round.clock, Status::BAD_NO_SUBSCRIPTION)?)?;
             return Ok(());
         }
         let best = self.best_waiting(alloc, numbers)?;
-        turn.asked = Some(call);
+        round.asked = Some(call);
         match best {
-            Some(rank) => self.fire_one(alloc, turn, items, rank.number, Call::Publish),
-            None => self.fire_all(alloc, turn, items, numbers, Call::Publish),
+            Some(rank) => self.fire_one(alloc, round, items, rank.number, Call::Publish),
+            None => self.fire_all(alloc, round, items, numbers, Call::Publish),
         }
     }
 
@@ -157,13 +157,13 @@ impl LiveSubscriptions {
     pub(crate) fn publish(
         &mut self,
         alloc: Global,
-        turn: &mut Turn,
+        round: &mut Round,
         items: &mut Items,
         session: u32,
         call: PublishCall,
         acknowledgements: &[SubscriptionAcknowledgement],
     ) -> Result<(), Halt>
-        ensures { Meets result (world turn.new self.new items.new) (published session call acknowledgements.now (world turn.old self.old items.old)) }
+        ensures { Meets result (world round.new self.new items.new) (published session call acknowledgements.now (world round.old self.old items.old)) }
     {
         let subscriptions = &mut self.subscriptions;
         let results = acknowledge_all(alloc, subscriptions, session, acknowledgements)?;
@@ -174,9 +174,9 @@ impl LiveSubscriptions {
             results,
         };
         if let Some(note) = take_note(&mut self.sessions, session) {
-            return Ok(tell_note(turn, alloc, call, note)?);
+            return Ok(tell_note(round, alloc, call, note)?);
         }
         let numbers = self.numbers(alloc, session)?;
-        self.publish_to(alloc, turn, items, numbers.as_slice(), call)
+        self.publish_to(alloc, round, items, numbers.as_slice(), call)
     }
 }

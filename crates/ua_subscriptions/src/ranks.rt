@@ -16,8 +16,8 @@ use std::marker::Model;
 pub struct Rank {
     /// The priority that its client asked for.
     pub priority: Reverse<u8>,
-    /// The place of its last message among all messages.
-    pub place: u64,
+    /// How many messages the server had sent once it sent its last one, 0 before the first.
+    pub message_count: u64,
     /// Its number.
     pub number: u32,
 }
@@ -29,7 +29,7 @@ impl Rank {
     {
         Rank {
             priority: Reverse(subscription.priority),
-            place: subscription.place,
+            message_count: subscription.message_count,
             number,
         }
     }

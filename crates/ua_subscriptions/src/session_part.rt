@@ -3,7 +3,7 @@
 ghost use Rattle.std.specs.Prelude.{◌≡◌};
 ghost use Rattle.ua_subscriptions.specs.Subscriptions.{no_part, is_any};
 
-use crate::numbers::Numbers;
+use crate::number_set::NumberSet;
 use crate::publish_call::PublishCall;
 use crate::queue::Queue;
 use std::alloc::Global;
@@ -21,7 +21,7 @@ pub struct TimeoutNote {
 #[derive(Debug, Drop)]
 pub struct SessionSubscriptions {
     /// The numbers of its live subscriptions, rising.
-    pub numbers: Numbers,
+    pub numbers: NumberSet,
     /// Its Publish requests that wait, the oldest first.
     pub requests: Queue<PublishCall>,
     /// Its subscriptions that timed out and of which it wasn't told, the oldest first.
@@ -34,7 +34,7 @@ impl SessionSubscriptions {
         ensures { result ≡ no_part }
     {
         SessionSubscriptions {
-            numbers: Numbers::new(alloc),
+            numbers: NumberSet::new(alloc),
             requests: Queue::new(alloc),
             notes: Queue::new(alloc),
         }

@@ -1,7 +1,7 @@
 //! What a client asks of a subscription, and what the server allows.
 
 ghost use Rattle.std.specs.Prelude.{◌≡◌};
-ghost use Rattle.ua_subscriptions.specs.Settings.{bounds_of, revised_keep, revised_life, revised_notifications, no_settings};
+ghost use Rattle.ua_subscriptions.specs.Settings.{bounds_of, revised_keep_alive_count, revised_lifetime_count, revised_notifications, no_settings};
 
 use ua_types::Config;
 
@@ -10,9 +10,9 @@ use ua_types::Config;
 #[derive(Clone, Copy, Debug, PartialEq, Eq)]
 pub struct Settings {
     /// After how many timers that find nothing to tell a keep-alive message is sent.
-    pub keep_count: u32,
+    pub keep_alive_count: u32,
     /// After how many timers without a sign of life of the client the subscription times out.
-    pub life_count: u32,
+    pub lifetime_count: u32,
     /// The most notifications in one message; 0 is as many as the server allows.
     pub notifications: u32,
     /// Which of the subscriptions that are due is answered first: the one with the highest number.
@@ -22,8 +22,8 @@ pub struct Settings {
 impl Settings {
     /// Nothing asked.
     pub(crate) const NONE: Settings = Settings {
-        keep_count: 0,
-        life_count: 0,
+        keep_alive_count: 0,
+        lifetime_count: 0,
         notifications: 0,
         priority: 0,
     };
@@ -60,17 +60,17 @@ impl Bounds {
 }
 
 /// A keep-alive count as the server allows it: from 2 to 65535.
-pub fn revised_keep(asked: u32) -> u32
-    ensures { result ≡ revised_keep asked }
+pub fn revised_keep_alive_count(asked: u32) -> u32
+    ensures { result ≡ revised_keep_alive_count asked }
 {
     asked.max(2).min(65535)
 }
 
 /// A lifetime count as the server allows it: from three times the keep-alive count to 196605.
-pub fn revised_life(keep: u32, asked: u32) -> u32
-    ensures { result ≡ revised_life keep asked }
+pub fn revised_lifetime_count(keep_alive: u32, asked: u32) -> u32
+    ensures { result ≡ revised_lifetime_count keep_alive asked }
 {
-    asked.max(keep.saturating_mul(3)).min(196_605)
+    asked.max(keep_alive.saturating_mul(3)).min(196_605)
 }
 
 /// The most notifications of a message as the server allows it.

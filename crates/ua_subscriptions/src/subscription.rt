@@ -25,21 +25,21 @@ pub struct Subscription {
     /// A first message was sent (MessageSent).
     pub sent: bool,
     /// How many timers with nothing to tell until a keep-alive is due (KeepAliveCounter).
-    pub keep: u32,
+    pub keep_alive: u32,
     /// How many timers are left until it times out (LifetimeCounter).
-    pub life: u32,
-    /// To what `keep` is set back (MaxKeepAliveCount).
-    pub keep_count: u32,
-    /// To what `life` is set back (LifetimeCount).
-    pub life_count: u32,
+    pub lifetime: u32,
+    /// To what `keep_alive` is set back (MaxKeepAliveCount).
+    pub keep_alive_count: u32,
+    /// To what `lifetime` is set back (LifetimeCount).
+    pub lifetime_count: u32,
     /// The most notifications in one message.
     pub notifications: u32,
     /// Which subscription is answered first: the one with the highest.
     pub priority: u8,
     /// When its timer comes next.
     pub due: Moment,
-    /// The place of its last message among all messages of the server, 0 before the first.
-    pub place: u64,
+    /// How many messages the server had sent once it sent its last one, 0 before the first.
+    pub message_count: u64,
     /// The last number that a message of it got, 0 before the first.
     pub number: u32,
     /// The messages that may be asked for again, in the order in which they were sent.
@@ -57,14 +57,14 @@ impl Subscription {
             enabled: false,
             more: false,
             sent: false,
-            keep: 0,
-            life: 0,
-            keep_count: 0,
-            life_count: 0,
+            keep_alive: 0,
+            lifetime: 0,
+            keep_alive_count: 0,
+            lifetime_count: 0,
             notifications: 0,
             priority: 0,
             due: Moment(0),
-            place: 0,
+            message_count: 0,
             number: 0,
             kept: Queue::new(alloc),
         }
@@ -81,8 +81,8 @@ impl Subscription {
             available: items.available(own),
             more: self.more,
             sent: self.sent,
-            keep: self.keep,
-            life: self.life,
+            keep_alive: self.keep_alive,
+            lifetime: self.lifetime,
         }
     }
 }

@@ -6,7 +6,7 @@ ghost use Rattle.ua_subscriptions.specs.Making.{kept_at, modified, republished, 
 ghost use Rattle.ua_subscriptions.specs.Named.{is_own as is_own_spec, named_all, deleted};
 ghost use Rattle.ua_subscriptions.specs.Publishing.{published};
 ghost use Rattle.ua_subscriptions.specs.Ranks.{is_any_due};
-ghost use Rattle.ua_subscriptions.specs.SubscriptionCalls.{no_subscriptions, turn_of, world_of, settled, Serves, said, told, is_full as is_full_spec, refused, created_one, created};
+ghost use Rattle.ua_subscriptions.specs.SubscriptionCalls.{no_subscriptions, round_of, world_of, settled, Serves, said, told, is_full as is_full_spec, refused, created_one, created};
 ghost use Rattle.ua_subscriptions.specs.Tables.{met, vars_found, kept_found};
 ghost use Rattle.ua_subscriptions.specs.declared.call.Call.TheVariants.{Items as ItemsCall, SetMode};
 
@@ -14,9 +14,9 @@ use crate::answered::Answered;
 use crate::call::Call;
 use crate::making::Revised;
 use crate::publish_call::PublishCall;
+use crate::round::Round;
 use crate::settings::{Bounds, Settings};
 use crate::table::LiveSubscriptions;
-use crate::turn::Turn;
 use bytes::Bytes;
 use server_messages::Halt;
 use std::alloc::{AllocError, Global};
@@ -51,7 +51,7 @@ pub struct Subscriptions {
     // The number of the last subscription that was made, 0 before the first.
     made: u32,
     // How many messages were sent.
-    place: u64,
+    message_count: u64,
     table: LiveSubscriptions,
 }
 
@@ -60,7 +60,7 @@ impl Model for Subscriptions {
 
     ghost Value = { SubscriptionsState };
 
-    ghost view = { λ s. record { bounds = s.bounds; halted = s.halted; made = s.made; place = s.place; table = s.table } };
+    ghost view = { λ s. record { bounds = s.bounds; halted = s.halted; made = s.made; message_count = s.message_count; table = s.table } };
 }
 
 impl Subscriptions {
@@ -72,38 +72,42 @@ impl Subscriptions {
             bounds: Bounds::new(config),
             halted: None,
             made: 0,
-            place: 0,
+            message_count: 0,
             table: LiveSubscriptions::new(alloc),
         }
     }
 
     // What rows are done with at this clock.
-    fn turn(&self, alloc: Global, clock: Moment) -> Turn
-        ensures { result ≡ turn_of self.now clock }
+    fn round(&self, alloc: Global, clock: Moment) -> Round
+        ensures { result ≡ round_of self.now clock }
     {
-        Turn {
+        Round {
             bounds: self.bounds,
             clock,
             own: 0,
             call: Call::Timer,
             asked: None,
-            place: self.place,
+            message_count: self.message_count,
             replies: Listed::new(alloc),
             rows: Listed::new(alloc),
         }
     }
 
     // Ends a call.
-    fn settle<T: Drop>(&mut self, turn: Turn, answer: Result<T, Halt>) -> Result<Answered<T>, Halt>
-        ensures { record { result = result; state = self.new } ≡ settled self.old turn answer }
+    fn settle<T: Drop>(
+        &mut self,
+        round: Round,
+        answer: Result<T, Halt>,
+    ) -> Result<Answered<T>, Halt>
+        ensures { record { result = result; state = self.new } ≡ settled self.old round answer }
     {
         match answer {
             Ok(answer) => {
-                self.place = turn.place;
+                self.message_count = round.message_count;
                 Ok(Answered {
                     answer,
-                    replies: turn.replies,
-                    rows: turn.rows,
+                    replies: round.replies,
+                    rows: round.rows,
                 })
             }
             Err(halt) => {
@@ -135,11 +139,11 @@ impl Subscriptions {
         requires { self.old.halted ≡ None }
         ensures { Serves result self.old self.new items.new (refused session settings enabled self.old (world_of self.old items.old clock)) }
     {
-        let mut turn = self.turn(alloc, clock);
+        let mut round = self.round(alloc, clock);
         let table = &self.table;
-        match table.refuse(alloc, &mut turn, items, session, settings, enabled) {
-            Ok(()) => self.settle(turn, Ok(Err(Status::BAD_TOO_MANY_SUBSCRIPTIONS))),
-            Err(halt) => self.settle(turn, Err(halt)),
+        match table.refuse(alloc, &mut round, items, session, settings, enabled) {
+            Ok(()) => self.settle(round, Ok(Err(Status::BAD_TOO_MANY_SUBSCRIPTIONS))),
+            Err(halt) => self.settle(round, Err(halt)),
         }
     }
 
@@ -158,16 +162,16 @@ impl Subscriptions {
         requires room { self.old.made < 2 ^ 32 - 1 }
         ensures { Serves result self.old self.new items.new (created_one session settings enabled self.old (world_of self.old items.old clock)) }
     {
-        let mut turn = self.turn(alloc, clock);
+        let mut round = self.round(alloc, clock);
         let number = self.made + 1;
         self.made = number;
         let table = &mut self.table;
-        match table.add(alloc, &mut turn, items, session, number, settings, enabled) {
+        match table.add(alloc, &mut round, items, session, number, settings, enabled) {
             Ok(()) => {
                 let revised = Revised::new(settings);
-                self.settle(turn, Ok(Ok(Created { number, revised })))
+                self.settle(round, Ok(Ok(Created { number, revised })))
             }
-            Err(halt) => self.settle(turn, Err(halt)),
+            Err(halt) => self.settle(round, Err(halt)),
         }
     }
 
@@ -214,11 +218,11 @@ impl Subscriptions {
         if let Some(halt) = self.halted {
             return Err(halt);
         }
-        let mut turn = self.turn(alloc, clock);
+        let mut round = self.round(alloc, clock);
         let answer = self
             .table
-            .modify(alloc, &mut turn, items, session, number, settings);
-        self.settle(turn, answer)
+            .modify(alloc, &mut round, items, session, number, settings);
+        self.settle(round, answer)
     }
 
     /// Switches the notifications of subscriptions of a session on or off, one after the other (SetPublishingMode,
@@ -239,12 +243,12 @@ impl Subscriptions {
         if let Some(halt) = self.halted {
             return Err(halt);
         }
-        let mut turn = self.turn(alloc, clock);
+        let mut round = self.round(alloc, clock);
         let call = Call::SetMode { enabled };
         let answer = self
             .table
-            .fire_named(alloc, &mut turn, items, session, numbers, call);
-        self.settle(turn, answer)
+            .fire_named(alloc, &mut round, items, session, numbers, call);
+        self.settle(round, answer)
     }
 
     /// Deletes subscriptions of a session, one after the other, with their items (DeleteSubscriptions, IEC 62541-4,
@@ -265,9 +269,11 @@ impl Subscriptions {
         if let Some(halt) = self.halted {
             return Err(halt);
         }
-        let mut turn = self.turn(alloc, clock);
-        let answer = self.table.delete(alloc, &mut turn, items, session, numbers);
-        self.settle(turn, answer)
+        let mut round = self.round(alloc, clock);
+        let answer = self
+            .table
+            .delete(alloc, &mut round, items, session, numbers);
+        self.settle(round, answer)
     }
 
     /// Takes a Publish request (IEC 62541-4, section 5, Subscription Service Set), which comes without results: they are
@@ -290,11 +296,11 @@ impl Subscriptions {
         if let Some(halt) = self.halted {
             return Err(halt);
         }
-        let mut turn = self.turn(alloc, clock);
+        let mut round = self.round(alloc, clock);
         let answer = self
             .table
-            .publish(alloc, &mut turn, items, session, call, acknowledgements);
-        self.settle(turn, answer)
+            .publish(alloc, &mut round, items, session, call, acknowledgements);
+        self.settle(round, answer)
     }
 
     /// Gives a message of a subscription of a session again, as it was first sent (Republish, IEC 62541-4, section 5,
@@ -316,11 +322,11 @@ impl Subscriptions {
         if let Some(halt) = self.halted {
             return Err(halt);
         }
-        let mut turn = self.turn(alloc, clock);
+        let mut round = self.round(alloc, clock);
         let answer = self
             .table
-            .republish(alloc, &mut turn, items, session, number, wanted);
-        self.settle(turn, answer)
+            .republish(alloc, &mut round, items, session, number, wanted);
+        self.settle(round, answer)
     }
 
     /// The timers of all subscriptions that are due at this clock, the best subscription first. Takes no memory where none
@@ -337,9 +343,9 @@ impl Subscriptions {
         if let Some(halt) = self.halted {
             return Err(halt);
         }
-        let mut turn = self.turn(alloc, clock);
-        let answer = self.table.timers(alloc, &mut turn, items);
-        self.settle(turn, answer)
+        let mut round = self.round(alloc, clock);
+        let answer = self.table.timers(alloc, &mut round, items);
+        self.settle(round, answer)
     }
 
     /// A session ends. Its subscriptions are deleted with it, or left to their lifetime; its Publish requests that wait are
@@ -357,11 +363,11 @@ impl Subscriptions {
         if let Some(halt) = self.halted {
             return Err(halt);
         }
-        let mut turn = self.turn(alloc, clock);
+        let mut round = self.round(alloc, clock);
         let answer = self
             .table
-            .end_session(alloc, &mut turn, items, session, deleting);
-        self.settle(turn, answer)
+            .end_session(alloc, &mut round, items, session, deleting);
+        self.settle(round, answer)
     }
 
     /// The items of this subscription were created, changed or deleted, or their mode was set. `before`: what
@@ -379,10 +385,10 @@ impl Subscriptions {
         if let Some(halt) = self.halted {
             return Err(halt);
         }
-        let mut turn = self.turn(alloc, clock);
+        let mut round = self.round(alloc, clock);
         let call = Call::Items { before };
-        let answer = self.table.fire_one(alloc, &mut turn, items, number, call);
-        self.settle(turn, answer)
+        let answer = self.table.fire_one(alloc, &mut round, items, number, call);
+        self.settle(round, answer)
     }
 
     /// A connection is closed or gone: the Publish requests that came by it wait no more. No row fires. Takes no memory.

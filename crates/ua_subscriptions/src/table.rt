@@ -9,9 +9,9 @@ ghost use Rattle.ua_subscriptions.specs.Scenes.{is_overspent};
 use crate::call::Call;
 use crate::firing::{fire, is_closed};
 use crate::publish_call::numbers;
+use crate::round::Round;
 use crate::session_part::SessionSubscriptions;
 use crate::subscription::Subscription;
-use crate::turn::Turn;
 use server_messages::Halt;
 use std::alloc::{AllocError, Global};
 use std::collections::BTreeMap;
@@ -38,18 +38,18 @@ impl Model for LiveSubscriptions {
 // Fires a row, where what the session has of subscriptions is found under its number.
 #[tactic(auto, using(crate::proofs::Meetings::met_absent))]
 fn fire_in(
-    turn: &mut Turn,
+    round: &mut Round,
     alloc: Global,
     subscription: &mut Subscription,
     sessions: &mut BTreeMap<u32, SessionSubscriptions>,
     items: &mut Items,
 ) -> Result<(), Halt>
-    ensures ok { OnOk result (record { turn = turn.new; subscription = subscription.new; sessions = sessions.new.entries; items = items.new } ≡ met_in turn.old subscription.old sessions.old.entries items.old) }
-    ensures exhausted { IfErr result (λ halt. halt ≡ Exhausted → is_overspent (met_in turn.old subscription.old sessions.old.entries items.old).turn ≡ true) }
+    ensures ok { OnOk result (record { round = round.new; subscription = subscription.new; sessions = sessions.new.entries; items = items.new } ≡ met_in round.old subscription.old sessions.old.entries items.old) }
+    ensures exhausted { IfErr result (λ halt. halt ≡ Exhausted → is_overspent (met_in round.old subscription.old sessions.old.entries items.old).round ≡ true) }
 {
     let Some(session) = subscription.session else {
         return fire(
-            turn,
+            round,
             alloc,
             subscription,
             &mut SessionSubscriptions::new(alloc),
@@ -58,31 +58,31 @@ fn fire_in(
     };
     match sessions.get_mut(&session) {
         None => fire(
-            turn,
+            round,
             alloc,
             subscription,
             &mut SessionSubscriptions::new(alloc),
             items,
         ),
-        Some(part) => fire(turn, alloc, subscription, part, items),
+        Some(part) => fire(round, alloc, subscription, part, items),
     }
 }
 
-// Fires a row at the subscription whose turn it is, if it is there, and tells whether it is closed then.
+// Fires a row at the subscription that the round is at, if it is there, and tells whether it is closed then.
 #[tactic(auto, using(crate::proofs::Meetings::one_met_found))]
 fn fire_at(
-    turn: &mut Turn,
+    round: &mut Round,
     alloc: Global,
     subscriptions: &mut BTreeMap<u32, Subscription>,
     sessions: &mut BTreeMap<u32, SessionSubscriptions>,
     items: &mut Items,
 ) -> Result<bool, Halt>
-    ensures ok { IfOk result (λ closed. one_met turn.new subscriptions.new.entries sessions.new.entries items.new closed ≡ met_at turn.old subscriptions.old.entries sessions.old.entries items.old) }
-    ensures exhausted { IfErr result (λ halt. halt ≡ Exhausted → is_overspent (met_at turn.old subscriptions.old.entries sessions.old.entries items.old).turn ≡ true) }
+    ensures ok { IfOk result (λ closed. one_met round.new subscriptions.new.entries sessions.new.entries items.new closed ≡ met_at round.old subscriptions.old.entries sessions.old.entries items.old) }
+    ensures exhausted { IfErr result (λ halt. halt ≡ Exhausted → is_overspent (met_at round.old subscriptions.old.entries sessions.old.entries items.old).round ≡ true) }
 {
-    match subscriptions.get_mut(&turn.own) {
+    match subscriptions.get_mut(&round.own) {
         None => Ok(false),
-        Some(subscription) => match fire_in(turn, alloc, subscription, sessions, items) {
+        Some(subscription) => match fire_in(round, alloc, subscription, sessions, items) {
             Ok(()) => Ok(is_closed(subscription)),
             Err(halt) => Err(halt),
         },
@@ -138,17 +138,17 @@ impl LiveSubscriptions {
     pub(crate) fn fire_one(
         &mut self,
         alloc: Global,
-        turn: &mut Turn,
+        round: &mut Round,
         items: &mut Items,
         own: u32,
         call: Call,
     ) -> Result<(), Halt>
-        ensures { Meets result (world turn.new self.new items.new) (met (world turn.old self.old items.old) own call) }
+        ensures { Meets result (world round.new self.new items.new) (met (world round.old self.old items.old) own call) }
     {
-        turn.own = own;
-        turn.call = call;
+        round.own = own;
+        round.call = call;
         if fire_at(
-            turn,
+            round,
             alloc,
             &mut self.subscriptions,
             &mut self.sessions,
@@ -163,15 +163,15 @@ impl LiveSubscriptions {
     pub(crate) fn fire_all(
         &mut self,
         alloc: Global,
-        turn: &mut Turn,
+        round: &mut Round,
         items: &mut Items,
         numbers: &[u32],
         call: Call,
     ) -> Result<(), Halt>
-        ensures { Meets result (world turn.new self.new items.new) (all_met call (world turn.old self.old items.old) numbers.now) }
+        ensures { Meets result (world round.new self.new items.new) (all_met call (world round.old self.old items.old) numbers.now) }
     {
         for number in numbers {
-            match self.fire_one(alloc, turn, items, *number, call) {
+            match self.fire_one(alloc, round, items, *number, call) {
                 Ok(()) => {}
                 Err(halt) => return Err(halt),
             }

@@ -1,17 +1,16 @@
 //! A connection's first frame, and the answers to it.
 
 ghost use Rattle.std.specs.Prelude.{◌≡◌, ◌<◌, ◌≤◌, length, IfOk};
-ghost use Rattle.ua_types.specs.Refusals.{GivesOrRefuses};
 ghost use Rattle.ua_tcp.specs.Agreements.{is_too_small as is_too_small_spec, outcome_of_frame, acknowledge_encoding, error_encoding};
 
 use crate::frame::{Frame, MessageType};
-use crate::hello_message::Hello;
+use crate::hello_message::BorrowedHello;
 use crate::limits::Limits;
 use bytes::Bytes;
 use std::alloc::Global;
 use std::marker::Model;
-use ua_binary::{Cursor, TakeFault, Wire};
-use ua_types::{Memory, Refusal, Status};
+use ua_binary::Cursor;
+use ua_types::{Memory, Status};
 
 /// The version of the protocol that is acknowledged.
 const PROTOCOL_VERSION: u32 = 0;
@@ -75,7 +74,7 @@ impl Model for Agreed {
     } };
 }
 
-fn is_too_small(hello: &Hello) -> bool
+fn is_too_small(hello: &BorrowedHello<'_>) -> bool
     ensures { result ≡ is_too_small_spec hello.now }
 {
     hello.receive_size < MIN_SIZE
@@ -86,7 +85,7 @@ fn is_too_small(hello: &Hello) -> bool
 /// Takes a connection's first frame, a Hello (IEC 62541-6, "Hello Message" and "Establishing a
 /// connection").
 ///
-/// The refusals with a status, which an Error frame tells the client, are in this order:
+/// The refusals, which an Error frame tells the client, are in this order:
 ///
 /// - `BAD_TCP_MESSAGE_TYPE_INVALID` where the frame is no Hello;
 /// - `BAD_DECODING_ERROR` where its body can't be read. Bytes after the last field are ignored;
@@ -94,26 +93,23 @@ fn is_too_small(hello: &Hello) -> bool
 /// - `BAD_TCP_NOT_ENOUGH_RESOURCES` where a buffer is smaller than 1024 bytes, or the largest answer
 ///   is limited to less than 1024 bytes.
 ///
-/// `Memory` comes only where an allocation failed, and `Exhausted` never.
-pub fn hello(alloc: Global, frame: &Frame, limits: &Limits) -> Result<Agreed, Refusal>
-    ensures { GivesOrRefuses result (outcome_of_frame limits.now frame.now) }
+/// Takes no memory.
+pub fn hello(frame: &Frame, limits: &Limits) -> Result<Agreed, Status>
+    ensures { result ≡ outcome_of_frame limits.now frame.now }
 {
     if frame.message_type != MessageType::Hello {
-        return Err(Refusal::Service(Status::BAD_TCP_MESSAGE_TYPE_INVALID));
+        return Err(Status::BAD_TCP_MESSAGE_TYPE_INVALID);
     }
-    let mut cursor = Cursor::new(frame.body.as_slice());
-    let hello = match Hello::take(alloc, &mut cursor) {
-        Ok(hello) => hello,
-        Err(TakeFault::Memory) => return Err(Refusal::Memory),
-        Err(_) => return Err(Refusal::Service(Status::BAD_DECODING_ERROR)),
+    let Ok(hello) = BorrowedHello::read(&mut Cursor::new(frame.body.as_slice())) else {
+        return Err(Status::BAD_DECODING_ERROR);
     };
-    if let Some(url) = hello.endpoint_url.as_str() {
+    if let Some(url) = hello.endpoint_url {
         if url.len() > MAX_URL_LEN {
-            return Err(Refusal::Service(Status::BAD_TCP_ENDPOINT_URL_INVALID));
+            return Err(Status::BAD_TCP_ENDPOINT_URL_INVALID);
         }
     }
     if is_too_small(&hello) {
-        return Err(Refusal::Service(Status::BAD_TCP_NOT_ENOUGH_RESOURCES));
+        return Err(Status::BAD_TCP_NOT_ENOUGH_RESOURCES);
     }
     Ok(Agreed {
         receive_size: hello.send_size.min(limits.receive_size),

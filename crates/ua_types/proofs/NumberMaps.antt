@@ -8,6 +8,8 @@ use Rattle.std.proofs.Common.{◌≡◌, ◌≢◌, ℕ, Bool, true, false, cond
 use Rattle.std.proofs.lemmas.Bool.{false≢true}
 use Rattle.std.specs.Ordering.{nat_cmp, eq_by_cmp, is_eq, is_lt}
 use Rattle.std.specs.Map.{lookup, keys_of}
+use Rattle.std.specs.Borrow.{MutBor}
+use Rattle.std.specs.Option.{IsSome, OnSome, option_copied_mut}
 use Rattle.std.specs.BTreeMap.{is_at}
 use Rattle.std.specs.Cmp.{nat_cmp_total, eq_by_cmp_equiv}
 use Rattle.std.specs.FinMap.Entries.{below_all}
@@ -89,12 +91,24 @@ module _ {V : Type 0} where
   once true w v x = refl
   once false w v x = refl
 
+  same_there : (m : FinMap nat_cmp V) (k q : ℕ) (v : V) (b : Bool) → eq_by_cmp nat_cmp q k ≡ b → get m k ≡ Some v → cond b (Some v) (get m q) ≡ get m q
+  same_there m k q v true e h = sym h ∙ ap (get m) (sym (same_number q k e))
+  same_there m k q v false e h = refl
+
+  -- a value in its own place changes nothing
+  pub insert_same : (m : FinMap nat_cmp V) (k : ℕ) (v : V) → get m k ≡ Some v → insert m k v ≡ m
+  insert_same m k v h = same_map nat_cmp_total nat_cmp-IsAntisymmetric _ _ (λ q. get-insert nat_cmp_total m k v q ∙ same_there m k q v (eq_by_cmp nat_cmp q k) refl h)
+
   -- a key that is taken out and set has the new value
   pub insert_removed : (m : FinMap nat_cmp V) (k : ℕ) (v : V) → insert (remove m k) k v ≡ insert m k v
   insert_removed m k v = same_map nat_cmp_total nat_cmp-IsAntisymmetric _ _ (λ q.
       get-insert nat_cmp_total (remove m k) k v q ∙ ap (cond (eq_by_cmp nat_cmp q k) (Some v)) (get-remove nat_cmp_total m k q)
       ∙ once (eq_by_cmp nat_cmp q k) (Some v) None (get m q)
       ∙ sym (get-insert nat_cmp_total m k v q))
+
+  -- a key that was set is taken out with what it had before
+  pub remove_given : (m : FinMap nat_cmp V) (k : ℕ) (v : V) → remove (insert m k v) k ≡ remove m k
+  remove_given m k v = ap (λ n. remove n k) (sym (insert_removed m k v)) ∙ remove_inserted m k v
 
 -- ---- how many entries a map has
 
@@ -120,3 +134,22 @@ module _ {V : Type 0} where
 
   pub count_is : (es : List (ℕ × V)) → IsStrictlySortedBy nat_cmp (keys_of es) → length es ≡ len (from_entries {R = nat_cmp} es)
   count_is es h = ap length (sym (entries_are es h)) ∙ sym (len-entries (from_entries {R = nat_cmp} es))
+
+-- ---- values that are lent, to be changed in their places
+
+module _ {V : Type 0} where
+  -- a value that was lent and is given back is the one at its key from then on
+  pub one_lent : (lent : Option (MutBor V)) (es fs : List (ℕ × V)) (k : ℕ) (v : V) (m : FinMap nat_cmp V) → option_copied_mut lent ≡ lookup (is_at (nat_cmp k)) es
+      → (IsSome (lookup (is_at (nat_cmp k)) es) → (q : ℕ) → lookup (is_at (nat_cmp q)) fs ≡ cond (is_at (nat_cmp k) q) (Some v) (lookup (is_at (nat_cmp q)) es))
+      → from_entries {R = nat_cmp} es ≡ m → OnSome lent (from_entries fs ≡ insert m k v)
+  one_lent None es fs k v m found h e = tt
+  one_lent (Some r) es fs k v m found h e =
+      one_given es fs k v (h (subst (λ (o : Option V). IsSome o) found refl)) ∙ ap (λ n. insert n k v) e
+
+  -- what was lent is what was there
+  pub lent_found : (lent : Option (MutBor V)) (found : Option V) (value : MutBor V) → lent ≡ Some value → option_copied_mut lent ≡ found → found ≡ Some value.now
+  lent_found lent found value is e = sym e ∙ ap option_copied_mut is
+
+  -- what holds once it is given back
+  pub given_back : (P : Type 0) (lent : Option (MutBor V)) (value : MutBor V) → lent ≡ Some value → OnSome lent P → P
+  given_back P lent value is h = subst (λ o. OnSome o P) is h

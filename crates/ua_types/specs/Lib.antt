@@ -1,3 +1,4 @@
+pub mod Numbered
 pub mod NullableOrder
 pub mod NodeIds
 pub mod NodeIdOrder
@@ -9,3 +10,4 @@ pub mod IdTexts
 pub mod Refusals
 pub mod Moments
 pub mod NodeClasses
+pub mod IdOrder

@@ -27,6 +27,7 @@ mod duration;
 mod extension_object;
 mod guid;
 mod id_texts;
+pub mod laws;
 mod listed;
 mod localized_text;
 mod moment;

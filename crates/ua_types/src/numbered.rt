@@ -2,7 +2,9 @@
 
 ghost use Rattle.std.specs.Prelude.{◌≡◌, OnOk, IfNone, is_some};
 ghost use Rattle.std.specs.FinMap as map;
-ghost use Rattle.std.specs.Option.{option_copied};
+ghost use Rattle.std.specs.Option.{option_copied, option_copied_mut};
+ghost use Rattle.std.specs.Borrow.{sem};
+ghost use Rattle.ua_types.specs.Numbered.{lends_value};
 
 use std::alloc::{AllocError, Global};
 use std::collections::BTreeMap;
@@ -56,6 +58,14 @@ impl<V> Numbered<V> {
         ensures { option_copied result ≡ map.get self.now number }
     {
         self.entries.get(&number)
+    }
+
+    /// The one with this number, to be changed in its place. Takes no memory.
+    pub fn get_mut(&mut self, number: u64) -> Option<&mut V>
+        ensures* writes_back { sem 𝓛 (lends_value V.row self.entry number result) }
+        ensures found { option_copied_mut result ≡ map.get self.old number }
+    {
+        self.entries.get_mut(&number)
     }
 
     /// Takes the one with this number out. Takes no memory.

@@ -3,24 +3,14 @@
 //! `uaserver pipe` serves one connection over standard input and output, `uaserver serve` any number over
 //! sockets, and `uaserver check` counts what a node file holds. `uaserver asm` prints the events of a
 //! scenario, `uaserver run` what is sent when they happen to a server, and `uaserver trace` which rows of the
-//! subscriptions' state table fire then. What a run does stands in [`commands::run`], over words, files and
-//! streams, so that tests can drive it; `main` hands it the words of the command line and the three standard
-//! streams, and ends with its status.
+//! subscriptions' state table fire then. What a run does stands in [`commands::run_args`], over words, files
+//! and streams; `main` hands it the words of the command line and the three standard streams, and ends with
+//! its status.
 #![tactic(auto)]
 
-use std::alloc::Global;
 use std::env;
 use std::process::ExitCode;
 use stream_taps::Tap;
-
-// The words after the program's name. None is want of memory.
-fn words_after_name(alloc: Global, args: &[String]) -> Option<Vec<&str>> {
-    args.iter()
-        .skip(1)
-        .map(|word| word.as_str())
-        .collect(alloc)
-        .ok()
-}
 
 fn main(rt: HostRuntime) -> ExitCode {
     let alloc = rt.alloc();
@@ -35,9 +25,6 @@ fn main(rt: HostRuntime) -> ExitCode {
     let Ok(args) = args.collect::<Vec<String>>(alloc) else {
         return ExitCode::from(commands::no_memory(&mut errors).code());
     };
-    let Some(words) = words_after_name(alloc, args.as_slice()) else {
-        return ExitCode::from(commands::no_memory(&mut errors).code());
-    };
-    let ended = commands::run(&rt, words.as_slice(), &mut input, &mut output, &mut errors);
+    let ended = commands::run_args(&rt, args.as_slice(), &mut input, &mut output, &mut errors);
     ExitCode::from(ended.status.code())
 }

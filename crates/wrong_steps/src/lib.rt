@@ -3,9 +3,11 @@
 //! call, which the clauses have to refuse. Nothing calls these functions.
 #![tactic(auto)]
 
-ghost use Rattle.std.specs.Prelude.{◌≡◌, Err, false};
+ghost use Rattle.std.specs.Prelude.{◌≡◌, Err, true, false};
 ghost use Rattle.ua_types.specs.Refusals.{TakesOrRefuses};
+ghost use Rattle.ua_types.specs.declared.refusal.Refusal.TheVariants as refusal;
 ghost use Rattle.ua_channel.specs.Acceptance.{take_of};
+ghost use Rattle.ua_channel.specs.Messages.{brings_part};
 ghost use Rattle.server_core.specs.World.{world_of};
 ghost use Rattle.server_core.specs.Stepping.{step_on, StepsTo, takes_no_memory_on};
 ghost use Rattle.server_core.specs.declared.out.StepFault.TheVariants as step_fault;
@@ -21,6 +23,13 @@ pub fn frame_taken(channel: &mut Channel, alloc: Global, frame: &Frame) -> Resul
     ensures { TakesOrRefuses result channel.old channel.new (take_of channel.old frame.now) }
 {
     channel.take(alloc, frame)
+}
+
+/// As [`Channel::take`], of which nothing is said but when it wants memory.
+pub fn chunk_taken(channel: &mut Channel, alloc: Global, chunk: &Frame) -> Result<Taken, Refusal>
+    ensures { result ≡ Err refusal.Memory → brings_part (take_of channel.old chunk.now).answer ≡ true }
+{
+    channel.take(alloc, chunk)
 }
 
 /// As [`Server::step`].

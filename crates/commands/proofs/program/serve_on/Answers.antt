@@ -25,4 +25,4 @@ returns-in-Done g c =
     (subst (λ (status : Status). Says c.as_str.result.now old mid status) c.in-Done.is c.say.ensures)
     in
     subst (ServesOn old new c.args.listening first) (sym c.served-in-Done.ensures)
-    (ended old new c.args.listening first c.serve_and_tell-ran.result (mid, said, c.serve_and_tell-ran.ensures c.in-Ok-listen.ensures.ok))
+    (ended old new c.args.listening first c.serve_and_tell-ran.result (_, c.in-Ok-listen.ensures.ok, mid, said, c.serve_and_tell-ran.ensures))

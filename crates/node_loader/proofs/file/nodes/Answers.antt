@@ -17,4 +17,4 @@ loop-place-preserved c =
     (node_goes_on (λ n d. in_part (part.Node n) (entry_of c.args.setting.now (part.Node n) (as_table d)))
     c.args.values.now c.loop-place.place c.index-values-place.result c.in-Ok.entry
     c.loop-place.nodes.items c.loop-place.triples.items (nodes_of c.args.setting.now (items_view c.args.values.now))
-    c.loop-place-test.true c.index-values-place.is (rw c.in-Ok.ensures refl) c.loop-place.invariant)
+    c.loop-place-test.true c.index-values-place.is (rw c.in-Ok.ensures.given refl) c.loop-place.invariant)

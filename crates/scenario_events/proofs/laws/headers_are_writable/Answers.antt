@@ -1,5 +1,5 @@
-use Rattle.scenario_events.proofs.CountLemmas.{turn_counted, nothing_counted}
+use Rattle.scenario_events.proofs.CountLemmas.{assembled_counted, nothing_counted}
 use Rattle.scenario_events.proofs.laws.headers_are_writable.Goals as goal
 
 pub returns : goal.returns
-returns c = record { first = nothing_counted; next = turn_counted }
+returns c = record { first = nothing_counted; next = assembled_counted }

@@ -7,14 +7,14 @@ use Rattle.socket_server.proofs.ServingLemmas.{connect_serves, stops_here}
 use Rattle.socket_server.proofs.events.admit.Goals as goal
 
 pub returns-then-is_err : goal.returns-then-is_err
-returns-then-is_err g c =
-    let at = (scene (world_of c.args.server.now) c.args.peers.now c.args.events.now (g.W.Observer.told c.args.observer.now)) in
-    let new = (scene (world_of c.args.server.now) c.admit.new.self c.args.events.now (g.W.Observer.told c.args.observer.now)) in
-    stops_here g.S.Socket.remaining g.S.Socket.contents g.W.Observer.telling at new serve_fault.Memory tt refl refl
+returns-then-is_err g c keys left drawn =
+    let at = (scene keys (world_of c.args.server.now) c.args.peers.now c.args.events.now (g.W.Observer.output c.args.observer.now)) in
+    let new = (scene left (world_of c.args.server.now) c.admit.new.self c.args.events.now (g.W.Observer.output c.args.observer.now)) in
+    stops_here g.S.Socket.remaining g.S.Socket.contents g.S.Socket.calls g.W.Observer.text at new serve_fault.Memory tt refl refl
 
 pub returns : goal.returns
-returns g c =
+returns g c keys left drawn =
     let joined : c.admit.new.self ≡ with_joined c.args.peers.now c.args.stream = search rules in
-    let at = (scene (world_of c.args.server.now) c.args.peers.now c.args.events.now (g.W.Observer.told c.args.observer.now)) in
-    let new = (scene (world_of c.hand_in_opening.new.server) c.hand_in_opening.new.peers c.hand_in_opening.new.events (g.W.Observer.told c.hand_in_opening.new.observer)) in
-    connect_serves g.S.Socket.remaining g.S.Socket.contents g.W.Observer.telling c.args.arrival.number _ c.args.stream at c.admit.new.self new c.hand_in_opening.result c.requires joined c.hand_in_opening.ensures
+    let at = (scene keys (world_of c.args.server.now) c.args.peers.now c.args.events.now (g.W.Observer.output c.args.observer.now)) in
+    let new = (scene left (world_of c.hand_in_opening.new.server) c.hand_in_opening.new.peers c.hand_in_opening.new.events (g.W.Observer.output c.hand_in_opening.new.observer)) in
+    connect_serves g.S.Socket.remaining g.S.Socket.contents g.S.Socket.calls g.W.Observer.text c.args.arrival.number _ left c.args.stream at c.admit.new.self new c.hand_in_opening.result c.requires joined drawn (c.hand_in_opening.ensures left)

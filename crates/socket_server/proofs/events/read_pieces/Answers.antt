@@ -1,26 +1,40 @@
-use Rattle.std.proofs.Common.{refl}
+use Rattle.std.proofs.Common.{refl, inl, inr, subst}
 use Rattle.server_core.specs.World.{world_of}
-use Rattle.socket_server.specs.Serving.{scene}
+use Rattle.socket_server.specs.Serving.{scene, GoesOn}
 use Rattle.socket_server.specs.declared.serve_fault.ServeFault.TheVariants as serve_fault
 use Rattle.socket_server.proofs.ServingLemmas.{goes_none, goes_on, stops_after, stops_here}
 use Rattle.socket_server.proofs.events.read_pieces.Goals as goal
 
 pub returns-in-Ok-false : goal.returns-in-Ok-false
-returns-in-Ok-false g c = goes_on g.S.Socket.remaining g.S.Socket.contents g.W.Observer.telling _ _ _ c.loop-piece.invariant c.in-Ok-false.ensures
+returns-in-Ok-false g c keys =
+    let mid = (scene keys (world_of c.loop-piece.server) c.loop-piece.peers c.loop-piece.events (g.W.Observer.output c.loop-piece.observer)) in
+    let new = (scene keys (world_of c.hear.new.server) c.hear.new.peers c.hear.new.events (g.W.Observer.output c.hear.new.observer)) in
+    let nothing = subst (GoesOn g.S.Socket.remaining g.S.Socket.contents g.S.Socket.calls g.W.Observer.text c.args.number mid new) c.in-Ok-false.field-0-test (c.in-Ok-false.ensures keys) in
+    (mid, c.loop-piece.invariant keys, inl nothing)
 
 pub returns-in-Err : goal.returns-in-Err
-returns-in-Err g c =
-    let new = (scene (world_of c.hear.new.server) c.hear.new.peers c.hear.new.events (g.W.Observer.told c.hear.new.observer)) in
-    stops_after g.S.Socket.remaining g.S.Socket.contents g.W.Observer.telling 0 _ _ new _ c.loop-piece.invariant c.in-Err.ensures
+returns-in-Err g c keys =
+    let new = (scene keys (world_of c.hear.new.server) c.hear.new.peers c.hear.new.events (g.W.Observer.output c.hear.new.observer)) in
+    stops_after g.S.Socket.remaining g.S.Socket.contents g.S.Socket.calls g.W.Observer.text 0 _ _ new _ (c.loop-piece.invariant keys) (c.in-Err.ensures keys)
 
 pub loop-piece-init : goal.loop-piece-init
-loop-piece-init g c = goes_none g.S.Socket.remaining g.S.Socket.contents g.W.Observer.telling _
+loop-piece-init g c keys = goes_none g.S.Socket.remaining g.S.Socket.contents g.S.Socket.calls g.W.Observer.text _
 
 pub loop-piece-preserved : goal.loop-piece-preserved
-loop-piece-preserved g c = goes_on g.S.Socket.remaining g.S.Socket.contents g.W.Observer.telling _ _ _ c.loop-piece.invariant c.in-Ok-true.ensures
+loop-piece-preserved g c keys =
+    let mid = (scene keys (world_of c.loop-piece.server) c.loop-piece.peers c.loop-piece.events (g.W.Observer.output c.loop-piece.observer)) in
+    let new = (scene keys (world_of c.hear.new.server) c.hear.new.peers c.hear.new.events (g.W.Observer.output c.hear.new.observer)) in
+    let more = subst (GoesOn g.S.Socket.remaining g.S.Socket.contents g.S.Socket.calls g.W.Observer.text c.args.number mid new) c.in-Ok-true.field-0-test (c.in-Ok-true.ensures keys) in
+    goes_on g.S.Socket.remaining g.S.Socket.contents g.S.Socket.calls g.W.Observer.text _ mid new (c.loop-piece.invariant keys) more
+
+pub returns-in-Ok : goal.returns-in-Ok
+returns-in-Ok g c keys =
+    let mid = (scene keys (world_of c.loop-piece.server) c.loop-piece.peers c.loop-piece.events (g.W.Observer.output c.loop-piece.observer)) in
+    (mid, c.loop-piece.invariant keys, inr (c.in-Ok.ensures, (refl, refl, refl, refl)))
 
 pub returns-in-Err-report : goal.returns-in-Err-report
-returns-in-Err-report g c =
-    let at = (scene (world_of c.loop-piece.server) c.loop-piece.peers c.loop-piece.events (g.W.Observer.told c.loop-piece.observer)) in
-    let new = (scene (world_of c.loop-piece.server) c.report.new.self c.loop-piece.events (g.W.Observer.told c.loop-piece.observer)) in
-    stops_after g.S.Socket.remaining g.S.Socket.contents g.W.Observer.telling 0 _ at new serve_fault.Memory c.loop-piece.invariant (stops_here g.S.Socket.remaining g.S.Socket.contents g.W.Observer.telling at new serve_fault.Memory tt refl refl)
+returns-in-Err-report g c keys =
+    let at = (scene keys (world_of c.loop-piece.server) c.loop-piece.peers c.loop-piece.events (g.W.Observer.output c.loop-piece.observer)) in
+    let new = (scene keys (world_of c.loop-piece.server) c.report.new.self c.loop-piece.events (g.W.Observer.output c.loop-piece.observer)) in
+    stops_after g.S.Socket.remaining g.S.Socket.contents g.S.Socket.calls g.W.Observer.text 0 _ at new serve_fault.Memory (c.loop-piece.invariant keys)
+    (stops_here g.S.Socket.remaining g.S.Socket.contents g.S.Socket.calls g.W.Observer.text at new serve_fault.Memory tt refl refl)

@@ -1,5 +1,9 @@
 use Rattle.std.proofs.Common.{◌≡◌}
+use Rattle.std.specs.Slice.Iter.{iter_rest}
+use Rattle.mio.specs.Events.{items}
+use Rattle.socket_server.specs.Serving.{reported_events}
 use Rattle.socket_server.proofs.serve.report_all.Given as goal
 
+-- those that are left are to be reported still
 abbrev pub invariant-loop-event : goal.invariant-loop-event
-invariant-loop-event l = l.peers ≡ l.fn.peers
+invariant-loop-event l = reported_events l.peers (iter_rest l.event-iterator) ≡ reported_events l.fn.peers (items l.fn.events)

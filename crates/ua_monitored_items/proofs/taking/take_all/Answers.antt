@@ -1,5 +1,5 @@
 use Rattle.std.proofs.Common.{◌≡◌, ℕ, ◌++◌, ◌∷◌, [], ◌-◌, arith, ap, sym, ◌∙◌, append_assoc}
-use Rattle.ua_monitored_items.specs.ItemTables.{Numbered, item_at}
+use Rattle.ua_monitored_items.specs.ItemTables.{NumberedItems, item_at}
 use Rattle.ua_monitored_items.specs.Items.{Taking, with_taken}
 use Rattle.ua_monitored_items.specs.Taking.{left_after, waiting_at}
 use Rattle.ua_monitored_items.proofs.Rooms.{left_fewer, left_taken, left_now, room_for}
@@ -33,7 +33,7 @@ loop-number-preserved c =
     let now : c.take_from-left.result ≡ left - waiting_at (item_at number items) = c.take_from-left.ensures.left ∙ left_now before number in
     let more = left_taken before number c.next.new.self (left - waiting_at (item_at number items)) in
     let end : left_after c.take_from-left.new.items.entries c.take_from-left.result c.next.new.self ≡ left_after (with_taken before number).items (left - waiting_at (item_at number items)) c.next.new.self =
-    ap (λ (es : Numbered). left_after es c.take_from-left.result c.next.new.self) c.take_from-left.ensures.items
+    ap (λ (es : NumberedItems). left_after es c.take_from-left.result c.next.new.self) c.take_from-left.ensures.items
     ∙ ap (λ (l : ℕ). left_after (with_taken before number).items l c.next.new.self) now in (
       tt,
       tt,

@@ -7,7 +7,7 @@ use Rattle.ua_subscriptions.proofs.named.refuse_requests.Given as goal
 -- with the refusals to come all are there
 abbrev pub invariant-loop-call : goal.invariant-loop-call
 invariant-loop-call l =
-    with_replies l.turn (map (refused_of l.turn.clock l.status) l.requests) ≡ with_replies l.fn.turn (map (refused_of l.fn.turn.clock l.status) l.fn.requests)
+    with_replies l.round (map (refused_of l.round.clock l.status) l.requests) ≡ with_replies l.fn.round (map (refused_of l.fn.round.clock l.status) l.fn.requests)
 
 abbrev pub decreases-loop-call : goal.decreases-loop-call
 decreases-loop-call l = length l.requests

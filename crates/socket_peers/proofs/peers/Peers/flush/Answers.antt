@@ -1,10 +1,12 @@
-use Rattle.std.proofs.Common.{rules, ◌≡◌, Some}
-use Rattle.ua_types.proofs.NumberMaps.{insert_removed}
-use Rattle.socket_peers.specs.Peers.{at}
-use Rattle.socket_peers.proofs.MapLemmas.{write_at}
+use Rattle.std.proofs.Common.{rules}
+use Rattle.ua_types.proofs.NumberMaps.{lent_found, given_back}
+use Rattle.socket_peers.proofs.MapLemmas.{both_ok, flush_at}
 use Rattle.socket_peers.proofs.peers.Peers.flush.Goals as goal
 
 pub returns : goal.returns
 returns g c =
-    let is : at c.args.self.now c.args.number ≡ Some c.in-Some.peer = search rules in
-    write_at g.S.Socket.remaining g.S.Socket.contents c.args.number c.args.self.now _ c.in-Some.peer c.flush.new.self is c.flush.ensures (search (rules, insert_removed))
+    let there = lent_found c.get_mut.result _ c.in-Some.peer c.in-Some.is c.get_mut.ensures.found in
+    let back = given_back _ c.get_mut.result c.in-Some.peer c.in-Some.is (c.get_mut.follows.holds c.wake_if.new.peer) in
+    both_ok _ _ _ c.wake_if.result c.wake_if.ensures.list c.wake_if.ensures.peer (λ list woken.
+    flush_at g.S.Socket.remaining g.S.Socket.contents g.S.Socket.calls _ c.args.self.now c.args.number c.in-Some.peer.now c.flush-is_interrupted.new.self c.wake_if.new.peer c.flush-is_interrupted.result _ _
+    c.wake_if.new.awake.items c.self.view_is there c.flush-is_interrupted.ensures (search rules) back list woken)

@@ -4,4 +4,11 @@ use Rattle.socket_server.specs.Sockets.{Sockets}
 use Rattle.socket_server.proofs.serve.Serve.accept.Given as goal
 
 abbrev pub invariant-loop-try : goal.invariant-loop-try
-invariant-loop-try l = ◌≡◌ {A = Sockets TcpStream} (record { peers = l.self-inside.peers; events = l.self-inside.events_so_far }) l.fn.self
+invariant-loop-try l = ◌≡◌ {A = Sockets TcpStream} (record {
+  address = l.self-inside.asked_address;
+  port = l.self-inside.asked_port;
+  keys = l.self-inside.keys;
+  peers = l.self-inside.peers;
+  events = l.self-inside.events_so_far;
+})
+    l.fn.self

@@ -1,7 +1,10 @@
 use Rattle.server_core.specs.World.{world_of}
-use Rattle.socket_server.specs.Serving.{scene, unknown, Goes}
+use Rattle.socket_server.specs.Sockets.{key_stream}
+use Rattle.socket_server.specs.Serving.{scene, unknown, uncounted, Turns}
 use Rattle.socket_server.proofs.serve.Serve.run.Given as goal
 
 abbrev pub invariant-loop-turn : goal.invariant-loop-turn
-invariant-loop-turn g l = Goes unknown unknown g.W.Observer.telling l._turn (scene (world_of l.initial.server) l.initial.self.peers l.initial.self.events (g.W.Observer.told l.initial.observer))
-    (scene (world_of l.server) l.self.peers l.self.events (g.W.Observer.told l.observer))
+invariant-loop-turn g l =
+    Turns unknown unknown uncounted g.W.Observer.text l._turn
+    (scene (key_stream l.initial.self.keys) (world_of l.initial.server) l.initial.self.peers l.initial.self.events (g.W.Observer.output l.initial.observer))
+    (scene (key_stream l.self.keys) (world_of l.server) l.self.peers l.self.events (g.W.Observer.output l.observer))

@@ -1,8 +1,11 @@
-use Rattle.server_core.specs.World.{world_of}
-use Rattle.socket_server.specs.Serving.{scene, unknown, Goes}
 use Rattle.std.proofs.Common.{ℕ}
+use Rattle.server_core.specs.World.{world_of}
+use Rattle.socket_server.specs.Sockets.{key_stream}
+use Rattle.socket_server.specs.Serving.{scene, unknown, uncounted, Turns}
 use Rattle.socket_server.proofs.serve.Serve.run_on.Given as goal
 
 abbrev pub invariant-loop-turn : goal.invariant-loop-turn
-invariant-loop-turn g l = (turns : ℕ) × Goes unknown unknown g.W.Observer.telling turns (scene (world_of l.initial.server) l.initial.self.peers l.initial.self.events (g.W.Observer.told l.initial.observer))
-    (scene (world_of l.server) l.self.peers l.self.events (g.W.Observer.told l.observer))
+invariant-loop-turn g l =
+    (turns : ℕ) × Turns unknown unknown uncounted g.W.Observer.text turns
+    (scene (key_stream l.initial.self.keys) (world_of l.initial.server) l.initial.self.peers l.initial.self.events (g.W.Observer.output l.initial.observer))
+    (scene (key_stream l.self.keys) (world_of l.server) l.self.peers l.self.events (g.W.Observer.output l.observer))

@@ -3,7 +3,7 @@ use Rattle.std.specs.BTreeMap.{is_at}
 use Rattle.std.specs.Map.{remove_entry}
 use Rattle.std.specs.Ordering.{nat_cmp}
 use Rattle.ua_types.specs.NodeIdOrder.{id_cmp}
-use Rattle.ua_monitored_items.specs.ItemTables.{Numbered, TableState, is_of, is_on, IsTable, IsPut, IsTakenOut}
+use Rattle.ua_monitored_items.specs.ItemTables.{NumberedItems, TableState, is_of, is_on, IsTable, IsPut, IsTakenOut}
 use Rattle.ua_monitored_items.specs.declared.item.Item.{Item}
 use Rattle.ua_monitored_items.proofs.Tables.{table_put, table_put_back, put_and_taken, put_and_removed}
 use Rattle.ua_monitored_items.proofs.item_table.ItemTable.add.Goals as goal
@@ -17,7 +17,7 @@ invariant_of-self c =
 pub invariant_of-self-in-Ok : goal.invariant_of-self-in-Ok
 invariant_of-self-in-Ok c =
     let t = c.self.inside in
-    subst (λ (es : Numbered). IsTable (t.made + 1) es c.index_item.new.of_subscription c.index_item.new.on_node) (sym c.in-Ok.ensures.ok)
+    subst (λ (es : NumberedItems). IsTable (t.made + 1) es c.index_item.new.of_subscription c.index_item.new.on_node) (sym c.in-Ok.ensures.ok)
     (table_put t.made t.items.entries t.of_subscription t.on_node c.self.invariant c.args.item c.index_item.new.of_subscription c.index_item.new.on_node
     c.in_ok-index_item.ensures.subscriptions c.in_ok-index_item.ensures.nodes)
 
@@ -29,7 +29,7 @@ invariant_of-self-in-Err c =
     let out_node : IsTakenOut id_cmp c.index_item.new.on_node c.unindex_item.new.on_node (λ id. is_on id c.in-Err.item) (t.made + 1) = c.unindex_item.ensures.nodes in
     let in_sub = subst (λ (i : Item). IsPut nat_cmp t.of_subscription c.index_item.new.of_subscription (λ q. is_of q i) (t.made + 1)) (sym is) c.in_ok-index_item.ensures.subscriptions in
     let in_node = subst (λ (i : Item). IsPut id_cmp t.on_node c.index_item.new.on_node (λ id. is_on id i) (t.made + 1)) (sym is) c.in_ok-index_item.ensures.nodes in
-    subst (λ (es : Numbered). IsTable t.made es c.unindex_item.new.of_subscription c.unindex_item.new.on_node) (sym c.in-Err.ensures.err)
+    subst (λ (es : NumberedItems). IsTable t.made es c.unindex_item.new.of_subscription c.unindex_item.new.on_node) (sym c.in-Err.ensures.err)
     (table_put_back t.made t.items.entries t.of_subscription t.on_node c.self.invariant c.args.item c.unindex_item.new.of_subscription c.unindex_item.new.on_node
     (put_and_taken nat_cmp t.of_subscription c.index_item.new.of_subscription c.unindex_item.new.of_subscription (λ q. is_of q c.in-Err.item) (t.made + 1) in_sub out_sub)
     (put_and_taken id_cmp t.on_node c.index_item.new.on_node c.unindex_item.new.on_node (λ id. is_on id c.in-Err.item) (t.made + 1) in_node out_node))

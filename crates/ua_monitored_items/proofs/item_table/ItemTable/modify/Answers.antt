@@ -1,12 +1,12 @@
 use Rattle.std.proofs.Common.{sym, subst}
 use Rattle.ua_monitored_items.specs.Item.{modified}
-use Rattle.ua_monitored_items.specs.ItemTables.{Numbered, IsTable}
+use Rattle.ua_monitored_items.specs.ItemTables.{NumberedItems, IsTable}
 use Rattle.ua_monitored_items.proofs.Tables.{table_changed, there_modified}
 use Rattle.ua_monitored_items.proofs.item_table.ItemTable.modify.Goals as goal
 
 pub invariant_of-self : goal.invariant_of-self
 invariant_of-self c =
     let t = c.self.inside in
-    subst (λ (es : Numbered). IsTable t.made es t.of_subscription t.on_node) (sym c.modify_at.ensures)
+    subst (λ (es : NumberedItems). IsTable t.made es t.of_subscription t.on_node) (sym c.modify_at.ensures)
     (table_changed t.made t.items.entries t.of_subscription t.on_node c.self.invariant c.args.number
     (modified c.args.longest c.args.timestamps c.args.trigger c.args.parameters.now) (there_modified c.args.longest c.args.timestamps c.args.trigger c.args.parameters.now))

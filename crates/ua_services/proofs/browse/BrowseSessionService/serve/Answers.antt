@@ -8,22 +8,22 @@ use Rattle.ua_services.specs.Browse.{browse_meaning, browse_listed}
 use Rattle.ua_services.specs.Operations.{operations_of}
 use Rattle.ua_services.specs.BrowseResults.{browse_told, browsed}
 use Rattle.ua_services.specs.Paging.{all_done}
-use Rattle.ua_services.specs.Serving.{Serving, Serves, faulted}
+use Rattle.ua_services.specs.Serving.{Serving, Judges, faulted}
 use Rattle.ua_services.proofs.browse.BrowseSessionService.serve.Goals as goal
 
 pub returns : goal.returns
 returns c =
     let setting = c.args.setting.now in
-    let call = c.args.call.now in
+    let caller = c.args.caller.now in
     let session = c.args.session in
     let request = c.args.request in
     let state = c.args.services.now in
-    let listed = browse_listed setting call session request.requested_max_references_per_node state in
+    let listed = browse_listed setting caller session request.requested_max_references_per_node state in
     let no_view : is_null_id request.view_id ≡ true = sym c.is_null.ensures ∙ c.if-not-is_null.false in
-    let is : browse_meaning setting call session request state ≡ browse_listed setting call session request.requested_max_references_per_node state (Ok c.in-Ok.descriptions.items) =
-    ap (λ (b : Bool). cond (not b) (faulted state call status.BAD_VIEW_ID_UNKNOWN setting.clock) (listed (operations_of setting.config request.nodes_to_browse))) no_view
+    let is : browse_meaning setting caller session request state ≡ browse_listed setting caller session request.requested_max_references_per_node state (Ok c.in-Ok.descriptions.items) =
+    ap (λ (b : Bool). cond (not b) (faulted state caller status.BAD_VIEW_ID_UNKNOWN setting.clock) (listed (operations_of setting.config request.nodes_to_browse))) no_view
     ∙ ap listed (sym c.in-Ok.ensures.entries)
     in
-    subst (λ (s : Serving). Serves c.serve_pages.result c.serve_pages.new.services s) (sym is)
-    (subst (λ size. Serves c.serve_pages.result c.serve_pages.new.services
-    (browsed setting call session BROWSE_RESPONSE state (all_done (λ points d. browse_told (browse_of state.space points size d)) (points_of state.sessions session) c.in-Ok.descriptions.items))) c.size_in.ensures c.serve_pages.ensures)
+    subst (λ (s : Serving). Judges setting caller c.serve_pages.result c.serve_pages.new.services s) (sym is)
+    (subst (λ size. Judges setting caller c.serve_pages.result c.serve_pages.new.services
+    (browsed setting caller session BROWSE_RESPONSE state (all_done (λ points d. browse_told (browse_of state.space points size d)) (points_of state.sessions session) c.in-Ok.descriptions.items))) c.size_in.ensures c.serve_pages.ensures)

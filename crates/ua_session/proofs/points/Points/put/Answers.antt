@@ -5,8 +5,8 @@ use Rattle.ua_types.specs.Answers.{step}
 use Rattle.ua_session.specs.Points.{PointsState, put_of}
 use Rattle.ua_session.proofs.points.Points.put.Goals as goal
 
-pub returns : goal.returns
-returns c =
+pub returns-clause-taken : goal.returns-clause-taken
+returns-clause-taken c =
     let next = c.self.inside.made + 1 in
     let held = one_given c.self.inside.held.entries c.insert.new.self.entries next c.args.point c.in_ok-insert.ensures.updates.0 in
     let was : PointsState = record { most = c.self.inside.most; made = c.self.inside.made; held = map.from_entries c.self.inside.held.entries } in

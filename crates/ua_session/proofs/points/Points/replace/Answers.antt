@@ -5,10 +5,10 @@ use Rattle.ua_types.specs.Answers.{step}
 use Rattle.ua_session.specs.Points.{PointsState, without_point, replace_of}
 use Rattle.ua_session.proofs.points.Points.replace.Goals as goal
 
-pub returns : goal.returns
+pub returns-clause-taken : goal.returns-clause-taken
 unfolding replace_of
-returns c =
-    let put = c.in_ok-next.ensures in
+returns-clause-taken c =
+    let put = c.in_ok-next.ensures.taken in
     let held = one_gone c.self.inside.held.entries c.remove.new.self.entries c.args.serial c.remove.ensures.updates.0 in
     let was : PointsState = record { most = c.self.inside.most; made = c.self.inside.made; held = map.from_entries c.self.inside.held.entries } in
     ap (λ s. step s.answer (without_point s.state c.args.serial)) put

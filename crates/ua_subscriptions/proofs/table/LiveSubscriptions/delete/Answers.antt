@@ -4,5 +4,5 @@ use Rattle.ua_subscriptions.proofs.table.LiveSubscriptions.delete.Goals as goal
 
 pub returns-in-Err : goal.returns-in-Err
 returns-in-Err c =
-    deleted_stops c.in-Err.halt c.args.session c.args.numbers.now (world c.args.turn.now c.args.self.now c.args.items.now)
-    (world c.fire_named.new.turn c.fire_named.new.self c.fire_named.new.items) (world c.fire_named.new.turn c.fire_named.new.self c.fire_named.new.items) c.in-Err.ensures
+    deleted_stops c.in-Err.halt c.args.session c.args.numbers.now (world c.args.round.now c.args.self.now c.args.items.now)
+    (world c.fire_named.new.round c.fire_named.new.self c.fire_named.new.items) (world c.fire_named.new.round c.fire_named.new.self c.fire_named.new.items) c.in-Err.ensures

@@ -5,5 +5,5 @@ use Rattle.ua_subscriptions.proofs.table.LiveSubscriptions.end_session.Goals as 
 
 pub returns-in-Err : goal.returns-in-Err
 returns-in-Err c =
-    end_stops c.in-Err.halt c.args.session c.args.deleting c.as_slice.result.now (world c.args.turn.now c.args.self.now c.args.items.now)
-    (world c.fire_all.new.turn c.fire_all.new.self c.fire_all.new.items) (world c.fire_all.new.turn c.fire_all.new.self c.fire_all.new.items) (search rules) c.in-Err.ensures
+    end_stops c.in-Err.halt c.args.session c.args.deleting c.as_slice.result.now (world c.args.round.now c.args.self.now c.args.items.now)
+    (world c.fire_all.new.round c.fire_all.new.self c.fire_all.new.items) (world c.fire_all.new.round c.fire_all.new.self c.fire_all.new.items) (search rules) c.in-Err.ensures

@@ -4,4 +4,4 @@ use Rattle.ua_subscriptions.proofs.table.LiveSubscriptions.fire_all.Given as goa
 
 -- those so far have met it
 abbrev pub invariant-loop-number : goal.invariant-loop-number
-invariant-loop-number l = world l.turn l.self l.items ≡ all_met l.call (world l.fn.turn l.fn.self l.fn.items) (take l.number-index l.numbers)
+invariant-loop-number l = world l.round l.self l.items ≡ all_met l.call (world l.fn.round l.fn.self l.fn.items) (take l.number-index l.numbers)

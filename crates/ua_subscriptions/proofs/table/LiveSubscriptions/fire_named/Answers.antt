@@ -5,5 +5,5 @@ use Rattle.ua_subscriptions.proofs.table.LiveSubscriptions.fire_named.Goals as g
 
 pub returns-in-Err : goal.returns-in-Err
 returns-in-Err c =
-    named_stops c.in-Err.halt c.args.session c.args.call c.args.numbers.now c.loop-number.number-index (world c.args.turn.now c.args.self.now c.args.items.now) (world c.loop-number.turn c.loop-number.self c.loop-number.items)
-    (world c.fire_own.new.turn c.fire_own.new.self c.fire_own.new.items) (world c.fire_own.new.turn c.fire_own.new.self c.fire_own.new.items) c.loop-number.results c.loop-number.invariant (search rules) c.in-Err.ensures
+    named_stops c.in-Err.halt c.args.session c.args.call c.args.numbers.now c.loop-number.number-index (world c.args.round.now c.args.self.now c.args.items.now) (world c.loop-number.round c.loop-number.self c.loop-number.items)
+    (world c.fire_own.new.round c.fire_own.new.self c.fire_own.new.items) (world c.fire_own.new.round c.fire_own.new.self c.fire_own.new.items) c.loop-number.results c.loop-number.invariant (search rules) c.in-Err.ensures

@@ -5,4 +5,4 @@ use Rattle.ua_subscriptions.proofs.table.LiveSubscriptions.fire_named.Given as g
 
 -- those so far have met it
 abbrev pub invariant-loop-number : goal.invariant-loop-number
-invariant-loop-number l = outcome l.results (world l.turn l.self l.items) ≡ named_all l.session l.call (world l.fn.turn l.fn.self l.fn.items) (take l.number-index l.numbers)
+invariant-loop-number l = outcome l.results (world l.round l.self l.items) ≡ named_all l.session l.call (world l.fn.round l.fn.self l.fn.items) (take l.number-index l.numbers)

@@ -1,0 +1,52 @@
+-- A connection that is lent to be changed in its place.
+use Rattle.std.proofs.Common.{◌≡◌, ℕ, List, ◌++◌, Option, Some, Result, Ok, Err, OnOk, ap, sym, ◌∙◌}
+use Rattle.std.specs.Ordering.{nat_cmp}
+use Rattle.std.specs.FinMap.{FinMap, get, insert}
+use Rattle.ua_tcp.specs.declared.frame.Frame.{Frame}
+use Rattle.ua_tcp.specs.declared.frame.FrameFault.{FrameFault}
+use Rattle.server_messages.specs.declared.out.Out.{Out}
+use Rattle.server_messages.specs.declared.reply.Reply.{Reply}
+use Rattle.server_messages.specs.declared.setting.Setting.{Setting}
+use Rattle.server_connections.specs.declared.connection.Connection.{Connection}
+use Rattle.server_connections.specs.declared.connection.Phase.{Phase}
+use Rattle.server_connections.specs.declared.connections.Connections.{Connections}
+use Rattle.server_connections.specs.declared.frame_outcome.FrameOutcome.{FrameOutcome}
+use Rattle.server_connections.specs.Reactions.{Reaction, Counted, reaction, reaction_after, counted, counted_after, reaction_of, fault_reaction}
+use Rattle.server_connections.specs.Connecting.{taking, taking_after, taking_by, taking_of, break_by, break_of, with_phase}
+use Rattle.server_connections.specs.Delivering.{Said, said, said_after, said_by, sending, sending_after, delivered_on, delivered_to, delivered}
+
+module _ (old : Connections) (conn : ℕ) (connection : Connection) (known : FinMap nat_cmp Connection) (phase : Phase) (there : get old.known conn ≡ Some connection)
+    (back : known ≡ insert old.known conn (record connection { phase = phase })) where
+  -- after a frame
+  pub taken_back : (setting : Setting) (frame : Frame) (before after : List Out) (asked : FrameOutcome) (channels : ℕ)
+      → counted channels (reaction phase after asked) ≡ counted_after before (reaction_of setting old.channels conn connection.key frame connection.phase)
+      → taking (record { known = known; greatest = old.greatest; channels = channels }) after asked ≡ taking_after before (taking_of setting conn old frame)
+  unfolding taking_of
+  taken_back setting frame before after asked channels e =
+      ap (λ m. taking (record { known = m; greatest = old.greatest; channels = channels }) after asked) back
+      ∙ ap (λ (x : Counted). taking (with_phase (record old { channels = x.channels }) conn connection x.reaction.phase) x.reaction.outs x.reaction.asked) e
+      ∙ ap (λ o. taking_after before (taking_by setting conn old frame o)) (sym there)
+
+  -- after what is no frame
+  pub broken_back : (fault : FrameFault) (before after : List Out) (asked : FrameOutcome) → reaction phase after asked ≡ reaction_after before (fault_reaction conn fault)
+      → record old { known = known } ≡ (break_of conn old fault).connections
+  unfolding break_of
+  broken_back fault before after asked e =
+      ap (λ m. record old { known = m }) back
+      ∙ ap (λ (x : Reaction). with_phase old conn connection x.phase) e
+      ∙ ap (λ o. (break_by conn old fault o).connections) (sym there)
+
+  -- after a reply
+  pub said_back : (setting : Setting) (reply : Reply) (before after : List Out) → reply.conn ≡ conn → said phase after ≡ said_after before (said_by setting reply connection.phase)
+      → sending (record old { known = known }) after ≡ sending_after before (delivered setting old reply)
+  unfolding delivered
+  said_back setting reply before after same e =
+      ap (λ m. sending (record old { known = m }) after) back
+      ∙ ap (λ (x : Said). sending (with_phase old conn connection x.phase) x.outs) e
+      ∙ ap (λ k. sending (with_phase old k connection (said_by setting reply connection.phase).phase) (before ++ (said_by setting reply connection.phase).outs)) (sym same)
+      ∙ ap (λ o. sending_after before (delivered_to setting old reply o)) (sym (ap (get old.known) same ∙ there))
+
+-- what holds where it went well
+pub on_ok : {X E : Type 0} (A B : Type 0) (r : Result X E) → OnOk r A → (A → B) → OnOk r B
+on_ok A B (Ok x) a f = f a
+on_ok A B (Err e) a f = tt

@@ -1,0 +1,307 @@
+//! What the server does about a frame of one connection.
+
+ghost use Rattle.std.specs.Prelude.{◌≡◌, ◌++◌, IfOk, OnOk};
+ghost use Rattle.server_connections.specs.Reactions.{reaction, reaction_after, counted, counted_after, refused, refusal, closed, acknowledgement, granted, opening_body, opening_reaction, sends, first_reaction, later_reaction, reaction_of, fault_reaction};
+
+use crate::connection::Phase;
+use crate::frame_outcome::FrameOutcome;
+use bytes::Bytes;
+use server_messages::{Out, Request, Setting};
+use std::alloc::{AllocError, Global};
+use ua_channel::{Channel, SendFault, Taken};
+use ua_messages::{OpenSecureChannelResponse, ResponseHeader, body, type_ids};
+use ua_tcp::{Agreed, Frame, FrameFault, Limits, MessageType, ack, err, hello};
+use ua_types::{ByteString, Listed, Refusal, Status};
+
+/// What a frame leaves of its connection, and what is left to do about it.
+#[derive(Debug, Drop)]
+pub(crate) struct Reacted {
+    /// How far the connection is after the frame.
+    pub phase: Phase,
+    /// What the frame asks of the services.
+    pub asked: FrameOutcome,
+}
+
+// The connection goes on.
+fn going_on(channel: Channel) -> Reacted
+    ensures phase { result.phase ≡ Phase.Talking channel }
+    ensures asked { result.asked ≡ FrameOutcome.Nothing }
+{
+    Reacted {
+        phase: Phase::Talking(channel),
+        asked: FrameOutcome::Nothing,
+    }
+}
+
+// The connection is closed.
+fn close(conn: u64, outs: &mut Listed<Out>) -> Result<Reacted, AllocError>
+    ensures { IfOk result (λ t. reaction t.phase outs.new t.asked ≡ reaction_after outs.old (closed conn)) }
+{
+    outs.push(Out::Close { conn })?;
+    Ok(Reacted {
+        phase: Phase::Closed,
+        asked: FrameOutcome::Closed,
+    })
+}
+
+/// The client is told this status, to be followed by the end of the connection.
+#[tactic(auto, unfolding(crate::specs::Reactions::refusal))]
+pub(crate) fn put_refusal(
+    alloc: Global,
+    conn: u64,
+    status: Status,
+    outs: &mut Listed<Out>,
+) -> Result<(), AllocError>
+    ensures { OnOk result (outs.new ≡ outs.old ++ refusal conn status) }
+{
+    outs.push(Out::Send {
+        conn,
+        bytes: err(alloc, status)?,
+    })?;
+    outs.push(Out::Close { conn })?;
+    Ok(())
+}
+
+// The client is told this status, and then the connection is closed.
+fn refuse(
+    alloc: Global,
+    conn: u64,
+    status: Status,
+    outs: &mut Listed<Out>,
+) -> Result<Reacted, AllocError>
+    ensures { IfOk result (λ t. reaction t.phase outs.new t.asked ≡ reaction_after outs.old (refused conn status)) }
+{
+    put_refusal(alloc, conn, status, outs)?;
+    Ok(Reacted {
+        phase: Phase::Closed,
+        asked: FrameOutcome::Closed,
+    })
+}
+
+// The client is told what was agreed.
+#[tactic(auto, unfolding(crate::specs::Reactions::acknowledgement))]
+fn acknowledge(
+    alloc: Global,
+    conn: u64,
+    agreed: &Agreed,
+    outs: &mut Listed<Out>,
+) -> Result<(), AllocError>
+    ensures { OnOk result (outs.new ≡ outs.old ++ acknowledgement conn agreed.now) }
+{
+    outs.push(Out::Send {
+        conn,
+        bytes: ack(alloc, agreed)?,
+    })?;
+    Ok(())
+}
+
+// The first frame of a connection.
+#[tactic(auto, unfolding(crate::specs::Reactions::first_reaction))]
+fn take_first_frame(
+    alloc: Global,
+    setting: &Setting,
+    conn: u64,
+    frame: &Frame,
+    outs: &mut Listed<Out>,
+) -> Result<Reacted, AllocError>
+    ensures { IfOk result (λ t. reaction t.phase outs.new t.asked
+        ≡ reaction_after outs.old (first_reaction setting.now conn frame.now)) }
+{
+    if frame.message_type == MessageType::Error {
+        return close(conn, outs);
+    }
+    match hello(frame, &Limits::new(&setting.config)) {
+        Ok(agreed) => {
+            acknowledge(alloc, conn, &agreed, outs)?;
+            Ok(going_on(Channel::new(agreed)))
+        }
+        Err(status) => refuse(alloc, conn, status, outs),
+    }
+}
+
+/// Sends frames on a connection.
+pub(crate) fn send_all(
+    conn: u64,
+    chunks: Listed<Bytes>,
+    outs: &mut Listed<Out>,
+) -> Result<(), AllocError>
+    ensures { OnOk result (outs.new ≡ outs.old ++ sends conn chunks) }
+{
+    for bytes in chunks.into_vec() {
+        outs.push(Out::Send { conn, bytes })?;
+    }
+    Ok(())
+}
+
+#[tactic(auto, unfolding(crate::specs::Reactions::opening_body))]
+fn opening_response(
+    alloc: Global,
+    setting: &Setting,
+    handle: u32,
+    channel_id: u32,
+    token_id: u32,
+) -> Result<Vec<u8>, AllocError>
+    ensures { IfOk result (λ bytes. bytes.items ≡ opening_body setting.now handle channel_id token_id) }
+{
+    let response = OpenSecureChannelResponse {
+        response_header: ResponseHeader::new(handle, Status(0), setting.clock),
+        server_protocol_version: 0,
+        channel_id,
+        token_id,
+        created_at: setting.clock,
+        revised_lifetime: setting.config.lifetime_ms,
+        server_nonce: ByteString::null(),
+    };
+    body(alloc, type_ids::OPEN_SECURE_CHANNEL_RESPONSE, &response)
+}
+
+// Grants a token of the channel with this number, and gives the chunk that says so.
+#[tactic(auto, unfolding(crate::specs::Reactions::granted, crate::specs::Reactions::opening_sent))]
+fn grant(
+    alloc: Global,
+    setting: &Setting,
+    channel: &mut Channel,
+    id: u32,
+    handle: u32,
+    number: u32,
+) -> Result<Listed<Bytes>, AllocError>
+    ensures { IfOk result (λ chunks. record { frames = chunks; channel = channel.new } ≡ granted setting.now channel.old id handle number) }
+{
+    let token_id = channel.grant(number);
+    let body = opening_response(alloc, setting, handle, number, token_id)?;
+    match channel.send_opening(alloc, id, body.as_slice()) {
+        Ok(chunks) => Ok(chunks),
+        Err(SendFault::TooLarge) => Ok(Listed::new(alloc)),
+        Err(SendFault::Memory) => Err(AllocError),
+    }
+}
+
+// A request to open the channel or to renew its token.
+#[derive(Clone, Copy, Debug)]
+struct Opening {
+    // The request's number on the connection.
+    id: u32,
+    // The handle in the request's header.
+    handle: u32,
+    // Whether it is a renewal.
+    renew: bool,
+}
+
+// Opens the channel, or renews its token.
+#[tactic(auto, unfolding(crate::specs::Reactions::opening_reaction))]
+fn open(
+    alloc: Global,
+    setting: &Setting,
+    channels: &mut u32,
+    conn: u64,
+    mut channel: Channel,
+    opening: Opening,
+    outs: &mut Listed<Out>,
+) -> Result<Reacted, AllocError>
+    ensures { IfOk result (λ t. counted channels.new (reaction t.phase outs.new t.asked)
+        ≡ counted_after outs.old (opening_reaction setting.now channels.old conn channel opening.id opening.handle opening.renew)) }
+{
+    let Opening { id, handle, renew } = opening;
+    let number = if renew {
+        channel.number().unwrap_or(0)
+    } else if *channels == u32::MAX {
+        return refuse(alloc, conn, Status::BAD_TCP_NOT_ENOUGH_RESOURCES, outs);
+    } else {
+        *channels += 1;
+        *channels
+    };
+    let chunks = grant(alloc, setting, &mut channel, id, handle, number)?;
+    send_all(conn, chunks, outs)?;
+    Ok(going_on(channel))
+}
+
+/// The connection that a frame came on.
+#[derive(Clone, Copy, Debug)]
+pub(crate) struct Sender {
+    /// Its number.
+    pub conn: u64,
+    /// The random bytes with which it was opened.
+    pub key: [u8; 32],
+}
+
+// A later frame of a connection.
+#[tactic(auto, unfolding(crate::specs::Reactions::later_reaction))]
+fn talk(
+    alloc: Global,
+    setting: &Setting,
+    channels: &mut u32,
+    sender: Sender,
+    mut channel: Channel,
+    frame: &Frame,
+    outs: &mut Listed<Out>,
+) -> Result<Reacted, AllocError>
+    ensures { IfOk result (λ t. counted channels.new (reaction t.phase outs.new t.asked)
+        ≡ counted_after outs.old (later_reaction setting.now channels.old sender.conn sender.key frame.now channel)) }
+{
+    let Sender { conn, key } = sender;
+    match channel.take(alloc, frame) {
+        Ok(Taken::Nothing) => Ok(going_on(channel)),
+        Ok(Taken::Aborted { id: _ }) => Ok(going_on(channel)),
+        Ok(Taken::Closed) => close(conn, outs),
+        Ok(Taken::Opening { id, handle, renew }) => open(
+            alloc,
+            setting,
+            channels,
+            conn,
+            channel,
+            Opening { id, handle, renew },
+            outs,
+        ),
+        Ok(Taken::Request { id, body }) => Ok(Reacted {
+            phase: Phase::Talking(channel),
+            asked: FrameOutcome::Request(Request {
+                conn,
+                key,
+                id,
+                body,
+            }),
+        }),
+        Err(Refusal::Service(status)) => refuse(alloc, conn, status, outs),
+        Err(Refusal::Memory) => Err(AllocError),
+        Err(Refusal::Exhausted) => unreachable!(),
+    }
+}
+
+/// A frame of a connection in this phase.
+pub(crate) fn frame_reaction(
+    alloc: Global,
+    setting: &Setting,
+    channels: &mut u32,
+    sender: Sender,
+    phase: Phase,
+    frame: &Frame,
+    outs: &mut Listed<Out>,
+) -> Result<Reacted, AllocError>
+    ensures { IfOk result (λ t. counted channels.new (reaction t.phase outs.new t.asked)
+        ≡ counted_after outs.old (reaction_of setting.now channels.old sender.conn sender.key frame.now phase)) }
+{
+    match phase {
+        Phase::Greeting => take_first_frame(alloc, setting, sender.conn, frame, outs),
+        Phase::Talking(channel) => { talk(alloc, setting, channels, sender, channel, frame, outs) }
+        Phase::Closed => Ok(Reacted {
+            phase: Phase::Closed,
+            asked: FrameOutcome::Closed,
+        }),
+    }
+}
+
+/// What is no frame ends a connection.
+pub(crate) fn break_off(
+    alloc: Global,
+    conn: u64,
+    fault: FrameFault,
+    outs: &mut Listed<Out>,
+) -> Result<Reacted, AllocError>
+    ensures { IfOk result (λ t. reaction t.phase outs.new t.asked ≡ reaction_after outs.old (fault_reaction conn fault)) }
+{
+    match fault {
+        FrameFault::Letters => refuse(alloc, conn, Status::BAD_TCP_MESSAGE_TYPE_INVALID, outs),
+        FrameFault::Size => refuse(alloc, conn, Status::BAD_TCP_MESSAGE_TOO_LARGE, outs),
+        FrameFault::Failed => close(conn, outs),
+    }
+}

@@ -1,0 +1,3 @@
+pub mod Walking
+pub mod Elements
+pub mod Shapes

@@ -1,0 +1,202 @@
+//! Values of any type.
+
+ghost use Rattle.std.specs.Prelude.{◌≡◌, ◌≢◌, ◌≤◌, Err};
+ghost use Rattle.std.specs.Int.{w32};
+ghost use Rattle.ua_values.specs.Matrices.{is_shape};
+ghost use Rattle.ua_binary.specs.declared.fault.TakeFault.TheVariants.{Memory};
+ghost use Rattle.ua_binary.specs.Numbers.{number_reading};
+ghost use Rattle.ua_binary.specs.Arrays.{array_reading, elements_reading};
+ghost use Rattle.ua_binary.specs.Variants.{or_empty, content_reading, typed_reading};
+ghost use Rattle.ua_walks.specs.Walks.{Skips, Tells};
+ghost use Rattle.ua_walks.specs.Shapes.{with_dimension as with_dimension_spec};
+
+use crate::arrays::skip_list;
+use crate::walk::Walk;
+use ua_binary::{Cursor, TakeFault};
+use ua_types::{
+    ByteString, ExpandedNodeId, ExtensionObject, Guid, LocalizedText, Moment, NodeId,
+    QualifiedName, Status, Text,
+};
+use ua_values::{Double, Float, Variant};
+
+// The size with one dimension more: None once a dimension is negative, as an Int32.
+fn with_dimension(size: Option<u64>, dimension: u32) -> Option<u64>
+    ensures { result ≡ with_dimension_spec size dimension }
+{
+    let Some(size) = size else {
+        return None;
+    };
+    if dimension >= 1 << 31 {
+        return None;
+    }
+    Some(size.saturating_mul(dimension as u64))
+}
+
+// Moves past so many dimensions, and tells whether so many elements lie in them, as `ua_values::has_shape` tells of a
+// slice.
+fn skip_shape(rank: u32, count: u32, cursor: &mut Cursor<'_>) -> Result<bool, TakeFault>
+    ensures tells { Tells (λ dimensions. is_shape dimensions count) result cursor.new (elements_reading (number_reading w32) rank cursor.old) }
+    ensures no_memory { result ≢ Err Memory }
+{
+    let mut size = Some(1);
+    for _ in 0..rank {
+        let dimension = cursor.number()?;
+        size = with_dimension(size, dimension);
+    }
+    match size {
+        Some(size) => Ok(size == count as u64),
+        None => Ok(false),
+    }
+}
+
+// Moves past a list of dimensions, and tells whether so many elements lie in them. A null list is as an empty one.
+#[tactic(auto, unfolding(ua_binary::specs::Arrays::array_reading))]
+fn skip_dimensions(count: u32, cursor: &mut Cursor<'_>) -> Result<bool, TakeFault>
+    ensures tells { Tells (λ dimensions. is_shape (or_empty dimensions) count) result cursor.new (array_reading (number_reading w32) cursor.old) }
+    ensures no_memory { result ≢ Err Memory }
+{
+    let rank = cursor.number()?;
+    if rank >= 1 << 31 {
+        return Ok(count == 1);
+    }
+    if cursor.rest().len() < rank as usize {
+        return Err(TakeFault::Length);
+    }
+    skip_shape(rank, count, cursor)
+}
+
+// Moves past a list and its dimensions, in which it must lie.
+#[tactic(auto, unfolding(ua_binary::specs::Variants::content_reading))]
+fn skip_matrix<T: Walk>(cursor: &mut Cursor<'_>) -> Result<(), TakeFault>
+    ensures skips { Skips result cursor.new (content_reading T.reading 3 cursor.old) }
+    ensures no_memory { result ≢ Err Memory }
+{
+    let Some(count) = skip_list::<T>(cursor)? else {
+        skip_dimensions(0, cursor)?;
+        return Err(TakeFault::Form);
+    };
+    if !skip_dimensions(count, cursor)? {
+        return Err(TakeFault::Form);
+    }
+    Ok(())
+}
+
+// Moves past what follows these flags.
+#[tactic(auto, unfolding(ua_binary::specs::Variants::content_reading))]
+fn skip_content<T: Walk>(flags: u8, cursor: &mut Cursor<'_>) -> Result<(), TakeFault>
+    ensures skips { Skips result cursor.new (content_reading T.reading flags cursor.old) }
+    ensures no_memory { result ≢ Err Memory }
+{
+    match flags {
+        0 => {
+            T::skip(cursor)?;
+        }
+        2 => {
+            skip_list::<T>(cursor)?;
+        }
+        3 => skip_matrix::<T>(cursor)?,
+        _ => return Err(TakeFault::Form),
+    }
+    Ok(())
+}
+
+// Moves past what follows a first byte with the number of a Boolean or an integer of up to 32 bits.
+#[tactic(auto, unfolding(ua_binary::specs::Variants::typed_reading))]
+fn skip_integer(number: u8, flags: u8, cursor: &mut Cursor<'_>) -> Result<(), TakeFault>
+    requires least { 1 ≤ number }
+    requires most { number ≤ 7 }
+    ensures skips { Skips result cursor.new (typed_reading number flags cursor.old) }
+    ensures no_memory { result ≢ Err Memory }
+{
+    match number {
+        1 => skip_content::<bool>(flags, cursor),
+        2 => skip_content::<i8>(flags, cursor),
+        3 => skip_content::<u8>(flags, cursor),
+        4 => skip_content::<i16>(flags, cursor),
+        5 => skip_content::<u16>(flags, cursor),
+        6 => skip_content::<i32>(flags, cursor),
+        _ => skip_content::<u32>(flags, cursor),
+    }
+}
+
+// Moves past what follows a first byte with the number of a longer number.
+#[tactic(auto, unfolding(ua_binary::specs::Variants::typed_reading))]
+fn skip_number(number: u8, flags: u8, cursor: &mut Cursor<'_>) -> Result<(), TakeFault>
+    requires least { 8 ≤ number }
+    requires most { number ≤ 11 }
+    ensures skips { Skips result cursor.new (typed_reading number flags cursor.old) }
+    ensures no_memory { result ≢ Err Memory }
+{
+    match number {
+        8 => skip_content::<i64>(flags, cursor),
+        9 => skip_content::<u64>(flags, cursor),
+        10 => skip_content::<Float>(flags, cursor),
+        _ => skip_content::<Double>(flags, cursor),
+    }
+}
+
+// Moves past what follows a first byte with the number of a text, a moment, a Guid or bytes.
+#[tactic(auto, unfolding(ua_binary::specs::Variants::typed_reading))]
+fn skip_sized(number: u8, flags: u8, cursor: &mut Cursor<'_>) -> Result<(), TakeFault>
+    requires least { 12 ≤ number }
+    requires most { number ≤ 16 }
+    ensures skips { Skips result cursor.new (typed_reading number flags cursor.old) }
+    ensures no_memory { result ≢ Err Memory }
+{
+    match number {
+        12 => skip_content::<Text>(flags, cursor),
+        13 => skip_content::<Moment>(flags, cursor),
+        14 => skip_content::<Guid>(flags, cursor),
+        15 => skip_content::<ByteString>(flags, cursor),
+        _ => skip_content::<ByteString>(flags, cursor),
+    }
+}
+
+// Moves past what follows a first byte with the number of an id, a status, a name or a structure.
+#[tactic(auto, unfolding(ua_binary::specs::Variants::typed_reading))]
+fn skip_named(number: u8, flags: u8, cursor: &mut Cursor<'_>) -> Result<(), TakeFault>
+    requires least { 17 ≤ number }
+    requires most { number ≤ 22 }
+    ensures skips { Skips result cursor.new (typed_reading number flags cursor.old) }
+    ensures no_memory { result ≢ Err Memory }
+{
+    match number {
+        17 => skip_content::<NodeId>(flags, cursor),
+        18 => skip_content::<ExpandedNodeId>(flags, cursor),
+        19 => skip_content::<Status>(flags, cursor),
+        20 => skip_content::<QualifiedName>(flags, cursor),
+        21 => skip_content::<LocalizedText>(flags, cursor),
+        _ => skip_content::<ExtensionObject>(flags, cursor),
+    }
+}
+
+// Moves past what follows a first byte with this number and these flags.
+#[tactic(auto, unfolding(ua_binary::specs::Variants::typed_reading))]
+fn skip_typed(number: u8, flags: u8, cursor: &mut Cursor<'_>) -> Result<(), TakeFault>
+    ensures skips { Skips result cursor.new (typed_reading number flags cursor.old) }
+    ensures no_memory { result ≢ Err Memory }
+{
+    match number {
+        0 => {
+            if flags == 0 {
+                Ok(())
+            } else {
+                Err(TakeFault::Form)
+            }
+        }
+        1..=7 => skip_integer(number, flags, cursor),
+        8..=11 => skip_number(number, flags, cursor),
+        12..=16 => skip_sized(number, flags, cursor),
+        17..=22 => skip_named(number, flags, cursor),
+        _ => Err(TakeFault::Kind),
+    }
+}
+
+#[tactic(auto, unfolding(ua_binary::specs::Variants::variant_reading))]
+impl Walk for Variant {
+    fn walk(cursor: &mut Cursor<'_>) -> Result<(), TakeFault> {
+        let first = cursor.byte()?;
+        skip_typed(first % 64, first / 64, cursor)?;
+        Ok(())
+    }
+}
