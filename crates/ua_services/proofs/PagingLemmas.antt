@@ -1,7 +1,9 @@
 -- Things that are asked for, done one after the other with a session's continuation points.
-use Rattle.std.proofs.Common.{◌≡◌, ℕ, ◌≤◌, ◌^◌, Bool, true, false, if◌then◌else◌, List, [], ◌∷◌, ◌++◌, Option, Some, Result, Ok, Err, refl, sym, ap, subst, ◌∙◌, arith}
+use Rattle.std.proofs.Common.{◌≡◌, ℕ, ◌≤◌, ◌^◌, Bool, true, false, if◌then◌else◌, List, [], ◌∷◌, ◌++◌, Option, Some, None, is_some, Result, Ok, Err, refl, sym, ap, subst, ◌∙◌, arith}
 use Rattle.std.specs.List.{fold}
-use Rattle.std.proofs.lemmas.Bool.{leb-true, le-leb}
+use Rattle.std.proofs.lemmas.Bool.{false≢true, leb-true, le-leb}
+use Rattle.std.specs.Borrow.{MutBor}
+use Rattle.std.specs.Option.{option_copied_mut, unwrap_or}
 use Rattle.std.specs.Ordering.{nat_cmp}
 use Rattle.std.specs.FinMap.{FinMap, get, insert}
 use Rattle.ua_types.proofs.NumberMaps.{insert_removed, remove_given, get_inserted}
@@ -77,6 +79,17 @@ insert_again m k v w = sym (insert_removed (insert m k v) k w) ∙ ap (λ n. ins
 -- the points of a session that has a place for them are there
 pub points_are_there : {V : Type 0} (m opened : FinMap nat_cmp V) (k : ℕ) (v : V) (found : Option V) → opened ≡ insert m k v → found ≡ get opened k → found ≡ Some v
 points_are_there m opened k v found is e = e ∙ ap (λ n. get n k) is ∙ get_inserted m k v
+
+-- those that are lent are the session's
+pub lent_points : (sessions opened : SessionsState) (session : ℕ) (before now : PointsState) → opened ≡ with_points sessions session before → get opened.points session ≡ Some now → now ≡ before
+lent_points sessions opened session before now is found =
+    ap (λ o. unwrap_or o before) (sym found ∙ points_are_there sessions.points opened.points session before _ (ap (λ (s : SessionsState). s.points) is) refl)
+
+-- so a session that has a place for its points lends some
+pub some_lent : (sessions opened : SessionsState) (session : ℕ) (before : PointsState) (lent : Option (MutBor PointsState)) → opened ≡ with_points sessions session before
+    → option_copied_mut lent ≡ get opened.points session → lent ≡ None → ⊥
+some_lent sessions opened session before lent is found none =
+    false≢true (ap is_some (sym (ap option_copied_mut none) ∙ points_are_there sessions.points opened.points session before _ (ap (λ (s : SessionsState). s.points) is) found))
 
 -- points take a serial or spend the last one, and fire no row
 no_rows : (spent : Bool) → rows_of (if spent then Spent ∷ [] else []) ≡ []
