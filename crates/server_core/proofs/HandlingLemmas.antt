@@ -1,14 +1,15 @@
 -- What the code does about a frame and a piece is what is said of it.
-use Rattle.std.proofs.Common.{◌≡◌, ℕ, Bool, true, false, cond, if◌then◌else◌, List, [], ◌++◌, Option, Some, None, refl, sym, ◌∙◌, ap}
+use Rattle.std.proofs.Common.{◌≡◌, ℕ, Bool, true, false, cond, if◌then◌else◌, List, [], ◌++◌, Option, Some, None, refl, sym, subst, ◌∙◌, ap}
 use Rattle.std.proofs.lemmas.Bool.{false≢true}
 use Rattle.std.specs.Ordering.{nat_cmp}
 use Rattle.std.specs.FinMap.{FinMap, get, insert, remove}
 use Rattle.ua_types.proofs.NumberMaps.{insert_removed, remove_given}
-use Rattle.ua_tcp.specs.Feeding.{Framing, framed_of}
+use Rattle.ua_tcp.specs.Feeding.{Feeding, Framing, feeding, feeding_of, framed_of}
 use Rattle.ua_tcp.specs.Frames.{End, Rest, Broken, held_at, fault_at}
 use Rattle.ua_tcp.specs.Pieces.{Done, Stepped, and_then, all_handled, refused_if, at_end}
 use Rattle.ua_tcp.specs.declared.frame.Frame.{Frame}
 use Rattle.ua_tcp.specs.declared.frame.FrameFault.{FrameFault}
+use Rattle.ua_tcp.specs.declared.framer.Fed.{Fed}
 use Rattle.ua_tcp.proofs.PiecesLemmas.{at_end_by_fault}
 use Rattle.server_messages.specs.declared.reply.Reply.{Reply}
 use Rattle.server_messages.specs.declared.fired.Fired.{Fired}
@@ -117,6 +118,23 @@ piece_shows world conn piece framing core done b found e =
       ap (λ (f : Option Framing). shown (fed_to world conn piece f).effects) found
           ∙ ap (λ (x : Stepped Core Effect). shown x.outs) by_last
           ∙ ap (λ (x : Doing). x.step) (sym e),
+    )
+
+-- a framer that took a piece in its place, and is dropped there where the connection doesn't go on
+pub piece_in_place : (world : World) (conn : ℕ) (piece : List ℕ) (before after : Framing) (given : Fed) (core : Core) (begun done : Step) (b : Bool) (lent left : FinMap nat_cmp Framing) → get world.framers conn ≡ Some before →
+    begun.outs ≡ [] → begun.rows ≡ [] → feeding given after ≡ feeding_of before piece → Shows core begun done b (and_then (all_handled (handled conn) world.core given.frames) (refused_if (broken conn) given.fault)) →
+    lent ≡ insert world.framers conn after → left ≡ (if b then lent else remove lent conn) →
+    ((fed world conn piece).world ≡ record { framers = left; core = core }) × (shown (fed world conn piece).effects ≡ done)
+piece_in_place world conn piece before after given core begun done b lent left there outs rows fed_is shows back is =
+    let said : Fed → Done Core Effect = λ f. and_then (all_handled (handled conn) world.core f.frames) (refused_if (broken conn) f.fault) in
+    let from_nothing = subst (λ (s : Step). Shows core s done b (said given)) (ap (λ (os : List Out). step os begun.rows) outs ∙ ap (λ (fs : List Fired). step [] fs) rows) shows in
+    let shown_so = piece_shows world conn piece before core done b there
+    (subst (λ (f : Fed). Shows core (step [] []) done b (said f)) (ap (λ (x : Feeding). x.fed) fed_is) from_nothing) in
+    let at : Framing → World = λ framing. record { framers = framers_kept b conn framing (remove world.framers conn); core = core } in (
+      shown_so.0
+          ∙ ap (λ (x : Feeding). at x.framing) (sym fed_is)
+          ∙ ap (λ (ls : FinMap nat_cmp Framing). record { framers = ls; core = core }) (kept_in_place b conn after world.framers lent left back is),
+      shown_so.1,
     )
 
 pub piece_spends : (world : World) (conn : ℕ) (piece : List ℕ) (framing : Framing) → get world.framers conn ≡ Some framing →

@@ -37,9 +37,10 @@ impl World {
         };
         let fed = framer.feed(alloc, piece)?;
         let goes_on = self.core.finish(alloc, conn, &fed, &mut step)?;
-        if !goes_on {
-            self.framers.remove(conn);
+        if goes_on {
+            return Ok(step);
         }
+        self.framers.remove(conn);
         Ok(step)
     }
 
