@@ -1,10 +1,9 @@
-use Rattle.std.proofs.Common.{rules, ◌≡◌, true, false, refl, sym, subst, ap}
+use Rattle.std.proofs.Common.{rules, ◌≡◌, true, false, sym, subst, ap}
 use Rattle.rand_core.specs.Stream.{Stream}
 use Rattle.socket_peers.specs.Peers.{departs_at, with_departed}
-use Rattle.socket_server.specs.declared.serve_fault.ServeFault.TheVariants as serve_fault
 use Rattle.server_core.specs.World.{world_of}
 use Rattle.socket_server.specs.Serving.{scene}
-use Rattle.socket_server.proofs.ServingLemmas.{gone_serves, goes_same, stops_here}
+use Rattle.socket_server.proofs.ServingLemmas.{gone_serves, goes_same}
 use Rattle.socket_server.proofs.DepartLemmas.{told_by, empty_stream}
 use Rattle.socket_server.proofs.events.depart.Goals as goal
 
