@@ -3,6 +3,7 @@
 Nothing here waits for long where all goes well, and nothing gives up within minutes: a machine may be slow and busy.
 """
 import random
+import signal
 import socket
 import subprocess
 import threading
@@ -45,7 +46,9 @@ class Program:
     def __init__(self, words, **how):
         self.words, self.lines, self.is_over = words, [], False
         self.changed = threading.Condition()
-        self.process = subprocess.Popen(words, stdin=subprocess.DEVNULL, stdout=subprocess.PIPE, stderr=subprocess.STDOUT, text=True, **how)
+        # A shell that starts this behind `&` has the interrupt ignored, and a program that inherited that would never end by it.
+        heeds = lambda: signal.signal(signal.SIGINT, signal.SIG_DFL)
+        self.process = subprocess.Popen(words, stdin=subprocess.DEVNULL, stdout=subprocess.PIPE, stderr=subprocess.STDOUT, text=True, preexec_fn=heeds, **how)
         self.reader = threading.Thread(target=self.read, daemon=True)
         self.reader.start()
 
