@@ -30,3 +30,4 @@ pub mod ItemsCalled
 pub mod ValueFates
 pub mod MessageContentLemmas
 pub mod Others
+pub mod Concerned

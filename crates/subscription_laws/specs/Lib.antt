@@ -11,3 +11,4 @@ pub mod ItemCalls
 pub mod Fates
 pub mod MessageContents
 pub mod Precedence
+pub mod Concern

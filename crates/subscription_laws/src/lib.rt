@@ -25,6 +25,7 @@ ghost use Rattle.ua_subscriptions.specs.Answers.{number_of, published_of};
 ghost use Rattle.ua_subscriptions.specs.Calls.{event_of};
 ghost use Rattle.subscription_laws.specs.Calm.{IsListed, ListsItsOwn, AreLists, AreSteady};
 ghost use Rattle.ua_subscriptions.specs.Firing.{fired, before_of, vars_in, row_of};
+ghost use Rattle.subscription_laws.specs.Concern.{concern_of, concerned, all_concerned, AreTheRowsFor};
 ghost use Rattle.subscription_laws.specs.Fates.{queue_moves_at, account_at, AreCaused, HaveTheirCauses, EachLossIsMarked};
 ghost use Rattle.subscription_laws.specs.Histories.{counts_at, life_at, AreLawful};
 ghost use Rattle.subscription_laws.specs.ItemCalls.{ItemsComeByTheirCalls, item_calls};
@@ -92,6 +93,15 @@ pub fn keep_alives_have_the_next_number()
         (keep_alive_message (number_after c.subscription.number) c.round.clock) ∷ [] }
     ensures unused { (r : RowId) (c : Scene) → sends_keep_alive r ≡ true →
         (row_done r c).subscription.number ≡ c.subscription.number }
+{}
+
+/// Whatever is called, one row fires for each subscription that the call concerns, at what comes to it and at the variables at
+/// which it is met, in their order, and no other. What a call concerns is written in `Concern`, a case for each kind of call;
+/// each subscription is met by the world that those before it left.
+pub fn one_row_fires_for_each()
+    ensures step { (config : Configuration) (moves : List Move) (move : Move) → let r = run config moves in
+        map concern_of (moved r move).rows ≡ map concern_of r.rows ++ concerned r move }
+    ensures all { (config : Configuration) (moves : List Move) → AreTheRowsFor (all_concerned config moves) (run config moves).rows }
 {}
 
 /// Whatever is called, each row that fires is the only one that the table allows at its variables, which are sound.
