@@ -57,7 +57,7 @@ use Rattle.ua_subscriptions.specs.Named.{is_own, named_all, deleted}
 use Rattle.ua_subscriptions.specs.Publishing.{published}
 use Rattle.ua_subscriptions.specs.SubscriptionCalls.{SubscriptionsState, Said, said, told, created}
 use Rattle.subscription_laws.specs.Apartness.{IsRequestOf, OthersStay}
-use Rattle.subscription_laws.specs.Runs.{Move, Ran, ran_by, moved, start}
+use Rattle.subscription_laws.specs.Runs.{ItemsCall, Move, Ran, ran_by, moved, start}
 use Rattle.subscription_laws.proofs.Others.{none_changes, requests_stay_apart}
 use Rattle.ua_subscriptions.specs.Tables.{World, vars_found}
 use Rattle.ua_subscriptions.specs.declared.call.Call.TheVariants as sub_call
@@ -80,6 +80,7 @@ use Rattle.ua_services.specs.InSession.{if_found, served_in_session}
 use Rattle.ua_services.specs.ItemServing.{Itemed, own_vars, items_called_by}
 use Rattle.ua_services.specs.ModifyMonitoredItems.{items_modified, modify_monitored_items_meaning}
 use Rattle.ua_services.specs.ModifySubscription.{settings_wanted, modify_subscription_body, modify_subscription_meaning}
+use Rattle.server_laws.specs.EventMoves.{create_asked, modify_asked, mode_asked, delete_asked}
 use Rattle.server_laws.specs.Moving.{Went, ran_at}
 use Rattle.ua_services.specs.Operations.{operations_of}
 use Rattle.ua_services.specs.Paging.{AllDone, all_done, paged}
@@ -125,7 +126,8 @@ not_shown session state = none_shown session state state.sessions (unchanged ses
 pub record CameBy (subs : SubscriptionsState) (items : ItemsState) : Type 0 where
   pub config : Configuration
   pub rows : List Fired
-  pub came : Went (start config) subs items rows
+  pub moves : List Move
+  pub came : Went (start config) moves subs items rows
 
 nothing_stays : (session : ℕ) (state : Services) (sessions : SessionsState) → Keeps session state.sessions sessions → KeepsRest session state (with_sessions state sessions)
 nothing_stays session state sessions p = record {
@@ -148,7 +150,7 @@ call_stays : (session : ℕ) (state : Services) (from : CameBy state.subs state.
     StaysIn session state (moved (ran_at state from.rows from.came.replied) move)
 call_stays session state from move is =
     subst (λ (r : Ran). IsRequestOf session r.subs.table move → OthersStay session r.subs.table r.items (moved r move).subs.table (moved r move).items) from.came.left
-    (requests_stay_apart from.config from.came.moves move session) is
+    (requests_stay_apart from.config from.moves move session) is
 
 one_stays : {A : Type 0} (session : ℕ) (state : Services) (from : CameBy state.subs state.items) (own : A → List Reply) (s : Said A) (move : Move) →
     ((so_far : List Fired) (replies : List Reply) → moved (ran_at state so_far replies) move ≡ ran_by (ran_at state so_far replies) s) → IsRequestOf session state.subs.table move → KeepsRest session state (called state own s).state
@@ -336,12 +338,12 @@ republish_stays session setting caller request state from =
 
 -- ---- monitored items
 
-module _ (session : ℕ) (setting : Setting) (caller : Caller) (number : ℕ) (state : Services) (from : CameBy state.subs state.items) (items_done : Itemed) (asks : Asks number state.items items_done.items) where
+module _ (session : ℕ) (setting : Setting) (caller : Caller) (number : ℕ) (state : Services) (from : CameBy state.subs state.items) (items_done : Itemed) (asked : ItemsCall) (asks : Asks number state.items items_done.items asked) where
   found_stays : (found : Option Vars) → vars_found number state.items state.subs.table ≡ found → is_own state.subs.table session number ≡ true → KeepsRest session state (items_called_by setting caller number state items_done found).state
   found_stays None e own = none_stays session state
   found_stays (Some before) e own = record {
     sessions = unchanged session state.sessions;
-    rest = subst (StaysIn session state) (items_left setting caller number state items_done asks before e from.rows from.came.replied) (call_stays session state from (Move.Items setting.clock number asks.asked) own);
+    rest = subst (StaysIn session state) (items_left setting caller number state items_done asked asks before e from.rows from.came.replied) (call_stays session state from (Move.Items setting.clock number asked) own);
   }
 
   own_stays : (own : Bool) → is_own state.subs.table session number ≡ own → KeepsRest session state (items_called_by setting caller number state items_done (cond own (vars_found number state.items state.subs.table) None)).state
@@ -367,10 +369,10 @@ module _ (session : ℕ) (setting : Setting) (caller : Caller) (token : NodeId) 
 
   of_items_stay : (id : ℕ) → Apart session state (picked_of_items setting caller token body state id)
   of_items_stay id =
-      either session state _ _ _ (by_session session create_monitored_items_meaning setting caller token state from only (λ request after came. items_stay session setting caller request.subscription_id after came (items_created setting caller request after) (created_asks setting caller request after)) (message_of create_monitored_items_request_reading body))
-      (either session state _ _ _ (by_session session modify_monitored_items_meaning setting caller token state from only (λ request after came. items_stay session setting caller request.subscription_id after came (items_modified setting caller request after) (modified_asks setting caller request after)) (message_of modify_monitored_items_request_reading body))
-      (either session state _ _ _ (by_session session set_monitoring_mode_meaning setting caller token state from only (λ request after came. items_stay session setting caller request.subscription_id after came (items_moded setting caller request after) (moded_asks setting caller request after)) (message_of set_monitoring_mode_request_reading body))
-      (either session state _ _ _ (by_session session delete_monitored_items_meaning setting caller token state from only (λ request after came. items_stay session setting caller request.subscription_id after came (items_deleted setting caller request after) (deleted_asks setting caller request after)) (message_of delete_monitored_items_request_reading body))
+      either session state _ _ _ (by_session session create_monitored_items_meaning setting caller token state from only (λ request after came. items_stay session setting caller request.subscription_id after came (items_created setting caller request after) (create_asked setting request after) (created_asks setting caller request after)) (message_of create_monitored_items_request_reading body))
+      (either session state _ _ _ (by_session session modify_monitored_items_meaning setting caller token state from only (λ request after came. items_stay session setting caller request.subscription_id after came (items_modified setting caller request after) (modify_asked setting request after) (modified_asks setting caller request after)) (message_of modify_monitored_items_request_reading body))
+      (either session state _ _ _ (by_session session set_monitoring_mode_meaning setting caller token state from only (λ request after came. items_stay session setting caller request.subscription_id after came (items_moded setting caller request after) (mode_asked setting request after) (moded_asks setting caller request after)) (message_of set_monitoring_mode_request_reading body))
+      (either session state _ _ _ (by_session session delete_monitored_items_meaning setting caller token state from only (λ request after came. items_stay session setting caller request.subscription_id after came (items_deleted setting caller request after) (delete_asked setting request after) (deleted_asks setting caller request after)) (message_of delete_monitored_items_request_reading body))
       (of_subscriptions_stay id))))
 
   -- where the type isn't that of a Write

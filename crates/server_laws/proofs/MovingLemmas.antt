@@ -1,5 +1,5 @@
 -- The services go on by calls of the subscriptions and their items.
-use Rattle.std.proofs.Common.{◌≡◌, ◌⊎◌, inl, inr, ℕ, Bool, true, false, not, cond, List, [], ◌∷◌, ◌++◌, length, fold, Option, Some, None, Result, Ok, Err, refl, sym, ap, subst, ◌∙◌, append-nil, append_assoc}
+use Rattle.std.proofs.Common.{◌≡◌, ◌⊎◌, inl, inr, ℕ, Bool, true, false, not, cond, List, [], ◌∷◌, ◌++◌, length, map, fold, Option, Some, None, Result, Ok, Err, refl, sym, ap, subst, ◌∙◌, append-nil, append_assoc}
 use Rattle.std.proofs.lemmas.List.Sums.{fold-append}
 use Rattle.std.specs.Prelude.{nat_lt}
 use Rattle.ua_types.specs.declared.moment.Moment.{Moment}
@@ -86,6 +86,8 @@ use Rattle.ua_services.specs.ItemServing.{with_items, Itemed, own_vars, items_ca
 use Rattle.ua_services.specs.ModifyMonitoredItems.{modify_listed, modify_timed, items_modified, modify_monitored_items_meaning}
 use Rattle.ua_services.specs.ModifySubscription.{settings_wanted, modify_subscription_body, modify_subscription_meaning}
 use Rattle.server_laws.specs.Moving.{ran_at, StandIn, ComesOn, ComesOnWith, ComesOnBy}
+use Rattle.server_laws.specs.EventMoves as of_events
+use Rattle.server_laws.specs.EventMoves.{if_read, in_session, if_listed, close_moves, close_session_moves, write_moves, create_subscription_moves, modify_subscription_moves, set_publishing_mode_moves, delete_subscriptions_moves, publish_moves, republish_moves, nothing_asked, create_listed_asked, create_timed_asked, create_asked, modify_listed_asked, modify_timed_asked, modify_asked, mode_asked_by, mode_listed_asked, mode_asked, delete_listed_asked, delete_asked, items_moves_by, items_moves, moves_of_subscriptions, moves_of_items, moves_picked, serving_moves_by, serving_moves, end_move, ticking_moves, forgetting_moves}
 use Rattle.ua_services.specs.Operations.{operations_of}
 use Rattle.ua_services.specs.Paging.{AllDone, all_done, paged}
 use Rattle.ua_services.specs.Publish.{acknowledged_in, publish_call, publish_meaning}
@@ -107,23 +109,21 @@ use Rattle.ua_services.proofs.SubLemmas.{rows_joined, no_rows, rows_of_round}
 -- ---- no call, one call, and calls behind others
 
 -- no call
-pub none : (state : Services) → ComesOn state state []
+pub none : (state : Services) → ComesOn state [] state []
 none state so_far replies = record {
-  moves = [];
   replied = replies;
   left = ap (λ (rows : List Fired). ran_at state rows replies) (sym (append-nil so_far));
 }
 
 -- calls behind others
-pub and_on : (before mid after : Services) (xs ys : List Fired) → ComesOn before mid xs → ComesOn mid after ys → ComesOn before after (xs ++ ys)
-and_on before mid after xs ys p q so_far replies =
+pub and_on : (before mid after : Services) (first_moves more : List Move) (xs ys : List Fired) → ComesOn before first_moves mid xs → ComesOn mid more after ys → ComesOn before (first_moves ++ more) after (xs ++ ys)
+and_on before mid after first_moves more xs ys p q so_far replies =
     let first = p so_far replies in
     let second = q (so_far ++ xs) first.replied in
     record {
-      moves = first.moves ++ second.moves;
       replied = second.replied;
-      left = fold-append moved (ran_at before so_far replies) first.moves second.moves
-          ∙ ap (λ (r : Ran). fold moved r second.moves) first.left
+      left = fold-append moved (ran_at before so_far replies) first_moves more
+          ∙ ap (λ (r : Ran). fold moved r more) first.left
           ∙ second.left
           ∙ ap (λ (rows : List Fired). ran_at after rows second.replied) (append_assoc so_far xs ys);
     }
@@ -150,23 +150,21 @@ all_stand (x ∷ xs) = inl (refl, all_stand xs)
 stand_behind : (front xs : List Reply) → StandIn xs (front ++ xs)
 stand_behind front xs = stand_joined [] front xs xs tt (all_stand xs)
 
-still : (state : Services) {given : List Reply} → ComesOnWith state state [] given
+still : (state : Services) {given : List Reply} → ComesOnWith state [] state [] given
 still state so_far replies = record {
-  moves = [];
   answers = [];
   left = ap (λ (rows : List Fired). ran_at state rows replies) (sym (append-nil so_far)) ∙ ap (ran_at state (so_far ++ [])) (sym (append-nil replies));
   among = tt;
 }
 
-then_with : (before mid after : Services) (xs ys : List Fired) (given more : List Reply) → ComesOnWith before mid xs given → ComesOnWith mid after ys more → ComesOnWith before after (xs ++ ys) (given ++ more)
-then_with before mid after xs ys given more p q so_far replies =
+then_with : (before mid after : Services) (first_moves later : List Move) (xs ys : List Fired) (given more : List Reply) → ComesOnWith before first_moves mid xs given → ComesOnWith mid later after ys more → ComesOnWith before (first_moves ++ later) after (xs ++ ys) (given ++ more)
+then_with before mid after first_moves later xs ys given more p q so_far replies =
     let first = p so_far replies in
     let second = q (so_far ++ xs) (replies ++ first.answers) in
     record {
-      moves = first.moves ++ second.moves;
       answers = first.answers ++ second.answers;
-      left = fold-append moved (ran_at before so_far replies) first.moves second.moves
-          ∙ ap (λ (r : Ran). fold moved r second.moves) first.left
+      left = fold-append moved (ran_at before so_far replies) first_moves later
+          ∙ ap (λ (r : Ran). fold moved r later) first.left
           ∙ second.left
           ∙ ap (λ (rows : List Fired). ran_at after rows ((replies ++ first.answers) ++ second.answers)) (append_assoc so_far xs ys)
           ∙ ap (ran_at after (so_far ++ (xs ++ ys))) (append_assoc replies first.answers second.answers);
@@ -174,8 +172,8 @@ then_with before mid after xs ys given more p q so_far replies =
     }
 
 -- and without it
-pub goes_on : (before after : Services) (rows : List Fired) (given : List Reply) → ComesOnWith before after rows given → ComesOn before after rows
-goes_on before after rows given p so_far replies = let w = p so_far replies in record { moves = w.moves; replied = replies ++ w.answers; left = w.left }
+pub goes_on : (before : Services) (moves : List Move) (after : Services) (rows : List Fired) (given : List Reply) → ComesOnWith before moves after rows given → ComesOn before moves after rows
+goes_on before moves after rows given p so_far replies = let w = p so_far replies in record { replied = replies ++ w.answers; left = w.left }
 
 said_at : {A : Type 0} (state : Services) (own : A → List Reply) (s : Said A) (so_far : List Fired) (replies : List Reply) →
     ran_by (ran_at state so_far replies) s ≡ ran_at (called state own s).state (so_far ++ rows_of (called state own s).occurrences) (replies ++ s.outcome.world.round.replies)
@@ -185,150 +183,174 @@ said_at state own s so_far replies =
 
 -- one call of the subscriptions
 one_call : {A : Type 0} (state : Services) (own : A → List Reply) (s : Said A) (move : Move) →
-    ((so_far : List Fired) (replies : List Reply) → moved (ran_at state so_far replies) move ≡ ran_by (ran_at state so_far replies) s) → ComesOnBy state (called state own s)
+    ((so_far : List Fired) (replies : List Reply) → moved (ran_at state so_far replies) move ≡ ran_by (ran_at state so_far replies) s) → ComesOnBy state (move ∷ []) (called state own s)
 one_call state own s move f so_far replies = record {
-  moves = move ∷ [];
   answers = s.outcome.world.round.replies;
   left = f so_far replies ∙ said_at state own s so_far replies;
   among = stand_behind (own s.outcome.answer) s.outcome.world.round.replies;
 }
 
 told_call : (state : Services) (w : World) (move : Move) →
-    ((so_far : List Fired) (replies : List Reply) → moved (ran_at state so_far replies) move ≡ ran_by (ran_at state so_far replies) (told state.subs w)) → ComesOnBy state (told_alone state w)
+    ((so_far : List Fired) (replies : List Reply) → moved (ran_at state so_far replies) move ≡ ran_by (ran_at state so_far replies) (told state.subs w)) → ComesOnBy state (move ∷ []) (told_alone state w)
 unfolding told_alone
 told_call state w move f = one_call state no_reply (told state.subs w) move f
 
-then_on : (state : Services) (s : Serving) (more : Services → Serving) → ComesOnBy state s → ((mid : Services) → ComesOnBy mid (more mid)) → ComesOnBy state (and_then s more)
-then_on state s more p f =
+then_on : (state : Services) (moves later : List Move) (s : Serving) (more : Services → Serving) → ComesOnBy state moves s → ((mid : Services) → ComesOnBy mid later (more mid)) → ComesOnBy state (moves ++ later) (and_then s more)
+then_on state moves later s more p f =
     let t = more s.state in
-    subst (λ (rows : List Fired). ComesOnWith state t.state rows (s.replies ++ t.replies)) (sym (rows_joined s.occurrences t.occurrences))
-    (then_with state s.state t.state (rows_of s.occurrences) (rows_of t.occurrences) s.replies t.replies p (f s.state))
+    subst (λ (rows : List Fired). ComesOnWith state (moves ++ later) t.state rows (s.replies ++ t.replies)) (sym (rows_joined s.occurrences t.occurrences))
+    (then_with state s.state t.state moves later (rows_of s.occurrences) (rows_of t.occurrences) s.replies t.replies p (f s.state))
 
 -- the same, where the serving is seen to be one of two
-record IsOn (state : Services) (s : Serving) : Type 0 where
-  goes : ComesOnBy state s
+record IsOn (state : Services) (moves : List Move) (s : Serving) : Type 0 where
+  goes : ComesOnBy state moves s
 
-either : (state : Services) (b : Bool) (x y : Serving) → IsOn state x → IsOn state y → IsOn state (cond b x y)
-either state true x y p q = p
-either state false x y p q = q
+either : (state : Services) (b : Bool) (x y : Serving) (xs ys : List Move) → IsOn state xs x → IsOn state ys y → IsOn state (cond b xs ys) (cond b x y)
+either state true x y xs ys p q = p
+either state false x y xs ys p q = q
 
-by_fields : {A : Type 0} (meaning : Setting → Caller → A → Services → Serving) (setting : Setting) (caller : Caller) (state : Services) →
-    ((request : A) → ComesOnBy state (meaning setting caller request state)) → (r : Result A TakeFault) → IsOn state (served_by meaning setting caller state r)
-by_fields meaning setting caller state f (Ok request) = record { goes = f request }
-by_fields meaning setting caller state f (Err fault) = record { goes = still state }
+by_fields : {A : Type 0} (meaning : Setting → Caller → A → Services → Serving) (setting : Setting) (caller : Caller) (state : Services) (moves : A → List Move) →
+    ((request : A) → ComesOnBy state (moves request) (meaning setting caller request state)) → (r : Result A TakeFault) → IsOn state (if_read moves r) (served_by meaning setting caller state r)
+by_fields meaning setting caller state moves f (Ok request) = record { goes = f request }
+by_fields meaning setting caller state moves f (Err fault) = record { goes = still state }
+
+-- a service that comes to no call
+none_by_fields : {A : Type 0} (meaning : Setting → Caller → A → Services → Serving) (setting : Setting) (caller : Caller) (state : Services) →
+    ((request : A) → ComesOnBy state [] (meaning setting caller request state)) → (r : Result A TakeFault) → IsOn state [] (served_by meaning setting caller state r)
+none_by_fields meaning setting caller state f (Ok request) = record { goes = f request }
+none_by_fields meaning setting caller state f (Err fault) = record { goes = still state }
 
 -- ---- sessions
 
 taken_on : {A : Type 0} (caller : Caller) (state : Services) (clock : Moment) (occurrences : List Occurrence) (body : A → List ℕ) → rows_of occurrences ≡ [] → (answer : Result A Status) (sessions : SessionsState) →
-    ComesOnBy state (taken state caller clock occurrences body answer sessions)
-taken_on caller state clock occurrences body e (Ok x) sessions = subst (λ (rows : List Fired). ComesOnWith state (with_sessions state sessions) rows (reply_of caller (body x) ∷ [])) (sym e) (still state)
+    ComesOnBy state [] (taken state caller clock occurrences body answer sessions)
+taken_on caller state clock occurrences body e (Ok x) sessions = subst (λ (rows : List Fired). ComesOnWith state [] (with_sessions state sessions) rows (reply_of caller (body x) ∷ [])) (sym e) (still state)
 taken_on caller state clock occurrences body e (Err code) sessions = still state
 
 no_rows_spent : (sessions : SessionsState) → rows_of (spent_by sessions) ≡ []
 no_rows_spent sessions = no_rows (is_spent sessions)
 
-create_session_on : (setting : Setting) (caller : Caller) (state : Services) (request : CreateSessionRequest) → ComesOnBy state (create_session_meaning setting caller request state)
+create_session_on : (setting : Setting) (caller : Caller) (state : Services) (request : CreateSessionRequest) → ComesOnBy state [] (create_session_meaning setting caller request state)
 create_session_on setting caller state request =
     let s = create_of state.sessions caller.conn caller.key in
     taken_on caller state setting.clock (spent_by state.sessions) (create_session_body setting caller) (no_rows_spent state.sessions) s.answer s.state
 
-activate_session_on : (setting : Setting) (caller : Caller) (state : Services) (request : ActivateSessionRequest) → ComesOnBy state (activate_session_meaning setting caller request state)
+activate_session_on : (setting : Setting) (caller : Caller) (state : Services) (request : ActivateSessionRequest) → ComesOnBy state [] (activate_session_meaning setting caller request state)
 activate_session_on setting caller state request =
     let s = activate_of state.sessions request.request_header.authentication_token caller.conn caller.key (is_anonymous request.user_identity_token) in
     taken_on caller state setting.clock (spent_by state.sessions) (activate_session_body setting caller) (no_rows_spent state.sessions) s.answer s.state
 
-over_on : (setting : Setting) (deleting : Bool) (number : ℕ) (state : Services) → ComesOnBy state (session_over setting deleting number state)
+over_on : (setting : Setting) (deleting : Bool) (number : ℕ) (state : Services) → ComesOnBy state (Move.EndSession setting.clock number deleting ∷ []) (session_over setting deleting number state)
 over_on setting deleting number state =
     told_call state (session_ended number deleting (world_at setting state)) (Move.EndSession setting.clock number deleting) (λ so_far replies. refl)
 
-all_timed_out_on : (setting : Setting) (state : Services) (numbers : List ℕ) (s : Serving) → ComesOnBy state s → ComesOnBy state (fold (timed_out setting) s numbers)
+all_timed_out_on : (setting : Setting) (state : Services) (numbers : List ℕ) (moves : List Move) (s : Serving) → ComesOnBy state moves s → ComesOnBy state (moves ++ map (end_move setting) numbers) (fold (timed_out setting) s numbers)
 unfolding timed_out
-all_timed_out_on setting state [] s p = p
-all_timed_out_on setting state (number ∷ numbers) s p =
-    all_timed_out_on setting state numbers (timed_out setting s number) (then_on state s (session_over setting false number) p (over_on setting false number))
+all_timed_out_on setting state [] moves s p = subst (λ (ms : List Move). ComesOnBy state ms s) (sym (append-nil moves)) p
+all_timed_out_on setting state (number ∷ numbers) moves s p =
+    subst (λ (ms : List Move). ComesOnBy state ms (fold (timed_out setting) (timed_out setting s number) numbers)) (append_assoc moves (end_move setting number ∷ []) (map (end_move setting) numbers))
+    (all_timed_out_on setting state numbers (moves ++ end_move setting number ∷ []) (timed_out setting s number)
+    (then_on state moves (end_move setting number ∷ []) s (session_over setting false number) p (over_on setting false number)))
 
-closed_on : (setting : Setting) (caller : Caller) (deleting : Bool) (state : Services) (answer : Result ℕ Status) (sessions : SessionsState) → ComesOnBy state (closed_by setting caller deleting state answer sessions)
+closed_on : (setting : Setting) (caller : Caller) (deleting : Bool) (state : Services) (answer : Result ℕ Status) (sessions : SessionsState) → ComesOnBy state (close_moves setting deleting answer) (closed_by setting caller deleting state answer sessions)
 closed_on setting caller deleting state (Ok number) sessions =
-    then_on (with_sessions state sessions) (session_over setting deleting number (with_sessions state sessions)) (λ (after : Services). answered after caller (close_session_body setting caller))
+    then_on (with_sessions state sessions) (Move.EndSession setting.clock number deleting ∷ []) [] (session_over setting deleting number (with_sessions state sessions)) (λ (after : Services). answered after caller (close_session_body setting caller))
     (over_on setting deleting number (with_sessions state sessions)) (λ (after : Services). still after)
 closed_on setting caller deleting state (Err code) sessions = still state
 
-close_session_on : (setting : Setting) (caller : Caller) (state : Services) (request : CloseSessionRequest) → ComesOnBy state (close_session_meaning setting caller request state)
+close_session_on : (setting : Setting) (caller : Caller) (state : Services) (request : CloseSessionRequest) → ComesOnBy state (close_session_moves setting caller state request) (close_session_meaning setting caller request state)
 close_session_on setting caller state request =
     let s = close_of state.sessions request.request_header.authentication_token caller.conn in
     closed_on setting caller request.delete_subscriptions state s.answer s.state
 
-if_found_on : (serve : ℕ → Services → Serving) (setting : Setting) (caller : Caller) (state : Services) → ((number : ℕ) (after : Services) → ComesOnBy after (serve number after)) → (answer : Result ℕ Status) (sessions : SessionsState) →
-    ComesOnBy state (if_found serve setting caller state answer sessions)
-if_found_on serve setting caller state f (Ok number) sessions = f number (with_sessions state sessions)
-if_found_on serve setting caller state f (Err code) sessions = still state
+if_found_on : (serve : ℕ → Services → Serving) (moves : ℕ → Services → List Move) (setting : Setting) (caller : Caller) (state : Services) → ((number : ℕ) (after : Services) → ComesOnBy after (moves number after) (serve number after)) →
+    (answer : Result ℕ Status) (sessions : SessionsState) → ComesOnBy state (of_events.if_found moves state answer sessions) (if_found serve setting caller state answer sessions)
+if_found_on serve moves setting caller state f (Ok number) sessions = f number (with_sessions state sessions)
+if_found_on serve moves setting caller state f (Err code) sessions = still state
 
-by_session : {A : Type 0} (meaning : Setting → Caller → ℕ → A → Services → Serving) (setting : Setting) (caller : Caller) (token : NodeId) (state : Services) →
-    ((number : ℕ) (request : A) (after : Services) → ComesOnBy after (meaning setting caller number request after)) → (r : Result A TakeFault) → IsOn state (served_in_session meaning setting caller token state r)
-by_session meaning setting caller token state f (Ok request) =
+by_session : {A : Type 0} (meaning : Setting → Caller → ℕ → A → Services → Serving) (setting : Setting) (caller : Caller) (token : NodeId) (state : Services) (moves : ℕ → A → Services → List Move) →
+    ((number : ℕ) (request : A) (after : Services) → ComesOnBy after (moves number request after) (meaning setting caller number request after)) → (r : Result A TakeFault) →
+    IsOn state (if_read (in_session moves caller token state) r) (served_in_session meaning setting caller token state r)
+by_session meaning setting caller token state moves f (Ok request) =
     let s = find_of state.sessions token caller.conn in
-    record { goes = if_found_on (λ number. meaning setting caller number request) setting caller state (λ number. f number request) s.answer s.state }
-by_session meaning setting caller token state f (Err fault) = record { goes = still state }
+    record { goes = if_found_on (λ number. meaning setting caller number request) (λ number. moves number request) setting caller state (λ number. f number request) s.answer s.state }
+by_session meaning setting caller token state moves f (Err fault) = record { goes = still state }
+
+none_if_found : (serve : ℕ → Services → Serving) (setting : Setting) (caller : Caller) (state : Services) → ((number : ℕ) (after : Services) → ComesOnBy after [] (serve number after)) → (answer : Result ℕ Status) (sessions : SessionsState) →
+    ComesOnBy state [] (if_found serve setting caller state answer sessions)
+none_if_found serve setting caller state f (Ok number) sessions = f number (with_sessions state sessions)
+none_if_found serve setting caller state f (Err code) sessions = still state
+
+-- a service of a session that comes to no call
+none_by_session : {A : Type 0} (meaning : Setting → Caller → ℕ → A → Services → Serving) (setting : Setting) (caller : Caller) (token : NodeId) (state : Services) →
+    ((number : ℕ) (request : A) (after : Services) → ComesOnBy after [] (meaning setting caller number request after)) → (r : Result A TakeFault) → IsOn state [] (served_in_session meaning setting caller token state r)
+none_by_session meaning setting caller token state f (Ok request) =
+    let s = find_of state.sessions token caller.conn in
+    record { goes = none_if_found (λ number. meaning setting caller number request) setting caller state (λ number. f number request) s.answer s.state }
+none_by_session meaning setting caller token state f (Err fault) = record { goes = still state }
 
 -- ---- nodes
 
-read_listed_on : (setting : Setting) (caller : Caller) (state : Services) (timestamps : Timestamps) (r : Result (List ReadValueId) Status) → ComesOnBy state (read_listed setting caller state timestamps r)
+read_listed_on : (setting : Setting) (caller : Caller) (state : Services) (timestamps : Timestamps) (r : Result (List ReadValueId) Status) → ComesOnBy state [] (read_listed setting caller state timestamps r)
 read_listed_on setting caller state timestamps (Ok nodes) = still state
 read_listed_on setting caller state timestamps (Err code) = still state
 
-read_timed_on : (setting : Setting) (caller : Caller) (state : Services) (nodes : Option (List ReadValueId)) (choice : Option Timestamps) → ComesOnBy state (read_timed setting caller state nodes choice)
+read_timed_on : (setting : Setting) (caller : Caller) (state : Services) (nodes : Option (List ReadValueId)) (choice : Option Timestamps) → ComesOnBy state [] (read_timed setting caller state nodes choice)
 read_timed_on setting caller state nodes None = still state
 read_timed_on setting caller state nodes (Some timestamps) = read_listed_on setting caller state timestamps (operations_of setting.config nodes)
 
-read_on : (setting : Setting) (caller : Caller) (session : ℕ) (request : ReadRequest) (state : Services) → ComesOnBy state (read_meaning setting caller session request state)
+read_on : (setting : Setting) (caller : Caller) (session : ℕ) (request : ReadRequest) (state : Services) → ComesOnBy state [] (read_meaning setting caller session request state)
 read_on setting caller session request state = read_timed_on setting caller state request.nodes_to_read (timestamps_of request.timestamps_to_return)
 
 -- what is written is shown to the items
-shown_on : (state : Services) (writing : Writing) {given : List Reply} → ComesOnWith state (with_written state writing) [] given
+shown_on : (state : Services) (writing : Writing) {given : List Reply} → ComesOnWith state (Move.Show writing.changed ∷ []) (with_written state writing) [] given
 shown_on state writing so_far replies = record {
-  moves = Move.Show writing.changed ∷ [];
   answers = [];
   left = ap (λ (rows : List Fired). ran_at (with_written state writing) rows replies) (sym (append-nil so_far)) ∙ ap (ran_at (with_written state writing) (so_far ++ [])) (sym (append-nil replies));
   among = tt;
 }
 
-write_listed_on : (setting : Setting) (caller : Caller) (state : Services) (r : Result (List WriteValue) Status) → ComesOnBy state (write_listed setting caller state r)
+write_listed_on : (setting : Setting) (caller : Caller) (state : Services) (r : Result (List WriteValue) Status) → ComesOnBy state (if_listed (λ (values : List WriteValue). Move.Show (write_of setting.clock state.space.nodes values).changed ∷ []) r) (write_listed setting caller state r)
 write_listed_on setting caller state (Ok values) = shown_on state (write_of setting.clock state.space.nodes values)
 write_listed_on setting caller state (Err code) = still state
 
-write_on : (setting : Setting) (caller : Caller) (session : ℕ) (request : WriteRequest) (state : Services) → ComesOnBy state (write_meaning setting caller session request state)
+write_on : (setting : Setting) (caller : Caller) (session : ℕ) (request : WriteRequest) (state : Services) → ComesOnBy state (write_moves setting session request state) (write_meaning setting caller session request state)
 write_on setting caller session request state = write_listed_on setting caller state (operations_of setting.config request.nodes_to_write)
 
 -- a page is no call
-paged_on : {R : Type 0} (encoding : R → List ℕ) (setting : Setting) (caller : Caller) (session type_id : ℕ) (state : Services) (all : AllDone R) → ComesOnBy state (paged encoding setting caller session type_id state all)
+paged_on : {R : Type 0} (encoding : R → List ℕ) (setting : Setting) (caller : Caller) (session type_id : ℕ) (state : Services) (all : AllDone R) → ComesOnBy state [] (paged encoding setting caller session type_id state all)
 paged_on encoding setting caller session type_id state all =
-    subst (λ (rows : List Fired). ComesOnWith state (with_sessions state (with_points state.sessions session all.points)) rows (paged encoding setting caller session type_id state all).replies) (sym (no_rows (is_overspent all.points))) (still state)
+    subst (λ (rows : List Fired). ComesOnWith state [] (with_sessions state (with_points state.sessions session all.points)) rows (paged encoding setting caller session type_id state all).replies) (sym (no_rows (is_overspent all.points))) (still state)
 
-browse_listed_on : (setting : Setting) (caller : Caller) (session requested : ℕ) (state : Services) (r : Result (List BrowseDescription) Status) → ComesOnBy state (browse_listed setting caller session requested state r)
+browse_listed_on : (setting : Setting) (caller : Caller) (session requested : ℕ) (state : Services) (r : Result (List BrowseDescription) Status) → ComesOnBy state [] (browse_listed setting caller session requested state r)
 browse_listed_on setting caller session requested state (Ok descriptions) =
     paged_on browse_result_encoding setting caller session BROWSE_RESPONSE state
     (all_done (λ points d. browse_told (browse_of state.space points (page_size setting.config.references requested) d)) (points_of state.sessions session) descriptions)
 browse_listed_on setting caller session requested state (Err code) = still state
 
-browse_on : (setting : Setting) (caller : Caller) (session : ℕ) (request : BrowseRequest) (state : Services) → ComesOnBy state (browse_meaning setting caller session request state)
+browse_on : (setting : Setting) (caller : Caller) (session : ℕ) (request : BrowseRequest) (state : Services) → ComesOnBy state [] (browse_meaning setting caller session request state)
 browse_on setting caller session request state =
-    let listed : IsOn state (browse_listed setting caller session request.requested_max_references_per_node state (operations_of setting.config request.nodes_to_browse)) =
+    let listed : IsOn state [] (browse_listed setting caller session request.requested_max_references_per_node state (operations_of setting.config request.nodes_to_browse)) =
     record { goes = browse_listed_on setting caller session request.requested_max_references_per_node state (operations_of setting.config request.nodes_to_browse) } in
-    let one : IsOn state (browse_meaning setting caller session request state) = either state (not (is_null_id request.view_id)) _ _ (record { goes = still state }) listed in
+    let one : IsOn state [] (browse_meaning setting caller session request state) = same_if (not (is_null_id request.view_id)) _ _ (record { goes = still state }) listed in
     one.goes
+  where
+    same_if : (b : Bool) (x y : Serving) → IsOn state [] x → IsOn state [] y → IsOn state [] (cond b x y)
+    same_if true x y p q = p
+    same_if false x y p q = q
 
-browse_next_listed_on : (setting : Setting) (caller : Caller) (session : ℕ) (is_release : Bool) (state : Services) (r : Result (List (Option (List ℕ))) Status) → ComesOnBy state (browse_next_listed setting caller session is_release state r)
+browse_next_listed_on : (setting : Setting) (caller : Caller) (session : ℕ) (is_release : Bool) (state : Services) (r : Result (List (Option (List ℕ))) Status) → ComesOnBy state [] (browse_next_listed setting caller session is_release state r)
 browse_next_listed_on setting caller session is_release state (Ok named) =
     paged_on browse_result_encoding setting caller session BROWSE_NEXT_RESPONSE state
     (all_done (λ points bytes. browse_told (go_on_of state.space is_release points bytes)) (points_of state.sessions session) named)
 browse_next_listed_on setting caller session is_release state (Err code) = still state
 
-browse_next_on : (setting : Setting) (caller : Caller) (session : ℕ) (request : BrowseNextRequest) (state : Services) → ComesOnBy state (browse_next_meaning setting caller session request state)
+browse_next_on : (setting : Setting) (caller : Caller) (session : ℕ) (request : BrowseNextRequest) (state : Services) → ComesOnBy state [] (browse_next_meaning setting caller session request state)
 browse_next_on setting caller session request state =
     browse_next_listed_on setting caller session request.release_continuation_points state (operations_of setting.config request.continuation_points)
 
 history_ranged_on : (setting : Setting) (caller : Caller) (session : ℕ) (request : HistoryReadRequest) (state : Services) (times : Timestamps) (nodes : List HistoryReadValueId) (r : Result RawRange Status) →
-    ComesOnBy state (history_ranged setting caller session request state times nodes r)
+    ComesOnBy state [] (history_ranged setting caller session request state times nodes r)
 history_ranged_on setting caller session request state times nodes (Ok range) =
     let wanted : Wanted = record { timestamps = times; is_release = request.release_continuation_points; range = range } in
     paged_on history_read_result_encoding setting caller session HISTORY_READ_RESPONSE state
@@ -336,56 +358,56 @@ history_ranged_on setting caller session request state times nodes (Ok range) =
 history_ranged_on setting caller session request state times nodes (Err code) = still state
 
 history_listed_on : (setting : Setting) (caller : Caller) (session : ℕ) (request : HistoryReadRequest) (state : Services) (times : Timestamps) (r : Result (List HistoryReadValueId) Status) →
-    ComesOnBy state (history_listed setting caller session request state times r)
+    ComesOnBy state [] (history_listed setting caller session request state times r)
 history_listed_on setting caller session request state times (Ok nodes) = history_ranged_on setting caller session request state times nodes (details_judged setting.config request.history_read_details)
 history_listed_on setting caller session request state times (Err code) = still state
 
-history_timed_on : (setting : Setting) (caller : Caller) (session : ℕ) (request : HistoryReadRequest) (state : Services) (choice : Option Timestamps) → ComesOnBy state (history_timed setting caller session request state choice)
+history_timed_on : (setting : Setting) (caller : Caller) (session : ℕ) (request : HistoryReadRequest) (state : Services) (choice : Option Timestamps) → ComesOnBy state [] (history_timed setting caller session request state choice)
 history_timed_on setting caller session request state None = still state
 history_timed_on setting caller session request state (Some times) = history_listed_on setting caller session request state times (operations_of setting.config request.nodes_to_read)
 
-history_read_on : (setting : Setting) (caller : Caller) (session : ℕ) (request : HistoryReadRequest) (state : Services) → ComesOnBy state (history_read_meaning setting caller session request state)
+history_read_on : (setting : Setting) (caller : Caller) (session : ℕ) (request : HistoryReadRequest) (state : Services) → ComesOnBy state [] (history_read_meaning setting caller session request state)
 history_read_on setting caller session request state = history_timed_on setting caller session request state (some_times (timestamps_of request.timestamps_to_return))
 
 -- ---- subscriptions
 
-create_subscription_on : (setting : Setting) (caller : Caller) (session : ℕ) (request : CreateSubscriptionRequest) (state : Services) → ComesOnBy state (create_subscription_meaning setting caller session request state)
+create_subscription_on : (setting : Setting) (caller : Caller) (session : ℕ) (request : CreateSubscriptionRequest) (state : Services) → ComesOnBy state (create_subscription_moves setting session request state) (create_subscription_meaning setting caller session request state)
 create_subscription_on setting caller session request state =
     one_call state (λ answer. reply_of caller (create_subscription_body setting caller answer) ∷ []) (created session (settings_asked request) request.publishing_enabled state.subs state.items setting.clock)
     (Move.Create setting.clock session (settings_asked request) request.publishing_enabled) (λ so_far replies. refl)
 
-modify_subscription_on : (setting : Setting) (caller : Caller) (session : ℕ) (request : ModifySubscriptionRequest) (state : Services) → ComesOnBy state (modify_subscription_meaning setting caller session request state)
+modify_subscription_on : (setting : Setting) (caller : Caller) (session : ℕ) (request : ModifySubscriptionRequest) (state : Services) → ComesOnBy state (modify_subscription_moves setting session request state) (modify_subscription_meaning setting caller session request state)
 modify_subscription_on setting caller session request state =
     one_call state (λ answer. reply_of caller (modify_subscription_body setting caller answer) ∷ []) (said state.subs (modified session request.subscription_id (settings_wanted request) (world_at setting state)))
     (Move.Modify setting.clock session request.subscription_id (settings_wanted request)) (λ so_far replies. refl)
 
-publishing_listed_on : (setting : Setting) (caller : Caller) (session : ℕ) (enabled : Bool) (state : Services) (r : Result (List ℕ) Status) → ComesOnBy state (set_publishing_listed setting caller session enabled state r)
+publishing_listed_on : (setting : Setting) (caller : Caller) (session : ℕ) (enabled : Bool) (state : Services) (r : Result (List ℕ) Status) → ComesOnBy state (if_listed (λ (numbers : List ℕ). Move.SetMode setting.clock session numbers enabled ∷ []) r) (set_publishing_listed setting caller session enabled state r)
 publishing_listed_on setting caller session enabled state (Ok numbers) =
     one_call state (λ statuses. reply_of caller (statuses_body SET_PUBLISHING_MODE_RESPONSE setting caller statuses) ∷ []) (said state.subs (named_all session (sub_call.SetMode enabled) (world_at setting state) numbers))
     (Move.SetMode setting.clock session numbers enabled) (λ so_far replies. refl)
 publishing_listed_on setting caller session enabled state (Err code) = still state
 
-set_publishing_mode_on : (setting : Setting) (caller : Caller) (session : ℕ) (request : SetPublishingModeRequest) (state : Services) → ComesOnBy state (set_publishing_mode_meaning setting caller session request state)
+set_publishing_mode_on : (setting : Setting) (caller : Caller) (session : ℕ) (request : SetPublishingModeRequest) (state : Services) → ComesOnBy state (set_publishing_mode_moves setting session request state) (set_publishing_mode_meaning setting caller session request state)
 set_publishing_mode_on setting caller session request state = publishing_listed_on setting caller session request.publishing_enabled state (operations_of setting.config request.subscription_ids)
 
-subscriptions_deleted_on : (setting : Setting) (caller : Caller) (session : ℕ) (state : Services) (r : Result (List ℕ) Status) → ComesOnBy state (delete_subscriptions_listed setting caller session state r)
+subscriptions_deleted_on : (setting : Setting) (caller : Caller) (session : ℕ) (state : Services) (r : Result (List ℕ) Status) → ComesOnBy state (if_listed (λ (numbers : List ℕ). Move.Delete setting.clock session numbers ∷ []) r) (delete_subscriptions_listed setting caller session state r)
 subscriptions_deleted_on setting caller session state (Ok numbers) =
     one_call state (λ statuses. reply_of caller (statuses_body DELETE_SUBSCRIPTIONS_RESPONSE setting caller statuses) ∷ []) (said state.subs (deleted session (world_at setting state) numbers))
     (Move.Delete setting.clock session numbers) (λ so_far replies. refl)
 subscriptions_deleted_on setting caller session state (Err code) = still state
 
-delete_subscriptions_on : (setting : Setting) (caller : Caller) (session : ℕ) (request : DeleteSubscriptionsRequest) (state : Services) → ComesOnBy state (delete_subscriptions_meaning setting caller session request state)
+delete_subscriptions_on : (setting : Setting) (caller : Caller) (session : ℕ) (request : DeleteSubscriptionsRequest) (state : Services) → ComesOnBy state (delete_subscriptions_moves setting session request state) (delete_subscriptions_meaning setting caller session request state)
 delete_subscriptions_on setting caller session request state = subscriptions_deleted_on setting caller session state (operations_of setting.config request.subscription_ids)
 
-publish_on : (setting : Setting) (caller : Caller) (session : ℕ) (request : PublishRequest) (state : Services) → ComesOnBy state (publish_meaning setting caller session request state)
+publish_on : (setting : Setting) (caller : Caller) (session : ℕ) (request : PublishRequest) (state : Services) → ComesOnBy state (publish_moves setting caller session request state) (publish_meaning setting caller session request state)
 publish_on setting caller session request state =
     let acks = acknowledged_in request.subscription_acknowledgements in
-    let told_so : IsOn state (told_alone state (published session (publish_call caller) acks (world_at setting state))) =
+    let told_so : IsOn state (Move.Publish setting.clock session (publish_call caller) acks ∷ []) (told_alone state (published session (publish_call caller) acks (world_at setting state))) =
     record { goes = told_call state (published session (publish_call caller) acks (world_at setting state)) (Move.Publish setting.clock session (publish_call caller) acks) (λ so_far replies. refl) } in
-    let one : IsOn state (publish_meaning setting caller session request state) = either state (nat_lt setting.config.operations (length acks)) _ _ (record { goes = still state }) told_so in
+    let one : IsOn state (publish_moves setting caller session request state) (publish_meaning setting caller session request state) = either state (nat_lt setting.config.operations (length acks)) _ _ _ _ (record { goes = still state }) told_so in
     one.goes
 
-republish_on : (setting : Setting) (caller : Caller) (session : ℕ) (request : RepublishRequest) (state : Services) → ComesOnBy state (republish_meaning setting caller session request state)
+republish_on : (setting : Setting) (caller : Caller) (session : ℕ) (request : RepublishRequest) (state : Services) → ComesOnBy state (republish_moves setting session request state) (republish_meaning setting caller session request state)
 republish_on setting caller session request state =
     one_call state (λ answer. reply_of caller (republish_answer setting caller answer) ∷ []) (said state.subs (republished session request.subscription_id request.retransmit_sequence_number (world_at setting state)))
     (Move.Republish setting.clock session request.subscription_id request.retransmit_sequence_number) (λ so_far replies. refl)
@@ -393,146 +415,143 @@ republish_on setting caller session request state =
 -- ---- monitored items
 
 -- something that is asked of the items of a subscription leaves them so
-pub record Asks (number : ℕ) (before after : ItemsState) : Type 0 where
-  pub asked : ItemsCall
+pub record Asks (number : ℕ) (before after : ItemsState) (asked : ItemsCall) : Type 0 where
   pub same : (item_moves.moved before (on_items number asked)).state ≡ after
 
 -- a request that is refused asks nothing
-asks_none : (number : ℕ) (items : ItemsState) → Asks number items items
-asks_none number items = record { asked = ItemsCall.Delete []; same = refl }
+asks_none : (number : ℕ) (items : ItemsState) → Asks number items items nothing_asked
+asks_none number items = record { same = refl }
 
-create_listed_asks : (setting : Setting) (caller : Caller) (number : ℕ) (state : Services) (times : Timestamps) (r : Result (List MonitoredItemCreateRequest) Status) → Asks number state.items (create_listed setting caller number state times r).items
-create_listed_asks setting caller number state times (Ok requests) = record { asked = ItemsCall.Create state.space.nodes setting.clock times requests; same = refl }
+create_listed_asks : (setting : Setting) (caller : Caller) (number : ℕ) (state : Services) (times : Timestamps) (r : Result (List MonitoredItemCreateRequest) Status) → Asks number state.items (create_listed setting caller number state times r).items (create_listed_asked setting state times r)
+create_listed_asks setting caller number state times (Ok requests) = record { same = refl }
 create_listed_asks setting caller number state times (Err code) = asks_none number state.items
 
 create_timed_asks : (setting : Setting) (caller : Caller) (number : ℕ) (state : Services) (requests : Option (List MonitoredItemCreateRequest)) (choice : Option Timestamps) →
-    Asks number state.items (create_timed setting caller number state requests choice).items
+    Asks number state.items (create_timed setting caller number state requests choice).items (create_timed_asked setting state requests choice)
 create_timed_asks setting caller number state requests None = asks_none number state.items
 create_timed_asks setting caller number state requests (Some times) = create_listed_asks setting caller number state times (operations_of setting.config requests)
 
-pub created_asks : (setting : Setting) (caller : Caller) (request : CreateMonitoredItemsRequest) (state : Services) → Asks request.subscription_id state.items (items_created setting caller request state).items
+pub created_asks : (setting : Setting) (caller : Caller) (request : CreateMonitoredItemsRequest) (state : Services) → Asks request.subscription_id state.items (items_created setting caller request state).items (create_asked setting request state)
 unfolding items_created
 created_asks setting caller request state = create_timed_asks setting caller request.subscription_id state request.items_to_create (timestamps_of request.timestamps_to_return)
 
-modify_listed_asks : (setting : Setting) (caller : Caller) (number : ℕ) (state : Services) (times : Timestamps) (r : Result (List MonitoredItemModifyRequest) Status) → Asks number state.items (modify_listed setting caller number state times r).items
-modify_listed_asks setting caller number state times (Ok requests) = record { asked = ItemsCall.Modify times requests; same = refl }
+modify_listed_asks : (setting : Setting) (caller : Caller) (number : ℕ) (state : Services) (times : Timestamps) (r : Result (List MonitoredItemModifyRequest) Status) → Asks number state.items (modify_listed setting caller number state times r).items (modify_listed_asked times r)
+modify_listed_asks setting caller number state times (Ok requests) = record { same = refl }
 modify_listed_asks setting caller number state times (Err code) = asks_none number state.items
 
 modify_timed_asks : (setting : Setting) (caller : Caller) (number : ℕ) (state : Services) (requests : Option (List MonitoredItemModifyRequest)) (choice : Option Timestamps) →
-    Asks number state.items (modify_timed setting caller number state requests choice).items
+    Asks number state.items (modify_timed setting caller number state requests choice).items (modify_timed_asked setting requests choice)
 modify_timed_asks setting caller number state requests None = asks_none number state.items
 modify_timed_asks setting caller number state requests (Some times) = modify_listed_asks setting caller number state times (operations_of setting.config requests)
 
-pub modified_asks : (setting : Setting) (caller : Caller) (request : ModifyMonitoredItemsRequest) (state : Services) → Asks request.subscription_id state.items (items_modified setting caller request state).items
+pub modified_asks : (setting : Setting) (caller : Caller) (request : ModifyMonitoredItemsRequest) (state : Services) → Asks request.subscription_id state.items (items_modified setting caller request state).items (modify_asked setting request state)
 unfolding items_modified
 modified_asks setting caller request state = modify_timed_asks setting caller request.subscription_id state request.items_to_modify (timestamps_of request.timestamps_to_return)
 
-moded_all_asks : (setting : Setting) (caller : Caller) (number : ℕ) (state : Services) (numbers : List ℕ) (choice : Option Mode) → Asks number state.items (moded_all setting caller number state numbers choice).items
+moded_all_asks : (setting : Setting) (caller : Caller) (number : ℕ) (state : Services) (numbers : List ℕ) (choice : Option Mode) → Asks number state.items (moded_all setting caller number state numbers choice).items (mode_asked_by setting state numbers choice)
 moded_all_asks setting caller number state numbers None = asks_none number state.items
-moded_all_asks setting caller number state numbers (Some mode) = record { asked = ItemsCall.SetMode state.space.nodes setting.clock mode numbers; same = refl }
+moded_all_asks setting caller number state numbers (Some mode) = record { same = refl }
 
-moded_listed_asks : (setting : Setting) (caller : Caller) (number : ℕ) (state : Services) (choice : Option Mode) (r : Result (List ℕ) Status) → Asks number state.items (moded_listed setting caller number state choice r).items
+moded_listed_asks : (setting : Setting) (caller : Caller) (number : ℕ) (state : Services) (choice : Option Mode) (r : Result (List ℕ) Status) → Asks number state.items (moded_listed setting caller number state choice r).items (mode_listed_asked setting state choice r)
 moded_listed_asks setting caller number state choice (Ok numbers) = moded_all_asks setting caller number state numbers choice
 moded_listed_asks setting caller number state choice (Err code) = asks_none number state.items
 
-pub moded_asks : (setting : Setting) (caller : Caller) (request : SetMonitoringModeRequest) (state : Services) → Asks request.subscription_id state.items (items_moded setting caller request state).items
+pub moded_asks : (setting : Setting) (caller : Caller) (request : SetMonitoringModeRequest) (state : Services) → Asks request.subscription_id state.items (items_moded setting caller request state).items (mode_asked setting request state)
 unfolding items_moded
 moded_asks setting caller request state = moded_listed_asks setting caller request.subscription_id state (mode_numbered request.monitoring_mode) (operations_of setting.config request.monitored_item_ids)
 
-deleted_listed_asks : (setting : Setting) (caller : Caller) (number : ℕ) (state : Services) (r : Result (List ℕ) Status) → Asks number state.items (deleted_listed setting caller number state r).items
-deleted_listed_asks setting caller number state (Ok numbers) = record { asked = ItemsCall.Delete numbers; same = refl }
+deleted_listed_asks : (setting : Setting) (caller : Caller) (number : ℕ) (state : Services) (r : Result (List ℕ) Status) → Asks number state.items (deleted_listed setting caller number state r).items (delete_listed_asked r)
+deleted_listed_asks setting caller number state (Ok numbers) = record { same = refl }
 deleted_listed_asks setting caller number state (Err code) = asks_none number state.items
 
-pub deleted_asks : (setting : Setting) (caller : Caller) (request : DeleteMonitoredItemsRequest) (state : Services) → Asks request.subscription_id state.items (items_deleted setting caller request state).items
+pub deleted_asks : (setting : Setting) (caller : Caller) (request : DeleteMonitoredItemsRequest) (state : Services) → Asks request.subscription_id state.items (items_deleted setting caller request state).items (delete_asked setting request state)
 unfolding items_deleted
 deleted_asks setting caller request state = deleted_listed_asks setting caller request.subscription_id state (operations_of setting.config request.monitored_item_ids)
 
-module _ (setting : Setting) (caller : Caller) (number : ℕ) (state : Services) (done : Itemed) (asks : Asks number state.items done.items) where
+module _ (setting : Setting) (caller : Caller) (number : ℕ) (state : Services) (done : Itemed) (asked : ItemsCall) (asks : Asks number state.items done.items asked) where
   abbrev fires : ItemsState → Vars → Said (Unit {0})
   fires items before = told state.subs (met (world_of state.subs items setting.clock) number (sub_call.Items before))
 
   -- what its call leaves
   pub items_left : (before : Vars) → vars_found number state.items state.subs.table ≡ Some before → (so_far : List Fired) (replies : List Reply) →
       (let s = items_called_by setting caller number state done (Some before) in
-      moved (ran_at state so_far replies) (Move.Items setting.clock number asks.asked) ≡ ran_at s.state (so_far ++ rows_of s.occurrences) (replies ++ (fires done.items before).outcome.world.round.replies))
+      moved (ran_at state so_far replies) (Move.Items setting.clock number asked) ≡ ran_at s.state (so_far ++ rows_of s.occurrences) (replies ++ (fires done.items before).outcome.world.round.replies))
   items_left before e so_far replies =
       let from = ran_at state so_far replies in
-      ap (items_ran setting.clock number asks.asked from) e
+      ap (items_ran setting.clock number asked from) e
       ∙ ap (λ (items : ItemsState). ran_by from (fires items before)) asks.same
       ∙ said_at (with_items state done.items) (λ (x : Unit {0}). reply_of caller done.body ∷ []) (fires done.items before) so_far replies
 
-  found_on : (found : Option Vars) → vars_found number state.items state.subs.table ≡ found → ComesOnBy state (items_called_by setting caller number state done found)
+  found_on : (found : Option Vars) → vars_found number state.items state.subs.table ≡ found → ComesOnBy state (items_moves_by setting number asked found) (items_called_by setting caller number state done found)
   found_on None e so_far replies = still state so_far replies
   found_on (Some before) e so_far replies = record {
-    moves = Move.Items setting.clock number asks.asked ∷ [];
     answers = (fires done.items before).outcome.world.round.replies;
     left = items_left before e so_far replies;
     among = stand_behind (reply_of caller done.body ∷ []) (fires done.items before).outcome.world.round.replies;
   }
 
-  own_on : (own : Bool) → ComesOnBy state (items_called_by setting caller number state done (cond own (vars_found number state.items state.subs.table) None))
+  own_on : (own : Bool) → ComesOnBy state (items_moves_by setting number asked (cond own (vars_found number state.items state.subs.table) None)) (items_called_by setting caller number state done (cond own (vars_found number state.items state.subs.table) None))
   own_on true = found_on (vars_found number state.items state.subs.table) refl
   own_on false = still state
 
-  items_on : (session : ℕ) → ComesOnBy state (items_called_by setting caller number state done (own_vars session number state))
+  items_on : (session : ℕ) → ComesOnBy state (items_moves setting session number asked state) (items_called_by setting caller number state done (own_vars session number state))
   items_on session = own_on (is_own state.subs.table session number)
 
 -- ---- all services
 
-of_subscriptions_on : (setting : Setting) (caller : Caller) (token : NodeId) (body : List ℕ) (state : Services) (id : ℕ) → IsOn state (picked_of_subscriptions setting caller token body state id)
+of_subscriptions_on : (setting : Setting) (caller : Caller) (token : NodeId) (body : List ℕ) (state : Services) (id : ℕ) → IsOn state (moves_of_subscriptions setting caller token body state id) (picked_of_subscriptions setting caller token body state id)
 of_subscriptions_on setting caller token body state id =
-    let last : IsOn state (faulted state caller status.BAD_SERVICE_UNSUPPORTED setting.clock) = record { goes = still state } in
-    either state _ _ _ (by_session create_subscription_meaning setting caller token state (create_subscription_on setting caller) (message_of create_subscription_request_reading body))
-    (either state _ _ _ (by_session modify_subscription_meaning setting caller token state (modify_subscription_on setting caller) (message_of modify_subscription_request_reading body))
-    (either state _ _ _ (by_session set_publishing_mode_meaning setting caller token state (set_publishing_mode_on setting caller) (message_of set_publishing_mode_request_reading body))
-    (either state _ _ _ (by_session delete_subscriptions_meaning setting caller token state (delete_subscriptions_on setting caller) (message_of delete_subscriptions_request_reading body))
-    (either state _ _ _ (by_session publish_meaning setting caller token state (publish_on setting caller) (message_of publish_request_reading body))
-    (either state _ _ _ (by_session republish_meaning setting caller token state (republish_on setting caller) (message_of republish_request_reading body))
+    let last : IsOn state [] (faulted state caller status.BAD_SERVICE_UNSUPPORTED setting.clock) = record { goes = still state } in
+    either state _ _ _ _ _ (by_session create_subscription_meaning setting caller token state (create_subscription_moves setting) (create_subscription_on setting caller) (message_of create_subscription_request_reading body))
+    (either state _ _ _ _ _ (by_session modify_subscription_meaning setting caller token state (modify_subscription_moves setting) (modify_subscription_on setting caller) (message_of modify_subscription_request_reading body))
+    (either state _ _ _ _ _ (by_session set_publishing_mode_meaning setting caller token state (set_publishing_mode_moves setting) (set_publishing_mode_on setting caller) (message_of set_publishing_mode_request_reading body))
+    (either state _ _ _ _ _ (by_session delete_subscriptions_meaning setting caller token state (delete_subscriptions_moves setting) (delete_subscriptions_on setting caller) (message_of delete_subscriptions_request_reading body))
+    (either state _ _ _ _ _ (by_session publish_meaning setting caller token state (publish_moves setting caller) (publish_on setting caller) (message_of publish_request_reading body))
+    (either state _ _ _ _ _ (by_session republish_meaning setting caller token state (republish_moves setting) (republish_on setting caller) (message_of republish_request_reading body))
     last)))))
 
-of_items_on : (setting : Setting) (caller : Caller) (token : NodeId) (body : List ℕ) (state : Services) (id : ℕ) → IsOn state (picked_of_items setting caller token body state id)
+of_items_on : (setting : Setting) (caller : Caller) (token : NodeId) (body : List ℕ) (state : Services) (id : ℕ) → IsOn state (moves_of_items setting caller token body state id) (picked_of_items setting caller token body state id)
 of_items_on setting caller token body state id =
-    either state _ _ _ (by_session create_monitored_items_meaning setting caller token state (λ session request after. items_on setting caller request.subscription_id after (items_created setting caller request after) (created_asks setting caller request after) session) (message_of create_monitored_items_request_reading body))
-    (either state _ _ _ (by_session modify_monitored_items_meaning setting caller token state (λ session request after. items_on setting caller request.subscription_id after (items_modified setting caller request after) (modified_asks setting caller request after) session) (message_of modify_monitored_items_request_reading body))
-    (either state _ _ _ (by_session set_monitoring_mode_meaning setting caller token state (λ session request after. items_on setting caller request.subscription_id after (items_moded setting caller request after) (moded_asks setting caller request after) session) (message_of set_monitoring_mode_request_reading body))
-    (either state _ _ _ (by_session delete_monitored_items_meaning setting caller token state (λ session request after. items_on setting caller request.subscription_id after (items_deleted setting caller request after) (deleted_asks setting caller request after) session) (message_of delete_monitored_items_request_reading body))
+    either state _ _ _ _ _ (by_session create_monitored_items_meaning setting caller token state (λ session request at. items_moves setting session request.subscription_id (create_asked setting request at) at) (λ session request after. items_on setting caller request.subscription_id after (items_created setting caller request after) (create_asked setting request after) (created_asks setting caller request after) session) (message_of create_monitored_items_request_reading body))
+    (either state _ _ _ _ _ (by_session modify_monitored_items_meaning setting caller token state (λ session request at. items_moves setting session request.subscription_id (modify_asked setting request at) at) (λ session request after. items_on setting caller request.subscription_id after (items_modified setting caller request after) (modify_asked setting request after) (modified_asks setting caller request after) session) (message_of modify_monitored_items_request_reading body))
+    (either state _ _ _ _ _ (by_session set_monitoring_mode_meaning setting caller token state (λ session request at. items_moves setting session request.subscription_id (mode_asked setting request at) at) (λ session request after. items_on setting caller request.subscription_id after (items_moded setting caller request after) (mode_asked setting request after) (moded_asks setting caller request after) session) (message_of set_monitoring_mode_request_reading body))
+    (either state _ _ _ _ _ (by_session delete_monitored_items_meaning setting caller token state (λ session request at. items_moves setting session request.subscription_id (delete_asked setting request at) at) (λ session request after. items_on setting caller request.subscription_id after (items_deleted setting caller request after) (delete_asked setting request after) (deleted_asks setting caller request after) session) (message_of delete_monitored_items_request_reading body))
     (of_subscriptions_on setting caller token body state id))))
 
-picked_on : (setting : Setting) (caller : Caller) (token : NodeId) (body : List ℕ) (state : Services) (id : ℕ) → IsOn state (picked setting caller token body state id)
+picked_on : (setting : Setting) (caller : Caller) (token : NodeId) (body : List ℕ) (state : Services) (id : ℕ) → IsOn state (moves_picked setting caller token body state id) (picked setting caller token body state id)
 picked_on setting caller token body state id =
-    either state _ _ _ (by_fields get_endpoints_meaning setting caller state (λ request. still state) (message_of get_endpoints_request_reading body))
-    (either state _ _ _ (by_fields create_session_meaning setting caller state (create_session_on setting caller state) (message_of create_session_request_reading body))
-    (either state _ _ _ (by_fields activate_session_meaning setting caller state (activate_session_on setting caller state) (message_of activate_session_request_reading body))
-    (either state _ _ _ (by_fields close_session_meaning setting caller state (close_session_on setting caller state) (message_of close_session_request_reading body))
-    (either state _ _ _ (by_session read_meaning setting caller token state (read_on setting caller) (message_of read_request_reading body))
-    (either state _ _ _ (by_session write_meaning setting caller token state (write_on setting caller) (message_of write_request_reading body))
-    (either state _ _ _ (by_session browse_meaning setting caller token state (browse_on setting caller) (message_of browse_request_reading body))
-    (either state _ _ _ (by_session browse_next_meaning setting caller token state (browse_next_on setting caller) (message_of browse_next_request_reading body))
-    (either state _ _ _ (by_session history_read_meaning setting caller token state (history_read_on setting caller) (message_of history_read_request_reading body))
+    either state _ _ _ _ _ (none_by_fields get_endpoints_meaning setting caller state (λ request. still state) (message_of get_endpoints_request_reading body))
+    (either state _ _ _ _ _ (none_by_fields create_session_meaning setting caller state (create_session_on setting caller state) (message_of create_session_request_reading body))
+    (either state _ _ _ _ _ (none_by_fields activate_session_meaning setting caller state (activate_session_on setting caller state) (message_of activate_session_request_reading body))
+    (either state _ _ _ _ _ (by_fields close_session_meaning setting caller state (close_session_moves setting caller state) (close_session_on setting caller state) (message_of close_session_request_reading body))
+    (either state _ _ _ _ _ (none_by_session read_meaning setting caller token state (read_on setting caller) (message_of read_request_reading body))
+    (either state _ _ _ _ _ (by_session write_meaning setting caller token state (write_moves setting) (write_on setting caller) (message_of write_request_reading body))
+    (either state _ _ _ _ _ (none_by_session browse_meaning setting caller token state (browse_on setting caller) (message_of browse_request_reading body))
+    (either state _ _ _ _ _ (none_by_session browse_next_meaning setting caller token state (browse_next_on setting caller) (message_of browse_next_request_reading body))
+    (either state _ _ _ _ _ (none_by_session history_read_meaning setting caller token state (history_read_on setting caller) (message_of history_read_request_reading body))
     (of_items_on setting caller token body state id)))))))))
 
-by_header : (setting : Setting) (request : Request) (state : Services) (id : Result ℕ TakeFault) (header : Result RequestHeader TakeFault) → ComesOnBy state (serving_by setting request state id header)
+by_header : (setting : Setting) (request : Request) (state : Services) (id : Result ℕ TakeFault) (header : Result RequestHeader TakeFault) → ComesOnBy state (serving_moves_by setting request state id header) (serving_by setting request state id header)
 by_header setting request state (Ok id) (Ok header) = (picked_on setting (call_of request header.request_handle) header.authentication_token request.body state id).goes
 by_header setting request state (Ok id) (Err fault) = still state
 by_header setting request state (Err fault) header = still state
 
-pub serving_on : (setting : Setting) (request : Request) (state : Services) → ComesOnBy state (serving_of setting request state)
-unfolding serving_of
+pub serving_on : (setting : Setting) (request : Request) (state : Services) → ComesOnBy state (serving_moves setting request state) (serving_of setting request state)
+unfolding serving_of serving_moves
 serving_on setting request state = by_header setting request state (message_id_of request.body) (message_of request_header_reading request.body)
 
-timers_on : (setting : Setting) (state : Services) → ComesOnBy state (timers_met setting state)
+timers_on : (setting : Setting) (state : Services) → ComesOnBy state (Move.Timers setting.clock ∷ []) (timers_met setting state)
 timers_on setting state = told_call state (timed (world_at setting state)) (Move.Timers setting.clock) (λ so_far replies. refl)
 
-pub ticking_on : (setting : Setting) (state : Services) → ComesOnBy state (ticking_of setting state)
+pub ticking_on : (setting : Setting) (state : Services) → ComesOnBy state (ticking_moves setting state) (ticking_of setting state)
 ticking_on setting state =
     let after = with_sessions state (ticked state.sessions setting.clock) in
     let ended = ended_by state.sessions setting.clock in
-    then_on after (all_timed_out setting after ended) (timers_met setting) (all_timed_out_on setting after ended (nothing_done after) (still after)) (timers_on setting)
+    then_on after (map (end_move setting) ended) (Move.Timers setting.clock ∷ []) (all_timed_out setting after ended) (timers_met setting) (all_timed_out_on setting after ended [] (nothing_done after) (still after)) (timers_on setting)
 
 -- a connection that is forgotten is one call
-pub forgotten_on : (state : Services) (conn : ℕ) → ComesOn state (forgotten state conn) []
+pub forgotten_on : (state : Services) (conn : ℕ) → ComesOn state (forgetting_moves conn) (forgotten state conn) []
 forgotten_on state conn so_far replies = record {
-  moves = Move.Gone conn ∷ [];
   replied = replies;
   left = ap (λ (rows : List Fired). ran_at (forgotten state conn) rows replies) (sym (append-nil so_far));
 }

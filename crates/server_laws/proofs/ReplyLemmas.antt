@@ -1,5 +1,5 @@
 -- Each message that is made at an event is in a reply that is given then.
-use Rattle.std.proofs.Common.{◌≡◌, ◌⊎◌, inl, inr, ℕ, List, [], ◌∷◌, ◌++◌, Option, Some, None, refl, sym, ap, ◌∙◌, subst}
+use Rattle.std.proofs.Common.{◌≡◌, ◌⊎◌, inl, inr, List, [], ◌∷◌, ◌++◌, Option, Some, None, refl, sym, ap, ◌∙◌, subst}
 use Rattle.ua_types.specs.Configuration.{Configuration}
 use Rattle.server_messages.specs.declared.fired.Fired.{Fired}
 use Rattle.server_messages.specs.declared.reply.Reply.{Reply}
@@ -13,19 +13,20 @@ use Rattle.subscription_laws.specs.Messaging.{Made, run_made}
 use Rattle.subscription_laws.specs.Runs.{Move, Ran, run}
 use Rattle.subscription_laws.proofs.BroughtByCalls.{all_answers}
 use Rattle.subscription_laws.proofs.RunsKept.{IsRunKept, run_kept}
-use Rattle.server_laws.specs.Fates.{reached_at, first_calls, CallsOf}
+use Rattle.server_laws.specs.EventMoves.{serving_moves, ticking_moves, moves_of}
 use Rattle.server_laws.specs.Moving.{ran_at, StandIn, ComesOnBy}
 use Rattle.server_laws.specs.Replying.{BringsItsMessages, BringsMessages, SendsReplies}
 use Rattle.server_laws.specs.Tables.{rows_of_run, LeadTo}
 use Rattle.ua_services.specs.Serving.{Serving}
 use Rattle.ua_services.specs.Services.{serving_of, ticking_of}
 use Rattle.ua_services.specs.declared.services.Services.{Services}
-use Rattle.server_core.specs.Coherent.{IfRuns}
+use Rattle.server_core.specs.Coherent.{reached, IfRuns}
 use Rattle.server_core.specs.Handling.{asked_for, setting_at, handled}
 use Rattle.server_core.specs.declared.world.World.{World}
 use Rattle.server_core.specs.declared.parts.Core.{Core}
 use Rattle.server_core.specs.declared.event.Event.{Event}
 use Rattle.server_laws.proofs.MovingLemmas.{serving_on, ticking_on}
+use Rattle.server_laws.proofs.TableLemmas.{comes_by_moves}
 
 -- ---- among more replies
 
@@ -50,40 +51,39 @@ same_behind (f ∷ front) xs ys e = same_behind front xs ys (tail e)
 
 -- ---- a serving
 
-brings : (state : Services) (s : Serving) (rows : List Fired) (replies : List Reply) → IsRunKept (ran_at state rows replies) → ComesOnBy state s → BringsItsMessages (ran_at state rows replies) s
-brings state s rows replies kept goes =
+brings : (state : Services) (s : Serving) (rows : List Fired) (replies : List Reply) (moves : List Move) → IsRunKept (ran_at state rows replies) → ComesOnBy state moves s → BringsItsMessages (ran_at state rows replies) moves s
+brings state s rows replies moves kept goes =
     let from = ran_at state rows replies in
     let went = goes rows replies in
-    let told = all_answers went.moves from kept in
+    let told = all_answers moves from kept in
     let same : told.more ≡ went.answers = same_behind replies told.more went.answers (sym told.so ∙ ap (λ (r : Ran). r.replies) went.left) in
     record {
       went = went;
-      brought = brought_among went.answers s.replies (run_made from went.moves) went.among (subst (λ (rs : List Reply). AreBrought rs (run_made from went.moves)) same told.brought);
+      brought = brought_among went.answers s.replies (run_made from moves) went.among (subst (λ (rs : List Reply). AreBrought rs (run_made from moves)) same told.brought);
     }
 
 -- from where some calls led
-brings_from : (config : Configuration) (moves : List Move) (state : Services) (s : Serving) → (run config moves).subs ≡ state.subs → (run config moves).items ≡ state.items → ComesOnBy state s → BringsItsMessages (run config moves) s
-brings_from config moves state s subs items goes =
-    let r = run config moves in
+brings_from : (config : Configuration) (before moves : List Move) (state : Services) (s : Serving) → (run config before).subs ≡ state.subs → (run config before).items ≡ state.items → ComesOnBy state moves s → BringsItsMessages (run config before) moves s
+brings_from config before moves state s subs items goes =
+    let r = run config before in
     let same : ran_at state r.rows r.replies ≡ r =
     ap (λ (x : SubscriptionsState). record { subs = x; items = state.items; rows = r.rows; replies = r.replies }) (sym subs)
     ∙ ap (λ (x : ItemsState). record { subs = r.subs; items = x; rows = r.rows; replies = r.replies }) (sym items) in
-    subst (λ (from : Ran). BringsItsMessages from s) same (brings state s r.rows r.replies (subst IsRunKept (sym same) (run_kept config moves)) goes)
+    subst (λ (from : Ran). BringsItsMessages from moves s) same (brings state s r.rows r.replies moves (subst IsRunKept (sym same) (run_kept config before)) goes)
 
 -- ---- a server
 
 brings_by : (config : Configuration) (moves : List Move) (rows : List Fired) (server : Option World) → IfRuns (LeadTo config moves rows) server → IfRuns (BringsMessages (run config moves)) server
 brings_by config moves rows None h = tt
 brings_by config moves rows (Some world) h = record {
-  requests = λ request. brings_from config moves world.core.services (serving_of world.core.setting request world.core.services) h.subs h.items (serving_on world.core.setting request world.core.services);
-  ticks = λ clock. brings_from config moves world.core.services (ticking_of (setting_at world.core clock) world.core.services) h.subs h.items (ticking_on (setting_at world.core clock) world.core.services);
+  requests = λ request. brings_from config moves (serving_moves world.core.setting request world.core.services) world.core.services (serving_of world.core.setting request world.core.services) h.subs h.items (serving_on world.core.setting request world.core.services);
+  ticks = λ clock. brings_from config moves (ticking_moves (setting_at world.core clock) world.core.services) world.core.services (ticking_of (setting_at world.core clock) world.core.services) h.subs h.items (ticking_on (setting_at world.core clock) world.core.services);
 }
 
-pub brings_messages : (config : Configuration) (space : SpaceState) (events : List Event) (c : CallsOf config space events) (n : ℕ) →
-    IfRuns (BringsMessages (run config (first_calls n c.calls))) (reached_at config space events n).server
-brings_messages config space events c n =
-    let r = reached_at config space events n in
-    brings_by config (first_calls n c.calls) (rows_of_run r) r.server (c.lead n)
+pub brings_messages : (config : Configuration) (space : SpaceState) (events : List Event) → IfRuns (BringsMessages (run config (moves_of config space events))) (reached config space events).server
+brings_messages config space events =
+    let r = reached config space events in
+    brings_by config (moves_of config space events) (rows_of_run r) r.server (comes_by_moves config space events)
 
 pub sends_replies : (core : Core) → SendsReplies core
 unfolding handled

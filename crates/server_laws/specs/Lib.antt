@@ -1,5 +1,7 @@
 pub mod Moving
+pub mod EventMoves
 pub mod Apart
+pub mod Concern
 pub mod Tables
 pub mod Messages
 pub mod SessionsApart

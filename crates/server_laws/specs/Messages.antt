@@ -3,10 +3,9 @@ use Rattle.std.specs.Prelude.{◌≡◌, ℕ, true, List, ◌++◌, Some, is_som
 use Rattle.std.specs.List.{AllByRecursion}
 use Rattle.ua_types.specs.Configuration.{Configuration}
 use Rattle.ua_types.specs.declared.moment.Moment.{Moment}
-use Rattle.server_messages.specs.declared.fired.Fired.{Fired}
 use Rattle.ua_space.specs.Nodes.{SpaceState}
 use Rattle.ua_subscriptions.specs.Making.{republished}
-use Rattle.ua_subscriptions.specs.SubscriptionCalls.{SubscriptionsState, world_of}
+use Rattle.ua_subscriptions.specs.SubscriptionCalls.{world_of}
 use Rattle.ua_subscriptions.specs.Tables.{TableState, part_at, subscription_at}
 use Rattle.ua_subscriptions.specs.declared.subscription.Subscription.{Subscription}
 use Rattle.subscription_laws.specs.Messaging.{Made, run_made, messages_for, IsAmong, AreNotes}
@@ -15,7 +14,8 @@ use Rattle.subscription_laws.specs.Runs.{start}
 use Rattle.ua_services.specs.declared.services.Services.{Services}
 use Rattle.server_core.specs.Coherent.{reached, IfRuns}
 use Rattle.server_core.specs.Subscriptions.{kept_numbers_on, kept_on}
-use Rattle.server_laws.specs.Tables.{rows_of_run, ComesByCalls}
+use Rattle.server_laws.specs.EventMoves.{moves_of}
+use Rattle.server_laws.specs.Tables.{IfShown}
 use Rattle.server_core.specs.declared.world.World.{World}
 use Rattle.server_core.specs.declared.event.Event.{Event}
 
@@ -46,19 +46,20 @@ GivesAgainWhatWasMade made world = (clock : Moment) (session number wanted : ℕ
 abbrev pub KeepsWhatItShows : World → Type 0
 KeepsWhatItShows world = (number : ℕ) → AllByRecursion (λ wanted. is_some (kept_on (Some world) number wanted) ≡ true) (kept_numbers_on (Some world) number)
 
--- the messages that were made by calls which lead from no subscriptions to a server's, and by which these rows fire
-pub record MadeThese (config : Configuration) (made : List Made) (rows : List Fired) (world : World) : Type 0 where
-  pub came : ComesByCalls config rows world
-  pub by_calls : run_made (start config) came.moves ≡ made
-  pub numbered : AllAreNumbered made
-  pub lasts : let subs : SubscriptionsState = world.core.services.subs in LastsAreTheirs made subs.table
-  pub notes : let subs : SubscriptionsState = world.core.services.subs in NotesComeNext made subs.table
-  pub kept : KeepsWhatWasMade made world
-  pub republished : GivesAgainWhatWasMade made world
-  pub shown : KeepsWhatItShows world
+-- the messages that were made in a run, in the order in which they were made
+abbrev pub made_by : Configuration → SpaceState → List Event → List Made
+made_by config space events = run_made (start config) (moves_of config space events)
 
--- what a server makes, whatever happens: after each list of events these messages were made, and more events only add some
-pub record MakesMessages (config : Configuration) (space : SpaceState) : Type 0 where
-  pub made : List Event → List Made
-  pub adds : (events more : List Event) → (later : List Made) × (made (events ++ more) ≡ made events ++ later)
-  pub so : (events : List Event) → let r = reached config space events in IfRuns (MadeThese config (made events) (rows_of_run r)) r.server
+-- They are numbered without a gap, and more events only add messages. A live subscription has the number of its last message, and a
+-- note of a time-out that of the message that would have come next
+pub record NumbersItsMessages (config : Configuration) (space : SpaceState) (events : List Event) : Type 0 where
+  pub numbered : AllAreNumbered (made_by config space events)
+  pub adds : (more : List Event) → (later : List Made) × (made_by config space (events ++ more) ≡ made_by config space events ++ later)
+  pub lasts : IfShown (LastsAreTheirs (made_by config space events)) (reached config space events).server
+  pub notes : IfShown (NotesComeNext (made_by config space events)) (reached config space events).server
+
+-- What the server keeps, and what Republish gives, are the bytes with which the message was made; and it keeps what it shows
+pub record GivesTheFirstBytes (config : Configuration) (space : SpaceState) (events : List Event) : Type 0 where
+  pub kept : IfRuns (KeepsWhatWasMade (made_by config space events)) (reached config space events).server
+  pub republished : IfRuns (GivesAgainWhatWasMade (made_by config space events)) (reached config space events).server
+  pub shown : IfRuns KeepsWhatItShows (reached config space events).server

@@ -1,5 +1,5 @@
 -- What a server sends of the messages that its subscriptions make.
-use Rattle.std.specs.Prelude.{◌≡◌, ℕ, ◌++◌}
+use Rattle.std.specs.Prelude.{◌≡◌, ℕ, List, ◌++◌}
 use Rattle.ua_types.specs.declared.moment.Moment.{Moment}
 use Rattle.ua_tcp.specs.declared.frame.Frame.{Frame}
 use Rattle.server_messages.specs.declared.request.Request.{Request}
@@ -8,7 +8,8 @@ use Rattle.server_connections.specs.Delivering.{delivery_of}
 use Rattle.server_connections.specs.declared.frame_outcome.FrameOutcome.TheVariants as outcome
 use Rattle.subscription_laws.specs.Answering.{AreBrought}
 use Rattle.subscription_laws.specs.Messaging.{run_made}
-use Rattle.subscription_laws.specs.Runs.{Ran}
+use Rattle.subscription_laws.specs.Runs.{Move, Ran}
+use Rattle.server_laws.specs.EventMoves.{serving_moves, ticking_moves}
 use Rattle.server_laws.specs.Moving.{WentOn}
 use Rattle.ua_services.specs.Serving.{Serving, rows_of}
 use Rattle.ua_services.specs.Services.{serving_of, ticking_of}
@@ -18,15 +19,15 @@ use Rattle.server_core.specs.Handling.{setting_at, handled, ticked_core}
 use Rattle.server_core.specs.declared.world.World.{World}
 use Rattle.server_core.specs.declared.parts.Core.{Core}
 
--- a serving goes on by calls, from where earlier ones led, and each message that these make is brought by a reply of its own
-pub record BringsItsMessages (from : Ran) (s : Serving) : Type 0 where
-  pub went : let state : Services = s.state in WentOn from state.subs state.items (rows_of s.occurrences) s.replies
-  pub brought : AreBrought s.replies (run_made from went.moves)
+-- a serving goes on by these calls, from where earlier ones led, and each message that they make is brought by a reply of its own
+pub record BringsItsMessages (from : Ran) (moves : List Move) (s : Serving) : Type 0 where
+  pub went : let state : Services = s.state in WentOn from moves state.subs state.items (rows_of s.occurrences) s.replies
+  pub brought : AreBrought s.replies (run_made from moves)
 
 -- so it is with the next request, whatever it asks, and with the next tick, whenever it comes
 pub record BringsMessages (from : Ran) (world : World) : Type 0 where
-  pub requests : (request : Request) → let core : Core = world.core in BringsItsMessages from (serving_of core.setting request core.services)
-  pub ticks : (clock : Moment) → let core : Core = world.core in BringsItsMessages from (ticking_of (setting_at core clock) core.services)
+  pub requests : (request : Request) → let core : Core = world.core in BringsItsMessages from (serving_moves core.setting request core.services) (serving_of core.setting request core.services)
+  pub ticks : (clock : Moment) → let core : Core = world.core in BringsItsMessages from (ticking_moves (setting_at core clock) core.services) (ticking_of (setting_at core clock) core.services)
 
 -- what is replied to a request that a frame completes, or at a tick, is what is sent then
 pub record SendsReplies (core : Core) : Type 0 where

@@ -1,8 +1,15 @@
 -- What holds of the subscriptions of a server, after any events.
-use Rattle.std.specs.Prelude.{◌≡◌, ◌<◌, ◌+◌, ℕ, true, List, [], Option, Some}
+use Rattle.std.specs.Prelude.{◌≡◌, ◌<◌, ◌+◌, ℕ, true, false, List, [], ◌∷◌, ◌++◌, Option, Some}
 use Rattle.ua_types.specs.Configuration.{Configuration}
 use Rattle.server_messages.specs.declared.fired.Fired.{Fired}
+use Rattle.ua_space.specs.Nodes.{SpaceState}
+use Rattle.ua_state_table.specs.Sound.{IsSound}
+use Rattle.ua_state_table.specs.StateTable.{fires}
+use Rattle.ua_state_table.specs.declared.event.TableEvent.TheVariants.{Timer}
+use Rattle.ua_state_table.specs.declared.row.RowId.TheVariants.{G6}
+use Rattle.ua_state_table.specs.declared.state.State.TheVariants.{Late}
 use Rattle.subscription_laws.specs.Calm.{AreSteady}
+use Rattle.subscription_laws.specs.Concern.{all_concerned, AreTheRowsFor}
 use Rattle.subscription_laws.specs.Histories.{counts_at, life_at}
 use Rattle.ua_subscriptions.specs.Ranks.{is_waiting}
 use Rattle.subscription_laws.specs.Runs.{Move, run}
@@ -10,10 +17,13 @@ use Rattle.ua_subscriptions.specs.SubscriptionCalls.{SubscriptionsState}
 use Rattle.ua_subscriptions.specs.Tables.{TableState, part_at, subscription_at}
 use Rattle.ua_subscriptions.specs.declared.subscription.Subscription.{Subscription}
 use Rattle.ua_services.specs.declared.services.Services.{Services}
-use Rattle.server_core.specs.Coherent.{IfRuns}
+use Rattle.server_core.specs.Coherent.{reached, IfRuns}
 use Rattle.server_core.specs.Effects.{fired_of}
 use Rattle.server_core.specs.Running.{Running, joined_effects}
 use Rattle.server_core.specs.declared.world.World.{World}
+use Rattle.server_core.specs.declared.event.Event.{Event}
+use Rattle.server_laws.specs.Concern.{FiresForEach}
+use Rattle.server_laws.specs.EventMoves.{moves_of}
 
 -- the rows of all events, the oldest first
 abbrev pub rows_of_run : Running → List Fired
@@ -23,16 +33,11 @@ rows_of_run r = fired_of (joined_effects r.steps)
 abbrev pub IfShown : (TableState → Type 0) → Option World → Type 0
 IfShown P server = IfRuns (λ (world : World). let subs : SubscriptionsState = world.core.services.subs in P subs.table) server
 
--- calls that lead from none to the subscriptions and items of a server, and fire these rows
+-- these calls lead from none to the subscriptions and items of a server, and fire these rows
 pub record LeadTo (config : Configuration) (moves : List Move) (rows : List Fired) (world : World) : Type 0 where
   pub subs : let services : Services = world.core.services in (run config moves).subs ≡ services.subs
   pub items : let services : Services = world.core.services in (run config moves).items ≡ services.items
   pub fired : (run config moves).rows ≡ rows
-
--- some calls lead there
-pub record ComesByCalls (config : Configuration) (rows : List Fired) (world : World) : Type 0 where
-  pub moves : List Move
-  pub lead : LeadTo config moves rows world
 
 -- each live subscription is steady, with the counts that the rows tell
 abbrev pub StaysSteady : List Fired → World → Type 0
@@ -53,3 +58,30 @@ LivesCountTimers rows t = (number : ℕ) (s : Subscription) → subscription_at 
 abbrev pub NoKeepAliveIsSkipped : List Fired → TableState → Type 0
 NoKeepAliveIsSkipped rows t = (number : ℕ) (s : Subscription) → subscription_at number t.subscriptions ≡ Some s →
     (counts_at number rows).answerable < s.keep_alive_count
+
+-- each row that fired, with those before it
+abbrev pub OfEachRow : (List Fired → Fired → Type 0) → List Fired → Type 0
+OfEachRow P rows = (before : List Fired) (f : Fired) (rest : List Fired) → before ++ f ∷ rest ≡ rows → P before f
+
+-- One row fires for each subscription that the events concern, in order, and no other; so it is with the next event, too. Each is
+-- the only one that the table allows at its variables, which are sound, and each live subscription is steady
+pub record FiresOneRow (config : Configuration) (space : SpaceState) (events : List Event) : Type 0 where
+  pub each : let r = reached config space events in AreTheRowsFor (all_concerned config (moves_of config space events)) (rows_of_run r)
+  pub next : IfRuns FiresForEach (reached config space events).server
+  pub only : OfEachRow (λ before f. fires f.before f.event ≡ f.row ∷ []) (rows_of_run (reached config space events))
+  pub sound : OfEachRow (λ before f. IsSound f.before) (rows_of_run (reached config space events))
+  pub steady : let r = reached config space events in IfRuns (StaysSteady (rows_of_run r)) r.server
+
+-- a timer finds as many timers started, this one included, as the life counter was last set to
+abbrev pub IsLastTimer : List Fired → Fired → Type 0
+IsLastTimer before f = (counts_at f.subscription before).started + 1 ≡ life_at f.subscription before
+
+-- A subscription times out at that timer and at no other; what its life counter lacks of what it was set to are the timers since
+pub record TimesOutExactly (config : Configuration) (space : SpaceState) (events : List Event) : Type 0 where
+  pub then : OfEachRow (λ before f. f.row ≡ G6 → (f.event ≡ Timer) × IsLastTimer before f) (rows_of_run (reached config space events))
+  pub only_then : OfEachRow (λ before f. f.event ≡ Timer → IsLastTimer before f → f.row ≡ G6) (rows_of_run (reached config space events))
+  pub counted : let r = reached config space events in IfShown (LivesCountTimers (rows_of_run r)) r.server
+
+-- one that times out is late, and no request of its session is queued
+abbrev pub NoneTimesOutBesideARequest : List Fired → Type 0
+NoneTimesOutBesideARequest rows = OfEachRow (λ before f. f.row ≡ G6 → (f.before.state ≡ Late) × (f.before.queued ≡ false)) rows

@@ -1,0 +1,12 @@
+use Rattle.server_laws.proofs.FateLemmas.{have_one_fate, stand_in_messages, marks_losses}
+use Rattle.server_laws.proofs.MessageLemmas.{numbers_messages, gives_first_bytes}
+use Rattle.server_laws.proofs.losses.Goals as goal
+
+pub returns : goal.returns
+returns c = record {
+  fates = have_one_fate;
+  each_in_one_message = stand_in_messages;
+  overflow_marks = marks_losses;
+  message_numbers = numbers_messages;
+  republish_gives_the_first_bytes = gives_first_bytes;
+}

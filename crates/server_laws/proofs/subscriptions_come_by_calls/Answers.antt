@@ -1,5 +1,0 @@
-use Rattle.server_laws.proofs.TableLemmas.{comes_by_calls}
-use Rattle.server_laws.proofs.subscriptions_come_by_calls.Goals as goal
-
-pub returns : goal.returns
-returns c = comes_by_calls

@@ -1,0 +1,290 @@
+-- The calls of subscriptions and items that the server comes to: a case for each kind of request, tick, and connection that is no more.
+use Rattle.std.specs.Prelude.{ℕ, ◌==◌, if◌then◌else◌, Bool, false, List, [], ◌∷◌, ◌++◌, map, length, nat_lt, Option, Some, None, Result, Ok, Err}
+use Rattle.std.specs.FinMap.{get}
+use Rattle.ua_types.specs.Configuration.{Configuration}
+use Rattle.ua_types.specs.Moments.{later}
+use Rattle.ua_types.specs.declared.node_id.NodeId.{NodeId}
+use Rattle.ua_types.specs.declared.status.Status.{Status}
+use Rattle.ua_binary.specs.declared.fault.TakeFault.{TakeFault}
+use Rattle.ua_tcp.specs.Feeding.{Framing, framed_of}
+use Rattle.ua_tcp.specs.Frames.{End, Rest, Broken}
+use Rattle.ua_tcp.specs.Pieces.{all_handled}
+use Rattle.ua_tcp.specs.declared.frame.Frame.{Frame}
+use Rattle.ua_messages.specs.Bodies.{message_id_of, message_of}
+use Rattle.ua_messages.specs.Headers.{request_header_reading}
+use Rattle.ua_messages.specs.declared.headers.RequestHeader.{RequestHeader}
+use Rattle.ua_messages.specs.declared.type_ids.TheConstants.{GET_ENDPOINTS_REQUEST, CREATE_SESSION_REQUEST, ACTIVATE_SESSION_REQUEST, CLOSE_SESSION_REQUEST, READ_REQUEST, WRITE_REQUEST, BROWSE_REQUEST, BROWSE_NEXT_REQUEST, HISTORY_READ_REQUEST, CREATE_MONITORED_ITEMS_REQUEST, MODIFY_MONITORED_ITEMS_REQUEST, SET_MONITORING_MODE_REQUEST, DELETE_MONITORED_ITEMS_REQUEST, CREATE_SUBSCRIPTION_REQUEST, MODIFY_SUBSCRIPTION_REQUEST, SET_PUBLISHING_MODE_REQUEST, DELETE_SUBSCRIPTIONS_REQUEST, PUBLISH_REQUEST, REPUBLISH_REQUEST}
+use Rattle.server_messages.specs.declared.request.Request.{Request}
+use Rattle.server_messages.specs.declared.setting.Setting.{Setting}
+use Rattle.ua_service_messages.specs.Sessions.{close_session_request_reading}
+use Rattle.ua_service_messages.specs.Writing.{write_request_reading}
+use Rattle.ua_service_messages.specs.declared.sessions.CloseSessionRequest.{CloseSessionRequest}
+use Rattle.ua_service_messages.specs.declared.writing.WriteRequest.{WriteRequest}
+use Rattle.ua_service_messages.specs.declared.writing.WriteValue.{WriteValue}
+use Rattle.ua_subscription_messages.specs.MonitoredItems.{create_monitored_items_request_reading, modify_monitored_items_request_reading, set_monitoring_mode_request_reading, delete_monitored_items_request_reading}
+use Rattle.ua_subscription_messages.specs.Publishing.{publish_request_reading, republish_request_reading}
+use Rattle.ua_subscription_messages.specs.Subscriptions.{create_subscription_request_reading, modify_subscription_request_reading, set_publishing_mode_request_reading, delete_subscriptions_request_reading}
+use Rattle.ua_subscription_messages.specs.declared.monitored_items.CreateMonitoredItemsRequest.{CreateMonitoredItemsRequest}
+use Rattle.ua_subscription_messages.specs.declared.monitored_items.DeleteMonitoredItemsRequest.{DeleteMonitoredItemsRequest}
+use Rattle.ua_subscription_messages.specs.declared.monitored_items.ModifyMonitoredItemsRequest.{ModifyMonitoredItemsRequest}
+use Rattle.ua_subscription_messages.specs.declared.monitored_items.MonitoredItemCreateRequest.{MonitoredItemCreateRequest}
+use Rattle.ua_subscription_messages.specs.declared.monitored_items.MonitoredItemModifyRequest.{MonitoredItemModifyRequest}
+use Rattle.ua_subscription_messages.specs.declared.monitored_items.SetMonitoringModeRequest.{SetMonitoringModeRequest}
+use Rattle.ua_subscription_messages.specs.declared.publishing.PublishRequest.{PublishRequest}
+use Rattle.ua_subscription_messages.specs.declared.publishing.RepublishRequest.{RepublishRequest}
+use Rattle.ua_subscription_messages.specs.declared.subscriptions.CreateSubscriptionRequest.{CreateSubscriptionRequest}
+use Rattle.ua_subscription_messages.specs.declared.subscriptions.DeleteSubscriptionsRequest.{DeleteSubscriptionsRequest}
+use Rattle.ua_subscription_messages.specs.declared.subscriptions.ModifySubscriptionRequest.{ModifySubscriptionRequest}
+use Rattle.ua_subscription_messages.specs.declared.subscriptions.SetPublishingModeRequest.{SetPublishingModeRequest}
+use Rattle.ua_state_table.specs.declared.vars.Vars.{Vars}
+use Rattle.ua_space.specs.Nodes.{SpaceState}
+use Rattle.ua_read_write.specs.Timestamps.{timestamps_of}
+use Rattle.ua_read_write.specs.Writing.{write_of}
+use Rattle.ua_read_write.specs.declared.timestamps.Timestamps.{Timestamps}
+use Rattle.ua_monitored_items.specs.Kinds.{mode_numbered}
+use Rattle.ua_monitored_items.specs.declared.kinds.Mode.{Mode}
+use Rattle.ua_session.specs.Sessions.{SessionsState, find_of, close_of, ended_by}
+use Rattle.subscription_laws.specs.Runs.{ItemsCall, Move}
+use Rattle.server_connections.specs.Connecting.{taking_of}
+use Rattle.server_connections.specs.declared.frame_outcome.FrameOutcome.{FrameOutcome}
+use Rattle.server_connections.specs.declared.frame_outcome.FrameOutcome.TheVariants as outcome
+use Rattle.ua_services.specs.CreateSubscription.{settings_asked}
+use Rattle.ua_services.specs.ItemServing.{own_vars}
+use Rattle.ua_services.specs.ModifySubscription.{settings_wanted}
+use Rattle.ua_services.specs.Operations.{operations_of}
+use Rattle.ua_services.specs.Publish.{acknowledged_in, publish_call}
+use Rattle.ua_services.specs.Services.{call_of}
+use Rattle.ua_services.specs.SessionServing.{with_sessions}
+use Rattle.ua_services.specs.declared.caller.Caller.{Caller}
+use Rattle.ua_services.specs.declared.services.Services.{Services}
+use Rattle.server_core.specs.Handling.{setting_at, handled}
+use Rattle.server_core.specs.Stepping.{Served, step_of}
+use Rattle.server_core.specs.World.{opening}
+use Rattle.server_core.specs.declared.parts.Core.{Core}
+use Rattle.server_core.specs.declared.world.World.{World}
+use Rattle.server_core.specs.declared.event.Event.{Event}
+use Rattle.server_core.specs.declared.event.Event.TheVariants.{Opened, Bytes, Gone, Tick}
+use Rattle.server_core.specs.declared.out.StepFault.{StepFault}
+
+-- ---- what every service begins with
+
+-- a request whose fields can't be read comes to no call
+abbrev pub if_read : {A : Type 0} → (A → List Move) → Result A TakeFault → List Move
+if_read moves (Ok request) = moves request
+if_read moves (Err fault) = []
+
+-- nor does one whose session can't be used
+abbrev pub if_found : (ℕ → Services → List Move) → Services → Result ℕ Status → SessionsState → List Move
+if_found moves state (Ok number) sessions = moves number (with_sessions state sessions)
+if_found moves state (Err code) sessions = []
+
+abbrev pub in_session : {A : Type 0} → (ℕ → A → Services → List Move) → Caller → NodeId → Services → A → List Move
+in_session moves caller token state request =
+    let s = find_of state.sessions token caller.conn in
+    if_found (λ number. moves number request) state s.answer s.state
+
+-- nor one whose list is refused
+abbrev pub if_listed : {A : Type 0} → (List A → List Move) → Result (List A) Status → List Move
+if_listed moves (Ok things) = moves things
+if_listed moves (Err code) = []
+
+-- ---- sessions, and writing
+
+-- where a session is found, it ends
+abbrev pub close_moves : Setting → Bool → Result ℕ Status → List Move
+close_moves setting deleting (Ok number) = Move.EndSession setting.clock number deleting ∷ []
+close_moves setting deleting (Err code) = []
+
+abbrev pub close_session_moves : Setting → Caller → Services → CloseSessionRequest → List Move
+close_session_moves setting caller state request =
+    close_moves setting request.delete_subscriptions (close_of state.sessions request.request_header.authentication_token caller.conn).answer
+
+-- the items are shown every value that is accepted
+abbrev pub write_moves : Setting → ℕ → WriteRequest → Services → List Move
+write_moves setting session request state =
+    if_listed (λ (values : List WriteValue). Move.Show (write_of setting.clock state.space.nodes values).changed ∷ []) (operations_of setting.config request.nodes_to_write)
+
+-- ---- subscriptions
+
+abbrev pub create_subscription_moves : Setting → ℕ → CreateSubscriptionRequest → Services → List Move
+create_subscription_moves setting session request state = Move.Create setting.clock session (settings_asked request) request.publishing_enabled ∷ []
+
+abbrev pub modify_subscription_moves : Setting → ℕ → ModifySubscriptionRequest → Services → List Move
+modify_subscription_moves setting session request state = Move.Modify setting.clock session request.subscription_id (settings_wanted request) ∷ []
+
+abbrev pub set_publishing_mode_moves : Setting → ℕ → SetPublishingModeRequest → Services → List Move
+set_publishing_mode_moves setting session request state =
+    if_listed (λ (numbers : List ℕ). Move.SetMode setting.clock session numbers request.publishing_enabled ∷ []) (operations_of setting.config request.subscription_ids)
+
+abbrev pub delete_subscriptions_moves : Setting → ℕ → DeleteSubscriptionsRequest → Services → List Move
+delete_subscriptions_moves setting session request state =
+    if_listed (λ (numbers : List ℕ). Move.Delete setting.clock session numbers ∷ []) (operations_of setting.config request.subscription_ids)
+
+-- too many acknowledgements are refused
+abbrev pub publish_moves : Setting → Caller → ℕ → PublishRequest → Services → List Move
+publish_moves setting caller session request state =
+    let acks = acknowledged_in request.subscription_acknowledgements in
+    if nat_lt setting.config.operations (length acks) then [] else Move.Publish setting.clock session (publish_call caller) acks ∷ []
+
+abbrev pub republish_moves : Setting → ℕ → RepublishRequest → Services → List Move
+republish_moves setting session request state = Move.Republish setting.clock session request.subscription_id request.retransmit_sequence_number ∷ []
+
+-- ---- the items of a subscription
+
+-- a request that is refused asks nothing of them
+abbrev pub nothing_asked : ItemsCall
+nothing_asked = ItemsCall.Delete []
+
+abbrev pub create_listed_asked : Setting → Services → Timestamps → Result (List MonitoredItemCreateRequest) Status → ItemsCall
+create_listed_asked setting state times (Ok requests) = ItemsCall.Create state.space.nodes setting.clock times requests
+create_listed_asked setting state times (Err code) = nothing_asked
+
+abbrev pub create_timed_asked : Setting → Services → Option (List MonitoredItemCreateRequest) → Option Timestamps → ItemsCall
+create_timed_asked setting state requests None = nothing_asked
+create_timed_asked setting state requests (Some times) = create_listed_asked setting state times (operations_of setting.config requests)
+
+abbrev pub create_asked : Setting → CreateMonitoredItemsRequest → Services → ItemsCall
+create_asked setting request state = create_timed_asked setting state request.items_to_create (timestamps_of request.timestamps_to_return)
+
+abbrev pub modify_listed_asked : Timestamps → Result (List MonitoredItemModifyRequest) Status → ItemsCall
+modify_listed_asked times (Ok requests) = ItemsCall.Modify times requests
+modify_listed_asked times (Err code) = nothing_asked
+
+abbrev pub modify_timed_asked : Setting → Option (List MonitoredItemModifyRequest) → Option Timestamps → ItemsCall
+modify_timed_asked setting requests None = nothing_asked
+modify_timed_asked setting requests (Some times) = modify_listed_asked times (operations_of setting.config requests)
+
+abbrev pub modify_asked : Setting → ModifyMonitoredItemsRequest → Services → ItemsCall
+modify_asked setting request state = modify_timed_asked setting request.items_to_modify (timestamps_of request.timestamps_to_return)
+
+abbrev pub mode_asked_by : Setting → Services → List ℕ → Option Mode → ItemsCall
+mode_asked_by setting state numbers None = nothing_asked
+mode_asked_by setting state numbers (Some mode) = ItemsCall.SetMode state.space.nodes setting.clock mode numbers
+
+abbrev pub mode_listed_asked : Setting → Services → Option Mode → Result (List ℕ) Status → ItemsCall
+mode_listed_asked setting state mode (Ok numbers) = mode_asked_by setting state numbers mode
+mode_listed_asked setting state mode (Err code) = nothing_asked
+
+abbrev pub mode_asked : Setting → SetMonitoringModeRequest → Services → ItemsCall
+mode_asked setting request state = mode_listed_asked setting state (mode_numbered request.monitoring_mode) (operations_of setting.config request.monitored_item_ids)
+
+abbrev pub delete_listed_asked : Result (List ℕ) Status → ItemsCall
+delete_listed_asked (Ok numbers) = ItemsCall.Delete numbers
+delete_listed_asked (Err code) = nothing_asked
+
+abbrev pub delete_asked : Setting → DeleteMonitoredItemsRequest → Services → ItemsCall
+delete_asked setting request state = delete_listed_asked (operations_of setting.config request.monitored_item_ids)
+
+-- the subscription is looked up first of all: it is the session's own, or there is no call
+abbrev pub items_moves_by : Setting → ℕ → ItemsCall → Option Vars → List Move
+items_moves_by setting number asked None = []
+items_moves_by setting number asked (Some before) = Move.Items setting.clock number asked ∷ []
+
+abbrev pub items_moves : Setting → ℕ → ℕ → ItemsCall → Services → List Move
+items_moves setting session number asked state = items_moves_by setting number asked (own_vars session number state)
+
+-- ---- a request
+
+-- by its type id: what is watched, and what is told of it
+abbrev pub moves_of_subscriptions : Setting → Caller → NodeId → List ℕ → Services → ℕ → List Move
+moves_of_subscriptions setting caller token body state id =
+    if id == CREATE_SUBSCRIPTION_REQUEST then if_read (in_session (create_subscription_moves setting) caller token state) (message_of create_subscription_request_reading body)
+    else if id == MODIFY_SUBSCRIPTION_REQUEST then if_read (in_session (modify_subscription_moves setting) caller token state) (message_of modify_subscription_request_reading body)
+    else if id == SET_PUBLISHING_MODE_REQUEST then if_read (in_session (set_publishing_mode_moves setting) caller token state) (message_of set_publishing_mode_request_reading body)
+    else if id == DELETE_SUBSCRIPTIONS_REQUEST then if_read (in_session (delete_subscriptions_moves setting) caller token state) (message_of delete_subscriptions_request_reading body)
+    else if id == PUBLISH_REQUEST then if_read (in_session (publish_moves setting caller) caller token state) (message_of publish_request_reading body)
+    else if id == REPUBLISH_REQUEST then if_read (in_session (republish_moves setting) caller token state) (message_of republish_request_reading body)
+    else []
+
+abbrev pub moves_of_items : Setting → Caller → NodeId → List ℕ → Services → ℕ → List Move
+moves_of_items setting caller token body state id =
+    if id == CREATE_MONITORED_ITEMS_REQUEST then if_read (in_session (λ session request at. items_moves setting session request.subscription_id (create_asked setting request at) at) caller token state) (message_of create_monitored_items_request_reading body)
+    else if id == MODIFY_MONITORED_ITEMS_REQUEST then if_read (in_session (λ session request at. items_moves setting session request.subscription_id (modify_asked setting request at) at) caller token state) (message_of modify_monitored_items_request_reading body)
+    else if id == SET_MONITORING_MODE_REQUEST then if_read (in_session (λ session request at. items_moves setting session request.subscription_id (mode_asked setting request at) at) caller token state) (message_of set_monitoring_mode_request_reading body)
+    else if id == DELETE_MONITORED_ITEMS_REQUEST then if_read (in_session (λ session request at. items_moves setting session request.subscription_id (delete_asked setting request at) at) caller token state) (message_of delete_monitored_items_request_reading body)
+    else moves_of_subscriptions setting caller token body state id
+
+-- discovery, sessions other than one that ends, and what only reads come to none
+abbrev pub moves_picked : Setting → Caller → NodeId → List ℕ → Services → ℕ → List Move
+moves_picked setting caller token body state id =
+    if id == GET_ENDPOINTS_REQUEST then []
+    else if id == CREATE_SESSION_REQUEST then []
+    else if id == ACTIVATE_SESSION_REQUEST then []
+    else if id == CLOSE_SESSION_REQUEST then if_read (close_session_moves setting caller state) (message_of close_session_request_reading body)
+    else if id == READ_REQUEST then []
+    else if id == WRITE_REQUEST then if_read (in_session (write_moves setting) caller token state) (message_of write_request_reading body)
+    else if id == BROWSE_REQUEST then []
+    else if id == BROWSE_NEXT_REQUEST then []
+    else if id == HISTORY_READ_REQUEST then []
+    else moves_of_items setting caller token body state id
+
+abbrev pub serving_moves_by : Setting → Request → Services → Result ℕ TakeFault → Result RequestHeader TakeFault → List Move
+serving_moves_by setting request state (Ok id) (Ok header) = moves_picked setting (call_of request header.request_handle) header.authentication_token request.body state id
+serving_moves_by setting request state id header = []
+
+-- the calls that a request comes to, served or refused
+unfoldable pub serving_moves : Setting → Request → Services → List Move
+serving_moves setting request state = serving_moves_by setting request state (message_id_of request.body) (message_of request_header_reading request.body)
+
+-- ---- a tick, and a connection that is no more
+
+abbrev pub end_move : Setting → ℕ → Move
+end_move setting number = Move.EndSession setting.clock number false
+
+-- the sessions end that weren't used, by rising number; then the timers come
+abbrev pub ticking_moves : Setting → Services → List Move
+ticking_moves setting state = map (end_move setting) (ended_by state.sessions setting.clock) ++ Move.Timers setting.clock ∷ []
+
+abbrev pub forgetting_moves : ℕ → List Move
+forgetting_moves conn = Move.Gone conn ∷ []
+
+-- ---- an event
+
+-- a frame completes a request, ends its connection, or neither
+abbrev pub asked_moves : ℕ → Core → FrameOutcome → List Move
+asked_moves conn core outcome.Nothing = []
+asked_moves conn core outcome.Closed = forgetting_moves conn
+asked_moves conn core (outcome.Request request) = serving_moves core.setting request core.services
+
+abbrev pub frame_moves : ℕ → Core → Frame → List Move
+frame_moves conn core frame = asked_moves conn core (taking_of core.setting conn core.connections frame).asked
+
+-- frames in order, up to the one that closes the connection
+abbrev pub frames_moves : ℕ → Core → List Frame → List Move
+frames_moves conn core [] = []
+frames_moves conn core (frame ∷ frames) =
+    let d = handled conn core frame in
+    frame_moves conn core frame ++ (if d.goes_on then frames_moves conn d.state frames else [])
+
+-- what is no frame ends a connection that is open still
+abbrev pub end_moves : ℕ → End → Bool → List Move
+end_moves conn (Rest bytes) goes_on = []
+end_moves conn (Broken fault) goes_on = if goes_on then forgetting_moves conn else []
+
+abbrev pub piece_moves : World → ℕ → List ℕ → Option Framing → List Move
+piece_moves world conn piece None = []
+piece_moves world conn piece (Some framing) =
+    let framed = framed_of framing.limit framing.held piece in
+    frames_moves conn world.core framed.frames ++ end_moves conn framed.end (all_handled (handled conn) world.core framed.frames).goes_on
+
+-- of an event that isn't refused
+abbrev pub event_moves : World → Event → List Move
+event_moves world (Opened conn key) = []
+event_moves world (Bytes conn bytes) = piece_moves world conn bytes (get world.framers conn)
+event_moves world (Gone conn) = forgetting_moves conn
+event_moves world (Tick now) = let core : Core = world.core in ticking_moves (setting_at core (later core.setting.clock now)) core.services
+
+-- ---- a run
+
+abbrev pub moves_then : World → Event → Result Served StepFault → (World → List Move) → List Move
+moves_then world event (Ok s) more = event_moves world event ++ more s.world
+moves_then world event (Err fault) more = []
+
+-- event after event, each by the world that those before it left, up to the first that is refused
+abbrev pub moves_from : World → List Event → List Move
+moves_from world [] = []
+moves_from world (event ∷ events) = moves_then world event (step_of world event) (λ next. moves_from next events)
+
+-- what a run of a server comes to: a function of its configuration, its nodes and the events
+abbrev pub moves_of : Configuration → SpaceState → List Event → List Move
+moves_of config space events = moves_from (opening config space) events
