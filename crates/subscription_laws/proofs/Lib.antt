@@ -31,3 +31,6 @@ pub mod ValueFates
 pub mod MessageContentLemmas
 pub mod Others
 pub mod Concerned
+pub mod QueuesWithin
+pub mod TablesWithin
+pub mod WithinBounds

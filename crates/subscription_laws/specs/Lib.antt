@@ -12,3 +12,4 @@ pub mod Fates
 pub mod MessageContents
 pub mod Precedence
 pub mod Concern
+pub mod Bounds

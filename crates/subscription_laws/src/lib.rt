@@ -10,6 +10,8 @@
 //! Read docs/SUBSCRIPTIONS.md first, then `specs/Runs`.
 #![tactic(auto)]
 
+pub mod bounds;
+
 ghost use Rattle.std.specs.Prelude.{◌≡◌, ◌<◌, ◌≤◌, ◌+◌, ℕ, Bool, true, false, List, [], ◌∷◌, ◌++◌, map, is_some, Some, Ok};
 ghost use Rattle.ua_item_queue.specs.Fates.{waiting, GoesOn, IsInOrder, LossesAreMarked};
 ghost use Rattle.ua_item_queue.specs.Sendings.{values_of, sampled_by, sent_of};

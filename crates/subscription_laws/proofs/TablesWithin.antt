@@ -1,0 +1,504 @@
+-- Queued requests, subscriptions of a session and kept messages stay within their bounds, whatever is called.
+use Rattle.std.proofs.Common.{◌≡◌, ◌≤◌, ℕ, suc, ◌+◌, ◌-◌, arith, Bool, true, false, ◌||◌, cond, List, [], ◌∷◌, ◌++◌, length, take, drop, fold, Option, Some, None, unwrap_or, Result, Ok, Err, refl, sym, ◌∙◌, subst, length-append, length-drop}
+use Rattle.std.proofs.lemmas.List.{length-take}
+use Rattle.std.specs.Prelude.{◌^◌, filter, map, nat_lt, nat_le}
+use Rattle.std.specs.BTreeMap.{is_at}
+use Rattle.std.specs.BTreeSet.{insert_key}
+use Rattle.std.specs.List.{AllByRecursion, position}
+use Rattle.std.specs.Map.{set_value, remove_entry}
+use Rattle.std.specs.Option.{is_some, ok_or}
+use Rattle.std.specs.Ordering.{nat_cmp, match_ordering}
+use Rattle.std.specs.Set.{remove_key}
+use Rattle.std.specs.declared.cmp.Ordering.{Ordering}
+use Rattle.std.specs.declared.cmp.Ordering.TheVariants.{Less, Equal, Greater}
+use Rattle.ua_types.specs.Configuration.{Configuration, IsConfigured}
+use Rattle.ua_types.specs.declared.moment.Moment.{Moment}
+use Rattle.ua_types.specs.declared.status.Status.{Status}
+use Rattle.ua_types.specs.declared.status.TheConstants.Status as status
+use Rattle.ua_subscription_messages.specs.declared.publishing.SubscriptionAcknowledgement.{SubscriptionAcknowledgement}
+use Rattle.ua_state_table.specs.StateTable.{actions_of}
+use Rattle.ua_state_table.specs.declared.action.Action.{Action}
+use Rattle.ua_state_table.specs.declared.action.Action.TheVariants.{Initialise, Enqueue, Dequeue, SendNotifications, SendKeepAlive, DeleteItems}
+use Rattle.ua_state_table.specs.declared.row.RowId.{RowId}
+use Rattle.ua_state_table.specs.declared.vars.Vars.{Vars}
+use Rattle.ua_monitored_items.specs.Items.{ItemsState}
+use Rattle.ua_monitored_items.specs.Moves as item_moves
+use Rattle.ua_subscriptions.specs.declared.call.Call.{Call}
+use Rattle.ua_subscriptions.specs.declared.call.Call.TheVariants as call
+use Rattle.ua_subscriptions.specs.declared.making.Revised.{Revised}
+use Rattle.ua_subscriptions.specs.declared.messages.KeptMessage.{KeptMessage}
+use Rattle.ua_subscriptions.specs.declared.publish_call.PublishCall.{PublishCall}
+use Rattle.ua_subscriptions.specs.declared.ranks.Rank.{Rank}
+use Rattle.ua_subscriptions.specs.declared.round.Round.{Round}
+use Rattle.ua_subscriptions.specs.declared.session_part.SessionSubscriptions.{SessionSubscriptions}
+use Rattle.ua_subscriptions.specs.declared.session_part.TimeoutNote.{TimeoutNote}
+use Rattle.ua_subscriptions.specs.declared.settings.Bounds.{Bounds}
+use Rattle.ua_subscriptions.specs.declared.settings.Settings.{Settings}
+use Rattle.ua_subscriptions.specs.declared.subscription.Subscription.{Subscription}
+use Rattle.ua_subscriptions.specs.Ending.{came_by_other, entry_without_conn, session_ended}
+use Rattle.ua_subscriptions.specs.Firing.{is_closed, row_of, fired}
+use Rattle.ua_subscriptions.specs.Making.{revised_of, refused_one, added, with_number, kept_at, modified, republished, timed}
+use Rattle.ua_subscriptions.specs.Messages.{number_after, has_number}
+use Rattle.ua_subscriptions.specs.Named.{Outcome, outcome, is_own, own_met, named_one, named_all, all_refused, without_requests, has_none, deleted}
+use Rattle.ua_subscriptions.specs.Publishing.{without_at, forgotten, without_kept, Acknowledged, acknowledgement_status, acknowledged_by, acknowledged, AllAcknowledged, with_acknowledged, acknowledged_all, note_of, part_without_note, without_note, asked_by, met_by_best, answered_to, answered_by, with_results, published}
+use Rattle.ua_subscriptions.specs.Queues.{first_of}
+use Rattle.ua_subscriptions.specs.Ranks.{waiting_of, due_numbers}
+use Rattle.ua_subscriptions.specs.Scenes as scenes
+use Rattle.ua_subscriptions.specs.Scenes.{Scene, scene, Queueing, with_refused, enqueued, enqueued_by, kept_with, message_made, Noting, noting, note_sent, with_asked, Sending, sending, rest_sent, notes_sent, done, all_done, row_done}
+use Rattle.ua_subscriptions.specs.Settings.{bounds_of}
+use Rattle.ua_subscriptions.specs.SubscriptionCalls.{SubscriptionsState, world_of, said, told, is_full, refused, created_one, created}
+use Rattle.ua_subscriptions.specs.Subscriptions.{unborn, no_part, is_of}
+use Rattle.ua_subscriptions.specs.Tables.{TableState, World, OneMet, with_call, met_found, met, all_met, part_at, part_of, set_part, subscription_at, vars_found}
+use Rattle.ua_subscriptions.proofs.Choosing.{either}
+use Rattle.ua_subscriptions.proofs.MapEntries.{entries_removed, entries_if_removed, entries_set, entries_found, entries_inserted}
+use Rattle.subscription_laws.specs.Runs.{ItemsCall, on_items, Move, Ran, start, ran_by, items_ran, moved, run}
+
+-- ---- lengths
+
+kept_length : (bound : ℕ) (kept : List KeptMessage) (m : KeptMessage) → length kept ≤ bound → length (kept_with bound kept m) ≤ bound
+kept_length bound kept m h = by (nat_lt bound (length kept + 1)) refl
+  where
+    by : (b : Bool) → nat_lt bound (length kept + 1) ≡ b → length (cond b (drop 1 (kept ++ m ∷ [])) (kept ++ m ∷ [])) ≤ bound
+    by true is = let more = length-append kept (m ∷ []) in let less = length-drop 1 (kept ++ m ∷ []) in omega (arith, more, less, h)
+    by false is = let more = length-append kept (m ∷ []) in grind (arith, more, is)
+
+forgotten_length : (number : ℕ) (kept : List KeptMessage) → length (forgotten number kept) ≤ length kept
+forgotten_length number kept = by (position (has_number number) kept)
+  where
+    by : (o : Option ℕ) → length (without_at kept o) ≤ length kept
+    by None = omega arith
+    by (Some i) =
+        let both = length-append (take i kept) (drop (suc i) kept) in
+        let front = length-take i kept in
+        let back = length-drop (suc i) kept in
+        omega (arith, both, front, back)
+
+key_length : (test : ℕ → Bool) (ns : List ℕ) → length (remove_key test ns) ≤ length ns
+key_length test [] = omega arith
+key_length test (n ∷ ns) = by (test n) (key_length test ns)
+  where
+    by : (b : Bool) → length (remove_key test ns) ≤ length ns → length (cond b ns (n ∷ remove_key test ns)) ≤ length (n ∷ ns)
+    by true h = omega arith
+    by false h = omega (arith, h)
+
+put_length : (k : ℕ) (ns : List ℕ) → length (insert_key nat_cmp ns k) ≤ length ns + 1
+put_length k [] = omega arith
+put_length k (n ∷ ns) = by (nat_cmp k n) (put_length k ns)
+  where
+    by : (o : Ordering) → length (insert_key nat_cmp ns k) ≤ length ns + 1 → length (match_ordering o (k ∷ n ∷ ns) (n ∷ ns) (n ∷ insert_key nat_cmp ns k)) ≤ length (n ∷ ns) + 1
+    by Less h = omega arith
+    by Equal h = omega arith
+    by Greater h = omega (arith, h)
+
+others_length : (conn : ℕ) (calls : List PublishCall) → length (filter (came_by_other conn) calls) ≤ length calls
+others_length conn [] = omega arith
+others_length conn (c ∷ cs) = by (came_by_other conn c) (others_length conn cs)
+  where
+    by : (b : Bool) → length (filter (came_by_other conn) cs) ≤ length cs → length (cond b (c ∷ filter (came_by_other conn) cs) (filter (came_by_other conn) cs)) ≤ length (c ∷ cs)
+    by true h = omega (arith, h)
+    by false h = omega (arith, h)
+
+-- ---- a row
+
+module _ (b : Bounds) (some : 1 ≤ b.publish_queue) where
+  pub record QueueingBounded (q : Queueing) : Type 0 where
+    pub bounds : q.round.bounds ≡ b
+    pub requests : length q.part.requests ≤ b.publish_queue
+    pub numbers : length q.part.numbers ≤ b.subscriptions
+
+  refused_bounds : (round : Round) (o : Option PublishCall) → round.bounds ≡ b → (with_refused round o).bounds ≡ b
+  refused_bounds round None h = h
+  refused_bounds round (Some c) h = h
+
+  full_length : (requests : List PublishCall) (c : PublishCall) → length requests ≤ b.publish_queue → length (drop 1 requests ++ c ∷ []) ≤ b.publish_queue
+  full_length requests c h =
+      let more = length-append (drop 1 requests) (c ∷ []) in
+      let less = length-drop 1 requests in
+      omega (arith, more, less, h, some)
+
+  enqueued_by_bounded : (asked : Option PublishCall) (round : Round) (part : SessionSubscriptions) → round.bounds ≡ b → length part.requests ≤ b.publish_queue → length part.numbers ≤ b.subscriptions → QueueingBounded (enqueued_by asked round part)
+  enqueued_by_bounded None round part h g k = record { bounds = h; requests = g; numbers = k }
+  enqueued_by_bounded (Some c) round part h g k = by (nat_le round.bounds.publish_queue (length part.requests)) refl
+    where
+      by : (full : Bool) → nat_le round.bounds.publish_queue (length part.requests) ≡ full → QueueingBounded (cond full
+          (record { round = with_refused (record round { asked = None }) (first_of part.requests); part = record part { requests = drop 1 part.requests ++ c ∷ [] } })
+          (record { round = record round { asked = None }; part = record part { requests = part.requests ++ c ∷ [] } }))
+      by true is = record { bounds = refused_bounds (record round { asked = None }) (first_of part.requests) h; requests = full_length part.requests c g; numbers = k }
+      by false is =
+          let more = length-append part.requests (c ∷ []) in
+          let room : nat_le b.publish_queue (length part.requests) ≡ false = subst (λ (x : Bounds). nat_le x.publish_queue (length part.requests) ≡ false) h is in
+          record { bounds = h; requests = grind (arith, more, room); numbers = k }
+
+  enqueued_bounded : (round : Round) (part : SessionSubscriptions) → round.bounds ≡ b → length part.requests ≤ b.publish_queue → length part.numbers ≤ b.subscriptions → QueueingBounded (enqueued round part)
+  unfolding enqueued
+  enqueued_bounded round part h g k = enqueued_by_bounded round.asked round part h g k
+
+  answered_bounds : (asked : Option PublishCall) (round : Round) (s : Subscription) (more : Bool) (message : List ℕ) → round.bounds ≡ b → (scenes.answered_by asked round s more message).bounds ≡ b
+  answered_bounds None round s more message h = h
+  answered_bounds (Some c) round s more message h = h
+
+  pub record NotingBounded (n : Noting) : Type 0 where
+    pub bounds : n.round.bounds ≡ b
+    pub kept : length n.subscription.kept ≤ b.kept
+
+  kept_bounded : (round : Round) (kept : List KeptMessage) (m : KeptMessage) → round.bounds ≡ b → length kept ≤ b.kept → length (kept_with round.bounds.kept kept m) ≤ b.kept
+  kept_bounded round kept m is h = subst (λ (x : Bounds). length (kept_with x.kept kept m) ≤ b.kept) (sym is) (kept_length b.kept kept m h)
+
+  note_bounded : (n : Noting) → NotingBounded n → NotingBounded (note_sent n)
+  unfolding note_sent
+  note_bounded n h = record {
+    bounds = answered_bounds n.round.asked _ _ _ _ h.bounds;
+    kept = kept_bounded n.round n.subscription.kept (record { number = number_after n.subscription.number; bytes = message_made n.round n.subscription n.items }) h.bounds h.kept;
+  }
+
+  pub record SendingBounded (sent : Sending) : Type 0 where
+    pub noting : NotingBounded sent.noting
+    pub requests : length sent.requests ≤ b.publish_queue
+
+  rest_bounded : (calls : List PublishCall) (n : Noting) → NotingBounded n → length calls ≤ b.publish_queue → SendingBounded (rest_sent calls n)
+  rest_bounded [] n h g = record { noting = h; requests = omega arith }
+  rest_bounded (c ∷ cs) n h g =
+      either SendingBounded n.subscription.more (rest_sent cs (note_sent (with_asked n c))) (sending n (c ∷ cs))
+      (rest_bounded cs (note_sent (with_asked n c)) (note_bounded (with_asked n c) (record { bounds = h.bounds; kept = h.kept })) (omega (arith, g)))
+      (record { noting = h; requests = g })
+
+  notes_bounded : (calls : List PublishCall) (n : Noting) → NotingBounded n → length calls ≤ b.publish_queue → SendingBounded (notes_sent calls n)
+  unfolding notes_sent
+  notes_bounded calls n h g = rest_bounded calls (note_sent n) (note_bounded n h) g
+
+  pub record SceneBounded (c : Scene) : Type 0 where
+    pub bounds : c.round.bounds ≡ b
+    pub requests : length c.part.requests ≤ b.publish_queue
+    pub numbers : length c.part.numbers ≤ b.subscriptions
+    pub kept : length c.subscription.kept ≤ b.kept
+
+  same_bounded : (c d : Scene) → d.round.bounds ≡ c.round.bounds → d.part.requests ≡ c.part.requests → d.part.numbers ≡ c.part.numbers → d.subscription.kept ≡ c.subscription.kept → SceneBounded c → SceneBounded d
+  same_bounded c d bounds requests numbers kept h = record {
+    bounds = bounds ∙ h.bounds;
+    requests = subst (λ (x : List PublishCall). length x ≤ b.publish_queue) (sym requests) h.requests;
+    numbers = subst (λ (x : List ℕ). length x ≤ b.subscriptions) (sym numbers) h.numbers;
+    kept = subst (λ (x : List KeptMessage). length x ≤ b.kept) (sym kept) h.kept;
+  }
+
+  done_bounded : (c : Scene) (action : Action) → SceneBounded c → SceneBounded (done c action)
+  done_bounded c Initialise h = record { bounds = h.bounds; requests = h.requests; numbers = h.numbers; kept = omega arith }
+  done_bounded c Enqueue h =
+      let q = enqueued_bounded c.round c.part h.bounds h.requests h.numbers in
+      record { bounds = q.bounds; requests = q.requests; numbers = q.numbers; kept = h.kept }
+  done_bounded c Dequeue h = record { bounds = h.bounds; requests = let less = length-drop 1 c.part.requests in let before = h.requests in omega (arith, less, before); numbers = h.numbers; kept = h.kept }
+  done_bounded c SendNotifications h =
+      let sent = notes_bounded c.part.requests (noting c.round c.subscription c.items) (record { bounds = h.bounds; kept = h.kept }) h.requests in
+      record { bounds = sent.noting.bounds; requests = sent.requests; numbers = h.numbers; kept = sent.noting.kept }
+  done_bounded c SendKeepAlive h = record { bounds = answered_bounds c.round.asked _ _ _ _ h.bounds; requests = h.requests; numbers = h.numbers; kept = h.kept }
+  done_bounded c DeleteItems h = record { bounds = h.bounds; requests = h.requests; numbers = h.numbers; kept = omega arith }
+  done_bounded c action h = same_bounded c (done c action) refl refl refl refl h
+
+  all_done_bounded : (actions : List Action) (c : Scene) → SceneBounded c → SceneBounded (all_done c actions)
+  all_done_bounded [] c h = h
+  all_done_bounded (action ∷ actions) c h = all_done_bounded actions (done c action) (done_bounded c action h)
+
+  row_bounded : (row : RowId) (c : Scene) → SceneBounded c → SceneBounded (row_done row c)
+  unfolding row_done
+  row_bounded row c h =
+      let after = all_done_bounded (actions_of row) c h in
+      record { bounds = after.bounds; requests = after.requests; numbers = after.numbers; kept = after.kept }
+
+  fired_bounded : (c : Scene) → SceneBounded c → SceneBounded (fired c)
+  unfolding fired
+  fired_bounded c h =
+      let after = row_bounded (row_of c) c h in
+      record { bounds = after.bounds; requests = after.requests; numbers = fewer (is_closed (row_done (row_of c) c).subscription) _ after.numbers; kept = after.kept }
+    where
+      fewer : (closed : Bool) (ns : List ℕ) → length ns ≤ b.subscriptions → length (cond closed (remove_key (is_at (nat_cmp (row_done (row_of c) c).round.own)) ns) ns) ≤ b.subscriptions
+      fewer true ns h = let less = key_length (is_at (nat_cmp (row_done (row_of c) c).round.own)) ns in omega (arith, less, h)
+      fewer false ns h = h
+
+  -- ---- subscriptions and sessions under their numbers
+
+  pub record PartBounded (part : SessionSubscriptions) : Type 0 where
+    pub requests : length part.requests ≤ b.publish_queue
+    pub numbers : length part.numbers ≤ b.subscriptions
+
+  abbrev EachPart : ℕ × SessionSubscriptions → Type 0
+  EachPart e = PartBounded e.1
+
+  abbrev EachKept : ℕ × Subscription → Type 0
+  EachKept e = length e.1.kept ≤ b.kept
+
+  pub record TableBounded (t : TableState) : Type 0 where
+    pub sessions : AllByRecursion EachPart t.sessions
+    pub subscriptions : AllByRecursion EachKept t.subscriptions
+
+  pub record WorldBounded (w : World) : Type 0 where
+    pub bounds : w.round.bounds ≡ b
+    pub table : TableBounded w.table
+
+  none_bounded : PartBounded no_part
+  none_bounded = record { requests = omega arith; numbers = omega arith }
+
+  pub part_bounded : (session : ℕ) (sessions : List (ℕ × SessionSubscriptions)) → AllByRecursion EachPart sessions → PartBounded (part_at session sessions)
+  part_bounded session sessions h = entries_found EachPart session no_part sessions none_bounded h
+
+  part_of_bounded : (o : Option ℕ) (sessions : List (ℕ × SessionSubscriptions)) → AllByRecursion EachPart sessions → PartBounded (part_of o sessions)
+  part_of_bounded None sessions h = none_bounded
+  part_of_bounded (Some session) sessions h = part_bounded session sessions h
+
+  set_bounded : (session : ℕ) (part : SessionSubscriptions) (sessions : List (ℕ × SessionSubscriptions)) → PartBounded part → AllByRecursion EachPart sessions → AllByRecursion EachPart (set_value (is_at (nat_cmp session)) sessions part)
+  set_bounded session part sessions p h = entries_set EachPart session part sessions p h
+
+  set_part_bounded : (o : Option ℕ) (part : SessionSubscriptions) (sessions : List (ℕ × SessionSubscriptions)) → PartBounded part → AllByRecursion EachPart sessions → AllByRecursion EachPart (set_part o sessions part)
+  set_part_bounded None part sessions p h = h
+  set_part_bounded (Some session) part sessions p h = set_bounded session part sessions p h
+
+  -- of what is found under a number
+  pub kept_found : (number : ℕ) (subscriptions : List (ℕ × Subscription)) → AllByRecursion EachKept subscriptions → length (unwrap_or (subscription_at number subscriptions) (unborn 0)).kept ≤ b.kept
+  kept_found number subscriptions h = entries_found EachKept number (unborn 0) subscriptions (omega arith) h
+
+  record OneBounded (m : OneMet) : Type 0 where
+    bounds : m.round.bounds ≡ b
+    sessions : AllByRecursion EachPart m.sessions
+    subscriptions : AllByRecursion EachKept m.subscriptions
+
+  found_bounded : (round : Round) (t : TableState) (items : ItemsState) (o : Option Subscription) → length (unwrap_or o (unborn 0)).kept ≤ b.kept → round.bounds ≡ b → TableBounded t → OneBounded (met_found round t.subscriptions t.sessions items o)
+  found_bounded round t items None k h g = record { bounds = h; sessions = g.sessions; subscriptions = g.subscriptions }
+  found_bounded round t items (Some s) k h g =
+      let c = scene round s (part_of s.session t.sessions) items in
+      let p = part_of_bounded s.session t.sessions g.sessions in
+      let after = fired_bounded c (record { bounds = h; requests = p.requests; numbers = p.numbers; kept = k }) in
+      record {
+        bounds = after.bounds;
+        sessions = set_part_bounded s.session (fired c).part t.sessions (record { requests = after.requests; numbers = after.numbers }) g.sessions;
+        subscriptions = entries_set EachKept round.own (fired c).subscription t.subscriptions after.kept g.subscriptions;
+      }
+
+  met_bounded : (w : World) (own : ℕ) (asked : Call) → WorldBounded w → WorldBounded (met w own asked)
+  unfolding met
+  met_bounded w own asked h =
+      let round = with_call w.round own asked in
+      let m = found_bounded round w.table w.items (subscription_at own w.table.subscriptions) (kept_found own w.table.subscriptions h.table.subscriptions) h.bounds h.table in
+      record {
+        bounds = m.bounds;
+        table = record {
+          sessions = m.sessions;
+          subscriptions = entries_if_removed EachKept (met_found round w.table.subscriptions w.table.sessions w.items (subscription_at own w.table.subscriptions)).closed (is_at (nat_cmp own)) _ m.subscriptions;
+        };
+      }
+
+  all_met_bounded : (asked : Call) (numbers : List ℕ) (w : World) → WorldBounded w → WorldBounded (all_met asked w numbers)
+  all_met_bounded asked [] w h = h
+  all_met_bounded asked (number ∷ numbers) w h = all_met_bounded asked numbers (met w number asked) (met_bounded w number asked h)
+
+  -- ---- the calls
+
+  own_met_bounded : (session : ℕ) (asked : Call) (w : World) (number : ℕ) → WorldBounded w → WorldBounded (own_met session asked w number).world
+  unfolding own_met
+  own_met_bounded session asked w number h =
+      either (λ (o : Outcome Status). WorldBounded o.world) (is_own w.table session number) (outcome status.GOOD (met w number asked)) (outcome status.BAD_SUBSCRIPTION_ID_INVALID w) (met_bounded w number asked h) h
+
+  named_bounded : (session : ℕ) (asked : Call) (numbers : List ℕ) (before : Outcome (List Status)) → WorldBounded before.world → WorldBounded (fold (named_one session asked) before numbers).world
+  named_bounded session asked [] before h = h
+  named_bounded session asked (number ∷ numbers) before h =
+      named_bounded session asked numbers (named_one session asked before number) (own_met_bounded session asked before.world number h)
+
+  all_refused_bounded : (session : ℕ) (code : Status) (w : World) → WorldBounded w → WorldBounded (all_refused session code w)
+  unfolding all_refused
+  all_refused_bounded session code w h =
+      let p = part_bounded session w.table.sessions h.table.sessions in
+      record {
+        bounds = h.bounds;
+        table = record {
+          sessions = set_bounded session (without_requests (part_at session w.table.sessions)) w.table.sessions (record { requests = omega arith; numbers = p.numbers }) h.table.sessions;
+          subscriptions = h.table.subscriptions;
+        };
+      }
+
+  deleted_bounded : (session : ℕ) (w : World) (numbers : List ℕ) → WorldBounded w → WorldBounded (deleted session w numbers).world
+  unfolding deleted
+  deleted_bounded session w numbers h =
+      let v = (named_all session call.Delete w numbers).world in
+      let after = named_bounded session call.Delete numbers (outcome [] w) h in
+      either WorldBounded (has_none session v.table) (all_refused session status.BAD_NO_SUBSCRIPTION v) v (all_refused_bounded session status.BAD_NO_SUBSCRIPTION v after) after
+
+  refused_one_bounded : (session : ℕ) (asked : Settings) (enabled : Bool) (w : World) → WorldBounded w → WorldBounded (refused_one session asked enabled w)
+  unfolding refused_one
+  refused_one_bounded session asked enabled w h =
+      let c = scene (with_call w.round 0 (call.Create true asked enabled)) (unborn session) no_part w.items in
+      let after = fired_bounded c (record { bounds = h.bounds; requests = omega arith; numbers = omega arith; kept = omega arith }) in
+      record { bounds = after.bounds; table = h.table }
+
+  -- one more subscription, where the session has fewer than may be: the row lists none
+  added_bounded : (session number : ℕ) (asked : Settings) (enabled : Bool) (w : World) → let part : SessionSubscriptions = part_at session w.table.sessions in length part.numbers + 1 ≤ b.subscriptions → WorldBounded w → WorldBounded (added session number asked enabled w)
+  unfolding added fired row_done
+  added_bounded session number asked enabled w room h =
+      let part : SessionSubscriptions = part_at session w.table.sessions in
+      let c = scene (with_call w.round number (call.Create false asked enabled)) (unborn session) part w.items in
+      let p = part_bounded session w.table.sessions h.table.sessions in
+      let after = fired_bounded c (record { bounds = h.bounds; requests = p.requests; numbers = p.numbers; kept = omega arith }) in
+      let more = put_length number part.numbers in
+      record {
+        bounds = after.bounds;
+        table = record {
+          sessions = entries_inserted EachPart session (with_number number (fired c).part) (remove_entry (is_at (nat_cmp session)) w.table.sessions) (record { requests = after.requests; numbers = omega (arith, more, room) })
+              (entries_removed EachPart (is_at (nat_cmp session)) w.table.sessions h.table.sessions);
+          subscriptions = entries_inserted EachKept number (fired c).subscription w.table.subscriptions after.kept h.table.subscriptions;
+        };
+      }
+
+  modified_bounded : (session number : ℕ) (asked : Settings) (w : World) → WorldBounded w → WorldBounded (modified session number asked w).world
+  unfolding modified
+  modified_bounded session number asked w h =
+      either (λ (o : Outcome (Result Revised Status)). WorldBounded o.world) (is_own w.table session number) (outcome (Ok (revised_of asked)) (met w number (call.Modify asked))) (outcome (Err status.BAD_SUBSCRIPTION_ID_INVALID) w)
+      (met_bounded w number (call.Modify asked) h) h
+
+  republished_bounded : (session number wanted : ℕ) (w : World) → WorldBounded w → WorldBounded (republished session number wanted w).world
+  unfolding republished
+  republished_bounded session number wanted w h =
+      let kept = kept_at number wanted w.table in
+      either (λ (o : Outcome (Result (List ℕ) Status)). WorldBounded o.world) (is_own w.table session number) (outcome (ok_or kept status.BAD_MESSAGE_NOT_AVAILABLE) (met w number (call.Republish (is_some kept)))) (outcome (Err status.BAD_SUBSCRIPTION_ID_INVALID) w)
+      (met_bounded w number (call.Republish (is_some kept)) h) h
+
+  -- ---- Publish
+
+  acknowledged_bounded : (session : ℕ) (subscriptions : List (ℕ × Subscription)) (a : SubscriptionAcknowledgement) → AllByRecursion EachKept subscriptions → AllByRecursion EachKept (acknowledged session subscriptions a).subscriptions
+  unfolding acknowledged
+  acknowledged_bounded session subscriptions a h = by (subscription_at a.subscription_id subscriptions) (kept_found a.subscription_id subscriptions h)
+    where
+      own : (mine : Bool) (s : Subscription) → length s.kept ≤ b.kept → AllByRecursion EachKept (cond {A = Acknowledged} mine
+          (record { status = acknowledgement_status a.sequence_number s.kept; subscriptions = set_value (is_at (nat_cmp a.subscription_id)) subscriptions (without_kept a.sequence_number s) })
+          (record { status = status.BAD_SUBSCRIPTION_ID_INVALID; subscriptions = subscriptions })).subscriptions
+      own true s k =
+          let less = forgotten_length a.sequence_number s.kept in
+          entries_set EachKept a.subscription_id (without_kept a.sequence_number s) subscriptions (omega (arith, less, k)) h
+      own false s k = h
+
+      by : (o : Option Subscription) → length (unwrap_or o (unborn 0)).kept ≤ b.kept → AllByRecursion EachKept (acknowledged_by session subscriptions a o).subscriptions
+      by None k = h
+      by (Some s) k = own (is_of s.session session) s k
+
+  all_acknowledged_bounded : (session : ℕ) (acks : List SubscriptionAcknowledgement) (before : AllAcknowledged) → AllByRecursion EachKept before.subscriptions → AllByRecursion EachKept (fold (with_acknowledged session) before acks).subscriptions
+  all_acknowledged_bounded session [] before h = h
+  all_acknowledged_bounded session (a ∷ acks) before h = all_acknowledged_bounded session acks (with_acknowledged session before a) (acknowledged_bounded session before.subscriptions a h)
+
+  best_bounded : (best : Option Rank) (numbers : List ℕ) (w : World) → WorldBounded w → WorldBounded (met_by_best best numbers w)
+  best_bounded (Some rank) numbers w h = met_bounded w rank.number call.Publish h
+  best_bounded None numbers w h = all_met_bounded call.Publish numbers w h
+
+  answered_to_bounded : (numbers : List ℕ) (asked : PublishCall) (w : World) → WorldBounded w → WorldBounded (answered_to numbers asked w)
+  unfolding answered_to
+  answered_to_bounded [] asked w h = record { bounds = h.bounds; table = h.table }
+  answered_to_bounded (n ∷ ns) asked w h = best_bounded (first_of (waiting_of w.table.subscriptions (n ∷ ns))) (n ∷ ns) (asked_by w asked) (record { bounds = h.bounds; table = h.table })
+
+  answered_by_bounded : (note : Option TimeoutNote) (session : ℕ) (asked : PublishCall) (w : World) → WorldBounded w → WorldBounded (answered_by note session asked w)
+  answered_by_bounded (Some note) session asked w h = record { bounds = h.bounds; table = h.table }
+  answered_by_bounded None session asked w h = answered_to_bounded (part_at session w.table.sessions).numbers asked w h
+
+  published_bounded : (session : ℕ) (asked : PublishCall) (acks : List SubscriptionAcknowledgement) (w : World) → WorldBounded w → WorldBounded (published session asked acks w)
+  unfolding published
+  published_bounded session asked acks w h =
+      let all = acknowledged_all session w.table.subscriptions acks in
+      let p = part_bounded session w.table.sessions h.table.sessions in
+      answered_by_bounded (note_of session w.table.sessions) session (with_results asked all.results)
+      (record { round = w.round; table = record { subscriptions = all.subscriptions; sessions = without_note session w.table.sessions }; items = w.items })
+      (record {
+        bounds = h.bounds;
+        table = record {
+          sessions = set_bounded session (part_without_note (part_at session w.table.sessions)) w.table.sessions (record { requests = p.requests; numbers = p.numbers }) h.table.sessions;
+          subscriptions = all_acknowledged_bounded session acks (record { results = []; subscriptions = w.table.subscriptions }) h.table.subscriptions;
+        };
+      })
+
+  -- ---- the end of a session, and of a connection
+
+  session_ended_bounded : (session : ℕ) (deleting : Bool) (w : World) → WorldBounded w → WorldBounded (session_ended session deleting w)
+  unfolding session_ended
+  session_ended_bounded session deleting w h =
+      let ns = (part_at session w.table.sessions).numbers in
+      let v = all_met (call.SessionEnd deleting) w ns in
+      let after = all_refused_bounded session status.BAD_SESSION_CLOSED v (all_met_bounded (call.SessionEnd deleting) ns w h) in
+      record { bounds = after.bounds; table = record { sessions = entries_removed EachPart (is_at (nat_cmp session)) _ after.table.sessions; subscriptions = after.table.subscriptions } }
+
+  without_conn_bounded : (conn : ℕ) (sessions : List (ℕ × SessionSubscriptions)) → AllByRecursion EachPart sessions → AllByRecursion EachPart (map (entry_without_conn conn) sessions)
+  without_conn_bounded conn [] h = tt
+  without_conn_bounded conn (e ∷ es) h =
+      let less = others_length conn e.1.requests in
+      let before = h.0.requests in
+      (record { requests = omega (arith, less, before); numbers = h.0.numbers }, without_conn_bounded conn es h.1)
+
+  -- ---- any calls
+
+  pub record RunBounded (r : Ran) : Type 0 where
+    pub bounds : r.subs.bounds ≡ b
+    pub table : TableBounded r.subs.table
+
+  enter : (r : Ran) (items : ItemsState) (clock : Moment) → RunBounded r → WorldBounded (world_of r.subs items clock)
+  enter r items clock h = record { bounds = h.bounds; table = h.table }
+
+  leave : {A : Type 0} → (r : Ran) (o : Outcome A) → RunBounded r → WorldBounded o.world → RunBounded (ran_by r (said r.subs o))
+  leave r o h k = record { bounds = h.bounds; table = k.table }
+
+  leave_told : (r : Ran) (w : World) → RunBounded r → WorldBounded w → RunBounded (ran_by r (told r.subs w))
+  leave_told r w h k = record { bounds = h.bounds; table = k.table }
+
+  refused_run : (r : Ran) (session : ℕ) (settings : Settings) (enabled : Bool) (w : World) → RunBounded r → WorldBounded w → RunBounded (ran_by r (refused session settings enabled r.subs w))
+  unfolding refused
+  refused_run r session settings enabled w h k = record { bounds = h.bounds; table = (refused_one_bounded session settings enabled w k).table }
+
+  added_run : (r : Ran) (session : ℕ) (settings : Settings) (enabled : Bool) (w : World) → let part : SessionSubscriptions = part_at session w.table.sessions in length part.numbers + 1 ≤ b.subscriptions → RunBounded r → WorldBounded w →
+      RunBounded (ran_by r (created_one session settings enabled r.subs w))
+  unfolding created_one
+  added_run r session settings enabled w room h k = record { bounds = h.bounds; table = (added_bounded session (r.subs.made + 1) settings enabled w room k).table }
+
+  room_left : (s : SubscriptionsState) (session : ℕ) → is_full s session ≡ false → length (part_at session s.table.sessions).numbers + 1 ≤ s.bounds.subscriptions
+  room_left s session e = by (nat_le s.bounds.subscriptions (length (part_at session s.table.sessions).numbers)) refl e
+    where
+      by : (full : Bool) → nat_le s.bounds.subscriptions (length (part_at session s.table.sessions).numbers) ≡ full → (full || nat_le (2 ^ 32 - 1) s.made) ≡ false → length (part_at session s.table.sessions).numbers + 1 ≤ s.bounds.subscriptions
+      by true is e = absurd (cc)
+      by false is e = grind (arith, is)
+
+  created_run : (r : Ran) (clock : Moment) (session : ℕ) (settings : Settings) (enabled : Bool) → RunBounded r → RunBounded (ran_by r (created session settings enabled r.subs r.items clock))
+  unfolding created
+  created_run r clock session settings enabled h = by (is_full r.subs session) refl
+    where
+      by : (full : Bool) → is_full r.subs session ≡ full → RunBounded (ran_by r (cond full (refused session settings enabled r.subs (world_of r.subs r.items clock)) (created_one session settings enabled r.subs (world_of r.subs r.items clock))))
+      by true is = refused_run r session settings enabled (world_of r.subs r.items clock) h (enter r r.items clock h)
+      by false is =
+          added_run r session settings enabled (world_of r.subs r.items clock)
+          (subst (λ (x : Bounds). length (part_at session r.subs.table.sessions).numbers + 1 ≤ x.subscriptions) h.bounds (room_left r.subs session is)) h (enter r r.items clock h)
+
+  items_run : (r : Ran) (clock : Moment) (number : ℕ) (asked : ItemsCall) (o : Option Vars) → RunBounded r → RunBounded (items_ran clock number asked r o)
+  items_run r clock number asked None h = h
+  items_run r clock number asked (Some vars) h =
+      let items = (item_moves.moved r.items (on_items number asked)).state in
+      leave_told r (met (world_of r.subs items clock) number (call.Items vars)) h (met_bounded (world_of r.subs items clock) number (call.Items vars) (enter r items clock h))
+
+  pub one_bounded : (r : Ran) (m : Move) → RunBounded r → RunBounded (moved r m)
+  one_bounded r (Move.Create clock session settings enabled) h = created_run r clock session settings enabled h
+  one_bounded r (Move.Modify clock session number settings) h =
+      leave r (modified session number settings (world_of r.subs r.items clock)) h (modified_bounded session number settings (world_of r.subs r.items clock) (enter r r.items clock h))
+  one_bounded r (Move.SetMode clock session numbers enabled) h =
+      leave r (named_all session (call.SetMode enabled) (world_of r.subs r.items clock) numbers) h
+      (named_bounded session (call.SetMode enabled) numbers (outcome [] (world_of r.subs r.items clock)) (enter r r.items clock h))
+  one_bounded r (Move.Delete clock session numbers) h =
+      leave r (deleted session (world_of r.subs r.items clock) numbers) h (deleted_bounded session (world_of r.subs r.items clock) numbers (enter r r.items clock h))
+  one_bounded r (Move.Publish clock session asked acks) h =
+      leave_told r (published session asked acks (world_of r.subs r.items clock)) h (published_bounded session asked acks (world_of r.subs r.items clock) (enter r r.items clock h))
+  one_bounded r (Move.Republish clock session number wanted) h =
+      leave r (republished session number wanted (world_of r.subs r.items clock)) h (republished_bounded session number wanted (world_of r.subs r.items clock) (enter r r.items clock h))
+  one_bounded r (Move.Timers clock) h =
+      leave_told r (timed (world_of r.subs r.items clock)) h (all_met_bounded call.Timer (due_numbers clock r.subs.table.subscriptions) (world_of r.subs r.items clock) (enter r r.items clock h))
+  one_bounded r (Move.EndSession clock session deleting) h =
+      leave_told r (session_ended session deleting (world_of r.subs r.items clock)) h (session_ended_bounded session deleting (world_of r.subs r.items clock) (enter r r.items clock h))
+  one_bounded r (Move.Gone conn) h = record {
+    bounds = h.bounds;
+    table = record { sessions = without_conn_bounded conn r.subs.table.sessions h.table.sessions; subscriptions = h.table.subscriptions };
+  }
+  one_bounded r (Move.Items clock number asked) h = items_run r clock number asked (vars_found number r.items r.subs.table) h
+  one_bounded r (Move.Show changed) h = record { bounds = h.bounds; table = h.table }
+
+  pub all_bounded : (moves : List Move) (r : Ran) → RunBounded r → RunBounded (fold moved r moves)
+  all_bounded [] r h = h
+  all_bounded (m ∷ ms) r h = all_bounded ms (moved r m) (one_bounded r m h)
+
+pub subs_bounded : (config : Configuration) (is : IsConfigured config) (moves : List Move) → let r = run config moves in TableBounded (bounds_of config) is.publish_queue.0 r.subs.table
+subs_bounded config is moves =
+    (all_bounded (bounds_of config) is.publish_queue.0 moves (start config) (record { bounds = refl; table = record { sessions = tt; subscriptions = tt } })).table
