@@ -199,7 +199,7 @@ first_is : (calls : List PublishCall) → is_any calls ≡ true → (call : Publ
 first_is [] h = absurd (cc)
 first_is (call ∷ calls) h = (call, refl)
 
-timer_gives : (c : Scene) → let r = chosen (vars_in c) (event_of Timer) in sends r ≡ true → (call : PublishCall) × (answering r c ≡ Some call)
+pub timer_gives : (c : Scene) → let r = chosen (vars_in c) (event_of Timer) in sends r ≡ true → (call : PublishCall) × (answering r c ≡ Some call)
 timer_gives c = by (answers (vars_in c)).last_life
   where
     row : RowId

@@ -34,3 +34,5 @@ pub mod Concerned
 pub mod QueuesWithin
 pub mod TablesWithin
 pub mod WithinBounds
+pub mod TellingRows
+pub mod TellingRuns

@@ -55,13 +55,13 @@ use Rattle.subscription_laws.proofs.MessagesKept.{IsNumbered}
 
 -- ---- calls whose rows make no message
 
-abbrev is_silent : Call → Bool
+abbrev pub is_silent : Call → Bool
 is_silent (call.Create full settings enabled) = false
 is_silent call.Publish = false
 is_silent call.Timer = false
 is_silent c = true
 
-silent_row : (v : Vars) (asked : Call) (c : Scene) → is_silent asked ≡ true → messages_of (chosen v (event_of asked)) c ≡ []
+pub silent_row : (v : Vars) (asked : Call) (c : Scene) → is_silent asked ≡ true → messages_of (chosen v (event_of asked)) c ≡ []
 silent_row v (call.Create full settings enabled) c e = absurd (cc)
 silent_row v call.Publish c e = absurd (cc)
 silent_row v call.Timer c e = absurd (cc)
@@ -284,7 +284,7 @@ module _ (made : ℕ) (ms : List Made) (subscriptions : List (ℕ × Subscriptio
     live = λ k u after. (was_live k u after).1;
   }
 
-abbrev with_table : List (ℕ × SessionSubscriptions) → List (ℕ × Subscription) → TableState
+abbrev pub with_table : List (ℕ × SessionSubscriptions) → List (ℕ × Subscription) → TableState
 with_table sessions subscriptions = record { subscriptions = subscriptions; sessions = sessions }
 
 note_acknowledged : (made : ℕ) (ms : List Made) (subscriptions : List (ℕ × Subscription)) (n : ℕ) (s : Subscription) (number : ℕ) → subscription_at n subscriptions ≡ Some s → (note : TimeoutNote) →
@@ -318,7 +318,7 @@ acknowledged_numbered made ms session sessions subscriptions a h = by (subscript
     by None found = h
     by (Some s) found = own s found (is_of s.session session)
 
-all_acknowledged : (made : ℕ) (ms : List Made) (session : ℕ) (sessions : List (ℕ × SessionSubscriptions)) (acks : List SubscriptionAcknowledgement) (before : AllAcknowledged) → IsMessaged made ms (with_table sessions before.subscriptions) →
+pub all_acknowledged : (made : ℕ) (ms : List Made) (session : ℕ) (sessions : List (ℕ × SessionSubscriptions)) (acks : List SubscriptionAcknowledgement) (before : AllAcknowledged) → IsMessaged made ms (with_table sessions before.subscriptions) →
     IsMessaged made ms (with_table sessions (fold (with_acknowledged session) before acks).subscriptions)
 all_acknowledged made ms session sessions [] before h = h
 all_acknowledged made ms session sessions (a ∷ acks) before h =
@@ -341,7 +341,7 @@ answered_numbered : (made : ℕ) (ms : List Made) (session : ℕ) (asked : Publi
 answered_numbered made ms session asked w (Some note) h = none_more made ms w.table h
 answered_numbered made ms session asked w None h = answered_to_numbered made ms asked (part_at session w.table.sessions).numbers w h
 
-note_removed : (made : ℕ) (ms : List Made) (session : ℕ) (t : TableState) → IsMessaged made ms t → IsMessaged made ms (with_table (without_note session t.sessions) t.subscriptions)
+pub note_removed : (made : ℕ) (ms : List Made) (session : ℕ) (t : TableState) → IsMessaged made ms t → IsMessaged made ms (with_table (without_note session t.sessions) t.subscriptions)
 note_removed made ms session t h =
     part_messaged made ms t session (part_without_note (part_at session t.sessions)) (notes_rest made ms t.subscriptions (part_at session t.sessions).notes (h.notes session)) h
 
@@ -356,7 +356,7 @@ published_numbered made ms session asked acks w h =
 
 -- ---- any calls
 
-abbrev IsRunNumbered : List Made → Ran → Type 0
+abbrev pub IsRunNumbered : List Made → Ran → Type 0
 IsRunNumbered ms r = IsMessaged r.subs.made ms r.subs.table
 
 either_numbered : (b : Bool) (ms : List Made) (r : Ran) (x y : Said (Result Created Status)) → IsRunNumbered ms (ran_by r x) → IsRunNumbered ms (ran_by r y) → IsRunNumbered ms (ran_by r (cond b x y))
@@ -388,7 +388,7 @@ gone_run ms r conn h = record {
   notes = λ k. subst (λ (p : SessionSubscriptions). AllNotes r.subs.made ms r.subs.table.subscriptions p.notes) (sym (conn_part conn k r.subs.table.sessions)) (h.notes k);
 }
 
-one_run : (ms : List Made) (r : Ran) (m : Move) → IsRunNumbered ms r → IsRunNumbered (ms ++ moved_made r m) (moved r m)
+pub one_run : (ms : List Made) (r : Ran) (m : Move) → IsRunNumbered ms r → IsRunNumbered (ms ++ moved_made r m) (moved r m)
 one_run ms r (Move.Publish clock session asked acks) h = published_numbered r.subs.made ms session asked acks (world_of r.subs r.items clock) h
 one_run ms r (Move.Timers clock) h = all_messaged r.subs.made call.Timer refl (due_numbers clock r.subs.table.subscriptions) ms (world_of r.subs r.items clock) h
 one_run ms r (Move.Create clock session settings enabled) h = none_more _ ms _ (created_run ms r clock session settings enabled h)

@@ -13,3 +13,4 @@ pub mod MessageContents
 pub mod Precedence
 pub mod Concern
 pub mod Bounds
+pub mod Tellings

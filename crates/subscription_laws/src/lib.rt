@@ -11,6 +11,7 @@
 #![tactic(auto)]
 
 pub mod bounds;
+pub mod tellings;
 
 ghost use Rattle.std.specs.Prelude.{◌≡◌, ◌<◌, ◌≤◌, ◌+◌, ℕ, Bool, true, false, List, [], ◌∷◌, ◌++◌, map, is_some, Some, Ok};
 ghost use Rattle.ua_item_queue.specs.Fates.{waiting, GoesOn, IsInOrder, LossesAreMarked};

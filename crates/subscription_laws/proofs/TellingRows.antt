@@ -1,0 +1,182 @@
+-- What rows answer is told: each answer in its place, the messages that it brings, and the numbers that it has.
+use Rattle.std.proofs.Common.{◌≡◌, ℕ, Bool, true, false, cond, List, [], ◌∷◌, ◌++◌, append-nil, append_assoc, map, drop, nat_le, length, Option, Some, None, refl, sym, ap, ◌∙◌, subst}
+use Rattle.std.proofs.lemmas.List.{map-append}
+use Rattle.server_messages.specs.declared.reply.Reply.{Reply}
+use Rattle.ua_state_table.specs.declared.row.RowId.{RowId}
+use Rattle.ua_state_table.specs.declared.row.RowId.TheVariants.{N1, N2, N3, N4, L1, L2, K1, K2, K3}
+use Rattle.ua_subscriptions.specs.Firing.{row_of, fired}
+use Rattle.ua_subscriptions.specs.Messages.{number_after, keep_alive_message}
+use Rattle.ua_subscriptions.specs.Queues.{first_of}
+use Rattle.ua_subscriptions.specs.Scenes as scenes
+use Rattle.ua_subscriptions.specs.Scenes.{Scene, Noting, noting, sending, note_sent, rest_sent, notes_sent, with_asked, with_refused, Queueing, enqueued, enqueued_by, dequeued, started, life_reset, placed, counted, subscription_noted, message_made, row_done}
+use Rattle.ua_subscriptions.specs.Tables.{World, with_call, without_closed, met_found, met, subscription_at}
+use Rattle.ua_subscriptions.specs.declared.call.Call.{Call}
+use Rattle.ua_subscriptions.specs.declared.publish_call.PublishCall.{PublishCall}
+use Rattle.ua_subscriptions.specs.declared.round.Round.{Round}
+use Rattle.ua_subscriptions.specs.declared.session_part.SessionSubscriptions.{SessionSubscriptions}
+use Rattle.ua_subscriptions.specs.declared.subscription.Subscription.{Subscription}
+use Rattle.subscription_laws.specs.Messaging.{Made, made_of, made_by, met_made, messages_for, AreAmong, AreItsMessages}
+use Rattle.subscription_laws.specs.Numbering.{note_made, rest_made, notes_made, messages_of}
+use Rattle.subscription_laws.specs.Tellings.{Telling, answer_of, message_in, messages_in, too_many_told, queued_told, note_told, rest_told, notes_told, alive_told, row_told, told_by, met_told, AreInSequence}
+use Rattle.subscription_laws.proofs.BroughtMessages.{IsGiven}
+use Rattle.subscription_laws.proofs.Keeping.{scene_at}
+use Rattle.subscription_laws.proofs.MessageLists.{last_on, more_own, more_kept}
+use Rattle.subscription_laws.proofs.MessageNotes.{IsMessaged}
+use Rattle.subscription_laws.proofs.Remains.{note_own}
+
+-- ---- answers behind others
+
+pub messages_join : (xs ys : List Telling) → messages_in (xs ++ ys) ≡ messages_in xs ++ messages_in ys
+messages_join [] ys = refl
+messages_join (x ∷ xs) ys = ap (λ (l : List Made). message_in x.told ++ l) (messages_join xs ys) ∙ sym (append_assoc (message_in x.told) (messages_in xs) (messages_in ys))
+
+sequence_join : (ms : List Made) (xs ys : List Telling) → AreInSequence ms xs → AreInSequence (ms ++ messages_in xs) ys → AreInSequence ms (xs ++ ys)
+sequence_join ms [] ys h k = subst (λ (l : List Made). AreInSequence l ys) (append-nil ms) k
+sequence_join ms (x ∷ xs) ys h k =
+    (h.0, sequence_join (ms ++ message_in x.told) xs ys h.1 (subst (λ (l : List Made). AreInSequence l ys) (sym (append_assoc ms (message_in x.told) (messages_in xs))) k))
+
+-- what was answered since, after these messages: this is told, and it brings those messages
+pub record Tells (ms : List Made) (before after : List Reply) (made : List Made) (told : List Telling) : Type 0 where
+  pub so : after ≡ before ++ map answer_of told
+  pub brings : messages_in told ≡ made
+  pub sequence : AreInSequence ms told
+
+pub tells_none : (ms : List Made) (before : List Reply) → Tells ms before before [] []
+tells_none ms before = record { so = sym (append-nil before); brings = refl; sequence = tt }
+
+pub tells_then : (ms : List Made) (a b c : List Reply) (ns ks : List Made) (xs ys : List Telling) → Tells ms a b ns xs → Tells (ms ++ ns) b c ks ys → Tells ms a c (ns ++ ks) (xs ++ ys)
+tells_then ms a b c ns ks xs ys h k = record {
+  so = k.so ∙ ap (λ (rs : List Reply). rs ++ map answer_of ys) h.so ∙ append_assoc a (map answer_of xs) (map answer_of ys) ∙ ap (λ (rs : List Reply). a ++ rs) (sym (map-append answer_of xs ys));
+  brings = messages_join xs ys ∙ ap (λ (l : List Made). l ++ messages_in ys) h.brings ∙ ap (λ (l : List Made). ns ++ l) k.brings;
+  sequence = sequence_join ms xs ys h.sequence (subst (λ (l : List Made). AreInSequence (ms ++ l) ys) (sym h.brings) k.sequence);
+}
+
+-- ---- messages with notifications
+
+abbrev pub IsAt : ℕ → List Made → Subscription → Type 0
+IsAt own ms s = AreItsMessages s (messages_for own ms)
+
+-- one more was made
+note_at : (own : ℕ) (ms : List Made) (n : Noting) → IsAt own ms n.subscription → IsAt own (ms ++ made_of own (note_made n ∷ [])) (note_sent n).subscription
+unfolding note_sent
+note_at own ms n h =
+    let m = note_made n in
+    subst (AreItsMessages (subscription_noted n.round n.subscription n.items)) (sym (more_own own ms (m ∷ []))) (record {
+      last = last_on 0 (messages_for own ms) (m ∷ []);
+      kept = more_kept n.round.bounds.kept n.subscription.kept (messages_for own ms) (m ∷ []) h.kept;
+    })
+
+note_tells : (ms : List Made) (n : Noting) (asked : PublishCall) → n.round.asked ≡ Some asked → IsAt n.round.own ms n.subscription →
+    Tells ms n.round.replies (note_sent n).round.replies (made_of n.round.own (note_made n ∷ [])) (note_told asked n ∷ [])
+unfolding note_sent
+note_tells ms n asked is h =
+    let after = subscription_noted n.round n.subscription n.items in
+    let m = note_made n in
+    record {
+      so = ap (λ (o : Option PublishCall). (scenes.answered_by o (counted n.round) after after.more (message_made n.round n.subscription n.items)).replies) is;
+      brings = refl;
+      sequence = (
+        (
+          ap number_after (sym h.last),
+          subst (AreAmong after.kept) (sym (more_own n.round.own ms (m ∷ []))) (more_kept n.round.bounds.kept n.subscription.kept (messages_for n.round.own ms) (m ∷ []) h.kept),
+        ),
+        tt,
+      );
+    }
+
+-- each further message answers a request that waited
+rest_tells : (calls : List PublishCall) (ms : List Made) (n : Noting) (own : ℕ) → n.round.own ≡ own → IsAt own ms n.subscription →
+    Tells ms n.round.replies (rest_sent calls n).noting.round.replies (made_of own (rest_made calls n)) (rest_told calls n)
+rest_tells [] ms n own is h = tells_none ms n.round.replies
+rest_tells (asked ∷ calls) ms n own is h =
+    by n.subscription.more (rest_tells calls (ms ++ made_of own (note_made (with_asked n asked) ∷ [])) next own (note_own (with_asked n asked) ∙ is) (note_at own ms (with_asked n asked) (record { last = h.last; kept = h.kept })))
+  where
+    next : Noting
+    next = note_sent (with_asked n asked)
+
+    one : Tells ms n.round.replies next.round.replies (made_of own (note_made (with_asked n asked) ∷ [])) (note_told asked (with_asked n asked) ∷ [])
+    one =
+        subst (λ (k : ℕ). Tells ms n.round.replies next.round.replies (made_of k (note_made (with_asked n asked) ∷ [])) (note_told asked (with_asked n asked) ∷ [])) is
+        (note_tells ms (with_asked n asked) asked refl (subst (λ (k : ℕ). IsAt k ms n.subscription) (sym is) h))
+
+    by : (more : Bool) → Tells (ms ++ made_of own (note_made (with_asked n asked) ∷ [])) next.round.replies (rest_sent calls next).noting.round.replies (made_of own (rest_made calls next)) (rest_told calls next) →
+        Tells ms n.round.replies (cond more (rest_sent calls next) (sending n (asked ∷ calls))).noting.round.replies (made_of own (cond more (note_made (with_asked n asked) ∷ rest_made calls next) []))
+        (cond more (note_told asked (with_asked n asked) ∷ rest_told calls next) [])
+    by true k =
+        tells_then ms n.round.replies next.round.replies (rest_sent calls next).noting.round.replies (made_of own (note_made (with_asked n asked) ∷ [])) (made_of own (rest_made calls next))
+        (note_told asked (with_asked n asked) ∷ []) (rest_told calls next) one k
+    by false k = tells_none ms n.round.replies
+
+notes_tell : (ms : List Made) (calls : List PublishCall) (n : Noting) (o : Option PublishCall) (asked : PublishCall) → o ≡ Some asked → n.round.asked ≡ o → IsAt n.round.own ms n.subscription →
+    Tells ms n.round.replies (notes_sent calls n).noting.round.replies (made_of n.round.own (notes_made calls n)) (notes_told o calls n)
+unfolding notes_sent
+notes_tell ms calls n o asked is there h =
+    subst (Tells ms n.round.replies (rest_sent calls (note_sent n)).noting.round.replies (made_of n.round.own (notes_made calls n))) (ap (λ (x : Option PublishCall). notes_told x calls n) (sym is))
+    (tells_then ms n.round.replies (note_sent n).round.replies (rest_sent calls (note_sent n)).noting.round.replies (made_of n.round.own (note_made n ∷ [])) (made_of n.round.own (rest_made calls (note_sent n)))
+    (note_told asked n ∷ []) (rest_told calls (note_sent n))
+    (note_tells ms n asked (there ∙ is) h) (rest_tells calls (ms ++ made_of n.round.own (note_made n ∷ [])) (note_sent n) n.round.own (note_own n) (note_at n.round.own ms n h)))
+
+-- ---- keep-alives, and requests that are queued
+
+alive_tells : (ms : List Made) (c : Scene) (o : Option PublishCall) (round : Round) (s : Subscription) → round.replies ≡ c.round.replies → round.clock ≡ c.round.clock → round.own ≡ c.round.own → s.kept ≡ c.subscription.kept →
+    IsAt c.round.own ms c.subscription → Tells ms c.round.replies (scenes.answered_by o round s false (keep_alive_message (number_after c.subscription.number) c.round.clock)).replies [] (alive_told o c)
+alive_tells ms c None round s replies clock own kept h = record { so = replies ∙ sym (append-nil c.round.replies); brings = refl; sequence = tt }
+alive_tells ms c (Some asked) round s replies clock own kept h =
+    record { so = rw (replies, clock, own, kept) refl; brings = refl; sequence = ((ap number_after (sym h.last), h.kept), tt) }
+
+queued_tells : (ms : List Made) (round : Round) (part : SessionSubscriptions) → Tells ms round.replies (enqueued round part).round.replies [] (queued_told round.asked round part)
+unfolding enqueued
+queued_tells ms round part = by round.asked
+  where
+    refused : (o : Option PublishCall) → Tells ms round.replies (with_refused (record round { asked = None }) o).replies [] (too_many_told round.clock o)
+    refused None = tells_none ms round.replies
+    refused (Some asked) = record { so = refl; brings = refl; sequence = (tt, tt) }
+
+    full : (b : Bool) (x y : Queueing) (xs : List Telling) → Tells ms round.replies x.round.replies [] xs → Tells ms round.replies y.round.replies [] [] → Tells ms round.replies (cond b x y).round.replies [] (cond b xs [])
+    full true x y xs h k = h
+    full false x y xs h k = k
+
+    by : (o : Option PublishCall) → Tells ms round.replies (enqueued_by o round part).round.replies [] (queued_told o round part)
+    by None = tells_none ms round.replies
+    by (Some asked) = full (nat_le round.bounds.publish_queue (length part.requests)) _ _ (too_many_told round.clock (first_of part.requests)) (refused (first_of part.requests)) (tells_none ms round.replies)
+
+-- ---- a row
+
+row_tells : (ms : List Made) (r : RowId) (c : Scene) → IsGiven r c → IsAt c.round.own ms c.subscription →
+    Tells ms c.round.replies (row_done r c).round.replies (made_of c.round.own (messages_of r c)) (row_told r c)
+unfolding row_done
+row_tells ms N2 c given h =
+    let g = given refl in
+    notes_tell ms c.part.requests (noting c.round (life_reset c.subscription) c.items) c.round.asked g.0 g.1 refl (record { last = h.last; kept = h.kept })
+row_tells ms L1 c given h =
+    let g = given refl in
+    notes_tell ms c.part.requests (noting c.round (life_reset c.subscription) c.items) c.round.asked g.0 g.1 refl (record { last = h.last; kept = h.kept })
+row_tells ms N3 c given h =
+    let g = given refl in
+    notes_tell ms (drop 1 c.part.requests) (noting (dequeued c.round c.part).round (started c.round (life_reset c.subscription)) c.items) (first_of c.part.requests) g.0 g.1 refl (record { last = h.last; kept = h.kept })
+row_tells ms K2 c given h =
+    let g = given refl in
+    notes_tell ms (drop 1 c.part.requests) (noting (dequeued c.round c.part).round (started c.round (life_reset c.subscription)) c.items) (first_of c.part.requests) g.0 g.1 refl (record { last = h.last; kept = h.kept })
+row_tells ms N4 c given h = alive_tells ms c (first_of c.part.requests) (counted (dequeued c.round c.part).round) (placed (counted c.round) (started c.round (life_reset c.subscription))) refl refl refl refl h
+row_tells ms K3 c given h = alive_tells ms c (first_of c.part.requests) (counted (dequeued c.round c.part).round) (placed (counted c.round) (started c.round (life_reset c.subscription))) refl refl refl refl h
+row_tells ms L2 c given h = alive_tells ms c c.round.asked (counted c.round) (placed (counted c.round) (life_reset c.subscription)) refl refl refl refl h
+row_tells ms N1 c given h = queued_tells ms c.round c.part
+row_tells ms K1 c given h = queued_tells ms c.round c.part
+row_tells ms r c given h = tells_none ms c.round.replies
+
+fired_tells : (ms : List Made) (c : Scene) → IsGiven (row_of c) c → IsAt c.round.own ms c.subscription →
+    Tells ms c.round.replies (fired c).round.replies (made_of c.round.own (messages_of (row_of c) c)) (row_told (row_of c) c)
+unfolding fired
+fired_tells ms c given h = row_tells ms (row_of c) c given h
+
+-- ---- what a subscription meets
+
+pub met_tells : (made : ℕ) (ms : List Made) (w : World) (n : ℕ) (asked : Call) → ((s : Subscription) → subscription_at n w.table.subscriptions ≡ Some s → IsGiven (row_of (scene_at w n asked s)) (scene_at w n asked s)) → IsMessaged made ms w.table →
+    Tells ms w.round.replies (met w n asked).round.replies (met_made w n asked) (met_told w n asked)
+unfolding met
+met_tells made ms w n asked given h = by (subscription_at n w.table.subscriptions) refl
+  where
+    by : (o : Option Subscription) → subscription_at n w.table.subscriptions ≡ o →
+        Tells ms w.round.replies (without_closed n (met_found (with_call w.round n asked) w.table.subscriptions w.table.sessions w.items o)).round.replies (made_by w n asked o) (told_by w n asked o)
+    by None found = tells_none ms w.round.replies
+    by (Some s) found = fired_tells ms (scene_at w n asked s) (given s found) (h.numbered.live n s found)

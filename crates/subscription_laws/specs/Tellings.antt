@@ -1,0 +1,189 @@
+-- What the answers to Publish requests tell, one after the other (IEC 62541-4, "Publish"): messages with notifications, keep-alives,
+-- notes of time-outs, and faults.
+use Rattle.std.specs.Prelude.{◌≡◌, ⊤, ℕ, Bool, false, nat_le, length, List, [], ◌∷◌, ◌++◌, map, drop, Option, Some, None, if◌then◌else◌}
+use Rattle.ua_types.specs.declared.moment.Moment.{Moment}
+use Rattle.ua_types.specs.declared.status.Status.{Status}
+use Rattle.ua_types.specs.declared.status.TheConstants.Status as status
+use Rattle.server_messages.specs.declared.reply.Reply.{Reply}
+use Rattle.ua_subscription_messages.specs.declared.publishing.SubscriptionAcknowledgement.{SubscriptionAcknowledgement}
+use Rattle.ua_state_table.specs.declared.row.RowId.{RowId}
+use Rattle.ua_state_table.specs.declared.row.RowId.TheVariants.{N1, N2, N3, N4, L1, L2, K1, K2, K3}
+use Rattle.ua_subscriptions.specs.Answers.{number_of, published_of, refused_of}
+use Rattle.ua_subscriptions.specs.Firing.{row_of}
+use Rattle.ua_subscriptions.specs.Messages.{number_after, keep_alive_message, timeout_message}
+use Rattle.ua_subscriptions.specs.Named.{named_all, has_none}
+use Rattle.ua_subscriptions.specs.Publishing.{acknowledged_all, note_of, without_note, asked_by, with_results}
+use Rattle.ua_subscriptions.specs.Queues.{first_of}
+use Rattle.ua_subscriptions.specs.Ranks.{waiting_of, due_numbers}
+use Rattle.ua_subscriptions.specs.Scenes.{Scene, scene, Noting, noting, subscription_noted, note_sent, with_asked, started, dequeued, life_reset}
+use Rattle.ua_subscriptions.specs.SubscriptionCalls.{world_of}
+use Rattle.ua_subscriptions.specs.Tables.{World, with_call, met, all_met, part_of, part_at, subscription_at}
+use Rattle.ua_subscriptions.specs.declared.call.Call.{Call}
+use Rattle.ua_subscriptions.specs.declared.call.Call.TheVariants as call
+use Rattle.ua_subscriptions.specs.declared.messages.KeptMessage.{KeptMessage}
+use Rattle.ua_subscriptions.specs.declared.publish_call.PublishCall.{PublishCall}
+use Rattle.ua_subscriptions.specs.declared.ranks.Rank.{Rank}
+use Rattle.ua_subscriptions.specs.declared.round.Round.{Round}
+use Rattle.ua_subscriptions.specs.declared.session_part.SessionSubscriptions.{SessionSubscriptions}
+use Rattle.ua_subscriptions.specs.declared.session_part.TimeoutNote.{TimeoutNote}
+use Rattle.ua_subscriptions.specs.declared.subscription.Subscription.{Subscription}
+use Rattle.subscription_laws.specs.Messaging.{Made, messages_for, AreAmong}
+use Rattle.subscription_laws.specs.Numbering.{note_made, last_number}
+use Rattle.subscription_laws.specs.Runs.{Move, Ran, moved}
+
+pub data Told : Type 0 where
+  -- a message with notifications, and whether values are left
+  Notifications : Made → (more : Bool) → Told
+  -- a keep-alive, under a number
+  KeepAlive : (subscription number : ℕ) → Told
+  -- a subscription has timed out
+  TimedOut : TimeoutNote → Told
+  -- nothing but a fault
+  Refused : Status → Told
+
+-- one answer: when it is given, to which request, what it tells, and the messages that its subscription keeps then
+pub record Telling : Type 0 where
+  pub clock : Moment
+  pub call : PublishCall
+  pub kept : List KeptMessage
+  pub told : Told
+
+-- the answer itself. It lists the numbers of the kept messages
+abbrev pub answer_by : Moment → PublishCall → List KeptMessage → Told → Reply
+answer_by clock asked kept (Notifications m more) = published_of clock asked m.subscription (map number_of kept) more m.message.bytes
+answer_by clock asked kept (KeepAlive subscription number) = published_of clock asked subscription (map number_of kept) false (keep_alive_message number clock)
+answer_by clock asked kept (TimedOut note) = published_of clock asked note.subscription (map number_of kept) false (timeout_message note.number clock)
+answer_by clock asked kept (Refused code) = refused_of clock code asked
+
+abbrev pub answer_of : Telling → Reply
+answer_of t = answer_by t.clock t.call t.kept t.told
+
+abbrev pub message_in : Told → List Made
+message_in (Notifications m more) = m ∷ []
+message_in told = []
+
+-- the messages with notifications among what is told
+abbrev pub messages_in : List Telling → List Made
+messages_in [] = []
+messages_in (t ∷ ts) = message_in t.told ++ messages_in ts
+
+-- ---- a row
+
+abbrev pub refused_told : Moment → Status → PublishCall → Telling
+refused_told clock code asked = record { clock = clock; call = asked; kept = []; told = Refused code }
+
+abbrev pub too_many_told : Moment → Option PublishCall → List Telling
+too_many_told clock None = []
+too_many_told clock (Some asked) = refused_told clock status.BAD_TOO_MANY_PUBLISH_REQUESTS asked ∷ []
+
+-- a request is queued; where as many wait as may, the oldest is answered that they are too many
+abbrev pub queued_told : Option PublishCall → Round → SessionSubscriptions → List Telling
+queued_told None round part = []
+queued_told (Some asked) round part = if nat_le round.bounds.publish_queue (length part.requests) then too_many_told round.clock (first_of part.requests) else []
+
+-- a message with notifications; it is kept then
+abbrev pub note_told : PublishCall → Noting → Telling
+note_told asked n =
+    let after = subscription_noted n.round n.subscription n.items in
+    record { clock = n.round.clock; call = asked; kept = after.kept; told = Notifications (record { subscription = n.round.own; message = note_made n }) after.more }
+
+abbrev pub rest_told : List PublishCall → Noting → List Telling
+rest_told [] n = []
+rest_told (asked ∷ calls) n = if n.subscription.more then note_told asked (with_asked n asked) ∷ rest_told calls (note_sent (with_asked n asked)) else []
+
+abbrev pub notes_told : Option PublishCall → List PublishCall → Noting → List Telling
+notes_told None calls n = []
+notes_told (Some asked) calls n = note_told asked n ∷ rest_told calls (note_sent n)
+
+-- a keep-alive, with the number that comes next
+abbrev pub alive_told : Option PublishCall → Scene → List Telling
+alive_told None c = []
+alive_told (Some asked) c =
+    record { clock = c.round.clock; call = asked; kept = c.subscription.kept; told = KeepAlive c.round.own (number_after c.subscription.number) } ∷ []
+
+-- rows N1 and K1 queue the request; N2, L1, N3 and K2 send notifications; N4, L2 and K3 a keep-alive; at a timer the oldest
+-- request that waits is answered
+abbrev pub row_told : RowId → Scene → List Telling
+row_told N1 c = queued_told c.round.asked c.round c.part
+row_told K1 c = queued_told c.round.asked c.round c.part
+row_told N2 c = notes_told c.round.asked c.part.requests (noting c.round (life_reset c.subscription) c.items)
+row_told L1 c = notes_told c.round.asked c.part.requests (noting c.round (life_reset c.subscription) c.items)
+row_told N3 c = notes_told (first_of c.part.requests) (drop 1 c.part.requests) (noting (dequeued c.round c.part).round (started c.round (life_reset c.subscription)) c.items)
+row_told K2 c = notes_told (first_of c.part.requests) (drop 1 c.part.requests) (noting (dequeued c.round c.part).round (started c.round (life_reset c.subscription)) c.items)
+row_told N4 c = alive_told (first_of c.part.requests) c
+row_told K3 c = alive_told (first_of c.part.requests) c
+row_told L2 c = alive_told c.round.asked c
+row_told r c = []
+
+-- ---- what a subscription meets
+
+abbrev pub told_by : World → ℕ → Call → Option Subscription → List Telling
+told_by w number asked None = []
+told_by w number asked (Some s) = let c = scene (with_call w.round number asked) s (part_of s.session w.table.sessions) w.items in row_told (row_of c) c
+
+abbrev pub met_told : World → ℕ → Call → List Telling
+met_told w number asked = told_by w number asked (subscription_at number w.table.subscriptions)
+
+abbrev pub all_told : Call → World → List ℕ → List Telling
+all_told asked w [] = []
+all_told asked w (n ∷ ns) = met_told w n asked ++ all_told asked (met w n asked) ns
+
+-- ---- a call
+
+abbrev pub best_told : Option Rank → List ℕ → World → List Telling
+best_told (Some rank) numbers w = met_told w rank.number call.Publish
+best_told None numbers w = all_told call.Publish w numbers
+
+abbrev pub asked_told : List ℕ → PublishCall → World → List Telling
+asked_told [] asked w = refused_told w.round.clock status.BAD_NO_SUBSCRIPTION asked ∷ []
+asked_told (n ∷ ns) asked w = best_told (first_of (waiting_of w.table.subscriptions (n ∷ ns))) (n ∷ ns) (asked_by w asked)
+
+-- a note is told to the session's next request, and nothing else then
+abbrev pub unless_noted : Option TimeoutNote → ℕ → PublishCall → World → List Telling
+unless_noted (Some note) session asked w = record { clock = w.round.clock; call = asked; kept = []; told = TimedOut note } ∷ []
+unless_noted None session asked w = asked_told (part_at session w.table.sessions).numbers asked w
+
+-- once the acknowledgements were applied, of which the answer tells
+abbrev pub published_told : ℕ → PublishCall → List SubscriptionAcknowledgement → World → List Telling
+published_told session asked acks w =
+    let all = acknowledged_all session w.table.subscriptions acks in
+    unless_noted (note_of session w.table.sessions) session (with_results asked all.results)
+    (record { round = w.round; table = record { subscriptions = all.subscriptions; sessions = without_note session w.table.sessions }; items = w.items })
+
+-- all requests of a session that wait are refused
+abbrev pub waiting_told : ℕ → Status → World → List Telling
+waiting_told session code w = map (refused_told w.round.clock code) (part_at session w.table.sessions).requests
+
+abbrev pub if_none_left : ℕ → World → List Telling
+if_none_left session w = if has_none session w.table then waiting_told session status.BAD_NO_SUBSCRIPTION w else []
+
+abbrev pub moved_told : Ran → Move → List Telling
+moved_told r (Move.Publish clock session asked acks) = published_told session asked acks (world_of r.subs r.items clock)
+moved_told r (Move.Timers clock) = all_told call.Timer (world_of r.subs r.items clock) (due_numbers clock r.subs.table.subscriptions)
+moved_told r (Move.Delete clock session numbers) = if_none_left session (named_all session call.Delete (world_of r.subs r.items clock) numbers).world
+moved_told r (Move.EndSession clock session deleting) =
+    let w = world_of r.subs r.items clock in
+    waiting_told session status.BAD_SESSION_CLOSED (all_met (call.SessionEnd deleting) w (part_at session w.table.sessions).numbers)
+moved_told r move = []
+
+-- by any calls
+abbrev pub run_told : Ran → List Move → List Telling
+run_told r [] = []
+run_told r (m ∷ ms) = moved_told r m ++ run_told (moved r m) ms
+
+-- ---- numbers
+
+abbrev pub number_next : ℕ → List Made → ℕ
+number_next subscription made = number_after (last_number 0 (messages_for subscription made))
+
+-- after these messages: each answer has the number that comes next of its subscription, and lists messages that were made
+abbrev pub IsNext : List Made → List KeptMessage → Told → Type 0
+IsNext made kept (Notifications m more) = (m.message.number ≡ number_next m.subscription made) × AreAmong kept (messages_for m.subscription (made ++ m ∷ []))
+IsNext made kept (KeepAlive subscription number) = (number ≡ number_next subscription made) × AreAmong kept (messages_for subscription made)
+IsNext made kept (TimedOut note) = (note.number ≡ number_next note.subscription made) × (kept ≡ [])
+IsNext made kept (Refused code) = ⊤
+
+-- one after the other: a message with notifications alone uses its number up
+abbrev pub AreInSequence : List Made → List Telling → Type 0
+AreInSequence made [] = ⊤
+AreInSequence made (t ∷ ts) = IsNext made t.kept t.told × AreInSequence (made ++ message_in t.told) ts
