@@ -5,3 +5,7 @@ pub mod TableLemmas
 pub mod MessageLemmas
 pub mod FateLemmas
 pub mod ReplyLemmas
+pub mod ServicesKept
+pub mod ServersKept
+pub mod ClockLemmas
+pub mod BoundLemmas

@@ -7,3 +7,4 @@ pub mod Messages
 pub mod SessionsApart
 pub mod Fates
 pub mod Replying
+pub mod Bounds

@@ -12,6 +12,9 @@
 #![tactic(auto)]
 
 ghost use Rattle.std.specs.Prelude.{ℕ, List, []};
+pub mod bounds;
+
+ghost use Rattle.std.specs.Prelude.{◌≡◌, ◌+◌, ℕ, List, []};
 ghost use Rattle.ua_types.specs.Configuration.{Configuration};
 ghost use Rattle.server_messages.specs.declared.request.Request.{Request};
 ghost use Rattle.server_messages.specs.declared.setting.Setting.{Setting};
