@@ -9,3 +9,5 @@ pub mod ServicesKept
 pub mod ServersKept
 pub mod ClockLemmas
 pub mod BoundLemmas
+pub mod PointsFew
+pub mod FewLemmas

@@ -200,7 +200,7 @@ secret_there s secret number (Some v) n found e = by (bytes_eq secret v.secret) 
     by true is = let it : n ≡ record { number = number; session = v } = cc in subst (λ (m : Named). get s.sessions m.number ≡ Some m.session) (sym it) found
     by false is = absurd (cc)
 
-parts_there : (s : SessionsState) (parts : Option (List ℕ × ℕ)) (n : Named) → named_by s parts ≡ Some n → get s.sessions n.number ≡ Some n.session
+pub parts_there : (s : SessionsState) (parts : Option (List ℕ × ℕ)) (n : Named) → named_by s parts ≡ Some n → get s.sessions n.number ≡ Some n.session
 parts_there s None n e = absurd (cc)
 parts_there s (Some parts) n e = secret_there s parts.0 parts.1 (get s.sessions parts.1) n refl e
 

@@ -5,14 +5,19 @@ ghost use Rattle.ua_types.specs.Configuration.{Configuration, IsConfigured};
 ghost use Rattle.ua_space.specs.Nodes.{SpaceState};
 ghost use Rattle.server_core.specs.Coherent.{reached, IfRuns};
 ghost use Rattle.server_core.specs.declared.event.Event.{Event};
-ghost use Rattle.server_laws.specs.Bounds.{KeepsFewSubscriptions, HasOneClock, KeepsItsConfiguration};
+ghost use Rattle.server_laws.specs.Bounds.{KeepsFewSubscriptions, SessionsAreFew, PointsAreFew, HistoriesAreFew, HasOneClock, KeepsItsConfiguration};
 
 /// Whatever happens, a server has no more of anything than its configuration says, which lies in its ranges: in an item no
 /// more values wait than its queue's size, which is at most `queue`; a subscription has at most `items` items, and keeps at
 /// most `kept` messages; and a session has at most `publish_queue` queued Publish requests and `subscriptions` subscriptions.
+/// At most `sessions` sessions are there, each with at most `points` continuation points, and at most `history` values of a
+/// node are kept.
 pub fn bounds_hold()
     ensures subscriptions { (config : Configuration) → IsConfigured config → (space : SpaceState) (events : List Event) →
         IfRuns (KeepsFewSubscriptions config) (reached config space events).server }
+    ensures sessions { (config : Configuration) (space : SpaceState) (events : List Event) → IfRuns (SessionsAreFew config) (reached config space events).server }
+    ensures points { (config : Configuration) (space : SpaceState) (events : List Event) → IfRuns (PointsAreFew config) (reached config space events).server }
+    ensures histories { (config : Configuration) (space : SpaceState) (events : List Event) → IfRuns (HistoriesAreFew config) (reached config space events).server }
 {}
 
 /// Whatever happens, the moment that the services are handed is that of the sessions' clock: the two clocks are one. It is the
