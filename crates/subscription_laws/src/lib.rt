@@ -5,7 +5,7 @@
 //! the rows that fired count; `Precedence` which subscription comes first; `Numbering` and `Messaging` the messages that were
 //! made, `Answering` the answers that bring them, `Requests` the requests that are answered, `Calm` what always holds, and
 //! `Apartness` what is of other sessions; `ItemCalls` the calls of items that come of any calls, `Fates` and `MessageContents` what
-//! becomes of values and which messages tell them.
+//! becomes of values and which messages tell them; `Tellings` what the answers tell, and `Bounds` how many there are of each thing.
 //!
 //! Read docs/SUBSCRIPTIONS.md first, then `specs/Runs`.
 #![tactic(auto)]
