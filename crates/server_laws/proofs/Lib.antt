@@ -11,3 +11,4 @@ pub mod ClockLemmas
 pub mod BoundLemmas
 pub mod PointsFew
 pub mod FewLemmas
+pub mod NotingLemmas

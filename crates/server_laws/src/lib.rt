@@ -16,6 +16,7 @@
 
 ghost use Rattle.std.specs.Prelude.{ℕ, List, []};
 pub mod bounds;
+pub mod tellings;
 
 ghost use Rattle.std.specs.Prelude.{◌≡◌, ◌+◌, ℕ, List, []};
 ghost use Rattle.ua_types.specs.Configuration.{Configuration};
