@@ -9,17 +9,19 @@ use Rattle.subscription_laws.proofs.WithinBounds.{queues_within, few_items, few_
 use Rattle.server_core.specs.Coherent.{reached, IfRuns}
 use Rattle.server_core.specs.declared.event.Event.{Event}
 use Rattle.server_laws.specs.Bounds.{KeepsFewSubscriptions}
-use Rattle.server_laws.specs.Tables.{rows_of_run, ComesByCalls}
+use Rattle.server_laws.specs.EventMoves.{moves_of}
+use Rattle.server_laws.specs.Tables.{rows_of_run, LeadTo}
 use Rattle.server_laws.proofs.ServersKept.{if_runs}
-use Rattle.server_laws.proofs.TableLemmas.{comes_by_calls}
+use Rattle.server_laws.proofs.TableLemmas.{comes_by_moves}
 
 pub few_subscriptions_kept : (config : Configuration) → IsConfigured config → (space : SpaceState) (events : List Event) → IfRuns (KeepsFewSubscriptions config) (reached config space events).server
 few_subscriptions_kept config is space events =
     let r = reached config space events in
-    if_runs (ComesByCalls config (rows_of_run r)) (KeepsFewSubscriptions config) (λ world c. record {
-      queues = subst (λ (items : ItemsState). QueuesAreWithin config items.items) c.lead.items (queues_within config is c.moves);
-      items = subst (λ (items : ItemsState). ItemsAreWithin config items.items) c.lead.items (few_items config is c.moves);
-      requests = subst (λ (subs : SubscriptionsState). RequestsAreWithin config subs.table) c.lead.subs (few_requests config is c.moves);
-      subscriptions = subst (λ (subs : SubscriptionsState). SubscriptionsAreWithin config subs.table) c.lead.subs (few_subscriptions config is c.moves);
-      kept = subst (λ (subs : SubscriptionsState). KeptAreWithin config subs.table) c.lead.subs (few_kept config is c.moves);
-    }) r.server (comes_by_calls config space events)
+    let moves = moves_of config space events in
+    if_runs (LeadTo config moves (rows_of_run r)) (KeepsFewSubscriptions config) (λ world c. record {
+      queues = subst (λ (items : ItemsState). QueuesAreWithin config items.items) c.items (queues_within config is moves);
+      items = subst (λ (items : ItemsState). ItemsAreWithin config items.items) c.items (few_items config is moves);
+      requests = subst (λ (subs : SubscriptionsState). RequestsAreWithin config subs.table) c.subs (few_requests config is moves);
+      subscriptions = subst (λ (subs : SubscriptionsState). SubscriptionsAreWithin config subs.table) c.subs (few_subscriptions config is moves);
+      kept = subst (λ (subs : SubscriptionsState). KeptAreWithin config subs.table) c.subs (few_kept config is moves);
+    }) r.server (comes_by_moves config space events)

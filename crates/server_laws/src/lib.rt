@@ -4,21 +4,17 @@
 //! What a run did is a function of its configuration, its nodes and its events: `EventMoves` has the calls of subscriptions and
 //! items that each request, tick and connection that is no more comes to, and [`subscriptions_come_by_moves`] says that they lead
 //! to what the server holds. All that is said of a run is said over that one list.
-//! By `Moving` each service comes by calls of subscriptions and items ([`services_go_on_by_calls`]), and `Apart` says what a
-//! request leaves of other sessions; `Tables`, `Messages`, `Replying`, `Fates`, `SessionsApart` and `Bounds` have what is said of
-//! the runs of a server. What follows of calls alone, the crate `subscription_laws` says.
 //!
 //! Read first [`table`], the laws of the state table, and [`losses`], that nothing is lost in silence; docs/HEADLINES.md tells both
 //! with an example. `Concern` has which subscriptions an event concerns, `Apart` what a request leaves of other sessions; `Tables`,
-//! `Messages`, `Replying`, `Fates` and `SessionsApart` have what is said of the runs of a server. What follows of calls alone, the
-//! crate `subscription_laws` says.
+//! `Messages`, `Replying`, `Fates`, `SessionsApart` and `Bounds` have what is said of the runs of a server. What follows of calls
+//! alone, the crate `subscription_laws` says.
 #![tactic(auto)]
 
-ghost use Rattle.std.specs.Prelude.{ℕ, List, []};
 pub mod bounds;
 pub mod tellings;
 
-ghost use Rattle.std.specs.Prelude.{◌≡◌, ◌+◌, ℕ, List, []};
+ghost use Rattle.std.specs.Prelude.{ℕ, List, []};
 ghost use Rattle.ua_types.specs.Configuration.{Configuration};
 ghost use Rattle.server_messages.specs.declared.request.Request.{Request};
 ghost use Rattle.server_messages.specs.declared.setting.Setting.{Setting};
