@@ -3,18 +3,39 @@ use Rattle.std.specs.Prelude.{ℕ, ℤ, pos, Bool, true, false, List, [], ◌∷
 use Rattle.ua_types.specs.NodeIds.{numeric_id}
 use Rattle.ua_messages.specs.Bodies.{body_encoding}
 use Rattle.ua_messages.specs.Structures.{object_around}
+use Rattle.ua_messages.specs.declared.get_endpoints.GetEndpointsRequest.{GetEndpointsRequest}
+use Rattle.ua_messages.specs.declared.secure_channels.CloseSecureChannelRequest.{CloseSecureChannelRequest}
+use Rattle.ua_messages.specs.declared.secure_channels.OpenSecureChannelRequest.{OpenSecureChannelRequest}
+use Rattle.ua_service_messages.specs.declared.browsing.BrowseNextRequest.{BrowseNextRequest}
+use Rattle.ua_service_messages.specs.declared.browsing.BrowseRequest.{BrowseRequest}
+use Rattle.ua_service_messages.specs.declared.history.HistoryReadRequest.{HistoryReadRequest}
+use Rattle.ua_service_messages.specs.declared.reading.ReadRequest.{ReadRequest}
+use Rattle.ua_service_messages.specs.declared.sessions.ActivateSessionRequest.{ActivateSessionRequest}
+use Rattle.ua_service_messages.specs.declared.sessions.CloseSessionRequest.{CloseSessionRequest}
+use Rattle.ua_service_messages.specs.declared.sessions.CreateSessionRequest.{CreateSessionRequest}
+use Rattle.ua_service_messages.specs.declared.writing.WriteRequest.{WriteRequest}
+use Rattle.ua_subscription_messages.specs.declared.monitored_items.CreateMonitoredItemsRequest.{CreateMonitoredItemsRequest}
+use Rattle.ua_subscription_messages.specs.declared.monitored_items.DeleteMonitoredItemsRequest.{DeleteMonitoredItemsRequest}
+use Rattle.ua_subscription_messages.specs.declared.monitored_items.ModifyMonitoredItemsRequest.{ModifyMonitoredItemsRequest}
+use Rattle.ua_subscription_messages.specs.declared.monitored_items.SetMonitoringModeRequest.{SetMonitoringModeRequest}
+use Rattle.ua_subscription_messages.specs.declared.publishing.PublishRequest.{PublishRequest}
+use Rattle.ua_subscription_messages.specs.declared.publishing.RepublishRequest.{RepublishRequest}
+use Rattle.ua_subscription_messages.specs.declared.subscriptions.CreateSubscriptionRequest.{CreateSubscriptionRequest}
+use Rattle.ua_subscription_messages.specs.declared.subscriptions.DeleteSubscriptionsRequest.{DeleteSubscriptionsRequest}
+use Rattle.ua_subscription_messages.specs.declared.subscriptions.ModifySubscriptionRequest.{ModifySubscriptionRequest}
+use Rattle.ua_subscription_messages.specs.declared.subscriptions.SetPublishingModeRequest.{SetPublishingModeRequest}
 use Rattle.ua_messages.specs.declared.headers.RequestHeader.{RequestHeader}
 use Rattle.ua_messages.specs.declared.type_ids.TheConstants.{ACTIVATE_SESSION_REQUEST, BROWSE_NEXT_REQUEST, BROWSE_REQUEST, CLOSE_SECURE_CHANNEL_REQUEST, CLOSE_SESSION_REQUEST, CREATE_MONITORED_ITEMS_REQUEST, CREATE_SESSION_REQUEST, CREATE_SUBSCRIPTION_REQUEST, DELETE_MONITORED_ITEMS_REQUEST, DELETE_SUBSCRIPTIONS_REQUEST, GET_ENDPOINTS_REQUEST, HISTORY_READ_REQUEST, MODIFY_MONITORED_ITEMS_REQUEST, MODIFY_SUBSCRIPTION_REQUEST, OPEN_SECURE_CHANNEL_REQUEST, PUBLISH_REQUEST, READ_RAW_MODIFIED_DETAILS, READ_REQUEST, REPUBLISH_REQUEST, SET_MONITORING_MODE_REQUEST, SET_PUBLISHING_MODE_REQUEST, WRITE_REQUEST}
-use Rattle.ua_service_messages.specs.Browsing.{browse_next_request_encoding, browse_request_encoding}
-use Rattle.ua_service_messages.specs.History.{history_read_request_encoding, read_raw_modified_details_encoding}
-use Rattle.ua_service_messages.specs.Reading.{read_request_encoding}
-use Rattle.ua_service_messages.specs.Sessions.{activate_session_request_encoding, close_session_request_encoding, create_session_request_encoding}
-use Rattle.ua_service_messages.specs.Writing.{write_request_encoding}
-use Rattle.ua_subscription_messages.specs.MonitoredItems.{create_monitored_items_request_encoding, delete_monitored_items_request_encoding, modify_monitored_items_request_encoding, set_monitoring_mode_request_encoding}
-use Rattle.ua_subscription_messages.specs.Publishing.{publish_request_encoding, republish_request_encoding}
-use Rattle.ua_subscription_messages.specs.Subscriptions.{create_subscription_request_encoding, delete_subscriptions_request_encoding, modify_subscription_request_encoding, set_publishing_mode_request_encoding}
-use Rattle.ua_messages.specs.GetEndpoints.{get_endpoints_request_encoding}
-use Rattle.ua_messages.specs.SecureChannels.{close_secure_channel_request_encoding, open_secure_channel_request_encoding}
+use Rattle.ua_service_messages.specs.Browsing.{browse_next_request_encoding, browse_next_request_reading, browse_request_encoding, browse_request_reading}
+use Rattle.ua_service_messages.specs.History.{history_read_request_encoding, history_read_request_reading, read_raw_modified_details_encoding}
+use Rattle.ua_service_messages.specs.Reading.{read_request_encoding, read_request_reading}
+use Rattle.ua_service_messages.specs.Sessions.{activate_session_request_encoding, activate_session_request_reading, close_session_request_encoding, close_session_request_reading, create_session_request_encoding, create_session_request_reading}
+use Rattle.ua_service_messages.specs.Writing.{write_request_encoding, write_request_reading}
+use Rattle.ua_subscription_messages.specs.MonitoredItems.{create_monitored_items_request_encoding, create_monitored_items_request_reading, delete_monitored_items_request_encoding, delete_monitored_items_request_reading, modify_monitored_items_request_encoding, modify_monitored_items_request_reading, set_monitoring_mode_request_encoding, set_monitoring_mode_request_reading}
+use Rattle.ua_subscription_messages.specs.Publishing.{publish_request_encoding, publish_request_reading, republish_request_encoding, republish_request_reading}
+use Rattle.ua_subscription_messages.specs.Subscriptions.{create_subscription_request_encoding, create_subscription_request_reading, delete_subscriptions_request_encoding, delete_subscriptions_request_reading, modify_subscription_request_encoding, modify_subscription_request_reading, set_publishing_mode_request_encoding, set_publishing_mode_request_reading}
+use Rattle.ua_messages.specs.GetEndpoints.{get_endpoints_request_encoding, get_endpoints_request_reading}
+use Rattle.ua_messages.specs.SecureChannels.{close_secure_channel_request_encoding, close_secure_channel_request_reading, open_secure_channel_request_encoding, open_secure_channel_request_reading}
 use Rattle.scenario_text.specs.declared.choices.ChannelRequest.{ChannelRequest}
 use Rattle.scenario_text.specs.declared.choices.Publishing.{Publishing}
 use Rattle.scenario_text.specs.declared.choices.Subscriptions.{Subscriptions}
@@ -28,68 +49,90 @@ use Rattle.scenario_text.specs.declared.requests.RawValues.{RawValues}
 use Rattle.scenario_text.specs.declared.requests.References.{References}
 use Rattle.scenario_text.specs.declared.statement.Request.{Request}
 use Rattle.scenario_text.specs.declared.statement.Request.TheVariants as requests
+use Rattle.scenario_requests.specs.Bodies.{IsWholeBody}
 use Rattle.scenario_requests.specs.Structures.{no_duration, no_time, no_object, no_signature, no_application, is_delete, is_on, request_type, attribute_sent, value_sent, description_sent, point_sent, details_sent, history_node_sent, new_item_sent, changed_item_sent, acknowledgement_sent}
 
 -- ---- what sessions ask
 
-unfoldable pub read_body : RequestHeader → ℤ → List Attribute → List ℕ
-read_body header timestamps attributes = body_encoding read_request_encoding READ_REQUEST (record {
+abbrev pub read_message : RequestHeader → ℤ → List Attribute → ReadRequest
+read_message header timestamps attributes = record {
   request_header = header;
   max_age = no_duration;
   timestamps_to_return = record { 0 = timestamps };
   nodes_to_read = Some (map attribute_sent attributes);
-})
+}
 
-unfoldable pub write_body : RequestHeader → List NewValue → List ℕ
-write_body header values = body_encoding write_request_encoding WRITE_REQUEST (record {
+unfoldable pub read_body : RequestHeader → ℤ → List Attribute → List ℕ
+read_body header timestamps attributes = body_encoding read_request_encoding READ_REQUEST (read_message header timestamps attributes)
+
+abbrev pub write_message : RequestHeader → List NewValue → WriteRequest
+write_message header values = record {
   request_header = header;
   nodes_to_write = Some (map value_sent values);
-})
+}
 
-unfoldable pub browse_body : RequestHeader → References → List ℕ
-browse_body header references = body_encoding browse_request_encoding BROWSE_REQUEST (record {
+unfoldable pub write_body : RequestHeader → List NewValue → List ℕ
+write_body header values = body_encoding write_request_encoding WRITE_REQUEST (write_message header values)
+
+abbrev pub browse_message : RequestHeader → References → BrowseRequest
+browse_message header references = record {
   request_header = header;
   view_id = numeric_id 0 0;
   view_timestamp = no_time;
   view_version = 0;
   requested_max_references_per_node = references.max_references;
   nodes_to_browse = Some (description_sent references ∷ []);
-})
+}
 
-unfoldable pub browse_next_body : RequestHeader → Bool → List ℕ → List ℕ
-browse_next_body header is_release points = body_encoding browse_next_request_encoding BROWSE_NEXT_REQUEST (record {
+unfoldable pub browse_body : RequestHeader → References → List ℕ
+browse_body header references = body_encoding browse_request_encoding BROWSE_REQUEST (browse_message header references)
+
+abbrev pub browse_next_message : RequestHeader → Bool → List ℕ → BrowseNextRequest
+browse_next_message header is_release points = record {
   request_header = header;
   release_continuation_points = is_release;
   continuation_points = Some (map point_sent points);
-})
+}
 
-unfoldable pub history_body : RequestHeader → RawValues → List ℕ
-history_body header values = body_encoding history_read_request_encoding HISTORY_READ_REQUEST (record {
+unfoldable pub browse_next_body : RequestHeader → Bool → List ℕ → List ℕ
+browse_next_body header is_release points = body_encoding browse_next_request_encoding BROWSE_NEXT_REQUEST (browse_next_message header is_release points)
+
+abbrev pub history_message : RequestHeader → RawValues → HistoryReadRequest
+history_message header values = record {
   request_header = header;
   history_read_details = object_around READ_RAW_MODIFIED_DETAILS (read_raw_modified_details_encoding (details_sent values));
   timestamps_to_return = record { 0 = values.timestamps };
   release_continuation_points = false;
   nodes_to_read = Some (history_node_sent values ∷ []);
-})
+}
 
-unfoldable pub activate_session_body : RequestHeader → List ℕ
-activate_session_body header = body_encoding activate_session_request_encoding ACTIVATE_SESSION_REQUEST (record {
+unfoldable pub history_body : RequestHeader → RawValues → List ℕ
+history_body header values = body_encoding history_read_request_encoding HISTORY_READ_REQUEST (history_message header values)
+
+abbrev pub activate_session_message : RequestHeader → ActivateSessionRequest
+activate_session_message header = record {
   request_header = header;
   client_signature = no_signature;
   client_software_certificates = None;
   locale_ids = None;
   user_identity_token = no_object;
   user_token_signature = no_signature;
-})
+}
 
-unfoldable pub close_session_body : RequestHeader → Subscriptions → List ℕ
-close_session_body header subscriptions = body_encoding close_session_request_encoding CLOSE_SESSION_REQUEST (record {
+unfoldable pub activate_session_body : RequestHeader → List ℕ
+activate_session_body header = body_encoding activate_session_request_encoding ACTIVATE_SESSION_REQUEST (activate_session_message header)
+
+abbrev pub close_session_message : RequestHeader → Subscriptions → CloseSessionRequest
+close_session_message header subscriptions = record {
   request_header = header;
   delete_subscriptions = is_delete subscriptions;
-})
+}
 
-unfoldable pub create_subscription_body : RequestHeader → Counts → Publishing → List ℕ
-create_subscription_body header counts publishing = body_encoding create_subscription_request_encoding CREATE_SUBSCRIPTION_REQUEST (record {
+unfoldable pub close_session_body : RequestHeader → Subscriptions → List ℕ
+close_session_body header subscriptions = body_encoding close_session_request_encoding CLOSE_SESSION_REQUEST (close_session_message header subscriptions)
+
+abbrev pub create_subscription_message : RequestHeader → Counts → Publishing → CreateSubscriptionRequest
+create_subscription_message header counts publishing = record {
   request_header = header;
   requested_publishing_interval = no_duration;
   requested_lifetime_count = counts.lifetime;
@@ -97,10 +140,13 @@ create_subscription_body header counts publishing = body_encoding create_subscri
   max_notifications_per_publish = counts.max_notifications;
   publishing_enabled = is_on publishing;
   priority = counts.priority;
-})
+}
 
-unfoldable pub modify_subscription_body : RequestHeader → ℕ → Counts → List ℕ
-modify_subscription_body header subscription counts = body_encoding modify_subscription_request_encoding MODIFY_SUBSCRIPTION_REQUEST (record {
+unfoldable pub create_subscription_body : RequestHeader → Counts → Publishing → List ℕ
+create_subscription_body header counts publishing = body_encoding create_subscription_request_encoding CREATE_SUBSCRIPTION_REQUEST (create_subscription_message header counts publishing)
+
+abbrev pub modify_subscription_message : RequestHeader → ℕ → Counts → ModifySubscriptionRequest
+modify_subscription_message header subscription counts = record {
   request_header = header;
   subscription_id = subscription;
   requested_publishing_interval = no_duration;
@@ -108,64 +154,91 @@ modify_subscription_body header subscription counts = body_encoding modify_subsc
   requested_max_keep_alive_count = counts.max_keep_alive;
   max_notifications_per_publish = counts.max_notifications;
   priority = counts.priority;
-})
+}
 
-unfoldable pub set_publishing_body : RequestHeader → Publishing → List ℕ → List ℕ
-set_publishing_body header publishing subscriptions = body_encoding set_publishing_mode_request_encoding SET_PUBLISHING_MODE_REQUEST (record {
+unfoldable pub modify_subscription_body : RequestHeader → ℕ → Counts → List ℕ
+modify_subscription_body header subscription counts = body_encoding modify_subscription_request_encoding MODIFY_SUBSCRIPTION_REQUEST (modify_subscription_message header subscription counts)
+
+abbrev pub set_publishing_message : RequestHeader → Publishing → List ℕ → SetPublishingModeRequest
+set_publishing_message header publishing subscriptions = record {
   request_header = header;
   publishing_enabled = is_on publishing;
   subscription_ids = Some subscriptions;
-})
+}
 
-unfoldable pub create_item_body : RequestHeader → NewItem → List ℕ
-create_item_body header item = body_encoding create_monitored_items_request_encoding CREATE_MONITORED_ITEMS_REQUEST (record {
+unfoldable pub set_publishing_body : RequestHeader → Publishing → List ℕ → List ℕ
+set_publishing_body header publishing subscriptions = body_encoding set_publishing_mode_request_encoding SET_PUBLISHING_MODE_REQUEST (set_publishing_message header publishing subscriptions)
+
+abbrev pub create_item_message : RequestHeader → NewItem → CreateMonitoredItemsRequest
+create_item_message header item = record {
   request_header = header;
   subscription_id = item.subscription;
   timestamps_to_return = record { 0 = item.timestamps };
   items_to_create = Some (new_item_sent item ∷ []);
-})
+}
 
-unfoldable pub modify_item_body : RequestHeader → ChangedItem → List ℕ
-modify_item_body header item = body_encoding modify_monitored_items_request_encoding MODIFY_MONITORED_ITEMS_REQUEST (record {
+unfoldable pub create_item_body : RequestHeader → NewItem → List ℕ
+create_item_body header item = body_encoding create_monitored_items_request_encoding CREATE_MONITORED_ITEMS_REQUEST (create_item_message header item)
+
+abbrev pub modify_item_message : RequestHeader → ChangedItem → ModifyMonitoredItemsRequest
+modify_item_message header item = record {
   request_header = header;
   subscription_id = item.subscription;
   timestamps_to_return = record { 0 = item.timestamps };
   items_to_modify = Some (changed_item_sent item ∷ []);
-})
+}
 
-unfoldable pub set_item_mode_body : RequestHeader → ℕ → ℤ → List ℕ → List ℕ
-set_item_mode_body header subscription mode items = body_encoding set_monitoring_mode_request_encoding SET_MONITORING_MODE_REQUEST (record {
+unfoldable pub modify_item_body : RequestHeader → ChangedItem → List ℕ
+modify_item_body header item = body_encoding modify_monitored_items_request_encoding MODIFY_MONITORED_ITEMS_REQUEST (modify_item_message header item)
+
+abbrev pub set_item_mode_message : RequestHeader → ℕ → ℤ → List ℕ → SetMonitoringModeRequest
+set_item_mode_message header subscription mode items = record {
   request_header = header;
   subscription_id = subscription;
   monitoring_mode = record { 0 = mode };
   monitored_item_ids = Some items;
-})
+}
 
-unfoldable pub delete_items_body : RequestHeader → ℕ → List ℕ → List ℕ
-delete_items_body header subscription items = body_encoding delete_monitored_items_request_encoding DELETE_MONITORED_ITEMS_REQUEST (record {
+unfoldable pub set_item_mode_body : RequestHeader → ℕ → ℤ → List ℕ → List ℕ
+set_item_mode_body header subscription mode items = body_encoding set_monitoring_mode_request_encoding SET_MONITORING_MODE_REQUEST (set_item_mode_message header subscription mode items)
+
+abbrev pub delete_items_message : RequestHeader → ℕ → List ℕ → DeleteMonitoredItemsRequest
+delete_items_message header subscription items = record {
   request_header = header;
   subscription_id = subscription;
   monitored_item_ids = Some items;
-})
+}
 
-unfoldable pub publish_body : RequestHeader → List Acknowledgement → List ℕ
-publish_body header acknowledgements = body_encoding publish_request_encoding PUBLISH_REQUEST (record {
+unfoldable pub delete_items_body : RequestHeader → ℕ → List ℕ → List ℕ
+delete_items_body header subscription items = body_encoding delete_monitored_items_request_encoding DELETE_MONITORED_ITEMS_REQUEST (delete_items_message header subscription items)
+
+abbrev pub publish_message : RequestHeader → List Acknowledgement → PublishRequest
+publish_message header acknowledgements = record {
   request_header = header;
   subscription_acknowledgements = Some (map acknowledgement_sent acknowledgements);
-})
+}
 
-unfoldable pub republish_body : RequestHeader → ℕ → ℕ → List ℕ
-republish_body header subscription sequence_number = body_encoding republish_request_encoding REPUBLISH_REQUEST (record {
+unfoldable pub publish_body : RequestHeader → List Acknowledgement → List ℕ
+publish_body header acknowledgements = body_encoding publish_request_encoding PUBLISH_REQUEST (publish_message header acknowledgements)
+
+abbrev pub republish_message : RequestHeader → ℕ → ℕ → RepublishRequest
+republish_message header subscription sequence_number = record {
   request_header = header;
   subscription_id = subscription;
   retransmit_sequence_number = sequence_number;
-})
+}
 
-unfoldable pub delete_subscriptions_body : RequestHeader → List ℕ → List ℕ
-delete_subscriptions_body header subscriptions = body_encoding delete_subscriptions_request_encoding DELETE_SUBSCRIPTIONS_REQUEST (record {
+unfoldable pub republish_body : RequestHeader → ℕ → ℕ → List ℕ
+republish_body header subscription sequence_number = body_encoding republish_request_encoding REPUBLISH_REQUEST (republish_message header subscription sequence_number)
+
+abbrev pub delete_subscriptions_message : RequestHeader → List ℕ → DeleteSubscriptionsRequest
+delete_subscriptions_message header subscriptions = record {
   request_header = header;
   subscription_ids = Some subscriptions;
-})
+}
+
+unfoldable pub delete_subscriptions_body : RequestHeader → List ℕ → List ℕ
+delete_subscriptions_body header subscriptions = body_encoding delete_subscriptions_request_encoding DELETE_SUBSCRIPTIONS_REQUEST (delete_subscriptions_message header subscriptions)
 
 -- the body of what a session asks, with this header
 unfoldable pub request_body : RequestHeader → Request → List ℕ
@@ -188,18 +261,42 @@ request_body header (requests.Publish acknowledgements) = publish_body header ac
 request_body header (requests.Republish subscription sequence_number) = republish_body header subscription sequence_number
 request_body header (requests.DeleteSubscriptions subscriptions) = delete_subscriptions_body header subscriptions
 
+-- The body is the id of the request's type and its structure, is read again as that, and nothing is behind it.
+abbrev pub IsServiceBody : RequestHeader → Request → List ℕ → Type 0
+IsServiceBody header requests.ActivateSession body = IsWholeBody activate_session_request_reading ACTIVATE_SESSION_REQUEST (activate_session_message header) body
+IsServiceBody header (requests.CloseSession subscriptions) body = IsWholeBody close_session_request_reading CLOSE_SESSION_REQUEST (close_session_message header subscriptions) body
+IsServiceBody header (requests.Read timestamps attributes) body = IsWholeBody read_request_reading READ_REQUEST (read_message header timestamps attributes) body
+IsServiceBody header (requests.Write values) body = IsWholeBody write_request_reading WRITE_REQUEST (write_message header values) body
+IsServiceBody header (requests.Browse references) body = IsWholeBody browse_request_reading BROWSE_REQUEST (browse_message header references) body
+IsServiceBody header (requests.BrowseNext points) body = IsWholeBody browse_next_request_reading BROWSE_NEXT_REQUEST (browse_next_message header false points) body
+IsServiceBody header (requests.ReleasePoints points) body = IsWholeBody browse_next_request_reading BROWSE_NEXT_REQUEST (browse_next_message header true points) body
+IsServiceBody header (requests.ReadHistory values) body = IsWholeBody history_read_request_reading HISTORY_READ_REQUEST (history_message header values) body
+IsServiceBody header (requests.CreateSubscription counts publishing) body = IsWholeBody create_subscription_request_reading CREATE_SUBSCRIPTION_REQUEST (create_subscription_message header counts publishing) body
+IsServiceBody header (requests.ModifySubscription subscription counts) body = IsWholeBody modify_subscription_request_reading MODIFY_SUBSCRIPTION_REQUEST (modify_subscription_message header subscription counts) body
+IsServiceBody header (requests.SetPublishing publishing subscriptions) body = IsWholeBody set_publishing_mode_request_reading SET_PUBLISHING_MODE_REQUEST (set_publishing_message header publishing subscriptions) body
+IsServiceBody header (requests.CreateItem item) body = IsWholeBody create_monitored_items_request_reading CREATE_MONITORED_ITEMS_REQUEST (create_item_message header item) body
+IsServiceBody header (requests.ModifyItem item) body = IsWholeBody modify_monitored_items_request_reading MODIFY_MONITORED_ITEMS_REQUEST (modify_item_message header item) body
+IsServiceBody header (requests.SetItemMode subscription mode items) body = IsWholeBody set_monitoring_mode_request_reading SET_MONITORING_MODE_REQUEST (set_item_mode_message header subscription mode items) body
+IsServiceBody header (requests.DeleteItems subscription items) body = IsWholeBody delete_monitored_items_request_reading DELETE_MONITORED_ITEMS_REQUEST (delete_items_message header subscription items) body
+IsServiceBody header (requests.Publish acknowledgements) body = IsWholeBody publish_request_reading PUBLISH_REQUEST (publish_message header acknowledgements) body
+IsServiceBody header (requests.Republish subscription sequence_number) body = IsWholeBody republish_request_reading REPUBLISH_REQUEST (republish_message header subscription sequence_number) body
+IsServiceBody header (requests.DeleteSubscriptions subscriptions) body = IsWholeBody delete_subscriptions_request_reading DELETE_SUBSCRIPTIONS_REQUEST (delete_subscriptions_message header subscriptions) body
+
 -- ---- what no session asks
 
-unfoldable pub endpoints_body : RequestHeader → List ℕ
-endpoints_body header = body_encoding get_endpoints_request_encoding GET_ENDPOINTS_REQUEST (record {
+abbrev pub endpoints_message : RequestHeader → GetEndpointsRequest
+endpoints_message header = record {
   request_header = header;
   endpoint_url = None;
   locale_ids = None;
   profile_uris = None;
-})
+}
 
-unfoldable pub create_session_body : RequestHeader → List ℕ
-create_session_body header = body_encoding create_session_request_encoding CREATE_SESSION_REQUEST (record {
+unfoldable pub endpoints_body : RequestHeader → List ℕ
+endpoints_body header = body_encoding get_endpoints_request_encoding GET_ENDPOINTS_REQUEST (endpoints_message header)
+
+abbrev pub create_session_message : RequestHeader → CreateSessionRequest
+create_session_message header = record {
   request_header = header;
   client_description = no_application;
   server_uri = None;
@@ -209,19 +306,28 @@ create_session_body header = body_encoding create_session_request_encoding CREAT
   client_certificate = None;
   requested_session_timeout = no_duration;
   max_response_message_size = 0;
-})
+}
 
-unfoldable pub opening_body : RequestHeader → ChannelRequest → List ℕ
-opening_body header request = body_encoding open_secure_channel_request_encoding OPEN_SECURE_CHANNEL_REQUEST (record {
+unfoldable pub create_session_body : RequestHeader → List ℕ
+create_session_body header = body_encoding create_session_request_encoding CREATE_SESSION_REQUEST (create_session_message header)
+
+abbrev pub opening_message : RequestHeader → ChannelRequest → OpenSecureChannelRequest
+opening_message header request = record {
   request_header = header;
   client_protocol_version = 0;
   request_type = request_type request;
   security_mode = record { 0 = pos 1 };
   client_nonce = None;
   requested_lifetime = 3600000;
-})
+}
+
+unfoldable pub opening_body : RequestHeader → ChannelRequest → List ℕ
+opening_body header request = body_encoding open_secure_channel_request_encoding OPEN_SECURE_CHANNEL_REQUEST (opening_message header request)
+
+abbrev pub closing_message : RequestHeader → CloseSecureChannelRequest
+closing_message header = record {
+  request_header = header;
+}
 
 unfoldable pub closing_body : RequestHeader → List ℕ
-closing_body header = body_encoding close_secure_channel_request_encoding CLOSE_SECURE_CHANNEL_REQUEST (record {
-  request_header = header;
-})
+closing_body header = body_encoding close_secure_channel_request_encoding CLOSE_SECURE_CHANNEL_REQUEST (closing_message header)

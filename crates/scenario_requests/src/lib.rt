@@ -3,10 +3,13 @@
 //! What a word of the statement says stands in its field, and every other field is null or 0. A list
 //! without entries is written with length 0. Nothing here knows chunks, channels or connections.
 //!
+//! Each body says, beside its bytes, that it is read again as its structure, and that nothing is behind it.
+//!
 //! Read [`request_body`] first. `specs/Messages` has each request's fields, and `specs/Structures` the
 //! structures in them.
 #![tactic(auto)]
 
+mod bodies;
 mod openings;
 mod requests;
 mod sent;

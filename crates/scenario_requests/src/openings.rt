@@ -1,14 +1,20 @@
 //! The bodies of what no session asks.
 
 ghost use Rattle.std.specs.Prelude.{◌≡◌, IfOk};
-ghost use Rattle.scenario_requests.specs.Messages.{endpoints_body, create_session_body, opening_body, closing_body};
+ghost use Rattle.scenario_requests.specs.Messages.{endpoints_body, create_session_body, opening_body, closing_body, endpoints_message, create_session_message, opening_message, closing_message};
+ghost use Rattle.scenario_requests.specs.Bodies.{IsWholeBody};
+ghost use Rattle.ua_messages.specs.GetEndpoints.{get_endpoints_request_reading};
+ghost use Rattle.ua_messages.specs.SecureChannels.{close_secure_channel_request_reading, open_secure_channel_request_reading};
+ghost use Rattle.ua_service_messages.specs.Sessions.{create_session_request_reading};
+ghost use Rattle.ua_messages.specs.declared.type_ids.TheConstants.{CLOSE_SECURE_CHANNEL_REQUEST, CREATE_SESSION_REQUEST, GET_ENDPOINTS_REQUEST, OPEN_SECURE_CHANNEL_REQUEST};
 
+use crate::bodies::whole_body;
 use crate::structures::{NO_DURATION, no_application, request_type};
 use scenario_text::ChannelRequest;
 use std::alloc::{AllocError, Global};
 use ua_messages::{
     CloseSecureChannelRequest, GetEndpointsRequest, MessageSecurityMode, OpenSecureChannelRequest,
-    RequestHeader, body, type_ids,
+    RequestHeader, type_ids,
 };
 use ua_service_messages::CreateSessionRequest;
 use ua_types::{Array, ByteString, Text};
@@ -19,7 +25,8 @@ const LIFETIME: u32 = 3_600_000;
 /// The body of GetEndpoints, with this header.
 #[tactic(auto, unfolding(crate::specs::Messages::endpoints_body))]
 pub fn endpoints_body(alloc: Global, header: RequestHeader) -> Result<Vec<u8>, AllocError>
-    ensures { IfOk result (λ bytes. bytes.items ≡ endpoints_body header) }
+    ensures ok { IfOk result (λ bytes. bytes.items ≡ endpoints_body header) }
+    ensures again { IfOk result (λ bytes. IsWholeBody get_endpoints_request_reading GET_ENDPOINTS_REQUEST (endpoints_message header) bytes.items) }
 {
     let message = GetEndpointsRequest {
         request_header: header,
@@ -27,13 +34,14 @@ pub fn endpoints_body(alloc: Global, header: RequestHeader) -> Result<Vec<u8>, A
         locale_ids: Array::null(),
         profile_uris: Array::null(),
     };
-    body(alloc, type_ids::GET_ENDPOINTS_REQUEST, &message)
+    whole_body(alloc, type_ids::GET_ENDPOINTS_REQUEST, &message)
 }
 
 /// The body of CreateSession, with this header.
 #[tactic(auto, unfolding(crate::specs::Messages::create_session_body))]
 pub fn create_session_body(alloc: Global, header: RequestHeader) -> Result<Vec<u8>, AllocError>
-    ensures { IfOk result (λ bytes. bytes.items ≡ create_session_body header) }
+    ensures ok { IfOk result (λ bytes. bytes.items ≡ create_session_body header) }
+    ensures again { IfOk result (λ bytes. IsWholeBody create_session_request_reading CREATE_SESSION_REQUEST (create_session_message header) bytes.items) }
 {
     let message = CreateSessionRequest {
         request_header: header,
@@ -46,7 +54,7 @@ pub fn create_session_body(alloc: Global, header: RequestHeader) -> Result<Vec<u
         requested_session_timeout: NO_DURATION,
         max_response_message_size: 0,
     };
-    body(alloc, type_ids::CREATE_SESSION_REQUEST, &message)
+    whole_body(alloc, type_ids::CREATE_SESSION_REQUEST, &message)
 }
 
 /// The body of OpenSecureChannel, with this header.
@@ -56,7 +64,8 @@ pub fn opening_body(
     header: RequestHeader,
     request: ChannelRequest,
 ) -> Result<Vec<u8>, AllocError>
-    ensures { IfOk result (λ bytes. bytes.items ≡ opening_body header request) }
+    ensures ok { IfOk result (λ bytes. bytes.items ≡ opening_body header request) }
+    ensures again { IfOk result (λ bytes. IsWholeBody open_secure_channel_request_reading OPEN_SECURE_CHANNEL_REQUEST (opening_message header request) bytes.items) }
 {
     let message = OpenSecureChannelRequest {
         request_header: header,
@@ -66,16 +75,17 @@ pub fn opening_body(
         client_nonce: ByteString::null(),
         requested_lifetime: LIFETIME,
     };
-    body(alloc, type_ids::OPEN_SECURE_CHANNEL_REQUEST, &message)
+    whole_body(alloc, type_ids::OPEN_SECURE_CHANNEL_REQUEST, &message)
 }
 
 /// The body of CloseSecureChannel, with this header.
 #[tactic(auto, unfolding(crate::specs::Messages::closing_body))]
 pub fn closing_body(alloc: Global, header: RequestHeader) -> Result<Vec<u8>, AllocError>
-    ensures { IfOk result (λ bytes. bytes.items ≡ closing_body header) }
+    ensures ok { IfOk result (λ bytes. bytes.items ≡ closing_body header) }
+    ensures again { IfOk result (λ bytes. IsWholeBody close_secure_channel_request_reading CLOSE_SECURE_CHANNEL_REQUEST (closing_message header) bytes.items) }
 {
     let message = CloseSecureChannelRequest {
         request_header: header,
     };
-    body(alloc, type_ids::CLOSE_SECURE_CHANNEL_REQUEST, &message)
+    whole_body(alloc, type_ids::CLOSE_SECURE_CHANNEL_REQUEST, &message)
 }

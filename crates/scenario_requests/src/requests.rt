@@ -1,8 +1,19 @@
 //! The bodies of what sessions ask.
 
 ghost use Rattle.std.specs.Prelude.{◌≡◌, IfOk, false, true};
-ghost use Rattle.scenario_requests.specs.Messages.{read_body, write_body, browse_body, browse_next_body, history_body, activate_session_body, close_session_body, create_subscription_body, modify_subscription_body, set_publishing_body, create_item_body, modify_item_body, set_item_mode_body, delete_items_body, publish_body, republish_body, delete_subscriptions_body, request_body};
+ghost use Rattle.scenario_requests.specs.Messages.{read_body, write_body, browse_body, browse_next_body, history_body, activate_session_body, close_session_body, create_subscription_body, modify_subscription_body, set_publishing_body, create_item_body, modify_item_body, set_item_mode_body, delete_items_body, publish_body, republish_body, delete_subscriptions_body, request_body, read_message, write_message, browse_message, browse_next_message, history_message, activate_session_message, close_session_message, create_subscription_message, modify_subscription_message, set_publishing_message, create_item_message, modify_item_message, set_item_mode_message, delete_items_message, publish_message, republish_message, delete_subscriptions_message, IsServiceBody};
+ghost use Rattle.scenario_requests.specs.Bodies.{IsWholeBody};
+ghost use Rattle.ua_service_messages.specs.Browsing.{browse_next_request_reading, browse_request_reading};
+ghost use Rattle.ua_service_messages.specs.History.{history_read_request_reading};
+ghost use Rattle.ua_service_messages.specs.Reading.{read_request_reading};
+ghost use Rattle.ua_service_messages.specs.Sessions.{activate_session_request_reading, close_session_request_reading};
+ghost use Rattle.ua_service_messages.specs.Writing.{write_request_reading};
+ghost use Rattle.ua_subscription_messages.specs.MonitoredItems.{create_monitored_items_request_reading, delete_monitored_items_request_reading, modify_monitored_items_request_reading, set_monitoring_mode_request_reading};
+ghost use Rattle.ua_subscription_messages.specs.Publishing.{publish_request_reading, republish_request_reading};
+ghost use Rattle.ua_subscription_messages.specs.Subscriptions.{create_subscription_request_reading, delete_subscriptions_request_reading, modify_subscription_request_reading, set_publishing_mode_request_reading};
+ghost use Rattle.ua_messages.specs.declared.type_ids.TheConstants.{ACTIVATE_SESSION_REQUEST, BROWSE_NEXT_REQUEST, BROWSE_REQUEST, CLOSE_SESSION_REQUEST, CREATE_MONITORED_ITEMS_REQUEST, CREATE_SUBSCRIPTION_REQUEST, DELETE_MONITORED_ITEMS_REQUEST, DELETE_SUBSCRIPTIONS_REQUEST, HISTORY_READ_REQUEST, MODIFY_MONITORED_ITEMS_REQUEST, MODIFY_SUBSCRIPTION_REQUEST, PUBLISH_REQUEST, READ_REQUEST, REPUBLISH_REQUEST, SET_MONITORING_MODE_REQUEST, SET_PUBLISHING_MODE_REQUEST, WRITE_REQUEST};
 
+use crate::bodies::whole_body;
 use crate::sent::{Sent, held, list, one};
 use crate::structures::{
     NO_DURATION, history_details, is_delete, is_on, last_point, no_name, no_object, no_signature,
@@ -13,7 +24,7 @@ use scenario_text::{
     References, Request, Subscriptions,
 };
 use std::alloc::{AllocError, Global};
-use ua_messages::{RequestHeader, TimestampsToReturn, body, type_ids};
+use ua_messages::{RequestHeader, TimestampsToReturn, type_ids};
 use ua_service_messages::{
     ActivateSessionRequest, BrowseDescription, BrowseDirection, BrowseNextRequest, BrowseRequest,
     CloseSessionRequest, HistoryReadRequest, HistoryReadValueId, ReadRequest, WriteRequest,
@@ -33,7 +44,8 @@ fn read_body(
     timestamps: i32,
     attributes: Listed<Attribute>,
 ) -> Result<Vec<u8>, AllocError>
-    ensures { IfOk result (λ bytes. bytes.items ≡ read_body header timestamps attributes) }
+    ensures ok { IfOk result (λ bytes. bytes.items ≡ read_body header timestamps attributes) }
+    ensures again { IfOk result (λ bytes. IsWholeBody read_request_reading READ_REQUEST (read_message header timestamps attributes) bytes.items) }
 {
     let message = ReadRequest {
         request_header: header,
@@ -41,7 +53,7 @@ fn read_body(
         timestamps_to_return: TimestampsToReturn(timestamps),
         nodes_to_read: list(alloc, attributes)?,
     };
-    body(alloc, type_ids::READ_REQUEST, &message)
+    whole_body(alloc, type_ids::READ_REQUEST, &message)
 }
 
 #[tactic(auto, unfolding(crate::specs::Messages::write_body))]
@@ -50,13 +62,14 @@ fn write_body(
     header: RequestHeader,
     values: Listed<NewValue>,
 ) -> Result<Vec<u8>, AllocError>
-    ensures { IfOk result (λ bytes. bytes.items ≡ write_body header values) }
+    ensures ok { IfOk result (λ bytes. bytes.items ≡ write_body header values) }
+    ensures again { IfOk result (λ bytes. IsWholeBody write_request_reading WRITE_REQUEST (write_message header values) bytes.items) }
 {
     let message = WriteRequest {
         request_header: header,
         nodes_to_write: list(alloc, values)?,
     };
-    body(alloc, type_ids::WRITE_REQUEST, &message)
+    whole_body(alloc, type_ids::WRITE_REQUEST, &message)
 }
 
 #[tactic(auto, unfolding(crate::specs::Messages::browse_body))]
@@ -65,7 +78,8 @@ fn browse_body(
     header: RequestHeader,
     references: References,
 ) -> Result<Vec<u8>, AllocError>
-    ensures { IfOk result (λ bytes. bytes.items ≡ browse_body header references) }
+    ensures ok { IfOk result (λ bytes. bytes.items ≡ browse_body header references) }
+    ensures again { IfOk result (λ bytes. IsWholeBody browse_request_reading BROWSE_REQUEST (browse_message header references) bytes.items) }
 {
     let References {
         max_references,
@@ -92,7 +106,7 @@ fn browse_body(
         requested_max_references_per_node: max_references,
         nodes_to_browse: one(alloc, description)?,
     };
-    body(alloc, type_ids::BROWSE_REQUEST, &message)
+    whole_body(alloc, type_ids::BROWSE_REQUEST, &message)
 }
 
 #[tactic(auto, unfolding(crate::specs::Messages::browse_next_body))]
@@ -102,14 +116,15 @@ fn browse_next_body(
     is_release: bool,
     points: Listed<u64>,
 ) -> Result<Vec<u8>, AllocError>
-    ensures { IfOk result (λ bytes. bytes.items ≡ browse_next_body header is_release points) }
+    ensures ok { IfOk result (λ bytes. bytes.items ≡ browse_next_body header is_release points) }
+    ensures again { IfOk result (λ bytes. IsWholeBody browse_next_request_reading BROWSE_NEXT_REQUEST (browse_next_message header is_release points) bytes.items) }
 {
     let message = BrowseNextRequest {
         request_header: header,
         release_continuation_points: is_release,
         continuation_points: list(alloc, points)?,
     };
-    body(alloc, type_ids::BROWSE_NEXT_REQUEST, &message)
+    whole_body(alloc, type_ids::BROWSE_NEXT_REQUEST, &message)
 }
 
 #[tactic(auto, unfolding(crate::specs::Messages::history_body))]
@@ -118,7 +133,8 @@ fn history_body(
     header: RequestHeader,
     values: RawValues,
 ) -> Result<Vec<u8>, AllocError>
-    ensures { IfOk result (λ bytes. bytes.items ≡ history_body header values) }
+    ensures ok { IfOk result (λ bytes. bytes.items ≡ history_body header values) }
+    ensures again { IfOk result (λ bytes. IsWholeBody history_read_request_reading HISTORY_READ_REQUEST (history_message header values) bytes.items) }
 {
     let RawValues {
         timestamps,
@@ -142,12 +158,13 @@ fn history_body(
         release_continuation_points: false,
         nodes_to_read: one(alloc, node)?,
     };
-    body(alloc, type_ids::HISTORY_READ_REQUEST, &message)
+    whole_body(alloc, type_ids::HISTORY_READ_REQUEST, &message)
 }
 
 #[tactic(auto, unfolding(crate::specs::Messages::activate_session_body))]
 fn activate_session_body(alloc: Global, header: RequestHeader) -> Result<Vec<u8>, AllocError>
-    ensures { IfOk result (λ bytes. bytes.items ≡ activate_session_body header) }
+    ensures ok { IfOk result (λ bytes. bytes.items ≡ activate_session_body header) }
+    ensures again { IfOk result (λ bytes. IsWholeBody activate_session_request_reading ACTIVATE_SESSION_REQUEST (activate_session_message header) bytes.items) }
 {
     let message = ActivateSessionRequest {
         request_header: header,
@@ -157,7 +174,7 @@ fn activate_session_body(alloc: Global, header: RequestHeader) -> Result<Vec<u8>
         user_identity_token: no_object(),
         user_token_signature: no_signature(),
     };
-    body(alloc, type_ids::ACTIVATE_SESSION_REQUEST, &message)
+    whole_body(alloc, type_ids::ACTIVATE_SESSION_REQUEST, &message)
 }
 
 #[tactic(auto, unfolding(crate::specs::Messages::close_session_body))]
@@ -166,13 +183,14 @@ fn close_session_body(
     header: RequestHeader,
     subscriptions: Subscriptions,
 ) -> Result<Vec<u8>, AllocError>
-    ensures { IfOk result (λ bytes. bytes.items ≡ close_session_body header subscriptions) }
+    ensures ok { IfOk result (λ bytes. bytes.items ≡ close_session_body header subscriptions) }
+    ensures again { IfOk result (λ bytes. IsWholeBody close_session_request_reading CLOSE_SESSION_REQUEST (close_session_message header subscriptions) bytes.items) }
 {
     let message = CloseSessionRequest {
         request_header: header,
         delete_subscriptions: is_delete(subscriptions),
     };
-    body(alloc, type_ids::CLOSE_SESSION_REQUEST, &message)
+    whole_body(alloc, type_ids::CLOSE_SESSION_REQUEST, &message)
 }
 
 #[tactic(auto, unfolding(crate::specs::Messages::create_subscription_body))]
@@ -182,7 +200,8 @@ fn create_subscription_body(
     counts: Counts,
     publishing: Publishing,
 ) -> Result<Vec<u8>, AllocError>
-    ensures { IfOk result (λ bytes. bytes.items ≡ create_subscription_body header counts publishing) }
+    ensures ok { IfOk result (λ bytes. bytes.items ≡ create_subscription_body header counts publishing) }
+    ensures again { IfOk result (λ bytes. IsWholeBody create_subscription_request_reading CREATE_SUBSCRIPTION_REQUEST (create_subscription_message header counts publishing) bytes.items) }
 {
     let message = CreateSubscriptionRequest {
         request_header: header,
@@ -193,7 +212,7 @@ fn create_subscription_body(
         publishing_enabled: is_on(publishing),
         priority: counts.priority,
     };
-    body(alloc, type_ids::CREATE_SUBSCRIPTION_REQUEST, &message)
+    whole_body(alloc, type_ids::CREATE_SUBSCRIPTION_REQUEST, &message)
 }
 
 #[tactic(auto, unfolding(crate::specs::Messages::modify_subscription_body))]
@@ -203,7 +222,8 @@ fn modify_subscription_body(
     subscription: u32,
     counts: Counts,
 ) -> Result<Vec<u8>, AllocError>
-    ensures { IfOk result (λ bytes. bytes.items ≡ modify_subscription_body header subscription counts) }
+    ensures ok { IfOk result (λ bytes. bytes.items ≡ modify_subscription_body header subscription counts) }
+    ensures again { IfOk result (λ bytes. IsWholeBody modify_subscription_request_reading MODIFY_SUBSCRIPTION_REQUEST (modify_subscription_message header subscription counts) bytes.items) }
 {
     let message = ModifySubscriptionRequest {
         request_header: header,
@@ -214,7 +234,7 @@ fn modify_subscription_body(
         max_notifications_per_publish: counts.max_notifications,
         priority: counts.priority,
     };
-    body(alloc, type_ids::MODIFY_SUBSCRIPTION_REQUEST, &message)
+    whole_body(alloc, type_ids::MODIFY_SUBSCRIPTION_REQUEST, &message)
 }
 
 #[tactic(auto, unfolding(crate::specs::Messages::set_publishing_body))]
@@ -224,14 +244,15 @@ fn set_publishing_body(
     publishing: Publishing,
     subscriptions: Listed<u32>,
 ) -> Result<Vec<u8>, AllocError>
-    ensures { IfOk result (λ bytes. bytes.items ≡ set_publishing_body header publishing subscriptions) }
+    ensures ok { IfOk result (λ bytes. bytes.items ≡ set_publishing_body header publishing subscriptions) }
+    ensures again { IfOk result (λ bytes. IsWholeBody set_publishing_mode_request_reading SET_PUBLISHING_MODE_REQUEST (set_publishing_message header publishing subscriptions) bytes.items) }
 {
     let message = SetPublishingModeRequest {
         request_header: header,
         publishing_enabled: is_on(publishing),
         subscription_ids: held(subscriptions.into_vec())?,
     };
-    body(alloc, type_ids::SET_PUBLISHING_MODE_REQUEST, &message)
+    whole_body(alloc, type_ids::SET_PUBLISHING_MODE_REQUEST, &message)
 }
 
 #[tactic(auto, unfolding(crate::specs::Messages::create_item_body))]
@@ -240,7 +261,8 @@ fn create_item_body(
     header: RequestHeader,
     item: NewItem,
 ) -> Result<Vec<u8>, AllocError>
-    ensures { IfOk result (λ bytes. bytes.items ≡ create_item_body header item) }
+    ensures ok { IfOk result (λ bytes. bytes.items ≡ create_item_body header item) }
+    ensures again { IfOk result (λ bytes. IsWholeBody create_monitored_items_request_reading CREATE_MONITORED_ITEMS_REQUEST (create_item_message header item) bytes.items) }
 {
     let NewItem {
         subscription,
@@ -260,7 +282,7 @@ fn create_item_body(
         timestamps_to_return: TimestampsToReturn(timestamps),
         items_to_create: one(alloc, create)?,
     };
-    body(alloc, type_ids::CREATE_MONITORED_ITEMS_REQUEST, &message)
+    whole_body(alloc, type_ids::CREATE_MONITORED_ITEMS_REQUEST, &message)
 }
 
 #[tactic(auto, unfolding(crate::specs::Messages::modify_item_body))]
@@ -269,7 +291,8 @@ fn modify_item_body(
     header: RequestHeader,
     item: ChangedItem,
 ) -> Result<Vec<u8>, AllocError>
-    ensures { IfOk result (λ bytes. bytes.items ≡ modify_item_body header item) }
+    ensures ok { IfOk result (λ bytes. bytes.items ≡ modify_item_body header item) }
+    ensures again { IfOk result (λ bytes. IsWholeBody modify_monitored_items_request_reading MODIFY_MONITORED_ITEMS_REQUEST (modify_item_message header item) bytes.items) }
 {
     let modify = MonitoredItemModifyRequest {
         monitored_item_id: item.item,
@@ -281,7 +304,7 @@ fn modify_item_body(
         timestamps_to_return: TimestampsToReturn(item.timestamps),
         items_to_modify: one(alloc, modify)?,
     };
-    body(alloc, type_ids::MODIFY_MONITORED_ITEMS_REQUEST, &message)
+    whole_body(alloc, type_ids::MODIFY_MONITORED_ITEMS_REQUEST, &message)
 }
 
 #[tactic(auto, unfolding(crate::specs::Messages::set_item_mode_body))]
@@ -292,7 +315,8 @@ fn set_item_mode_body(
     mode: i32,
     items: Listed<u32>,
 ) -> Result<Vec<u8>, AllocError>
-    ensures { IfOk result (λ bytes. bytes.items ≡ set_item_mode_body header subscription mode items) }
+    ensures ok { IfOk result (λ bytes. bytes.items ≡ set_item_mode_body header subscription mode items) }
+    ensures again { IfOk result (λ bytes. IsWholeBody set_monitoring_mode_request_reading SET_MONITORING_MODE_REQUEST (set_item_mode_message header subscription mode items) bytes.items) }
 {
     let message = SetMonitoringModeRequest {
         request_header: header,
@@ -300,7 +324,7 @@ fn set_item_mode_body(
         monitoring_mode: MonitoringMode(mode),
         monitored_item_ids: held(items.into_vec())?,
     };
-    body(alloc, type_ids::SET_MONITORING_MODE_REQUEST, &message)
+    whole_body(alloc, type_ids::SET_MONITORING_MODE_REQUEST, &message)
 }
 
 #[tactic(auto, unfolding(crate::specs::Messages::delete_items_body))]
@@ -310,14 +334,15 @@ fn delete_items_body(
     subscription: u32,
     items: Listed<u32>,
 ) -> Result<Vec<u8>, AllocError>
-    ensures { IfOk result (λ bytes. bytes.items ≡ delete_items_body header subscription items) }
+    ensures ok { IfOk result (λ bytes. bytes.items ≡ delete_items_body header subscription items) }
+    ensures again { IfOk result (λ bytes. IsWholeBody delete_monitored_items_request_reading DELETE_MONITORED_ITEMS_REQUEST (delete_items_message header subscription items) bytes.items) }
 {
     let message = DeleteMonitoredItemsRequest {
         request_header: header,
         subscription_id: subscription,
         monitored_item_ids: held(items.into_vec())?,
     };
-    body(alloc, type_ids::DELETE_MONITORED_ITEMS_REQUEST, &message)
+    whole_body(alloc, type_ids::DELETE_MONITORED_ITEMS_REQUEST, &message)
 }
 
 #[tactic(auto, unfolding(crate::specs::Messages::publish_body))]
@@ -326,13 +351,14 @@ fn publish_body(
     header: RequestHeader,
     acknowledgements: Listed<Acknowledgement>,
 ) -> Result<Vec<u8>, AllocError>
-    ensures { IfOk result (λ bytes. bytes.items ≡ publish_body header acknowledgements) }
+    ensures ok { IfOk result (λ bytes. bytes.items ≡ publish_body header acknowledgements) }
+    ensures again { IfOk result (λ bytes. IsWholeBody publish_request_reading PUBLISH_REQUEST (publish_message header acknowledgements) bytes.items) }
 {
     let message = PublishRequest {
         request_header: header,
         subscription_acknowledgements: list(alloc, acknowledgements)?,
     };
-    body(alloc, type_ids::PUBLISH_REQUEST, &message)
+    whole_body(alloc, type_ids::PUBLISH_REQUEST, &message)
 }
 
 #[tactic(auto, unfolding(crate::specs::Messages::republish_body))]
@@ -342,14 +368,15 @@ fn republish_body(
     subscription: u32,
     sequence_number: u32,
 ) -> Result<Vec<u8>, AllocError>
-    ensures { IfOk result (λ bytes. bytes.items ≡ republish_body header subscription sequence_number) }
+    ensures ok { IfOk result (λ bytes. bytes.items ≡ republish_body header subscription sequence_number) }
+    ensures again { IfOk result (λ bytes. IsWholeBody republish_request_reading REPUBLISH_REQUEST (republish_message header subscription sequence_number) bytes.items) }
 {
     let message = RepublishRequest {
         request_header: header,
         subscription_id: subscription,
         retransmit_sequence_number: sequence_number,
     };
-    body(alloc, type_ids::REPUBLISH_REQUEST, &message)
+    whole_body(alloc, type_ids::REPUBLISH_REQUEST, &message)
 }
 
 #[tactic(auto, unfolding(crate::specs::Messages::delete_subscriptions_body))]
@@ -358,13 +385,14 @@ fn delete_subscriptions_body(
     header: RequestHeader,
     subscriptions: Listed<u32>,
 ) -> Result<Vec<u8>, AllocError>
-    ensures { IfOk result (λ bytes. bytes.items ≡ delete_subscriptions_body header subscriptions) }
+    ensures ok { IfOk result (λ bytes. bytes.items ≡ delete_subscriptions_body header subscriptions) }
+    ensures again { IfOk result (λ bytes. IsWholeBody delete_subscriptions_request_reading DELETE_SUBSCRIPTIONS_REQUEST (delete_subscriptions_message header subscriptions) bytes.items) }
 {
     let message = DeleteSubscriptionsRequest {
         request_header: header,
         subscription_ids: held(subscriptions.into_vec())?,
     };
-    body(alloc, type_ids::DELETE_SUBSCRIPTIONS_REQUEST, &message)
+    whole_body(alloc, type_ids::DELETE_SUBSCRIPTIONS_REQUEST, &message)
 }
 
 /// The body of what a session asks, with this header.
@@ -374,7 +402,8 @@ pub fn request_body(
     header: RequestHeader,
     request: Request,
 ) -> Result<Vec<u8>, AllocError>
-    ensures { IfOk result (λ bytes. bytes.items ≡ request_body header request) }
+    ensures ok { IfOk result (λ bytes. bytes.items ≡ request_body header request) }
+    ensures again { IfOk result (λ bytes. IsServiceBody header request bytes.items) }
 {
     match request {
         Request::ActivateSession => activate_session_body(alloc, header),
