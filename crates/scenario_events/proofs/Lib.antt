@@ -5,3 +5,4 @@ pub mod AssemblyLemmas
 pub mod ReadLemmas
 pub mod FrameLemmas
 pub mod CountLemmas
+pub mod TellingLemmas

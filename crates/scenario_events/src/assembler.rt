@@ -5,7 +5,8 @@ ghost use Rattle.ua_types.specs.Answers.{GivesAs};
 ghost use Rattle.scenario_text.specs.declared.fault.Cause.TheVariants.{Memory};
 ghost use Rattle.std.specs.Option.{option_copied};
 ghost use Rattle.ua_channel.specs.SequenceNumbers.{sequence_number_after as sequence_number_after_spec};
-ghost use Rattle.scenario_text.specs.declared.statement.Statement.TheVariants.{GetEndpoints, CreateSession, Ask};
+ghost use Rattle.scenario_text.specs.declared.statement.Statement.TheVariants.{OpenChannel, GetEndpoints, CreateSession, Ask};
+ghost use Rattle.scenario_events.specs.ReadBodies.{IsRead};
 ghost use Rattle.scenario_events.specs.Members.{Assembles, nothing_sent, client_of as client_of_spec, sending, channels_after as channels_after_spec, assembled_opening, token_in as token_in_spec, token_at as token_at_spec, with_session, assembled_service, assembled_of};
 
 use crate::clients::{Client, closing, hello, new_client, opening, service};
@@ -119,7 +120,8 @@ impl Assembler {
         connection: u64,
         request: ChannelRequest,
     ) -> Result<Member, Cause>
-        ensures { Assembles Memory result self.new (assembled_opening self.old connection request) }
+        ensures given { Assembles Memory result self.new (assembled_opening self.old connection request) }
+        ensures read { OnOk result (IsRead self.old (OpenChannel connection request)) }
     {
         let number = self.channels_after(request);
         let sent = opening(alloc, &self.client_of(connection), number, request)?;
@@ -173,7 +175,8 @@ impl Assembler {
     // GetEndpoints.
     #[tactic(auto, unfolding(crate::specs::Members::assembled_of))]
     fn endpoints(&mut self, alloc: Global, connection: u64) -> Result<Member, Cause>
-        ensures { Assembles Memory result self.new (assembled_of self.old (GetEndpoints connection)) }
+        ensures given { Assembles Memory result self.new (assembled_of self.old (GetEndpoints connection)) }
+        ensures read { OnOk result (IsRead self.old (GetEndpoints connection)) }
     {
         let handle = self.client_of(connection).request_id;
         let body = endpoints_body(alloc, request_header(NodeId::null(), handle))?;
@@ -183,7 +186,8 @@ impl Assembler {
     // CreateSession.
     #[tactic(auto, unfolding(crate::specs::Members::assembled_of))]
     fn create_session(&mut self, alloc: Global, connection: u64) -> Result<Member, Cause>
-        ensures { Assembles Memory result self.new (assembled_of self.old (CreateSession connection)) }
+        ensures given { Assembles Memory result self.new (assembled_of self.old (CreateSession connection)) }
+        ensures read { OnOk result (IsRead self.old (CreateSession connection)) }
     {
         let handle = self.client_of(connection).request_id;
         self.add_session(connection)?;
@@ -200,7 +204,8 @@ impl Assembler {
         session: u64,
         request: Request,
     ) -> Result<Member, Cause>
-        ensures { Assembles Memory result self.new (assembled_of self.old (Ask connection session request)) }
+        ensures given { Assembles Memory result self.new (assembled_of self.old (Ask connection session request)) }
+        ensures read { OnOk result (IsRead self.old (Ask connection session request)) }
     {
         let handle = self.client_of(connection).request_id;
         let token = self.token_at(alloc, session)?;
@@ -208,11 +213,12 @@ impl Assembler {
         self.serve(alloc, connection, body)
     }
 
-    /// What a statement comes to. The only cause but `Memory` is `Limit`, where a body is too long. At an
+    /// What a statement comes to. What it sends is read again. The only cause but `Memory` is `Limit`, where a body is too long. At an
     /// `Err` nothing is said of what is so after it.
     #[tactic(auto, unfolding(crate::specs::Members::assembled_of, crate::specs::Members::sending))]
     pub fn take(&mut self, alloc: Global, statement: Statement) -> Result<Member, Cause>
-        ensures { Assembles Memory result self.new (assembled_of self.old statement) }
+        ensures given { Assembles Memory result self.new (assembled_of self.old statement) }
+        ensures read { OnOk result (IsRead self.old statement) }
     {
         match statement {
             Statement::Open { connection, key } => {

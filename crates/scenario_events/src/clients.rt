@@ -5,6 +5,10 @@ ghost use Rattle.ua_types.specs.Answers.{Gives, GivesAs};
 ghost use Rattle.ua_tcp.specs.Encoding.{frame_encoding};
 ghost use Rattle.ua_channel.specs.Cutting.{opening_frame, opening_header_by};
 ghost use Rattle.scenario_text.specs.declared.fault.Cause.TheVariants.{Memory};
+ghost use Rattle.ua_tcp.specs.Hellos.{hello_reading, hello_encoding};
+ghost use Rattle.scenario_requests.specs.Messages.{opening_body, closing_body, IsOpeningBody, IsClosingBody};
+ghost use Rattle.scenario_events.specs.Groups.{null_header};
+ghost use Rattle.scenario_events.specs.Reading.{hello_said};
 ghost use Rattle.scenario_events.specs.Sendings.{limited, body_limit, new_client, header_of as header_of_spec, after_request, hello_of, named_channel, opened as opened_spec, opening_of, closing_of, room_of as room_of_spec, service_of};
 
 use crate::runs::{put_frame, put_request};
@@ -83,9 +87,10 @@ fn after_request(client: &Client, sequence_number: u32) -> Client
 }
 
 /// A Hello.
-#[tactic(auto, unfolding(crate::specs::Sendings::hello_of))]
+#[tactic(auto, using(crate::proofs::TellingLemmas::alone), unfolding(crate::specs::Sendings::hello_of))]
 pub(crate) fn hello(alloc: Global, client: &Client, url: Text) -> Result<(Vec<u8>, Client), Cause>
-    ensures { GivesAs Memory (λ s. (s.0.items, s.1)) result (hello_of client.now url) }
+    ensures given { GivesAs Memory (λ s. (s.0.items, s.1)) result (hello_of client.now url) }
+    ensures read { OnOk result (hello_reading (hello_encoding (hello_said url).0) ≡ Ok (hello_said url)) }
 {
     let hello = Hello {
         protocol_version: 0,
@@ -166,7 +171,8 @@ pub(crate) fn opening(
     number: u32,
     request: ChannelRequest,
 ) -> Result<(Vec<u8>, Client), Cause>
-    ensures { GivesAs Memory (λ s. (s.0.items, s.1)) result (opening_of client.now number request) }
+    ensures given { GivesAs Memory (λ s. (s.0.items, s.1)) result (opening_of client.now number request) }
+    ensures read { OnOk result (IsOpeningBody (null_header client.now.request_id) request (opening_body (null_header client.now.request_id) request)) }
 {
     let header = request_header(NodeId::null(), client.request_id);
     let body = limited(opening_body(alloc, header, request)?)?;
@@ -185,7 +191,8 @@ pub(crate) fn opening(
 /// The end of a channel.
 #[tactic(auto, using(ua_channel::proofs::HeaderLemmas::encoding_length), unfolding(crate::specs::Sendings::closing_of))]
 pub(crate) fn closing(alloc: Global, client: &Client) -> Result<(Vec<u8>, Client), Cause>
-    ensures { GivesAs Memory (λ s. (s.0.items, s.1)) result (closing_of client.now) }
+    ensures given { GivesAs Memory (λ s. (s.0.items, s.1)) result (closing_of client.now) }
+    ensures read { OnOk result (IsClosingBody (null_header client.now.request_id) (closing_body (null_header client.now.request_id))) }
 {
     let header = request_header(NodeId::null(), client.request_id);
     let body = limited(closing_body(alloc, header)?)?;

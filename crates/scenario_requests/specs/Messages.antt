@@ -331,3 +331,16 @@ closing_message header = record {
 
 unfoldable pub closing_body : RequestHeader → List ℕ
 closing_body header = body_encoding close_secure_channel_request_encoding CLOSE_SECURE_CHANNEL_REQUEST (closing_message header)
+
+-- what these bodies are read as
+abbrev pub IsEndpointsBody : RequestHeader → List ℕ → Type 0
+IsEndpointsBody header body = IsWholeBody get_endpoints_request_reading GET_ENDPOINTS_REQUEST (endpoints_message header) body
+
+abbrev pub IsSessionBody : RequestHeader → List ℕ → Type 0
+IsSessionBody header body = IsWholeBody create_session_request_reading CREATE_SESSION_REQUEST (create_session_message header) body
+
+abbrev pub IsOpeningBody : RequestHeader → ChannelRequest → List ℕ → Type 0
+IsOpeningBody header request body = IsWholeBody open_secure_channel_request_reading OPEN_SECURE_CHANNEL_REQUEST (opening_message header request) body
+
+abbrev pub IsClosingBody : RequestHeader → List ℕ → Type 0
+IsClosingBody header body = IsWholeBody close_secure_channel_request_reading CLOSE_SECURE_CHANNEL_REQUEST (closing_message header) body

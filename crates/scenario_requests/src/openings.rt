@@ -1,12 +1,7 @@
 //! The bodies of what no session asks.
 
 ghost use Rattle.std.specs.Prelude.{◌≡◌, IfOk};
-ghost use Rattle.scenario_requests.specs.Messages.{endpoints_body, create_session_body, opening_body, closing_body, endpoints_message, create_session_message, opening_message, closing_message};
-ghost use Rattle.scenario_requests.specs.Bodies.{IsWholeBody};
-ghost use Rattle.ua_messages.specs.GetEndpoints.{get_endpoints_request_reading};
-ghost use Rattle.ua_messages.specs.SecureChannels.{close_secure_channel_request_reading, open_secure_channel_request_reading};
-ghost use Rattle.ua_service_messages.specs.Sessions.{create_session_request_reading};
-ghost use Rattle.ua_messages.specs.declared.type_ids.TheConstants.{CLOSE_SECURE_CHANNEL_REQUEST, CREATE_SESSION_REQUEST, GET_ENDPOINTS_REQUEST, OPEN_SECURE_CHANNEL_REQUEST};
+ghost use Rattle.scenario_requests.specs.Messages.{endpoints_body, create_session_body, opening_body, closing_body, IsEndpointsBody, IsSessionBody, IsOpeningBody, IsClosingBody};
 
 use crate::bodies::whole_body;
 use crate::structures::{NO_DURATION, no_application, request_type};
@@ -26,7 +21,7 @@ const LIFETIME: u32 = 3_600_000;
 #[tactic(auto, unfolding(crate::specs::Messages::endpoints_body))]
 pub fn endpoints_body(alloc: Global, header: RequestHeader) -> Result<Vec<u8>, AllocError>
     ensures ok { IfOk result (λ bytes. bytes.items ≡ endpoints_body header) }
-    ensures again { IfOk result (λ bytes. IsWholeBody get_endpoints_request_reading GET_ENDPOINTS_REQUEST (endpoints_message header) bytes.items) }
+    ensures again { IfOk result (λ bytes. IsEndpointsBody header bytes.items) }
 {
     let message = GetEndpointsRequest {
         request_header: header,
@@ -41,7 +36,7 @@ pub fn endpoints_body(alloc: Global, header: RequestHeader) -> Result<Vec<u8>, A
 #[tactic(auto, unfolding(crate::specs::Messages::create_session_body))]
 pub fn create_session_body(alloc: Global, header: RequestHeader) -> Result<Vec<u8>, AllocError>
     ensures ok { IfOk result (λ bytes. bytes.items ≡ create_session_body header) }
-    ensures again { IfOk result (λ bytes. IsWholeBody create_session_request_reading CREATE_SESSION_REQUEST (create_session_message header) bytes.items) }
+    ensures again { IfOk result (λ bytes. IsSessionBody header bytes.items) }
 {
     let message = CreateSessionRequest {
         request_header: header,
@@ -65,7 +60,7 @@ pub fn opening_body(
     request: ChannelRequest,
 ) -> Result<Vec<u8>, AllocError>
     ensures ok { IfOk result (λ bytes. bytes.items ≡ opening_body header request) }
-    ensures again { IfOk result (λ bytes. IsWholeBody open_secure_channel_request_reading OPEN_SECURE_CHANNEL_REQUEST (opening_message header request) bytes.items) }
+    ensures again { IfOk result (λ bytes. IsOpeningBody header request bytes.items) }
 {
     let message = OpenSecureChannelRequest {
         request_header: header,
@@ -82,7 +77,7 @@ pub fn opening_body(
 #[tactic(auto, unfolding(crate::specs::Messages::closing_body))]
 pub fn closing_body(alloc: Global, header: RequestHeader) -> Result<Vec<u8>, AllocError>
     ensures ok { IfOk result (λ bytes. bytes.items ≡ closing_body header) }
-    ensures again { IfOk result (λ bytes. IsWholeBody close_secure_channel_request_reading CLOSE_SECURE_CHANNEL_REQUEST (closing_message header) bytes.items) }
+    ensures again { IfOk result (λ bytes. IsClosingBody header bytes.items) }
 {
     let message = CloseSecureChannelRequest {
         request_header: header,

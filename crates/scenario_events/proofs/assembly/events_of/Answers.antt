@@ -11,14 +11,14 @@ returns-in_err-member c =
     let total = joined (groups_from c.args.fault nothing_sent 0 c.args.lines.items) in
     let so_far = rw c.in-Some.ensures.steps.0 at c.loop-line.invariant.whole in
     rw (p.1, p.2) (λ other.
-    let r = refused c.take.result c.loop-line.assembler c.take.new.self c.in-Some.line.statement c.in-Some.line.number _ c.take.ensures c.in_err-member.ensures other in
+    let r = refused c.take.result c.loop-line.assembler c.take.new.self c.in-Some.line.statement c.in-Some.line.number _ c.take.ensures.given c.in_err-member.ensures other in
     fails c.args.fault c.loop-line.assembler c.loop-line.events.items c.in-Some.line c.next.new.self.rest.items _ total r.0 so_far ∙ ap Err (sym r.1))
 
 pub loop-line-preserved : goal.loop-line-preserved
 loop-line-preserved c =
     let total = joined (groups_from c.args.fault nothing_sent 0 c.args.lines.items) in
     let so_far = rw c.in-Some.ensures.steps.0 at c.loop-line.invariant.whole in
-    let assembled = taken c.take.result c.loop-line.assembler c.take.new.self c.in-Some.line.statement c.in-Some.line.number c.in_ok-member.member c.take.ensures c.in_ok-member.ensures in
+    let assembled = taken c.take.result c.loop-line.assembler c.take.new.self c.in-Some.line.statement c.in-Some.line.number c.in_ok-member.member c.take.ensures.given c.in_ok-member.ensures in
     let put = put_well c.put_group.result c.loop-line.events.items c.put_group.new.events.items (group_of c.take.new.self.cut c.in_ok-member.member) c.in-Some.line.number c.in_ok-in_line.field-0 c.put_group.ensures c.in_ok-in_line.ensures in
     record {
       whole = goes_on c.args.fault c.loop-line.assembler c.take.new.self c.in_ok-member.member c.loop-line.events.items c.put_group.new.events.items c.in-Some.line c.next.new.self.rest.items total assembled put.0 put.1 so_far;
@@ -30,7 +30,7 @@ returns-in_err-in_line c =
     let p = err_from_is_err_and c.from_residual-in_err-in_line.result c.from_residual-in_err-in_line.ensures.1 in
     let total = joined (groups_from c.args.fault nothing_sent 0 c.args.lines.items) in
     let so_far = rw c.in-Some.ensures.steps.0 at c.loop-line.invariant.whole in
-    let assembled = taken c.take.result c.loop-line.assembler c.take.new.self c.in-Some.line.statement c.in-Some.line.number c.in_ok-member.member c.take.ensures c.in_ok-member.ensures in
+    let assembled = taken c.take.result c.loop-line.assembler c.take.new.self c.in-Some.line.statement c.in-Some.line.number c.in_ok-member.member c.take.ensures.given c.in_ok-member.ensures in
     rw (p.1, p.2) (λ other.
     let r = put_badly c.put_group.result c.loop-line.events.items c.put_group.new.events.items (group_of c.take.new.self.cut c.in_ok-member.member) c.in-Some.line.number _ c.put_group.ensures c.in_err-in_line.ensures other in
     exceeds c.args.fault c.loop-line.assembler c.take.new.self c.in_ok-member.member c.loop-line.events.items c.in-Some.line c.next.new.self.rest.items total assembled r.1 so_far ∙ ap Err (sym r.0))
