@@ -46,19 +46,19 @@ use Rattle.scenario_events.specs.Sendings.{body_limit, limited, after_request, n
 use Rattle.scenario_events.specs.declared.assembler.Assembler.{Assembler}
 use Rattle.scenario_events.specs.declared.clients.Client.{Client}
 
-none_yet : (limit : ℕ) → judgement_of limit [] ≡ Incomplete
+pub none_yet : (limit : ℕ) → judgement_of limit [] ≡ Incomplete
 unfolding judgement_of
 none_yet limit = refl
 
 -- a frame alone is read as it
-one_frame : (limit : ℕ) (f : Frame) → limit < 2 ^ 32 → IsFrame limit f → frames limit (frame_encoding f) ≡ record { frames = f ∷ []; end = Rest [] }
+pub one_frame : (limit : ℕ) (f : Frame) → limit < 2 ^ 32 → IsFrame limit f → frames limit (frame_encoding f) ≡ record { frames = f ∷ []; end = Rest [] }
 one_frame limit f l is =
     split_read limit (frame_encoding f) (f ∷ []) [] (Rest []) l
     (record { whole = sym (append-nil (frame_encoding f ++ []) ∙ append-nil (frame_encoding f)); each = (is, tt); ends = (refl, none_yet limit) })
 
 -- ---- a body that isn't too long is sent in one frame
 
-abbrev framed_as : MessageType → List ℕ → Frame
+abbrev pub framed_as : MessageType → List ℕ → Frame
 framed_as message_type body = record { message_type = message_type; chunk_type = Final; body = body }
 
 frame_sent : {A : Type 0} (limit connection : ℕ) (a : Assembler) (message_type : MessageType) (reading : Reading A) (said : A × List ℕ) (front body : List ℕ) (after : Client)
@@ -142,7 +142,7 @@ url_again None utf8 short = null_text_again
 url_again (Some text) utf8 short = text_again text (byte_string_again text (omega (arith, url_short text))) utf8
 
 -- a number, a text, two nulls and two numbers
-fields_again : (c s r : ℕ) (uri part : List ℕ) → c < 2 ^ 32 → s < 2 ^ 32 → r < 2 ^ 32 → IsReadAgain text_reading text_encoding (Some uri) →
+pub fields_again : (c s r : ℕ) (uri part : List ℕ) → c < 2 ^ 32 → s < 2 ^ 32 → r < 2 ^ 32 → IsReadAgain text_reading text_encoding (Some uri) →
     (let h : OpeningHeader = record {
       channel_id = c;
       security_policy_uri = Some uri;
@@ -172,7 +172,7 @@ policy_utf8 : IsUtf8 security_policy_none
 unfolding lib.Utf8.encode
 policy_utf8 = (security_policy_none, (refl, refl))
 
-policy_again : IsReadAgain text_reading text_encoding (Some security_policy_none)
+pub policy_again : IsReadAgain text_reading text_encoding (Some security_policy_none)
 policy_again = text_again security_policy_none (byte_string_again security_policy_none (omega arith)) policy_utf8
 
 -- ---- the lines
@@ -194,7 +194,7 @@ hello_read limit a connection url ample utf8 =
     sent_if (nat_lt body_limit (length body)) limit connection a message.Hello hello_reading (hello_said url) [] body (client_of a connection) ample (omega arith) refl
     (λ short. hello_again url (url_again url utf8 short)) refl
 
-named_small : (client : Client) (request : ChannelRequest) → IsCounted client → named_channel client request < 2 ^ 32
+pub named_small : (client : Client) (request : ChannelRequest) → IsCounted client → named_channel client request < 2 ^ 32
 named_small client Issue w = omega arith
 named_small client Renew w = w.channel_id
 

@@ -5,4 +5,6 @@ pub mod AssemblyLemmas
 pub mod ReadLemmas
 pub mod FrameLemmas
 pub mod CountLemmas
+pub mod HeldLemmas
 pub mod TellingLemmas
+pub mod RefusalLemmas

@@ -42,7 +42,7 @@ either : (b : Bool) (p : List ℕ) (ps : List (List ℕ)) (q : List ℕ) → (x 
 either true p ps q = (p, ps, refl)
 either false p ps q = (q, [], refl)
 
-some_within : (n size : ℕ) (bytes : List ℕ) → (p : List ℕ) × (ps : List (List ℕ)) × (pieces_within n size bytes ≡ p ∷ ps)
+pub some_within : (n size : ℕ) (bytes : List ℕ) → (p : List ℕ) × (ps : List (List ℕ)) × (pieces_within n size bytes ≡ p ∷ ps)
 unfolding pieces_within
 some_within zero size bytes = (bytes, [], refl)
 some_within (suc n) size bytes = either (nat_lt size (length bytes)) (take size bytes) (pieces_within n size (drop size bytes)) bytes

@@ -67,7 +67,7 @@ stream_read limit id last body bytes l rs =
     split_read limit bytes rs.fs [] (Rest []) l (record { whole = text; each = rs.each; ends = (refl, none_yet limit) }) in
     (ap (λ (x : Framed). x.end) read, ap (λ (x : Framed). joins None x.frames) read ∙ rs.message None refl)
 
-abbrev Fits : ℕ → List ℕ → Type 0
+abbrev pub Fits : ℕ → List ℕ → Type 0
 Fits limit part = 24 + length part ≤ limit
 
 parts_read : (limit : ℕ) (header : ChunkHeader) (last : ChunkType) (parts : List (List ℕ)) (p : List ℕ) (ps : List (List ℕ)) → parts ≡ p ∷ ps → AllByRecursion (Fits limit) parts → IsWritable header
@@ -76,7 +76,7 @@ parts_read limit header last parts p ps is few w =
     let few' : AllByRecursion (Fits limit) (p ∷ ps) = subst (AllByRecursion (Fits limit)) is few in
     subst (λ (qs : List (List ℕ)). Reads limit header.request_id last (concat qs) (run_of last header qs).bytes) (sym is) (run_read limit header last p ps few' w)
 
-one_more : (limit : ℕ) (parts : List (List ℕ)) (q : List ℕ) → AllByRecursion (Fits limit) parts → Fits limit q → AllByRecursion (Fits limit) (parts ++ q ∷ [])
+pub one_more : (limit : ℕ) (parts : List (List ℕ)) (q : List ℕ) → AllByRecursion (Fits limit) parts → Fits limit q → AllByRecursion (Fits limit) (parts ++ q ∷ [])
 one_more limit [] q few fits = (fits, tt)
 one_more limit (p ∷ ps) q few fits = (few.0, one_more limit ps q few.1 fits)
 
