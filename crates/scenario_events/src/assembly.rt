@@ -127,6 +127,9 @@ fn events_of(
 
 /// The events of a scenario: a group for each line that says something, in their order.
 ///
+/// `meant` says what the events are without the definition `given`: what the text tells, in order, each in frames
+/// that are read as it.
+///
 /// The error is the first bad line, with the cause of its leftmost bad word. Where all words of the line
 /// are good it is [`Cause::Limit`]: the line brings more than 100,000 events together, or a body of more
 /// than 1,048,576 bytes. `Memory` comes only where an allocation failed.
