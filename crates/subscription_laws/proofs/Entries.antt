@@ -28,16 +28,16 @@ same_or_not q k = by (is_at (nat_cmp q) k) refl
     by true e = inl (same_number q k e)
     by false e = inr (λ same. false≢true (sym e ∙ numbers_same q k same))
 
-less : (k q : ℕ) → k < q → nat_cmp k q ≡ Less
+pub less : (k q : ℕ) → k < q → nat_cmp k q ≡ Less
 less k q h = sym (nat_cmp_is k q Less h)
 
 before : (k q : ℕ) → nat_cmp k q ≡ Less → k < q
 before k q e = ranked k q Less (sym e)
 
-behind : (k q : ℕ) → nat_cmp k q ≡ Greater → q < k
+pub behind : (k q : ℕ) → nat_cmp k q ≡ Greater → q < k
 behind k q e = ranked k q Greater (sym e)
 
-equal_is : (k q : ℕ) → nat_cmp k q ≡ Equal → k ≡ q
+pub equal_is : (k q : ℕ) → nat_cmp k q ≡ Equal → k ≡ q
 equal_is k q e = same_number k q (ap is_eq e)
 
 -- ---- what is found

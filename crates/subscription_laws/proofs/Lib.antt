@@ -36,3 +36,4 @@ pub mod TablesWithin
 pub mod WithinBounds
 pub mod TellingRows
 pub mod TellingRuns
+pub mod DueFirst

@@ -32,6 +32,9 @@ pub record Concern : Type 0 where
 abbrev pub concern : ℕ → TableEvent → Vars → Concern
 concern number event before = record { subscription = number; event = event; before = before }
 
+abbrev pub number_of : Concern → ℕ
+number_of c = c.subscription
+
 -- what a row that fired tells of it
 abbrev pub concern_of : Fired → Concern
 concern_of f = concern f.subscription f.event f.before

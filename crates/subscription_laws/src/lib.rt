@@ -26,9 +26,10 @@ ghost use Rattle.subscription_laws.specs.Answering.{sends, sends_keep_alive, ans
 ghost use Rattle.subscription_laws.specs.Apartness.{IsRequestOf, OthersStay};
 ghost use Rattle.ua_subscriptions.specs.Answers.{number_of, published_of};
 ghost use Rattle.ua_subscriptions.specs.Calls.{event_of};
-ghost use Rattle.subscription_laws.specs.Calm.{IsListed, ListsItsOwn, AreLists, AreSteady};
+ghost use Rattle.subscription_laws.specs.Calm.{is_listed, IsListed, ListsItsOwn, AreLists, AreSteady};
 ghost use Rattle.ua_subscriptions.specs.Firing.{fired, before_of, vars_in, row_of};
 ghost use Rattle.subscription_laws.specs.Concern.{concern_of, concerned, all_concerned, AreTheRowsFor};
+ghost use Rattle.subscription_laws.specs.Concern as concern;
 ghost use Rattle.subscription_laws.specs.Fates.{queue_moves_at, account_at, AreCaused, HaveTheirCauses, EachLossIsMarked};
 ghost use Rattle.subscription_laws.specs.Histories.{counts_at, life_at, AreLawful};
 ghost use Rattle.subscription_laws.specs.ItemCalls.{ItemsComeByTheirCalls, item_calls};
@@ -36,8 +37,8 @@ ghost use Rattle.ua_subscriptions.specs.Making.{kept_at, republished};
 ghost use Rattle.ua_subscriptions.specs.Messages.{number_after, keep_alive_message};
 ghost use Rattle.subscription_laws.specs.Messaging.{messages_for, run_made, IsAmong, AreNotes, AreItsMessages};
 ghost use Rattle.subscription_laws.specs.Numbering.{AreNumbered, IsMade, messages_of, begins_or_ends};
-ghost use Rattle.subscription_laws.specs.Precedence.{precedence};
-ghost use Rattle.ua_subscriptions.specs.Ranks.{is_waiting, rank_cmp};
+ghost use Rattle.subscription_laws.specs.Precedence.{precedence, AreBestFirst};
+ghost use Rattle.ua_subscriptions.specs.Ranks.{is_waiting, is_due, rank_cmp, due_of, due_numbers};
 ghost use Rattle.subscription_laws.specs.Requests.{Name, such_answers, such_waiting, such_came};
 ghost use Rattle.subscription_laws.specs.Runs.{Move, run, moved, start};
 ghost use Rattle.ua_subscriptions.specs.Scenes.{Scene, row_done};
@@ -56,6 +57,16 @@ ghost use Rattle.ua_types.specs.declared.moment.Moment.{Moment};
 /// message is the least recent, one that has sent none before any; and among those the one with the least number.
 pub fn the_highest_priority_comes_first()
     ensures { (a b : Rank) → rank_cmp a b ≡ precedence a b }
+{}
+
+/// The timers that are due come in that order: each before the next. Every subscription that is due is among them, and once a
+/// time comes, whatever was called, each of them is concerned, so that none is passed over, and no other.
+pub fn the_due_come_best_first()
+    ensures in_order { (clock : Moment) (subscriptions : List (ℕ × Subscription)) → AreBestFirst (due_of clock subscriptions) }
+    ensures none_passed_over { (clock : Moment) (subscriptions : List (ℕ × Subscription)) (number : ℕ) (s : Subscription) →
+        subscription_at number subscriptions ≡ Some s → is_due clock s ≡ true → is_listed number (due_numbers clock subscriptions) ≡ true }
+    ensures each_fires { (config : Configuration) (moves : List Move) (clock : Moment) → let r = run config moves in
+        map concern.number_of (concerned r (Move.Timers clock)) ≡ due_numbers clock r.subs.table.subscriptions }
 {}
 
 /// Exactly one row fires of what comes to a steady subscription, the one that is chosen.
