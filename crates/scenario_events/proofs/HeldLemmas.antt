@@ -1,15 +1,15 @@
 -- The events of bytes have their sizes, and the chunks of a request their headers and parts.
-use Rattle.std.proofs.Common.{◌≡◌, ℕ, zero, suc, ◌+◌, ◌<◌, ◌≤◌, ◌^◌, Bool, true, false, cond, List, [], ◌∷◌, ◌++◌, length, take, drop, None, refl, sym, ◌∙◌, ap, arith, append-nil, subst, inl, inr, ◌⊎◌}
+use Rattle.std.proofs.Common.{◌≡◌, ℕ, zero, suc, ◌<◌, ◌≤◌, Bool, true, false, cond, List, [], ◌∷◌, ◌++◌, length, take, drop, None, refl, sym, ◌∙◌, ap, arith, append-nil, subst, inl, inr, ◌⊎◌}
 use Rattle.std.specs.Prelude.{nat_lt, ◌==◌}
-use Rattle.std.specs.List.{flat_map, concat, AllByRecursion}
+use Rattle.std.specs.List.{flat_map, AllByRecursion}
 use Rattle.std.proofs.lemmas.List.{length-drop, length-take-le}
 use Rattle.std.proofs.lemmas.Bool.{cases_lt}
 use Rattle.std.proofs.lemmas.Bool.Decides.{nat_tests}
 use Rattle.ua_tcp.specs.Encoding.{frame_encoding, IsFrame}
-use Rattle.ua_tcp.specs.Frames.{Framed, Rest, frames}
+use Rattle.ua_tcp.specs.Frames.{Framed, Rest}
 use Rattle.ua_tcp.specs.declared.frame.Frame.{Frame}
 use Rattle.ua_tcp.specs.declared.frame.ChunkType.{ChunkType}
-use Rattle.ua_tcp.specs.declared.frame.ChunkType.TheVariants.{Intermediate, Final, Aborted}
+use Rattle.ua_tcp.specs.declared.frame.ChunkType.TheVariants.{Final, Aborted}
 use Rattle.ua_tcp.proofs.EncodedLemmas.{split_read}
 use Rattle.ua_channel.specs.Chunks.{joins}
 use Rattle.ua_channel.specs.Cutting.{chunk_frame, next_header}
@@ -21,7 +21,7 @@ use Rattle.scenario_events.specs.Assembly.{stream_events}
 use Rattle.scenario_events.specs.Groups.{AreFull, AreSized, ComesIn, AreFrames, no_limit, type_of, Hold, HoldRequest, IsRequest, Bring, chunks_later}
 use Rattle.scenario_events.specs.Pieces.{pieces_of, pieces_within}
 use Rattle.scenario_events.specs.Reading.{messages_of}
-use Rattle.scenario_events.specs.Runs.{Run, run_of, request_run, type_before, no_reason}
+use Rattle.scenario_events.specs.Runs.{run_of, request_run, type_before, no_reason}
 use Rattle.scenario_events.specs.Sendings.{body_limit, room_of}
 use Rattle.scenario_events.proofs.FrameLemmas.{none_yet}
 use Rattle.scenario_events.proofs.Pieces.{pieces_last, short_pieces, some_within, whole_pieces}

@@ -1,6 +1,6 @@
 -- Why a scenario is refused, and what is told by one that isn't.
-use Rattle.std.proofs.Common.{◌≡◌, ◌≢◌, ℕ, ◌+◌, Bool, true, false, cond, List, [], ◌∷◌, length, Option, Some, None, Result, Ok, Err, refl, sym, ap, ◌∙◌}
-use Rattle.std.specs.Prelude.{nat_lt, IfErr, IsOkAnd}
+use Rattle.std.proofs.Common.{◌≡◌, ◌≢◌, ℕ, Bool, true, false, cond, List, [], ◌∷◌, Option, Some, None, Result, Ok, Err, refl, sym, ap, ◌∙◌}
+use Rattle.std.specs.Prelude.{IfErr, IsOkAnd}
 use Rattle.ua_types.specs.Answers.{◌>>=◌}
 use Rattle.server_core.specs.declared.event.Event.{Event}
 use Rattle.scenario_text.specs.Scenarios.{Means, scenario_of}
@@ -10,9 +10,9 @@ use Rattle.scenario_text.specs.declared.fault.Cause.TheVariants.{Limit, Memory}
 use Rattle.scenario_text.specs.declared.scenario.Line.{Line}
 use Rattle.scenario_text.specs.declared.statement.Statement.{Statement}
 use Rattle.scenario_text.specs.declared.statement.Statement.TheVariants as statements
-use Rattle.scenario_events.specs.Assembly.{event_limit, preceded, on_assembled, with_group, no_groups, groups_from, joined, events_of}
+use Rattle.scenario_events.specs.Assembly.{preceded, on_assembled, no_groups, groups_from, joined, events_of}
 use Rattle.scenario_events.specs.Groups.{nothing_counted, AreTold}
-use Rattle.scenario_events.specs.Meaning.{Telling, plain_manner, tellings_of, unless_bad, meaning}
+use Rattle.scenario_events.specs.Meaning.{plain_manner, tellings_of, unless_bad, meaning}
 use Rattle.scenario_events.specs.Members.{Assembled, nothing_sent, sending, assembled_opening, assembled_service, assembled_of}
 use Rattle.scenario_events.specs.Sendings.{Sending, hello_of, opening_of, closing_of, service_of}
 use Rattle.scenario_events.specs.declared.assembler.Assembler.{Assembler}

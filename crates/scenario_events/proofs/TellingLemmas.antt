@@ -27,10 +27,10 @@ use Rattle.scenario_text.specs.declared.scenario.Line.{Line}
 use Rattle.scenario_text.specs.declared.statement.Request.{Request}
 use Rattle.scenario_text.specs.declared.statement.Statement.{Statement}
 use Rattle.scenario_text.specs.declared.statement.Statement.TheVariants as statements
-use Rattle.scenario_requests.specs.Messages.{opening_body, closing_body, endpoints_body, create_session_body, request_body, IsServiceBody, IsEndpointsBody, IsSessionBody, IsOpeningBody, IsClosingBody}
+use Rattle.scenario_requests.specs.Messages.{opening_body, closing_body, request_body, IsServiceBody, IsOpeningBody, IsClosingBody}
 use Rattle.scenario_requests.specs.Structures.{plain_request}
 use Rattle.scenario_events.specs.Assembly.{group_of, in_line, stream_events}
-use Rattle.scenario_events.specs.Groups.{Counts, nothing_counted, asked_channel, AreTold, IsGroup, Bring, ComesIn, IsOneFrame, IsNothing, no_limit, greeting, null_header, first_numbers, numbers_on, with_numbers, with_token, after_chunks, first_header, given_token, session_header, with_asking, IsAskingBody, IsRequest, chunks_later}
+use Rattle.scenario_events.specs.Groups.{Counts, nothing_counted, asked_channel, AreTold, IsGroup, Bring, IsOneFrame, IsNothing, no_limit, greeting, null_header, with_numbers, with_token, after_chunks, first_header, given_token, session_header, with_asking, IsAskingBody, chunks_later}
 use Rattle.scenario_events.specs.Meaning.{Manner, Telling, Asked, Asking, Endpoints, NewSession, Service, plain_manner, told_by, tellings_of}
 use Rattle.scenario_events.specs.Members.{Assembled, client_of, channels_after, token_in, token_at, with_client, with_session, nothing_sent, sent_on, sending, assembled_opening, assembled_service, assembled_of}
 use Rattle.scenario_events.specs.ReadBodies.{IsRead}

@@ -4,7 +4,6 @@ use Rattle.std.proofs.lemmas.List.{append-nil}
 use Rattle.ua_types.specs.NodeIds.{numeric_id}
 use Rattle.ua_binary.specs.Reading.{Reading, IsReadAgain}
 use Rattle.ua_binary.specs.NodeIds.{node_id_reading, node_id_encoding}
-use Rattle.ua_messages.specs.Bodies.{body_encoding}
 use Rattle.scenario_requests.specs.Bodies.{identified, IsWholeBody}
 
 pub whole_again : {A : Type 0} (reading : Reading A) (encoding : A → List ℕ) (type_id : ℕ) (v : A)
