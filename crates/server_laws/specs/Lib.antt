@@ -8,3 +8,4 @@ pub mod SessionsApart
 pub mod Fates
 pub mod Replying
 pub mod Bounds
+pub mod Tellings
