@@ -12,3 +12,4 @@ pub mod BoundLemmas
 pub mod PointsFew
 pub mod FewLemmas
 pub mod NotingLemmas
+pub mod ReachingLemmas

@@ -9,3 +9,4 @@ pub mod Fates
 pub mod Replying
 pub mod Bounds
 pub mod Tellings
+pub mod Reaching

@@ -12,6 +12,7 @@
 #![tactic(auto)]
 
 pub mod bounds;
+pub mod reaching;
 pub mod tellings;
 
 ghost use Rattle.std.specs.Prelude.{ℕ, List, []};
