@@ -13,7 +13,6 @@ use Rattle.ua_monitored_items.specs.Moves.{queue_at}
 use Rattle.server_messages.specs.declared.reply.Reply.{Reply}
 use Rattle.subscription_laws.specs.MessageContents.{Taken, IsMadeOf, AreMadeOf, all_taken, entries_sent}
 use Rattle.subscription_laws.specs.Messaging.{Made}
-use Rattle.subscription_laws.specs.Runs.{run}
 use Rattle.subscription_laws.specs.Tellings.{Telling, Told, Notifications, KeepAlive, TimedOut, Refused, answer_of, message_in, messages_in}
 use Rattle.subscription_laws.proofs.TellingRuns.{all_are_told, messages_told}
 use Rattle.ua_services.specs.declared.services.Services.{Services}
@@ -22,7 +21,7 @@ use Rattle.server_core.specs.declared.event.Event.{Event}
 use Rattle.server_laws.specs.EventMoves.{moves_of}
 use Rattle.server_laws.specs.Fates.{account_after, HoldsWhatWaits}
 use Rattle.server_laws.specs.Messages.{made_by}
-use Rattle.server_laws.specs.Reaching.{StandsIn, IsBrought, HasCome, HaveCome, ValuesHaveCome}
+use Rattle.server_laws.specs.Reaching.{StandsIn, StandTogether, IsBrought, HasCome, HaveCome, ValuesHaveCome}
 use Rattle.server_laws.specs.Tellings.{told_by}
 use Rattle.server_laws.proofs.FateLemmas.{have_one_fate, stand_in_messages, marks_losses}
 use Rattle.server_laws.proofs.ServersKept.{if_runs}
@@ -43,24 +42,24 @@ module _ {A : Type 0} where
   mapped f x (y ∷ ys) (inr h) = inr (mapped f x ys h)
 
 -- a message that was made, of what items gave
-record Found (number : ℕ) (value : Entry DataValue) (made : List Made) : Type 0 where
+record Found (number : ℕ) (value : Entry DataValue) (made : List Made) (takings : List Taken) : Type 0 where
   message : Made
   taken : Taken
   is_made : IsMadeOf message taken
   among : StandsIn value (entries_of number taken.givings)
-  there : StandsIn message made
+  together : StandTogether message taken made takings
 
-found : (number : ℕ) (value : Entry DataValue) (made : List Made) (takings : List Taken) → AreMadeOf made takings → StandsIn value (entries_sent number takings) → Found number value made
+found : (number : ℕ) (value : Entry DataValue) (made : List Made) (takings : List Taken) → AreMadeOf made takings → StandsIn value (entries_sent number takings) → Found number value made takings
 found number value [] [] h i = absurd i
 found number value [] (t ∷ ts) h i = absurd h
 found number value (m ∷ ms) [] h i = absurd i
 found number value (m ∷ ms) (t ∷ ts) h i = by (in_either value (entries_of number t.givings) (entries_sent number ts) i) (λ rest. found number value ms ts h.1 rest)
   where
-    later : Found number value ms → Found number value (m ∷ ms)
-    later f = record { message = f.message; taken = f.taken; is_made = f.is_made; among = f.among; there = inr f.there }
+    later : Found number value ms ts → Found number value (m ∷ ms) (t ∷ ts)
+    later f = record { message = f.message; taken = f.taken; is_made = f.is_made; among = f.among; together = inr f.together }
 
-    by : StandsIn value (entries_of number t.givings) ⊎ StandsIn value (entries_sent number ts) → (StandsIn value (entries_sent number ts) → Found number value ms) → Found number value (m ∷ ms)
-    by (inl here) k = record { message = m; taken = t; is_made = h.0; among = here; there = inl refl }
+    by : StandsIn value (entries_of number t.givings) ⊎ StandsIn value (entries_sent number ts) → (StandsIn value (entries_sent number ts) → Found number value ms ts) → Found number value (m ∷ ms) (t ∷ ts)
+    by (inl here) k = record { message = m; taken = t; is_made = h.0; among = here; together = inl (refl, refl) }
     by (inr rest) k = later (k rest)
 
 -- an answer that brings a message
@@ -88,49 +87,60 @@ brought message (t ∷ ts) i = by (in_either message (message_in t.told) (messag
     by (inl first) k = here t.told refl first
     by (inr rest) k = later (k rest)
 
-is_brought : (number : ℕ) (value : Entry DataValue) (made : List Made) (takings : List Taken) (told : List Telling) (replies : List Reply) →
-    AreMadeOf made takings → messages_in told ≡ made → replies ≡ map answer_of told → StandsIn value (entries_sent number takings) → IsBrought number value replies
-is_brought number value made takings told replies h same answers i =
-    let f = found number value made takings h i in
-    let b = brought f.message told (subst (λ (ms : List Made). StandsIn f.message ms) (sym same) f.there) in
+-- the first of a pair stands in its list
+first_stands : {A B : Type 0} (x : A) (y : B) (ls : List A) (bs : List B) → StandTogether x y ls bs → StandsIn x ls
+first_stands x y [] bs h = absurd h
+first_stands x y (a ∷ ls) [] h = absurd h
+first_stands x y (a ∷ ls) (b ∷ bs) (inl both) = inl both.0
+first_stands x y (a ∷ ls) (b ∷ bs) (inr h) = inr (first_stands x y ls bs h)
+
+is_brought : (config : Configuration) (space : SpaceState) (events : List Event) (number : ℕ) (value : Entry DataValue) →
+    StandsIn value (entries_sent number (all_taken config (moves_of config space events))) → IsBrought config space events number value
+is_brought config space events number value i =
+    let moves = moves_of config space events in
+    let made = made_by config space events in
+    let takings = all_taken config moves in
+    let told = told_by config space events in
+    let f = found number value made takings (stand_in_messages config space events number).told i in
+    let there = first_stands f.message f.taken made takings f.together in
+    let b = brought f.message told (subst (λ (ms : List Made). StandsIn f.message ms) (sym (messages_told config moves)) there) in
     record {
       answer = b.answer;
       message = f.message;
       more = b.more;
       taken = f.taken;
       brings = b.brings;
-      made = f.is_made;
+      given = b.there;
+      answered = subst (λ (rs : List Reply). StandsIn (answer_of b.answer) rs) (sym (all_are_told config moves)) (mapped answer_of b.answer told b.there);
+      made = f.together;
+      notes = f.is_made;
       among = f.among;
-      answered = subst (λ (rs : List Reply). StandsIn (answer_of b.answer) rs) (sym answers) (mapped answer_of b.answer told b.there);
     }
 
-module _ (number : ℕ) (queue : List (Entry DataValue)) (replies : List Reply) where
+module _ (queue : List (Entry DataValue)) (IsSent : Entry DataValue → Type 0) where
   -- one value, and those behind it
   one : (value : DataValue) (marked : Bool) (fate : Fate) (needs_mark : Bool) (behind : List (AccountEntry DataValue)) → let t : AccountEntry DataValue = record { value = value; marked = marked; fate = fate; needs_mark = needs_mark } in
-      ((e : Entry DataValue) → StandsIn e (waiting (t ∷ behind)) → StandsIn e queue) → ((e : Entry DataValue) → StandsIn e (sent_of (t ∷ behind)) → IsBrought number e replies) →
+      ((e : Entry DataValue) → StandsIn e (waiting (t ∷ behind)) → StandsIn e queue) → ((e : Entry DataValue) → StandsIn e (sent_of (t ∷ behind)) → IsSent e) →
       (needs_mark ≡ true → is_first_marked behind ≡ true) →
-      HasCome number queue replies (entry value marked) needs_mark behind fate
-      × ((e : Entry DataValue) → StandsIn e (waiting behind) → StandsIn e queue) × ((e : Entry DataValue) → StandsIn e (sent_of behind) → IsBrought number e replies)
+      HasCome queue IsSent (entry value marked) needs_mark behind fate
+      × ((e : Entry DataValue) → StandsIn e (waiting behind) → StandsIn e queue) × ((e : Entry DataValue) → StandsIn e (sent_of behind) → IsSent e)
   one value marked Waits needs_mark behind w s l = (w (entry value marked) (inl refl), λ e i. w e (inr i), s)
   one value marked WasSent needs_mark behind w s l = (s (entry value marked) (inl refl), w, λ e i. s e (inr i))
   one value marked WasLost needs_mark behind w s l = (l, w, s)
   one value marked WasCleared needs_mark behind w s l = (tt, w, s)
 
   all_come : (account : List (AccountEntry DataValue)) → ((e : Entry DataValue) → StandsIn e (waiting account) → StandsIn e queue) →
-      ((e : Entry DataValue) → StandsIn e (sent_of account) → IsBrought number e replies) → LossesAreMarked account → HaveCome number queue replies account
+      ((e : Entry DataValue) → StandsIn e (sent_of account) → IsSent e) → LossesAreMarked account → HaveCome queue IsSent account
   all_come [] w s l = tt
   all_come (t ∷ ts) w s l = let first = one t.value t.marked t.fate t.needs_mark ts w s l.0 in (first.0, all_come ts first.1 first.2 l.1)
 
 pub values_have_come : (config : Configuration) (space : SpaceState) (events : List Event) (number : ℕ) → IfRuns (ValuesHaveCome config space events number) (reached config space events).server
 values_have_come config space events number =
-    let moves = moves_of config space events in
     let account = account_after config space events number in
     let stands = stand_in_messages config space events number in
-    let replies = (run config moves).replies in
     if_runs (HoldsWhatWaits account number) (ValuesHaveCome config space events number) (λ world holds.
     let services : Services = world.core.services in
-    all_come number (queue_at number services.items.items) replies account
+    all_come (queue_at number services.items.items) (IsBrought config space events number) account
     (λ e i. subst (λ (q : List (Entry DataValue)). StandsIn e q) holds i)
-    (λ e i. is_brought number e (made_by config space events) (all_taken config moves) (told_by config space events) replies stands.told (messages_told config moves) (all_are_told config moves)
-    (subst (λ (q : List (Entry DataValue)). StandsIn e q) (sym stands.sent) i))
+    (λ e i. is_brought config space events number e (subst (λ (q : List (Entry DataValue)). StandsIn e q) (sym stands.sent) i))
     (marks_losses config space events number).told) (reached config space events).server (have_one_fate config space events number).waiting
