@@ -1,4 +1,4 @@
-//! Queues of items, where what comes in finds room that was taken before: of a server's items these are empty.
+//! Queues of items: what waits once they are full, and once they got another size.
 
 use crate::holding::holds;
 use std::alloc::{AllocError, Global};
@@ -7,9 +7,9 @@ use ua_item_queue::*;
 
 // The values 1 to 6, sampled into a queue.
 fn sampled(alloc: Global, size: usize, is_oldest: bool) -> Result<ItemQueue<u32>, AllocError> {
-    let mut queue = ItemQueue::new(alloc, size.max(1), is_oldest);
+    let mut queue = ItemQueue::new(alloc, size.max(1), is_oldest)?;
     for value in 1..7u32 {
-        queue.sample(value)?;
+        queue.sample(value);
     }
     Ok(queue)
 }
@@ -30,34 +30,39 @@ fn digits(mut queue: ItemQueue<u32>) -> u64 {
 #[test]
 fn full_queues_tell_what_they_lost(rt: HostRuntime) -> Result<(), Fail> {
     let alloc = rt.alloc();
-    for (size, is_oldest, within, number) in [
-        (3, true, false, 415060u64),
-        (3, false, false, 102061),
-        (1, true, false, 60),
-        (1, false, false, 60),
-        (6, true, false, 102030405060),
-        (7, true, true, 10203040506090),
-        (3, true, true, 516090),
-        (3, false, true, 102091),
-        (1, true, true, 90),
+    for (size, is_oldest, number) in [
+        (3, true, 415060u64),
+        (3, false, 102061),
+        (1, true, 60),
+        (1, false, 60),
+        (6, true, 102030405060),
+        (7, true, 102030405060),
     ] {
-        let mut queue = sampled(alloc, size, is_oldest)?;
-        if within {
-            let room = queue.room(alloc)?;
-            queue.sample_within(9, room);
-        }
+        let queue = sampled(alloc, size, is_oldest)?;
         holds(&rt, "what waits", digits(queue) == number);
     }
     Ok(())
 }
 
+// The values 1 to 6 in a queue of 6 that gets another size; and then a 9 comes.
 #[test]
-fn smaller_queues_mark_nothing(rt: HostRuntime) -> Result<(), Fail> {
+fn another_size_marks_nothing(rt: HostRuntime) -> Result<(), Fail> {
     let alloc = rt.alloc();
-    for (is_oldest, number) in [(true, 5060u64), (false, 1020)] {
+    for (size, is_oldest, number, later) in [
+        (2, true, 5060u64, 6190u64),
+        (2, false, 1020, 1091),
+        (1, true, 60, 90),
+        (6, true, 102030405060, 213040506090),
+        (7, false, 102030405060, 10203040506090),
+    ] {
         let mut queue = sampled(alloc, 6, true)?;
-        queue.resize(2, is_oldest);
+        queue.resize(Room::new(alloc, size)?, is_oldest);
         holds(&rt, "what is left", digits(queue) == number);
+
+        let mut queue = sampled(alloc, 6, true)?;
+        queue.resize(Room::new(alloc, size)?, is_oldest);
+        queue.sample(9);
+        holds(&rt, "what waits", digits(queue) == later);
     }
     Ok(())
 }

@@ -1,58 +1,52 @@
 //! Room for the values of a queue.
 
-ghost use Rattle.std.specs.Prelude.{◌≡◌, ◌<◌, IfOk, []};
-ghost use Rattle.std.specs.VecDeque.{deque_capacity};
+ghost use Rattle.std.specs.Prelude.{◌≡◌, ◌≤◌, [], IfOk};
+ghost use Rattle.circular_buffer.specs.Buffer.{buffer};
 
 use crate::entry::Entry;
+use circular_buffer::HeapCircularBuffer;
 use std::alloc::{AllocError, Global};
-use std::collections::VecDeque;
 use std::marker::Model;
 
-/// Room for the values of a queue and one more. Who takes it before a value comes wants no memory when it
-/// does. Contracts see for how many values it is.
-#[derive(Debug)]
+/// Room for the values of a queue, at least one: an empty ring. Who makes it before a queue gets another
+/// size wants no memory when it does. Contracts see for how many values it is.
 pub struct Room<T> {
-    // None yet.
-    entries: VecDeque<Entry<T>>,
+    ring: HeapCircularBuffer<Entry<T>>,
 }
 
 impl<T> Model for Room<T> {
-    ghost use Rattle.std.specs.Prelude.{◌≡◌, ℕ, []};
-    ghost use Rattle.std.specs.VecDeque.{deque_capacity};
+    ghost use Rattle.std.specs.Prelude.{◌≡◌, ◌≤◌, ℕ, []};
 
     ghost Value = { ℕ };
 
-    ghost view = { λ r. deque_capacity r.entries };
+    ghost view = { λ r. r.ring.capacity };
 
-    ghost invariant = { λ r. r.entries.items ≡ [] };
+    ghost invariant = { λ r. (r.ring.items ≡ []) × (1 ≤ r.ring.capacity) };
 }
 
 impl<T: Drop> Room<T> {
-    // Room for more values than so many.
-    pub(crate) fn above(alloc: Global, count: usize) -> Result<Room<T>, AllocError>
-        ensures { IfOk result (λ room. count < room) }
+    /// Room for so many values.
+    pub fn new(alloc: Global, size: usize) -> Result<Room<T>, AllocError>
+        requires { 1 ≤ size }
+        ensures { IfOk result (λ room. room ≡ size) }
     {
-        let Some(count) = count.checked_add(1) else {
-            return Err(AllocError);
-        };
-        let mut entries = VecDeque::new(alloc);
-        entries.reserve(count)?;
-        Ok(Room { entries })
+        let ring = HeapCircularBuffer::with_capacity(alloc, size)?;
+        Ok(Room { ring })
     }
 
-    // What stands there: nothing.
-    pub(crate) fn into_entries(self) -> VecDeque<Entry<T>>
-        ensures none { result.items ≡ [] }
-        ensures capacity { deque_capacity result ≡ self }
+    // The ring, which is empty.
+    pub(crate) fn into_ring(self) -> HeapCircularBuffer<Entry<T>>
+        ensures ring { result ≡ buffer [] self }
+        ensures some { 1 ≤ self }
     {
-        let Room { entries } = self;
-        entries
+        let Room { ring } = self;
+        ring
     }
 }
 
 // Written out, so that a proof sees a drop as one call and not as its cases.
 impl<T: Drop> Drop for Room<T> {
     fn drop(self) {
-        let Room { entries: _ } = self;
+        let Room { ring: _ } = self;
     }
 }
