@@ -12,5 +12,6 @@ pub mod FirstNotes
 pub mod Undoing
 pub mod Rooms
 pub mod Readiness
+pub mod Modifications
 pub mod Sent
 pub mod Causing

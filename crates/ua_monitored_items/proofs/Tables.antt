@@ -23,6 +23,8 @@ use Rattle.ua_monitored_items.specs.Items.{Visit, visited, sampled_items, Taking
 use Rattle.ua_monitored_items.specs.Preparing.{enabled_from, moded_from}
 use Rattle.ua_monitored_items.specs.Sampling.{index_visits}
 use Rattle.ua_monitored_items.specs.declared.preparing.FirstSample.{FirstSample}
+use Rattle.ua_monitored_items.specs.declared.preparing.Modification.{Modification}
+use Rattle.ua_monitored_items.specs.Modifying.{modified_with}
 use Rattle.ua_read_write.specs.declared.writing.Change.{Change}
 use Rattle.std.proofs.lemmas.List.Concat.{flat_map-cons}
 use Rattle.ua_monitored_items.specs.declared.item.Item.{Item}
@@ -329,6 +331,9 @@ module _ (item : Item) (is_value : item.attribute_id ≡ 13) where
 
 pub there_modified : (longest : ℕ) (timestamps : Timestamps) (trigger : Trigger) (parameters : MonitoringParameters) (item : Item) → IsThere item (modified longest timestamps trigger parameters item)
 there_modified longest timestamps trigger parameters item = record { subscription = refl; node = refl; attribute = refl }
+
+pub there_modified_with : (timestamps : Timestamps) (modification : Modification) (parameters : MonitoringParameters) (item : Item) → IsThere item (modified_with timestamps modification parameters item)
+there_modified_with timestamps modification parameters item = record { subscription = refl; node = refl; attribute = refl }
 
 there_queued : (v : DataValue) (item : Item) → IsThere item (queued v item)
 there_queued v item = record { subscription = refl; node = refl; attribute = refl }

@@ -1,5 +1,5 @@
 -- A mode for items, where what they queue was sampled before.
-use Rattle.std.specs.Prelude.{◌≡◌, ◌<◌, ⊤, ℕ, false, true, List, [], ◌∷◌, length, Option, Some, None, if◌then◌else◌}
+use Rattle.std.specs.Prelude.{◌≡◌, ⊤, ℕ, false, true, List, [], ◌∷◌, Option, Some, None, if◌then◌else◌}
 use Rattle.ua_types.specs.declared.moment.Moment.{Moment}
 use Rattle.ua_types.specs.declared.status.Status.{Status}
 use Rattle.ua_types.specs.declared.status.TheConstants.Status as status
@@ -11,14 +11,14 @@ use Rattle.ua_monitored_items.specs.declared.kinds.Mode.{Mode}
 use Rattle.ua_monitored_items.specs.declared.preparing.FirstSample.{FirstSample}
 use Rattle.ua_monitored_items.specs.declared.preparing.Prepared.{Prepared}
 
--- there is room in the item's queue, and the two copies are one value
-abbrev pub IsRoomy : Item → FirstSample → Type 0
-IsRoomy item first = (first.last ≡ first.value) × (length item.queue.entries < first.room)
+-- the two copies are one value
+abbrev pub IsTwice : FirstSample → Type 0
+IsTwice first = first.last ≡ first.value
 
 -- an item that the mode enables can queue what was sampled
 abbrev pub Fits : Mode → Item → Option FirstSample → Type 0
 Fits mode item None = ⊤
-Fits mode item (Some first) = is_enabled mode ≡ true → is_enabled item.mode ≡ false → IsRoomy item first
+Fits mode item (Some first) = is_enabled mode ≡ true → is_enabled item.mode ≡ false → IsTwice first
 
 abbrev pub FitsAt : Mode → Option Item → Option FirstSample → Type 0
 FitsAt mode None first = ⊤
@@ -26,7 +26,7 @@ FitsAt mode (Some item) first = Fits mode item first
 
 -- what was sampled is what stands
 abbrev pub IsFirstSample : Nodes → Moment → Item → FirstSample → Type 0
-IsFirstSample nodes clock item first = (first.value ≡ reading nodes clock item) × IsRoomy item first
+IsFirstSample nodes clock item first = (first.value ≡ reading nodes clock item) × IsTwice first
 
 abbrev pub HasFirstSample : Nodes → Moment → Item → Option FirstSample → Type 0
 HasFirstSample nodes clock item None = ⊥

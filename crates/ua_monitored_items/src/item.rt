@@ -3,11 +3,12 @@
 ghost use Rattle.std.specs.Vec.{vec_len, vec_capacity};
 ghost use Rattle.std.specs.Prelude.{◌≡◌, ◌≤◌, ◌<◌, ◌+◌, ◌++◌, take, length, OnOk, OnErr, IfOk};
 ghost use Rattle.std.specs.Option.{option_copied};
-ghost use Rattle.ua_monitored_items.specs.Item.{is_change_since as is_change_since_spec, takes as takes_spec, queued, seen, reading, modified, revised_size as revised_size_spec, gave, notes_of, waiting_in, time_if, marked_status, shown, note_of};
-ghost use Rattle.ua_monitored_items.specs.Preparing.{IsFirstSample, Fits, moded_from};
+ghost use Rattle.ua_monitored_items.specs.Item.{is_change_since as is_change_since_spec, takes as takes_spec, queued, seen, reading, revised_size as revised_size_spec, gave, notes_of, waiting_in, time_if, marked_status, shown, note_of};
+ghost use Rattle.ua_monitored_items.specs.Modifying.{modified_with};
+ghost use Rattle.ua_monitored_items.specs.Preparing.{IsTwice, IsFirstSample, Fits, moded_from};
 
 use crate::kinds::{Mode, Trigger};
-use crate::preparing::FirstSample;
+use crate::preparing::{FirstSample, Modification};
 use std::alloc::{AllocError, Global};
 use ua_item_queue::{Entry, ItemQueue};
 use ua_read_write::{Timestamps, sample};
@@ -145,7 +146,7 @@ impl Item {
         ensures err { OnErr result (self.new ≡ self.old) }
     {
         let last = value.copy(alloc)?;
-        self.queue.sample(value)?;
+        self.queue.sample(value);
         self.last = Some(last);
         Ok(())
     }
@@ -179,19 +180,17 @@ impl Item {
     // Gets other parameters. Takes no memory.
     pub(crate) fn modify(
         &mut self,
-        longest: u32,
         timestamps: Timestamps,
-        trigger: Trigger,
+        modification: Modification,
         parameters: &MonitoringParameters,
     )
-        requires { 1 ≤ longest }
-        ensures { self.new ≡ modified longest timestamps trigger parameters.now self.old }
+        ensures { self.new ≡ modified_with timestamps modification parameters.now self.old }
     {
-        let size = revised_size(longest, parameters.queue_size);
+        let Modification { trigger, room } = modification;
         self.client_handle = parameters.client_handle;
         self.timestamps = timestamps;
         self.trigger = trigger;
-        self.queue.resize(size as usize, parameters.discard_oldest);
+        self.queue.resize(room, parameters.discard_oldest);
     }
 
     // What it queues if it is enabled now.
@@ -201,25 +200,22 @@ impl Item {
         space: &Space,
         clock: Moment,
     ) -> Result<FirstSample, AllocError>
-        ensures { IfOk result (λ first. IsFirstSample space.now.nodes clock self.now first) }
+        ensures { IfOk result (IsFirstSample space.now.nodes clock self.now) }
     {
         let value = sample(alloc, space, clock, &self.node_id, self.attribute_id)?;
-        let room = self.queue.room(alloc)?;
         Ok(FirstSample {
             last: value.copy(alloc)?,
             value,
-            room,
         })
     }
 
     // Queues what was sampled for it. Takes no memory.
     fn begin(&mut self, first: FirstSample)
-        requires same { first.last ≡ first.value }
-        requires room { length self.old.queue.entries < first.room }
+        requires { IsTwice first }
         ensures { self.new ≡ queued first.value self.old }
     {
-        let FirstSample { value, last, room } = first;
-        self.queue.sample_within(value, room);
+        let FirstSample { value, last } = first;
+        self.queue.sample(value);
         self.last = Some(last);
     }
 

@@ -6,15 +6,15 @@ ghost use Rattle.std.specs.Map.{remove_entry};
 ghost use Rattle.std.specs.Option.{option_copied, option_map};
 ghost use Rattle.std.specs.Ordering.{nat_cmp};
 ghost use Rattle.ua_types.specs.NodeIdOrder.{id_cmp};
-ghost use Rattle.ua_monitored_items.specs.Item.{modified};
 ghost use Rattle.ua_monitored_items.specs.ItemTables.{TableState, item_at, numbers_of, is_of, is_on, with_item, IsPut, IsTakenOut, IsPutBack, IsKept, IsOwn};
 ghost use Rattle.ua_monitored_items.specs.Items.{without_all, all_visits, sampled_items, VisitedSome, any_waits, taken_of, first_number};
+ghost use Rattle.ua_monitored_items.specs.Modifying.{modified_with};
 ghost use Rattle.ua_monitored_items.specs.Preparing.{FitsAt, moded_from};
 
 use crate::index::{Index, put_in, take_out};
 use crate::item::Item;
-use crate::kinds::{Mode, Trigger};
-use crate::preparing::FirstSample;
+use crate::kinds::Mode;
+use crate::preparing::{FirstSample, Modification};
 use crate::sampling::sample_all;
 use crate::taking::{any_waits, take_all};
 use std::alloc::{AllocError, AllocFailed, Global};
@@ -120,16 +120,14 @@ fn insert_item(items: &mut BTreeMap<u32, Item>, number: u32, item: Item) -> Resu
 fn modify_at(
     items: &mut BTreeMap<u32, Item>,
     number: u32,
-    longest: u32,
     timestamps: Timestamps,
-    trigger: Trigger,
+    modification: Modification,
     parameters: &MonitoringParameters,
 )
-    requires { 1 ≤ longest }
-    ensures { items.new.entries ≡ with_item number (modified longest timestamps trigger parameters.now) items.old.entries }
+    ensures { items.new.entries ≡ with_item number (modified_with timestamps modification parameters.now) items.old.entries }
 {
     if let Some(item) = items.get_mut(&number) {
-        item.modify(longest, timestamps, trigger, parameters);
+        item.modify(timestamps, modification, parameters);
     }
 }
 
@@ -268,20 +266,17 @@ impl ItemTable {
     pub fn modify(
         &mut self,
         number: u32,
-        longest: u32,
         timestamps: Timestamps,
-        trigger: Trigger,
+        modification: Modification,
         parameters: &MonitoringParameters,
     )
-        requires { 1 ≤ longest }
-        ensures { self.new ≡ record { made = self.old.made; items = with_item number (modified longest timestamps trigger parameters.now) self.old.items } }
+        ensures { self.new ≡ record { made = self.old.made; items = with_item number (modified_with timestamps modification parameters.now) self.old.items } }
     {
         modify_at(
             &mut self.items,
             number,
-            longest,
             timestamps,
-            trigger,
+            modification,
             parameters,
         );
     }

@@ -2,20 +2,20 @@
 
 ghost use Rattle.std.specs.Prelude.{◌≡◌, ◌++◌, ◌-◌, ◌^◌, ◌<◌, ◌≤◌, false, true, length, map, OnOk, OnErr, IfOk};
 ghost use Rattle.std.specs.Option.{option_copied};
-ghost use Rattle.ua_monitored_items.specs.Item.{modified, moded, revised_size as revised_size_spec};
+ghost use Rattle.ua_monitored_items.specs.Item.{moded, revised_size as revised_size_spec};
 ghost use Rattle.ua_monitored_items.specs.ItemTables.{numbers_of};
 ghost use Rattle.ua_monitored_items.specs.Items.{no_items, is_full as is_full_spec, null_object, zero_duration, create_judged, create_one, create_result, create_refused, new_item, begun, with_new_item, own_item, with_change, modify_one, modify_result, modify_refused, mode_one, delete_one, without, ended as ended_spec, all_served, all_visits, sampled_items, VisitedSome, is_available, taken_of};
-ghost use Rattle.ua_monitored_items.specs.Kinds.{trigger_of as trigger_of_spec};
+ghost use Rattle.ua_monitored_items.specs.Modifying.{modification_of};
 ghost use Rattle.ua_monitored_items.specs.Preparing.{FitsAt, IsReady, AreReady, mode_status, moded_own};
 ghost use Rattle.ua_monitored_items.specs.Undoing.{last_undone, undone, CanBeUndone};
 
 use crate::item::{Item, revised_size};
 use crate::item_table::ItemTable;
-use crate::kinds::{Kind, Mode, Trigger, trigger_of};
-use crate::preparing::Prepared;
+use crate::kinds::{Kind, Mode, trigger_of};
+use crate::preparing::{Modification, Prepared};
 use std::alloc::{AllocError, Global};
 use std::marker::Model;
-use ua_item_queue::ItemQueue;
+use ua_item_queue::{ItemQueue, Room};
 use ua_messages::ReadValueId;
 use ua_read_write::{Change, Timestamps, refusal};
 use ua_space::Space;
@@ -89,21 +89,6 @@ fn modify_refused(status: Status) -> MonitoredItemModifyResult
     }
 }
 
-// Which changes the filter of each entry lets through.
-fn triggers_of(
-    alloc: Global,
-    requests: &[MonitoredItemModifyRequest],
-) -> Result<Vec<Option<Trigger>>, AllocError>
-    ensures { IfOk result (λ triggers. triggers.items ≡ map (λ r. trigger_of_spec r.requested_parameters.filter) requests.now) }
-{
-    let mut triggers = Vec::with_capacity(alloc, requests.len())?;
-    for request in requests {
-        let trigger = trigger_of(alloc, &request.requested_parameters.filter);
-        triggers.push(trigger)?;
-    }
-    Ok(triggers)
-}
-
 impl Items {
     /// No item yet, under this configuration. Takes no memory.
     pub fn new(alloc: Global, config: &Config) -> Items
@@ -160,8 +145,8 @@ impl Items {
         timestamps: Timestamps,
         request: MonitoredItemCreateRequest,
         kind: Kind,
-    ) -> Item
-        ensures { result ≡ new_item self.now subscription timestamps request kind }
+    ) -> Result<Item, AllocError>
+        ensures { IfOk result (λ item. item ≡ new_item self.now subscription timestamps request kind) }
     {
         let MonitoredItemCreateRequest {
             item_to_monitor,
@@ -175,8 +160,8 @@ impl Items {
             data_encoding: _,
         } = item_to_monitor;
         let size = revised_size(self.longest, parameters.queue_size);
-        let queue = ItemQueue::new(alloc, size as usize, parameters.discard_oldest);
-        Item {
+        let queue = ItemQueue::new(alloc, size as usize, parameters.discard_oldest)?;
+        Ok(Item {
             subscription,
             node_id,
             attribute_id,
@@ -186,7 +171,7 @@ impl Items {
             trigger: kind.trigger,
             queue,
             last: None,
-        }
+        })
     }
 
     // Makes one item, if it isn't refused. At an `Err` nothing changed.
@@ -210,7 +195,7 @@ impl Items {
             Err(status) => return Ok(create_refused(status)),
         };
         let size = revised_size(self.longest, request.requested_parameters.queue_size);
-        let mut item = self.new_item(alloc, subscription, timestamps, request, kind);
+        let mut item = self.new_item(alloc, subscription, timestamps, request, kind)?;
         if item.mode.is_enabled() {
             item.queue_reading(alloc, space, clock)?;
         }
@@ -313,16 +298,57 @@ impl Items {
         }
     }
 
-    // Changes one item, if it isn't refused, whose filter was judged so. Takes no memory.
+    // What an entry of ModifyMonitoredItems gives its item. None where it is refused, for which nothing is made.
+    fn modification(
+        &self,
+        alloc: Global,
+        subscription: u32,
+        request: &MonitoredItemModifyRequest,
+    ) -> Result<Option<Modification>, AllocError>
+        ensures { IfOk result (λ modification. modification ≡ modification_of self.now subscription request.now) }
+    {
+        if self
+            .own_item(subscription, request.monitored_item_id)
+            .is_none()
+        {
+            return Ok(None);
+        }
+        let parameters = &request.requested_parameters;
+        let Some(trigger) = trigger_of(alloc, &parameters.filter) else {
+            return Ok(None);
+        };
+        let size = revised_size(self.longest, parameters.queue_size);
+        let room = Room::new(alloc, size as usize)?;
+        Ok(Some(Modification { trigger, room }))
+    }
+
+    // What each entry of ModifyMonitoredItems gives its item.
+    fn modifications(
+        &self,
+        alloc: Global,
+        subscription: u32,
+        requests: &[MonitoredItemModifyRequest],
+    ) -> Result<Vec<Option<Modification>>, AllocError>
+        ensures { IfOk result (λ modifications. modifications.items ≡ map (modification_of self.now subscription) requests.now) }
+    {
+        let mut modifications = Vec::with_capacity(alloc, requests.len())?;
+        for request in requests {
+            let modification = self.modification(alloc, subscription, request)?;
+            modifications.push(modification)?;
+        }
+        Ok(modifications)
+    }
+
+    // Changes one item, if it isn't refused. Takes no memory.
     #[tactic(auto, unfolding(crate::specs::Items::modify_one))]
     fn modify_one(
         &mut self,
         subscription: u32,
         timestamps: Timestamps,
         request: &MonitoredItemModifyRequest,
-        trigger: Option<Trigger>,
+        modification: Option<Modification>,
     ) -> MonitoredItemModifyResult
-        requires { trigger ≡ trigger_of_spec request.now.requested_parameters.filter }
+        requires { modification ≡ modification_of self.old subscription request.now }
         ensures result { result ≡ (modify_one subscription timestamps self.old request.now).result }
         ensures state { self.new ≡ (modify_one subscription timestamps self.old request.now).state }
     {
@@ -330,12 +356,12 @@ impl Items {
         if self.own_item(subscription, number).is_none() {
             return modify_refused(Status::BAD_MONITORED_ITEM_ID_INVALID);
         }
-        let Some(trigger) = trigger else {
+        let Some(modification) = modification else {
             return modify_refused(Status::BAD_MONITORED_ITEM_FILTER_UNSUPPORTED);
         };
         let parameters = &request.requested_parameters;
         self.table
-            .modify(number, self.longest, timestamps, trigger, parameters);
+            .modify(number, timestamps, modification, parameters);
         MonitoredItemModifyResult {
             status_code: Status::GOOD,
             revised_sampling_interval: self.interval,
@@ -361,11 +387,13 @@ impl Items {
         ensures ok { OnOk result (self.new ≡ (all_served (modify_one subscription timestamps) self.old requests.now).state) }
         ensures err { OnErr result (self.new ≡ self.old) }
     {
-        let triggers = triggers_of(alloc, requests)?;
+        let mut modifications = self
+            .modifications(alloc, subscription, requests)?
+            .into_iter();
         let mut results = Vec::with_capacity(alloc, requests.len())?;
-        for (index, request) in requests.iter().enumerate() {
-            let made = self.modify_one(subscription, timestamps, request, triggers[index]);
-            results.push_reserved(made);
+        for request in requests {
+            let modification = modifications.next().flatten();
+            results.push_reserved(self.modify_one(subscription, timestamps, request, modification));
         }
         Ok(results)
     }

@@ -1,5 +1,6 @@
-//! What SetMonitoringMode makes ready before it changes an item.
+//! What SetMonitoringMode and ModifyMonitoredItems make ready before they change an item.
 
+use crate::kinds::Trigger;
 use ua_item_queue::Room;
 use ua_values::DataValue;
 
@@ -11,16 +12,23 @@ pub struct FirstSample {
 
     /// The same, for the item to compare with.
     pub last: DataValue,
-
-    /// Room for it in the item's queue.
-    pub room: Room<DataValue>,
 }
 
-/// An entry of the request, with what it wants.
+/// An entry of SetMonitoringMode, with what it wants.
 #[derive(Drop)]
 pub struct Prepared {
     pub number: u32,
 
     /// None where the item isn't known, or isn't enabled by this.
     pub first: Option<FirstSample>,
+}
+
+/// What an entry of ModifyMonitoredItems gives its item, beside the parameters that are copied.
+#[derive(Drop)]
+pub struct Modification {
+    /// Which changes its filter lets through.
+    pub trigger: Trigger,
+
+    /// Room for the values of its queue, as many as the revised size says.
+    pub room: Room<DataValue>,
 }

@@ -1,7 +1,7 @@
 use Rattle.std.proofs.Common.{sym, subst}
-use Rattle.ua_monitored_items.specs.Item.{modified}
 use Rattle.ua_monitored_items.specs.ItemTables.{NumberedItems, IsTable}
-use Rattle.ua_monitored_items.proofs.Tables.{table_changed, there_modified}
+use Rattle.ua_monitored_items.specs.Modifying.{modified_with}
+use Rattle.ua_monitored_items.proofs.Tables.{table_changed, there_modified_with}
 use Rattle.ua_monitored_items.proofs.item_table.ItemTable.modify.Goals as goal
 
 pub invariant_of-self : goal.invariant_of-self
@@ -9,4 +9,4 @@ invariant_of-self c =
     let t = c.self.inside in
     subst (λ (es : NumberedItems). IsTable t.made es t.of_subscription t.on_node) (sym c.modify_at.ensures)
     (table_changed t.made t.items.entries t.of_subscription t.on_node c.self.invariant c.args.number
-    (modified c.args.longest c.args.timestamps c.args.trigger c.args.parameters.now) (there_modified c.args.longest c.args.timestamps c.args.trigger c.args.parameters.now))
+    (modified_with c.args.timestamps c.args.modification c.args.parameters.now) (there_modified_with c.args.timestamps c.args.modification c.args.parameters.now))
