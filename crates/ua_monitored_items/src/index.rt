@@ -32,11 +32,15 @@ pub(crate) fn put_in<K: Ord + Drop>(
     Ok(())
 }
 
-/// The number is not under this key any more.
+/// The number is not under this key any more. A key without numbers has no place in the index.
 pub(crate) fn take_out<K: Ord + Drop>(index: &mut Index<K>, key: &K, number: u32)
     ensures { IsTakenOut K.cmp index.old index.new (is_at (K.cmp key.now)) number }
 {
-    if let Some(numbers) = index.get_mut(key) {
-        let _ = numbers.remove(&number);
+    let Some(numbers) = index.get_mut(key) else {
+        return;
+    };
+    let _ = numbers.remove(&number);
+    if numbers.is_empty() {
+        let _ = index.remove(key);
     }
 }
