@@ -11,6 +11,7 @@ pub mod Apart
 pub mod FirstNotes
 pub mod Undoing
 pub mod Rooms
+pub mod Counting
 pub mod Readiness
 pub mod Modifications
 pub mod Sent

@@ -1,6 +1,7 @@
 pub mod Kinds
 pub mod Item
 pub mod ItemTables
+pub mod Counts
 pub mod Items
 pub mod Sampling
 pub mod Moves

@@ -1,6 +1,6 @@
 //! Items under their numbers, with an index of the subscriptions and one of the nodes.
 
-ghost use Rattle.std.specs.Prelude.{◌≡◌, ◌<◌, ◌-◌, ◌+◌, ◌^◌, ◌≤◌, [], ◌∷◌, ◌++◌, length, flat_map, if◌then◌else◌, OnOk, OnErr, IfOk, IfErr, IfSome};
+ghost use Rattle.std.specs.Prelude.{◌≡◌, ◌<◌, ◌-◌, ◌+◌, ◌^◌, ◌≤◌, [], length, OnOk, OnErr, IfOk, IfSome};
 ghost use Rattle.std.specs.BTreeMap.{is_at, insert_entry};
 ghost use Rattle.std.specs.Map.{remove_entry};
 ghost use Rattle.std.specs.Option.{option_copied, option_map};
@@ -14,10 +14,11 @@ ghost use Rattle.ua_monitored_items.specs.Preparing.{FitsAt, moded_from};
 use crate::index::{Index, put_in, take_out};
 use crate::item::Item;
 use crate::kinds::Mode;
+use crate::numbered::Numbered;
 use crate::preparing::{FirstSample, Modification};
 use crate::sampling::sample_all;
-use crate::taking::{any_waits, take_all};
-use std::alloc::{AllocError, AllocFailed, Global};
+use crate::taking::take_all;
+use std::alloc::{AllocError, Global};
 use std::collections::BTreeMap;
 use std::marker::Model;
 use ua_read_write::{Change, Timestamps};
@@ -31,11 +32,12 @@ const VALUE: u32 = 13;
 /// The items of a server under their numbers, and the number of the last one that was made.
 ///
 /// An item is found by its number in logarithmic time; so are the numbers of a subscription's items, and
-/// those of the items of a node's value, each as an ordered set.
+/// those of the items of a node's value, each as an ordered set, and how many of a subscription's items have a
+/// value to send.
 #[derive(Drop)]
 pub struct ItemTable {
     made: u32,
-    items: BTreeMap<u32, Item>,
+    items: Numbered,
     of_subscription: Index<u32>,
     on_node: Index<NodeId>,
 }
@@ -45,9 +47,9 @@ impl Model for ItemTable {
 
     ghost Value = { TableState };
 
-    ghost view = { λ t. record { made = t.made; items = t.items.entries } };
+    ghost view = { λ t. record { made = t.made; items = t.items } };
 
-    ghost invariant = { λ t. IsTable t.made t.items.entries t.of_subscription t.on_node };
+    ghost invariant = { λ t. IsTable t.made t.items t.of_subscription t.on_node };
 }
 
 fn put_node(
@@ -105,41 +107,6 @@ fn unindex_item(
     }
 }
 
-// Puts an item under its number. At an `Err` nothing changed, and the item comes back.
-fn insert_item(items: &mut BTreeMap<u32, Item>, number: u32, item: Item) -> Result<(), Item>
-    ensures ok { OnOk result (items.new.entries ≡ insert_entry nat_cmp items.old.entries number item) }
-    ensures back { IfErr result (λ back. back ≡ item) }
-    ensures err { OnErr result (items.new.entries ≡ items.old.entries) }
-{
-    match items.insert(number, item) {
-        Ok(_) => Ok(()),
-        Err(AllocFailed { value: (_, item) }) => Err(item),
-    }
-}
-
-fn modify_at(
-    items: &mut BTreeMap<u32, Item>,
-    number: u32,
-    timestamps: Timestamps,
-    modification: Modification,
-    parameters: &MonitoringParameters,
-)
-    ensures { items.new.entries ≡ with_item number (modified_with timestamps modification parameters.now) items.old.entries }
-{
-    if let Some(item) = items.get_mut(&number) {
-        item.modify(timestamps, modification, parameters);
-    }
-}
-
-fn set_mode_at(items: &mut BTreeMap<u32, Item>, number: u32, mode: Mode, first: Option<FirstSample>)
-    requires { FitsAt mode (item_at number items.old.entries) first }
-    ensures { items.new.entries ≡ with_item number (moded_from mode first) items.old.entries }
-{
-    if let Some(item) = items.get_mut(&number) {
-        item.set_mode(mode, first);
-    }
-}
-
 impl ItemTable {
     /// No item. Takes no memory.
     pub fn new(alloc: Global) -> ItemTable
@@ -147,7 +114,7 @@ impl ItemTable {
     {
         ItemTable {
             made: 0,
-            items: BTreeMap::new(alloc),
+            items: Numbered::new(alloc),
             of_subscription: BTreeMap::new(alloc),
             on_node: BTreeMap::new(alloc),
         }
@@ -164,7 +131,7 @@ impl ItemTable {
     pub fn get(&self, number: u32) -> Option<&Item>
         ensures { option_copied result ≡ item_at number self.now.items }
     {
-        self.items.get(&number)
+        self.items.get(number)
     }
 
     /// How many items a subscription has.
@@ -201,7 +168,7 @@ impl ItemTable {
             number,
             &item,
         )?;
-        match insert_item(&mut self.items, number, item) {
+        match self.items.insert(number, item) {
             Ok(()) => {
                 self.made = number;
                 Ok(())
@@ -217,7 +184,7 @@ impl ItemTable {
     pub fn remove(&mut self, number: u32)
         ensures { self.new ≡ record { made = self.old.made; items = remove_entry (is_at (nat_cmp number)) self.old.items } }
     {
-        if let Some(item) = self.items.remove(&number) {
+        if let Some(item) = self.items.remove(number) {
             unindex_item(&mut self.of_subscription, &mut self.on_node, number, &item);
         }
     }
@@ -254,12 +221,12 @@ impl ItemTable {
         }
     }
 
-    // The index has no place any more for a subscription without items.
+    // There is no count any more for a subscription without items.
     fn forget(&mut self, subscription: u32)
         requires { numbers_of subscription self.old.items ≡ [] }
         ensures { self.new ≡ self.old }
     {
-        let _ = self.of_subscription.remove(&subscription);
+        self.items.forget(subscription);
     }
 
     /// The item with this number gets other parameters. Takes no memory.
@@ -272,13 +239,8 @@ impl ItemTable {
     )
         ensures { self.new ≡ record { made = self.old.made; items = with_item number (modified_with timestamps modification parameters.now) self.old.items } }
     {
-        modify_at(
-            &mut self.items,
-            number,
-            timestamps,
-            modification,
-            parameters,
-        );
+        self.items
+            .modify(number, timestamps, modification, parameters);
     }
 
     /// The item with this number gets a mode, and queues what was sampled for it where that enables it.
@@ -287,7 +249,7 @@ impl ItemTable {
         requires { FitsAt mode (item_at number self.old.items) first }
         ensures { self.new ≡ record { made = self.old.made; items = with_item number (moded_from mode first) self.old.items } }
     {
-        set_mode_at(&mut self.items, number, mode, first);
+        self.items.set_mode(number, mode, first);
     }
 
     /// The items of the nodes that were written see the values, in their order. At an `Err` some have
@@ -300,14 +262,11 @@ impl ItemTable {
         sample_all(alloc, &mut self.items, &self.on_node, changed)
     }
 
-    /// Whether a reporting item of a subscription has a value. Takes no memory.
+    /// Whether a reporting item of a subscription has a value. Takes no memory, and looks at no item.
     pub fn available(&self, subscription: u32) -> bool
         ensures { result ≡ any_waits self.now.items (numbers_of subscription self.now.items) }
     {
-        match self.of_subscription.get(&subscription) {
-            None => false,
-            Some(numbers) => any_waits(&self.items, numbers),
-        }
+        self.items.has_value(subscription)
     }
 
     /// The first values of a subscription's reporting items, at most so many. At an `Err` nothing changed.

@@ -539,8 +539,7 @@ impl Items {
         self.table.sample(alloc, changed)
     }
 
-    /// Whether a reporting item of a subscription has a value. Takes no memory, and looks at this
-    /// subscription's items alone.
+    /// Whether a reporting item of a subscription has a value. Takes no memory, and looks at no item.
     pub fn available(&self, subscription: u32) -> bool
         ensures { result ≡ is_available self.now subscription }
     {

@@ -18,10 +18,10 @@
 //!
 //! What a contract sees: the items under their numbers, each with its queue (`specs/Items`). Each call is
 //! one definition over them, which also lists the moves by which queues changed; the code keeps no such
-//! record. How a call changes nothing at want of memory is told by `specs/Modifying`, `specs/Preparing`,
-//! `specs/Taking` and `specs/Undoing`. `specs/Moves`, `Causes` and `Givings` have what [`laws`] speak of: any
-//! calls, which of them gives a value which fate, and what items give to messages. docs/SUBSCRIPTIONS.md has
-//! the tables.
+//! record. How many of a subscription's items have a value to send it does keep (`specs/Counts`). How a call
+//! changes nothing at want of memory is told by `specs/Modifying`, `specs/Preparing`, `specs/Taking` and
+//! `specs/Undoing`. `specs/Moves`, `Causes` and `Givings` have what [`laws`] speak of: any calls, which of
+//! them gives a value which fate, and what items give to messages. docs/SUBSCRIPTIONS.md has the tables.
 #![tactic(auto)]
 
 mod index;
@@ -30,6 +30,7 @@ mod item_table;
 mod items;
 mod kinds;
 pub mod laws;
+mod numbered;
 mod preparing;
 mod sampling;
 mod taking;

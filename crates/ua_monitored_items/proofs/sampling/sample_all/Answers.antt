@@ -10,5 +10,5 @@ returns-in_err-visit_node-clause-err c =
     let xs = c.args.changed.now in
     let i = c.loop-change.change-index in
     on_any c.from_residual.result
-    (visited_after c.args.items.now.entries c.loop-change.items.entries c.visit_node.new.items.entries (flat_map visits (take i xs)) (visits c.change-item.result) (flat_map visits xs)
+    (visited_after c.args.items.now c.loop-change.items c.visit_node.new.items (flat_map visits (take i xs)) (visits c.change-item.result) (flat_map visits xs)
     (flat_map visits (drop (suc i) xs)) c.loop-change.invariant (flat_at visits xs i c.change-item.result c.loop-change-test.true c.change-item.is) c.in_err-visit_node.ensures.err)

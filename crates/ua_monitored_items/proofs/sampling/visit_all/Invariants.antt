@@ -8,4 +8,4 @@ abbrev pub invariant-loop-number : goal.invariant-loop-number
 invariant-loop-number l =
     (goal.iterator-loop-number).can_next l.number-iterator × (goal.iterator-loop-number).is_finite l.number-iterator
     × (front : List ℕ) × (front ++ l.number-iterator ≡ l.numbers.keys)
-    × (l.items.entries ≡ sampled_items l.fn.items.entries (visits_by l.value front))
+    × (l.items ≡ sampled_items l.fn.items (visits_by l.value front))

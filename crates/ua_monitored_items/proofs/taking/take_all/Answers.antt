@@ -12,7 +12,7 @@ pub take_from-left-requires : goal.take_from-left-requires
 take_from-left-requires c =
     let room = c.loop-number.invariant.5 in
     let number = c.in-Some.number.now in
-    let items = c.loop-number.items.entries in
+    let items = c.loop-number.items in
     let left = c.loop-number.left in
     let same : left_after items left c.loop-number.number-iterator ≡ left_after items (left - waiting_at (item_at number items)) c.next.new.self =
     ap (left_after items left) c.in-Some.ensures.steps in
@@ -23,44 +23,44 @@ pub loop-number-preserved : goal.loop-number-preserved
 loop-number-preserved c =
     let front = c.loop-number.invariant.2 in
     let number = c.in-Some.number.now in
-    let items = c.loop-number.items.entries in
+    let items = c.loop-number.items in
     let left = c.loop-number.left in
     let before : Taking = record { notes = c.loop-number.notes.items; items = items; left = left } in
-    let after : Taking = record { notes = c.take_from-left.new.notes.items; items = c.take_from-left.new.items.entries; left = c.take_from-left.result } in
+    let after : Taking = record { notes = c.take_from-left.new.notes.items; items = c.take_from-left.new.self; left = c.take_from-left.result } in
     let room = c.loop-number.invariant.5 in
     let same : left_after items left c.loop-number.number-iterator ≡ left_after items (left - waiting_at (item_at number items)) c.next.new.self =
     ap (left_after items left) c.in-Some.ensures.steps in
     let now : c.take_from-left.result ≡ left - waiting_at (item_at number items) = c.take_from-left.ensures.left ∙ left_now before number in
     let more = left_taken before number c.next.new.self (left - waiting_at (item_at number items)) in
-    let end : left_after c.take_from-left.new.items.entries c.take_from-left.result c.next.new.self ≡ left_after (with_taken before number).items (left - waiting_at (item_at number items)) c.next.new.self =
+    let end : left_after c.take_from-left.new.self c.take_from-left.result c.next.new.self ≡ left_after (with_taken before number).items (left - waiting_at (item_at number items)) c.next.new.self =
     ap (λ (es : NumberedItems). left_after es c.take_from-left.result c.next.new.self) c.take_from-left.ensures.items
     ∙ ap (λ (l : ℕ). left_after (with_taken before number).items l c.next.new.self) now in (
       tt,
       tt,
       front ++ number ∷ [],
       append_assoc front (number ∷ []) c.next.new.self ∙ ap (λ xs. front ++ xs) (sym c.in-Some.ensures.steps) ∙ c.loop-number.invariant.3,
-      took_more c.args.items.now.entries c.args.count front number before after c.loop-number.invariant.4 c.take_from-left.ensures.notes c.take_from-left.ensures.items c.take_from-left.ensures.left,
+      took_more c.args.items.now c.args.count front number before after c.loop-number.invariant.4 c.take_from-left.ensures.notes c.take_from-left.ensures.items c.take_from-left.ensures.left,
       omega (arith, room, same, more, end, c.take_from-left.ensures.len, c.take_from-left.ensures.room),
     )
 
 pub returns-clause-notes : goal.returns-clause-notes
 returns-clause-notes c =
     let front = c.loop-number.invariant.2 in
-    let before : Taking = record { notes = c.loop-number.notes.items; items = c.loop-number.items.entries; left = c.loop-number.left } in
+    let before : Taking = record { notes = c.loop-number.notes.items; items = c.loop-number.items; left = c.loop-number.left } in
     elim c.match-next.branch [
       | in-None w ↦
-          ap (λ (t : Taking). t.notes) (sym (taken_end c.args.items.now.entries c.args.count front c.loop-number.number-iterator c.args.numbers.now.keys before c.loop-number.invariant.3 c.loop-number.invariant.4 w.in-None.ensures.steps.0))
+          ap (λ (t : Taking). t.notes) (sym (taken_end c.args.items.now c.args.count front c.loop-number.number-iterator c.args.numbers.now.keys before c.loop-number.invariant.3 c.loop-number.invariant.4 w.in-None.ensures.steps.0))
       | in-Some+then-left-eq0 w ↦
-          ap (λ (t : Taking). t.notes) (sym (taken_full c.args.items.now.entries c.args.count front c.loop-number.number-iterator c.args.numbers.now.keys before c.loop-number.invariant.3 c.loop-number.invariant.4 w.if-left-eq0.true))
+          ap (λ (t : Taking). t.notes) (sym (taken_full c.args.items.now c.args.count front c.loop-number.number-iterator c.args.numbers.now.keys before c.loop-number.invariant.3 c.loop-number.invariant.4 w.if-left-eq0.true))
     ]
 
 pub returns-clause-items : goal.returns-clause-items
 returns-clause-items c =
     let front = c.loop-number.invariant.2 in
-    let before : Taking = record { notes = c.loop-number.notes.items; items = c.loop-number.items.entries; left = c.loop-number.left } in
+    let before : Taking = record { notes = c.loop-number.notes.items; items = c.loop-number.items; left = c.loop-number.left } in
     elim c.match-next.branch [
       | in-None w ↦
-          ap (λ (t : Taking). t.items) (sym (taken_end c.args.items.now.entries c.args.count front c.loop-number.number-iterator c.args.numbers.now.keys before c.loop-number.invariant.3 c.loop-number.invariant.4 w.in-None.ensures.steps.0))
+          ap (λ (t : Taking). t.items) (sym (taken_end c.args.items.now c.args.count front c.loop-number.number-iterator c.args.numbers.now.keys before c.loop-number.invariant.3 c.loop-number.invariant.4 w.in-None.ensures.steps.0))
       | in-Some+then-left-eq0 w ↦
-          ap (λ (t : Taking). t.items) (sym (taken_full c.args.items.now.entries c.args.count front c.loop-number.number-iterator c.args.numbers.now.keys before c.loop-number.invariant.3 c.loop-number.invariant.4 w.if-left-eq0.true))
+          ap (λ (t : Taking). t.items) (sym (taken_full c.args.items.now c.args.count front c.loop-number.number-iterator c.args.numbers.now.keys before c.loop-number.invariant.3 c.loop-number.invariant.4 w.if-left-eq0.true))
     ]

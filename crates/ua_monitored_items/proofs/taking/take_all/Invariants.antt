@@ -9,5 +9,5 @@ abbrev pub invariant-loop-number : goal.invariant-loop-number
 invariant-loop-number l =
     (goal.iterator-loop-number).can_next l.number-iterator × (goal.iterator-loop-number).is_finite l.number-iterator
     × (front : List ℕ) × (front ++ l.number-iterator ≡ l.numbers.keys)
-    × (record { notes = l.notes.items; items = l.items.entries; left = l.left } ≡ taken_of l.fn.items.entries l.count front)
-    × (vec_len l.notes + l.left ≤ vec_capacity l.notes + left_after l.items.entries l.left l.number-iterator)
+    × (record { notes = l.notes.items; items = l.items; left = l.left } ≡ taken_of l.fn.items l.count front)
+    × (vec_len l.notes + l.left ≤ vec_capacity l.notes + left_after l.items l.left l.number-iterator)

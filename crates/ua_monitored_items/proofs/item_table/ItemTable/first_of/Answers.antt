@@ -7,6 +7,6 @@ use Rattle.ua_monitored_items.proofs.item_table.ItemTable.first_of.Goals as goal
 
 pub returns-clause-own : goal.returns-clause-own
 returns-clause-own c =
-    let first : c.copied.result ≡ first_number (numbers_of c.args.subscription c.self.inside.items.entries) = search rules in
+    let first : c.copied.result ≡ first_number (numbers_of c.args.subscription c.self.inside.items) = search rules in
     subst (λ (es : NumberedItems). IfSome c.copied.result (λ number. IsOwn c.args.subscription number es)) (ap (λ s. s.items) c.self.view_is)
-    (own_if c.args.subscription c.self.inside.items.entries c.self.invariant.rising c.copied.result first)
+    (own_if c.args.subscription c.self.inside.items c.self.invariant.rising c.copied.result first)

@@ -7,6 +7,6 @@ use Rattle.ua_monitored_items.proofs.item_table.ItemTable.modify.Goals as goal
 pub invariant_of-self : goal.invariant_of-self
 invariant_of-self c =
     let t = c.self.inside in
-    subst (λ (es : NumberedItems). IsTable t.made es t.of_subscription t.on_node) (sym c.modify_at.ensures)
-    (table_changed t.made t.items.entries t.of_subscription t.on_node c.self.invariant c.args.number
+    subst (λ (es : NumberedItems). IsTable t.made es t.of_subscription t.on_node) (sym c.modify.ensures)
+    (table_changed t.made t.items t.of_subscription t.on_node c.self.invariant c.args.number
     (modified_with c.args.timestamps c.args.modification c.args.parameters.now) (there_modified_with c.args.timestamps c.args.modification c.args.parameters.now))

@@ -16,16 +16,16 @@ other_err (Err x) old new vs ws e h = subst (VisitedSome old new) e h
 pub invariant_of-self : goal.invariant_of-self
 invariant_of-self c =
     let t = c.self.inside in
-    table_after_samples t.made t.of_subscription t.on_node t.items.entries c.self.invariant c.sample_all.result c.sample_all.new.items.entries _ c.sample_all.ensures.ok c.sample_all.ensures.err
+    table_after_samples t.made t.of_subscription t.on_node t.items c.self.invariant c.sample_all.result c.sample_all.new.items _ c.sample_all.ensures.ok c.sample_all.ensures.err
 
 pub returns-clause-ok : goal.returns-clause-ok
 returns-clause-ok c =
     let t = c.self.inside in
-    subst (λ (es : NumberedItems). OnOk c.sample_all.result (c.sample_all.new.items.entries ≡ sampled_items es (all_visits es c.args.changed.now))) (ap (λ s. s.items) c.self.view_is)
-    (other_ok c.sample_all.result t.items.entries c.sample_all.new.items.entries _ _ (same_visits t.made t.of_subscription t.on_node t.items.entries c.self.invariant c.args.changed.now) c.sample_all.ensures.ok)
+    subst (λ (es : NumberedItems). OnOk c.sample_all.result (c.sample_all.new.items ≡ sampled_items es (all_visits es c.args.changed.now))) (ap (λ s. s.items) c.self.view_is)
+    (other_ok c.sample_all.result t.items c.sample_all.new.items _ _ (same_visits t.made t.of_subscription t.on_node t.items c.self.invariant c.args.changed.now) c.sample_all.ensures.ok)
 
 pub returns-clause-err : goal.returns-clause-err
 returns-clause-err c =
     let t = c.self.inside in
-    subst (λ (es : NumberedItems). OnErr c.sample_all.result (VisitedSome es c.sample_all.new.items.entries (all_visits es c.args.changed.now))) (ap (λ s. s.items) c.self.view_is)
-    (other_err c.sample_all.result t.items.entries c.sample_all.new.items.entries _ _ (same_visits t.made t.of_subscription t.on_node t.items.entries c.self.invariant c.args.changed.now) c.sample_all.ensures.err)
+    subst (λ (es : NumberedItems). OnErr c.sample_all.result (VisitedSome es c.sample_all.new.items (all_visits es c.args.changed.now))) (ap (λ s. s.items) c.self.view_is)
+    (other_err c.sample_all.result t.items c.sample_all.new.items _ _ (same_visits t.made t.of_subscription t.on_node t.items c.self.invariant c.args.changed.now) c.sample_all.ensures.err)

@@ -7,6 +7,6 @@ use Rattle.ua_monitored_items.proofs.item_table.ItemTable.set_mode.Goals as goal
 pub invariant_of-self : goal.invariant_of-self
 invariant_of-self c =
     let t = c.self.inside in
-    subst (λ (es : NumberedItems). IsTable t.made es t.of_subscription t.on_node) (sym c.set_mode_at.ensures)
-    (table_changed t.made t.items.entries t.of_subscription t.on_node c.self.invariant c.args.number
+    subst (λ (es : NumberedItems). IsTable t.made es t.of_subscription t.on_node) (sym c.set_mode.ensures)
+    (table_changed t.made t.items t.of_subscription t.on_node c.self.invariant c.args.number
     (moded_from c.args.mode c.args.first) (there_moded c.args.mode c.args.first))

@@ -10,12 +10,12 @@ pub invariant_of-self : goal.invariant_of-self
 invariant_of-self c =
     let t = c.self.inside in
     let u = c.self-2.inside in
-    let rest : NumberedItems = remove_entry (is_at (nat_cmp t.made)) t.items.entries in
-    let is : record { made = u.made; items = u.items.entries } ≡ record { made = t.made; items = rest } =
+    let rest : NumberedItems = remove_entry (is_at (nat_cmp t.made)) t.items in
+    let is : record { made = u.made; items = u.items } ≡ record { made = t.made; items = rest } =
     c.self-2.view_is ∙ c.remove.ensures ∙ ap (λ (s : TableState). record { made = s.made; items = remove_entry (is_at (nat_cmp t.made)) s.items }) (sym c.self.view_is) in
-    let items : u.items.entries ≡ rest = ap (λ (s : TableState). s.items) is in
+    let items : u.items ≡ rest = ap (λ (s : TableState). s.items) is in
     let made : u.made ≡ t.made = ap (λ (s : TableState). s.made) is in
     let after : IsTable t.made rest u.of_subscription u.on_node =
     subst (λ (n : ℕ). IsTable n rest u.of_subscription u.on_node) made (subst (λ (es : NumberedItems). IsTable u.made es u.of_subscription u.on_node) items c.self-2.invariant) in
     subst (λ (es : NumberedItems). IsTable (t.made - 1) es u.of_subscription u.on_node) (sym items)
-    (table_back t.made t.items.entries t.of_subscription t.on_node c.self.invariant u.of_subscription u.on_node after)
+    (table_back t.made t.items t.of_subscription t.on_node c.self.invariant u.of_subscription u.on_node after)

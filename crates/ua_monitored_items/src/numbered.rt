@@ -1,0 +1,333 @@
+//! Items under their numbers, and how many of each subscription's items have a value to send.
+
+ghost use Rattle.std.specs.Prelude.{◌≡◌, ◌≤◌, ◌+◌, [], None, OnOk, OnErr, IfOk, IfErr, IfNone};
+ghost use Rattle.std.specs.BTreeMap.{is_at, insert_entry};
+ghost use Rattle.std.specs.Map.{remove_entry};
+ghost use Rattle.std.specs.Option.{option_copied};
+ghost use Rattle.std.specs.Ordering.{nat_cmp};
+ghost use Rattle.std.specs.Vec.{vec_len, vec_capacity};
+ghost use Rattle.ua_monitored_items.specs.Counts.{recount_by, AreRecounted, CanCount, AreHeld, AreSame};
+ghost use Rattle.ua_monitored_items.specs.Item.{seen, gave};
+ghost use Rattle.ua_monitored_items.specs.ItemTables.{item_at, numbers_of, with_item, AreRising};
+ghost use Rattle.ua_monitored_items.specs.Items.{any_waits, nat_least, Taking, with_taken};
+ghost use Rattle.ua_monitored_items.specs.Modifying.{modified_with};
+ghost use Rattle.ua_monitored_items.specs.Preparing.{FitsAt, moded_from};
+ghost use Rattle.ua_monitored_items.specs.Taking.{waiting_at};
+
+use crate::item::Item;
+use crate::kinds::Mode;
+use crate::preparing::{FirstSample, Modification};
+use std::alloc::{AllocError, AllocFailed, Global};
+use std::collections::BTreeMap;
+use std::marker::Model;
+use ua_read_write::Timestamps;
+use ua_subscription_messages::{MonitoredItemNotification, MonitoringParameters};
+use ua_values::DataValue;
+
+/// Of an item that is put in, changed or taken out: whether it had a value to send before, and has one now.
+#[derive(Clone, Copy)]
+pub struct Recount {
+    /// The number of its subscription.
+    pub subscription: u32,
+    pub had: bool,
+    pub has: bool,
+}
+
+/// Items under their numbers. Contracts see these alone.
+///
+/// Beside them there is a count for each subscription, so whether one has something to send is told without a
+/// look at its items.
+#[derive(Drop)]
+pub struct Numbered {
+    items: BTreeMap<u32, Item>,
+    // How many of a subscription's items have a value to send. Each subscription with an item has its count here.
+    counts: BTreeMap<u32, usize>,
+}
+
+impl Model for Numbered {
+    ghost use Rattle.ua_monitored_items.specs.Counts.{AreCounts};
+    ghost use Rattle.ua_monitored_items.specs.ItemTables.{NumberedItems};
+
+    ghost Value = { NumberedItems };
+
+    ghost view = { λ t. t.items.entries };
+
+    ghost invariant = { λ t. AreCounts t.counts t.items.entries };
+}
+
+// Puts an item under its number. At an `Err` nothing changed, and the item comes back.
+fn insert_item(items: &mut BTreeMap<u32, Item>, number: u32, item: Item) -> Result<(), Item>
+    ensures ok { OnOk result (items.new.entries ≡ insert_entry nat_cmp items.old.entries number item) }
+    ensures back { IfErr result (λ back. back ≡ item) }
+    ensures err { OnErr result (items.new.entries ≡ items.old.entries) }
+{
+    match items.insert(number, item) {
+        Ok(_) => Ok(()),
+        Err(AllocFailed { value: (_, item) }) => Err(item),
+    }
+}
+
+fn modify_at(
+    items: &mut BTreeMap<u32, Item>,
+    number: u32,
+    timestamps: Timestamps,
+    modification: Modification,
+    parameters: &MonitoringParameters,
+) -> Option<Recount>
+    ensures items { items.new.entries ≡ with_item number (modified_with timestamps modification parameters.now) items.old.entries }
+    ensures recount { result ≡ recount_by (modified_with timestamps modification parameters.now) (item_at number items.old.entries) }
+{
+    let item = items.get_mut(&number)?;
+    let had = item.waiting() > 0;
+    item.modify(timestamps, modification, parameters);
+    Some(Recount {
+        subscription: item.subscription,
+        had,
+        has: item.waiting() > 0,
+    })
+}
+
+fn set_mode_at(
+    items: &mut BTreeMap<u32, Item>,
+    number: u32,
+    mode: Mode,
+    first: Option<FirstSample>,
+) -> Option<Recount>
+    requires { FitsAt mode (item_at number items.old.entries) first }
+    ensures items { items.new.entries ≡ with_item number (moded_from mode first) items.old.entries }
+    ensures recount { result ≡ recount_by (moded_from mode first) (item_at number items.old.entries) }
+{
+    let item = items.get_mut(&number)?;
+    let had = item.waiting() > 0;
+    item.set_mode(mode, first);
+    Some(Recount {
+        subscription: item.subscription,
+        had,
+        has: item.waiting() > 0,
+    })
+}
+
+// The item with this number sees a value. At an `Err` nothing changed.
+#[tactic(auto, using(crate::proofs::Edits::set_same))]
+fn visit_at(
+    alloc: Global,
+    items: &mut BTreeMap<u32, Item>,
+    number: u32,
+    value: &DataValue,
+) -> Result<Option<Recount>, AllocError>
+    ensures ok { OnOk result (items.new.entries ≡ with_item number (seen value.now) items.old.entries) }
+    ensures recount { IfOk result (λ recount. recount ≡ recount_by (seen value.now) (item_at number items.old.entries)) }
+    ensures err { OnErr result (items.new.entries ≡ items.old.entries) }
+{
+    let Some(item) = items.get_mut(&number) else {
+        return Ok(None);
+    };
+    let had = item.waiting() > 0;
+    item.see(alloc, value)?;
+    Ok(Some(Recount {
+        subscription: item.subscription,
+        had,
+        has: item.waiting() > 0,
+    }))
+}
+
+// The item with this number gives its oldest values, at most so many. Answers how many more are wanted.
+#[tactic(auto, using(crate::proofs::Edits::set_same))]
+fn take_at(
+    items: &mut BTreeMap<u32, Item>,
+    number: u32,
+    left: usize,
+    notes: &mut Vec<MonitoredItemNotification>,
+) -> (usize, Option<Recount>)
+    requires { vec_len notes.old + nat_least left (waiting_at (item_at number items.old.entries)) ≤ vec_capacity notes.old }
+    ensures left { result.0 ≡ (with_taken (record { notes = notes.old.items; items = items.old.entries; left = left }) number).left }
+    ensures notes { notes.new.items ≡ (with_taken (record { notes = notes.old.items; items = items.old.entries; left = left }) number).notes }
+    ensures items { items.new.entries ≡ (with_taken (record { notes = notes.old.items; items = items.old.entries; left = left }) number).items }
+    ensures recount { result.1 ≡ recount_by (gave (nat_least left (waiting_at (item_at number items.old.entries)))) (item_at number items.old.entries) }
+    ensures len { vec_len notes.new + result.0 ≤ vec_len notes.old + left }
+    ensures room { vec_capacity notes.new ≡ vec_capacity notes.old }
+{
+    match items.get_mut(&number) {
+        None => (left, None),
+        Some(item) => {
+            let waiting = item.waiting();
+            let count = left.min(waiting);
+            item.give(count, notes);
+            let recount = Recount {
+                subscription: item.subscription,
+                had: waiting > 0,
+                has: item.waiting() > 0,
+            };
+            (left - count, Some(recount))
+        }
+    }
+}
+
+// A subscription has a count from now on. At an `Err` nothing changed.
+fn hold(counts: &mut BTreeMap<u32, usize>, subscription: u32) -> Result<(), AllocError>
+    ensures ok { OnOk result (AreHeld counts.old counts.new subscription) }
+    ensures err { OnErr result (AreSame counts.old counts.new) }
+{
+    if counts.get(&subscription).is_some() {
+        return Ok(());
+    }
+    match counts.insert(subscription, 0) {
+        Ok(_) => Ok(()),
+        Err(_) => Err(AllocError),
+    }
+}
+
+// The count of a subscription follows one of its items; it is at most that number. Takes no memory.
+fn count(counts: &mut BTreeMap<u32, usize>, recount: Recount, most: usize)
+    requires { CanCount counts.old recount most }
+    ensures { AreRecounted counts.old counts.new recount }
+{
+    if let Some(count) = counts.get_mut(&recount.subscription) {
+        *count = *count - usize::from(recount.had) + usize::from(recount.has);
+    }
+}
+
+impl Numbered {
+    /// No item. Takes no memory.
+    pub fn new(alloc: Global) -> Numbered
+        ensures { result ≡ [] }
+    {
+        Numbered {
+            items: BTreeMap::new(alloc),
+            counts: BTreeMap::new(alloc),
+        }
+    }
+
+    /// The item with this number.
+    pub fn get(&self, number: u32) -> Option<&Item>
+        ensures { option_copied result ≡ item_at number self.now }
+    {
+        self.items.get(&number)
+    }
+
+    /// Puts an item under a number that none has. At an `Err` nothing changed, and the item comes back.
+    pub fn insert(&mut self, number: u32, item: Item) -> Result<(), Item>
+        requires { item_at number self.old ≡ None }
+        ensures ok { OnOk result (self.new ≡ insert_entry nat_cmp self.old number item) }
+        ensures back { IfErr result (λ back. back ≡ item) }
+        ensures err { OnErr result (self.new ≡ self.old) }
+    {
+        let recount = Recount {
+            subscription: item.subscription,
+            had: false,
+            has: item.waiting() > 0,
+        };
+        let Ok(()) = hold(&mut self.counts, item.subscription) else {
+            return Err(item);
+        };
+        insert_item(&mut self.items, number, item)?;
+        count(&mut self.counts, recount, self.items.len());
+        Ok(())
+    }
+
+    /// Takes the item with this number out, if there is one. Takes no memory.
+    pub fn remove(&mut self, number: u32) -> Option<Item>
+        ensures item { result ≡ item_at number self.old }
+        ensures items { self.new ≡ remove_entry (is_at (nat_cmp number)) self.old }
+        ensures unchanged { IfNone result (self.new ≡ self.old) }
+    {
+        let most = self.items.len();
+        let item = self.items.remove(&number)?;
+        let recount = Recount {
+            subscription: item.subscription,
+            had: item.waiting() > 0,
+            has: false,
+        };
+        count(&mut self.counts, recount, most);
+        Some(item)
+    }
+
+    /// There is no count any more for a subscription without items. Takes no memory.
+    pub fn forget(&mut self, subscription: u32)
+        requires { numbers_of subscription self.old ≡ [] }
+        ensures { self.new ≡ self.old }
+    {
+        let _ = self.counts.remove(&subscription);
+    }
+
+    /// The item with this number gets other parameters. Takes no memory.
+    pub fn modify(
+        &mut self,
+        number: u32,
+        timestamps: Timestamps,
+        modification: Modification,
+        parameters: &MonitoringParameters,
+    )
+        ensures { self.new ≡ with_item number (modified_with timestamps modification parameters.now) self.old }
+    {
+        let most = self.items.len();
+        let found = modify_at(
+            &mut self.items,
+            number,
+            timestamps,
+            modification,
+            parameters,
+        );
+        if let Some(recount) = found {
+            count(&mut self.counts, recount, most);
+        }
+    }
+
+    /// The item with this number gets a mode, and queues what was sampled for it where that enables it.
+    /// Takes no memory.
+    pub fn set_mode(&mut self, number: u32, mode: Mode, first: Option<FirstSample>)
+        requires { FitsAt mode (item_at number self.old) first }
+        ensures { self.new ≡ with_item number (moded_from mode first) self.old }
+    {
+        let most = self.items.len();
+        if let Some(recount) = set_mode_at(&mut self.items, number, mode, first) {
+            count(&mut self.counts, recount, most);
+        }
+    }
+
+    /// The item with this number sees a value. At an `Err` nothing changed.
+    pub fn visit(&mut self, alloc: Global, number: u32, value: &DataValue) -> Result<(), AllocError>
+        ensures ok { OnOk result (self.new ≡ with_item number (seen value.now) self.old) }
+        ensures err { OnErr result (self.new ≡ self.old) }
+    {
+        let most = self.items.len();
+        if let Some(recount) = visit_at(alloc, &mut self.items, number, value)? {
+            count(&mut self.counts, recount, most);
+        }
+        Ok(())
+    }
+
+    /// The item with this number gives its oldest values, at most so many. Answers how many more are wanted.
+    /// Takes no memory, since there is room.
+    pub fn take_from(
+        &mut self,
+        number: u32,
+        left: usize,
+        notes: &mut Vec<MonitoredItemNotification>,
+    ) -> usize
+        requires { vec_len notes.old + nat_least left (waiting_at (item_at number self.old)) ≤ vec_capacity notes.old }
+        ensures left { result ≡ (with_taken (record { notes = notes.old.items; items = self.old; left = left }) number).left }
+        ensures notes { notes.new.items ≡ (with_taken (record { notes = notes.old.items; items = self.old; left = left }) number).notes }
+        ensures items { self.new ≡ (with_taken (record { notes = notes.old.items; items = self.old; left = left }) number).items }
+        ensures len { vec_len notes.new + result ≤ vec_len notes.old + left }
+        ensures room { vec_capacity notes.new ≡ vec_capacity notes.old }
+    {
+        let most = self.items.len();
+        let (wanted, found) = take_at(&mut self.items, number, left, notes);
+        if let Some(recount) = found {
+            count(&mut self.counts, recount, most);
+        }
+        wanted
+    }
+
+    /// Whether an item of a subscription has a value to send. Takes no memory, and looks at no item.
+    pub fn has_value(&self, subscription: u32) -> bool
+        requires { AreRising self.now }
+        ensures { result ≡ any_waits self.now (numbers_of subscription self.now) }
+    {
+        match self.counts.get(&subscription) {
+            None => false,
+            Some(count) => *count > 0,
+        }
+    }
+}
