@@ -4,6 +4,8 @@ pub mod Doings
 pub mod Meetings
 pub mod Places
 pub mod Dues
+pub mod DueWalks
+pub mod Listings
 pub mod Choosing
 pub mod MapEntries
 pub mod OwingRows

@@ -9,6 +9,7 @@ pub mod Firing
 pub mod Tables
 pub mod Named
 pub mod Ranks
+pub mod DueLists
 pub mod Publishing
 pub mod Ending
 pub mod Making

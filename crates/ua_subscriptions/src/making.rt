@@ -8,6 +8,7 @@ ghost use Rattle.ua_subscriptions.specs.Ranks.{is_any_due};
 
 use crate::call::Call;
 use crate::firing::fire;
+use crate::listing::insert_at;
 use crate::publishing::message;
 use crate::round::Round;
 use crate::session_part::SessionSubscriptions;
@@ -115,7 +116,12 @@ impl LiveSubscriptions {
         }
         part.numbers.insert(number)?;
         self.sessions.insert(session, part)?;
-        self.subscriptions.insert(number, subscription)?;
+        insert_at(
+            &mut self.subscriptions,
+            &mut self.dues,
+            number,
+            subscription,
+        )?;
         Ok(())
     }
 

@@ -1,8 +1,10 @@
 //! Publish: acknowledgements, notes of time-outs, and who answers.
 
-ghost use Rattle.std.specs.Prelude.{◌≡◌, find, OnOk, IfOk};
+ghost use Rattle.std.specs.Prelude.{◌≡◌, List, find, OnOk, IfOk};
 ghost use Rattle.std.specs.List.{position};
 ghost use Rattle.std.specs.Option.{is_some, option_copied};
+ghost use Rattle.ua_subscriptions.specs.DueLists.{AreListed};
+ghost use Rattle.ua_subscriptions.specs.declared.due_list.Due.{Due as DueLem};
 ghost use Rattle.ua_subscriptions.specs.Messages.{has_number};
 ghost use Rattle.ua_subscriptions.specs.Publishing.{forgotten, acknowledged, acknowledged_all, note_of, without_note, note_told, answered_to, published};
 ghost use Rattle.ua_subscriptions.specs.Tables.{world, Meets};
@@ -61,6 +63,7 @@ fn acknowledge(
 ) -> Status
     ensures status { result ≡ (acknowledged session subscriptions.old.entries acknowledgement).status }
     ensures subscriptions { subscriptions.new.entries ≡ (acknowledged session subscriptions.old.entries acknowledgement).subscriptions }
+    ensures listed { (dues : List DueLem) → AreListed subscriptions.old.entries dues → AreListed subscriptions.new.entries dues }
 {
     let own = acknowledgement.subscription_id;
     if !is_own(subscriptions, session, own) {
@@ -86,6 +89,7 @@ fn acknowledge_all(
 ) -> Result<Listed<Status>, AllocError>
     ensures results { IfOk result (λ results. results ≡ (acknowledged_all session subscriptions.old.entries acknowledgements.now).results) }
     ensures subscriptions { OnOk result (subscriptions.new.entries ≡ (acknowledged_all session subscriptions.old.entries acknowledgements.now).subscriptions) }
+    ensures listed { (dues : List DueLem) → AreListed subscriptions.old.entries dues → AreListed subscriptions.new.entries dues }
 {
     let mut results = Listed::new(alloc);
     for acknowledgement in acknowledgements {

@@ -2,12 +2,16 @@
 
 ghost use Rattle.std.specs.Prelude.{◌≡◌, true, OnOk, IfOk, IfErr};
 ghost use Rattle.server_messages.specs.declared.halt.Halt.TheVariants.{Exhausted};
+ghost use Rattle.ua_subscriptions.specs.DueLists.{due_at, has_due, has_moved, AreListed};
+ghost use Rattle.ua_subscriptions.specs.declared.due_list.Due.{Due as DueLem};
 ghost use Rattle.ua_subscriptions.specs.Tables.{no_table, part_of, vars_found, kept_found, met_in, one_met, met_at, world, met, all_met, Meets};
 ghost use Rattle.ua_subscriptions.specs.Subscriptions.{is_any};
 ghost use Rattle.ua_subscriptions.specs.Scenes.{is_overspent};
 
 use crate::call::Call;
+use crate::due_list::DueList;
 use crate::firing::{fire, is_closed};
+use crate::listing::remove_at;
 use crate::publish_call::numbers;
 use crate::round::Round;
 use crate::session_part::SessionSubscriptions;
@@ -25,14 +29,19 @@ use ua_state_table::Vars;
 pub struct LiveSubscriptions {
     pub(crate) subscriptions: BTreeMap<u32, Subscription>,
     pub(crate) sessions: BTreeMap<u32, SessionSubscriptions>,
+    // The moment of each subscription's timer stands here, and nothing else does.
+    pub(crate) dues: DueList,
 }
 
 impl Model for LiveSubscriptions {
+    ghost use Rattle.ua_subscriptions.specs.DueLists.{AreListed};
     ghost use Rattle.ua_subscriptions.specs.Tables.{TableState};
 
     ghost Value = { TableState };
 
     ghost view = { λ t. record { subscriptions = t.subscriptions.entries; sessions = t.sessions.entries } };
+
+    ghost invariant = { λ t. AreListed t.subscriptions.entries t.dues };
 }
 
 // Fires a row, where what the session has of subscriptions is found under its number.
@@ -68,24 +77,61 @@ fn fire_in(
     }
 }
 
+// Fires a row at a subscription, and puts its timer off in the list. At an `Err` its timer stays where it was.
+fn fire_listed(
+    round: &mut Round,
+    alloc: Global,
+    subscription: &mut Subscription,
+    dues: &mut DueList,
+    sessions: &mut BTreeMap<u32, SessionSubscriptions>,
+    items: &mut Items,
+) -> Result<(), Halt>
+    requires { has_due dues.old (due_at subscription.old.due round.old.own) ≡ true }
+    ensures ok { OnOk result (record { round = round.new; subscription = subscription.new; sessions = sessions.new.entries; items = items.new } ≡ met_in round.old subscription.old sessions.old.entries items.old) }
+    ensures exhausted { IfErr result (λ halt. halt ≡ Exhausted → is_overspent (met_in round.old subscription.old sessions.old.entries items.old).round ≡ true) }
+    ensures listed { (q : DueLem) → has_due dues.new q ≡ has_moved round.old.own subscription.old.due subscription.new.due q (has_due dues.old q) }
+{
+    let own = round.own;
+    let before = subscription.due;
+    match fire_in(round, alloc, subscription, sessions, items) {
+        Ok(()) => {}
+        Err(halt) => {
+            subscription.due = before;
+            return Err(halt);
+        }
+    }
+    match dues.put_off(own, before, subscription.due) {
+        Ok(()) => Ok(()),
+        Err(_) => {
+            subscription.due = before;
+            Err(Halt::Memory)
+        }
+    }
+}
+
 // Fires a row at the subscription that the round is at, if it is there, and tells whether it is closed then.
 #[tactic(auto, using(crate::proofs::Meetings::one_met_found))]
 fn fire_at(
     round: &mut Round,
     alloc: Global,
     subscriptions: &mut BTreeMap<u32, Subscription>,
+    dues: &mut DueList,
     sessions: &mut BTreeMap<u32, SessionSubscriptions>,
     items: &mut Items,
 ) -> Result<bool, Halt>
+    requires { AreListed subscriptions.old.entries dues.old }
     ensures ok { IfOk result (λ closed. one_met round.new subscriptions.new.entries sessions.new.entries items.new closed ≡ met_at round.old subscriptions.old.entries sessions.old.entries items.old) }
     ensures exhausted { IfErr result (λ halt. halt ≡ Exhausted → is_overspent (met_at round.old subscriptions.old.entries sessions.old.entries items.old).round ≡ true) }
+    ensures listed { AreListed subscriptions.new.entries dues.new }
 {
     match subscriptions.get_mut(&round.own) {
         None => Ok(false),
-        Some(subscription) => match fire_in(round, alloc, subscription, sessions, items) {
-            Ok(()) => Ok(is_closed(subscription)),
-            Err(halt) => Err(halt),
-        },
+        Some(subscription) => {
+            match fire_listed(round, alloc, subscription, dues, sessions, items) {
+                Ok(()) => Ok(is_closed(subscription)),
+                Err(halt) => Err(halt),
+            }
+        }
     }
 }
 
@@ -97,6 +143,7 @@ impl LiveSubscriptions {
         LiveSubscriptions {
             subscriptions: BTreeMap::new(alloc),
             sessions: BTreeMap::new(alloc),
+            dues: DueList::new(alloc),
         }
     }
 
@@ -151,10 +198,11 @@ impl LiveSubscriptions {
             round,
             alloc,
             &mut self.subscriptions,
+            &mut self.dues,
             &mut self.sessions,
             items,
         )? {
-            let _ = self.subscriptions.remove(&own);
+            remove_at(&mut self.subscriptions, &mut self.dues, own);
         }
         Ok(())
     }

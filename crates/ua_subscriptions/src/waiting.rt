@@ -1,15 +1,20 @@
 //! Which subscriptions wait, or are due.
 
 ghost use Rattle.std.specs.Prelude.{◌≡◌, false, IfOk, IsOk};
+ghost use Rattle.std.specs.BTreeMap.{IsOrdered};
+ghost use Rattle.std.specs.BTreeSet.{IsOrdered as IsOrderedSet};
+ghost use Rattle.std.specs.Ordering.{nat_cmp};
+ghost use Rattle.ua_subscriptions.specs.DueLists.{AreListed, rank_by, ranks_at};
 ghost use Rattle.ua_subscriptions.specs.Queues.{first_of};
-ghost use Rattle.ua_subscriptions.specs.Ranks.{is_waiting as is_waiting_spec, waiting_by, waiting_of as waiting_of_spec, due_rank as due_rank_spec, due_of as due_of_spec, due_numbers, is_any_due as is_any_due_spec};
+ghost use Rattle.ua_subscriptions.specs.Ranks.{is_waiting as is_waiting_spec, waiting_by, waiting_of as waiting_of_spec, due_of as due_of_spec, due_numbers, is_any_due as is_any_due_spec};
 ghost use Rattle.ua_subscriptions.specs.Tables.{part_at, subscription_at};
 
+use crate::due_list::DueList;
 use crate::ranks::{Rank, Ranks};
 use crate::subscription::Subscription;
 use crate::table::LiveSubscriptions;
 use std::alloc::{AllocError, Global};
-use std::collections::BTreeMap;
+use std::collections::{BTreeMap, BTreeSet};
 use ua_state_table::State;
 use ua_types::Moment;
 
@@ -50,42 +55,58 @@ fn waiting_of(
     Ok(ranks)
 }
 
-// Its rank, if its timer is due.
-fn due_rank(number: u32, subscription: &Subscription, clock: Moment) -> Option<Rank>
-    ensures { result ≡ due_rank_spec clock (number, subscription.now) }
+// Whether there is one whose timer is due. It looks at the list's first alone.
+fn is_any_due(subscriptions: &BTreeMap<u32, Subscription>, dues: &DueList, clock: Moment) -> bool
+    requires { AreListed subscriptions.now.entries dues.now }
+    ensures any { result ≡ is_any_due_spec clock subscriptions.now.entries }
+    ensures ordered { IsOrdered nat_cmp subscriptions.now }
 {
-    if subscription.due <= clock {
-        Some(Rank::new(number, subscription))
-    } else {
-        None
+    if subscriptions.len() == 0 {
+        return false;
+    }
+    dues.is_any_due(clock)
+}
+
+// The rank of the one with this number, if it is there.
+#[tactic(auto, unfolding(crate::specs::DueLists::rank_by))]
+fn rank_at(subscriptions: &BTreeMap<u32, Subscription>, number: u32) -> Option<Rank>
+    ensures { result ≡ rank_by number (subscription_at number subscriptions.now.entries) }
+{
+    match subscriptions.get(&number) {
+        None => None,
+        Some(subscription) => Some(Rank::new(number, subscription)),
     }
 }
 
-// The ranks of those whose timer is due.
-fn due_of(
+// The ranks of those with these numbers.
+fn ranks_of(
     alloc: Global,
     subscriptions: &BTreeMap<u32, Subscription>,
-    clock: Moment,
+    numbers: &BTreeSet<u32>,
 ) -> Result<Ranks, AllocError>
-    ensures { IfOk result (λ ranks. ranks ≡ due_of_spec clock subscriptions.now.entries) }
+    ensures ranks { IfOk result (λ ranks. ranks ≡ ranks_at subscriptions.now.entries numbers.now.keys) }
+    ensures ordered { IsOrderedSet nat_cmp numbers.now }
 {
     let mut ranks = Ranks::new(alloc);
-    for (number, subscription) in subscriptions {
-        ranks.insert(due_rank(*number, subscription, clock))?;
+    for number in numbers {
+        ranks.insert(rank_at(subscriptions, *number))?;
     }
     Ok(ranks)
 }
 
-// Whether there is one whose timer is due.
-fn is_any_due(subscriptions: &BTreeMap<u32, Subscription>, clock: Moment) -> bool
-    ensures { result ≡ is_any_due_spec clock subscriptions.now.entries }
+// The ranks of those whose timer is due. It looks at these alone.
+fn due_of(
+    alloc: Global,
+    subscriptions: &BTreeMap<u32, Subscription>,
+    dues: &DueList,
+    clock: Moment,
+) -> Result<Ranks, AllocError>
+    requires listed { AreListed subscriptions.now.entries dues.now }
+    requires ordered { IsOrdered nat_cmp subscriptions.now }
+    ensures { IfOk result (λ ranks. ranks ≡ due_of_spec clock subscriptions.now.entries) }
 {
-    for (_, subscription) in subscriptions {
-        if subscription.due <= clock {
-            return true;
-        }
-    }
-    false
+    let numbers = dues.due(alloc, clock)?;
+    ranks_of(alloc, subscriptions, &numbers)
 }
 
 impl LiveSubscriptions {
@@ -117,10 +138,10 @@ impl LiveSubscriptions {
         ensures numbers { IfOk result (λ numbers. numbers.items ≡ due_numbers clock self.now.subscriptions) }
         ensures none { is_any_due_spec clock self.now.subscriptions ≡ false → IsOk result }
     {
-        if !is_any_due(&self.subscriptions, clock) {
+        if !is_any_due(&self.subscriptions, &self.dues, clock) {
             return Ok(Vec::new(alloc));
         }
-        let ranks = due_of(alloc, &self.subscriptions, clock)?;
+        let ranks = due_of(alloc, &self.subscriptions, &self.dues, clock)?;
         ranks.numbers(alloc)
     }
 }

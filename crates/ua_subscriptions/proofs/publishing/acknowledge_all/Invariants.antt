@@ -1,8 +1,11 @@
-use Rattle.std.proofs.Common.{◌≡◌, take}
+use Rattle.std.proofs.Common.{◌≡◌, List, take}
+use Rattle.ua_subscriptions.specs.declared.due_list.Due.{Due}
+use Rattle.ua_subscriptions.specs.DueLists.{AreListed}
 use Rattle.ua_subscriptions.specs.Publishing.{acknowledged_all}
 use Rattle.ua_subscriptions.proofs.publishing.acknowledge_all.Given as goal
 
--- those so far
+-- those so far; the timers are as they were
 abbrev pub invariant-loop-acknowledgement : goal.invariant-loop-acknowledgement
 invariant-loop-acknowledgement l =
-    record { results = l.results; subscriptions = l.subscriptions.entries } ≡ acknowledged_all l.session l.fn.subscriptions.entries (take l.acknowledgement-index l.acknowledgements)
+    (record { results = l.results; subscriptions = l.subscriptions.entries } ≡ acknowledged_all l.session l.fn.subscriptions.entries (take l.acknowledgement-index l.acknowledgements))
+    × ((dues : List Due) → AreListed l.fn.subscriptions.entries dues → AreListed l.subscriptions.entries dues)
