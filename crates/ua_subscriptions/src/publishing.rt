@@ -145,7 +145,7 @@ impl LiveSubscriptions {
             round.replies.push(call.refused(alloc, round.clock, Status::BAD_NO_SUBSCRIPTION)?)?;
             return Ok(());
         }
-        let best = self.best_waiting(alloc, numbers)?;
+        let best = self.best_waiting(numbers);
         round.asked = Some(call);
         match best {
             Some(rank) => self.fire_one(alloc, round, items, rank.number, Call::Publish),

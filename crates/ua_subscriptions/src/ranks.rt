@@ -1,7 +1,6 @@
 //! Which subscription comes first.
 
 ghost use Rattle.std.specs.Prelude.{◌≡◌, [], map, OnOk, IfOk};
-ghost use Rattle.ua_subscriptions.specs.Queues.{first_of};
 ghost use Rattle.ua_subscriptions.specs.Ranks.{rank_of, with_rank, number_of};
 
 use crate::subscription::Subscription;
@@ -69,13 +68,6 @@ impl Ranks {
             self.keys.insert(rank)?;
         }
         Ok(())
-    }
-
-    /// The first.
-    pub(crate) fn first(&self) -> Option<Rank>
-        ensures { result ≡ first_of self.now }
-    {
-        self.keys.first().copied()
     }
 
     /// The numbers of the subscriptions, in the order of their ranks.

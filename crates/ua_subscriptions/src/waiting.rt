@@ -1,12 +1,13 @@
 //! Which subscriptions wait, or are due.
 
-ghost use Rattle.std.specs.Prelude.{◌≡◌, false, IfOk, IsOk};
+ghost use Rattle.std.specs.Prelude.{◌≡◌, false, List, IfOk, IsOk};
 ghost use Rattle.std.specs.BTreeMap.{IsOrdered};
 ghost use Rattle.std.specs.BTreeSet.{IsOrdered as IsOrderedSet};
 ghost use Rattle.std.specs.Ordering.{nat_cmp};
 ghost use Rattle.ua_subscriptions.specs.DueLists.{AreListed, rank_by, ranks_at};
 ghost use Rattle.ua_subscriptions.specs.Queues.{first_of};
-ghost use Rattle.ua_subscriptions.specs.Ranks.{is_waiting as is_waiting_spec, waiting_by, waiting_of as waiting_of_spec, due_of as due_of_spec, due_numbers, is_any_due as is_any_due_spec};
+ghost use Rattle.ua_subscriptions.specs.Ranks.{is_waiting as is_waiting_spec, waiting_by, with_rank, waiting_of as waiting_of_spec, due_of as due_of_spec, due_numbers, is_any_due as is_any_due_spec};
+ghost use Rattle.ua_subscriptions.specs.declared.ranks.Rank.{Rank as RankLem};
 ghost use Rattle.ua_subscriptions.specs.Tables.{part_at, subscription_at};
 
 use crate::due_list::DueList;
@@ -40,19 +41,29 @@ fn waiting_rank(subscriptions: &BTreeMap<u32, Subscription>, number: u32) -> Opt
     }
 }
 
-// The ranks of those that wait among these numbers.
-fn waiting_of(
-    alloc: Global,
-    subscriptions: &BTreeMap<u32, Subscription>,
-    numbers: &[u32],
-) -> Result<Ranks, AllocError>
-    ensures { IfOk result (λ ranks. ranks ≡ waiting_of_spec subscriptions.now.entries numbers.now) }
+// The one that comes first, of the first of some ranks and a further one.
+#[tactic(auto, unfolding(crate::specs::Ranks::with_rank))]
+fn better(best: Option<Rank>, rank: Option<Rank>) -> Option<Rank>
+    ensures { (ranks : List RankLem) → best ≡ first_of ranks → result ≡ first_of (with_rank ranks rank) }
 {
-    let mut ranks = Ranks::new(alloc);
-    for number in numbers {
-        ranks.insert(waiting_rank(subscriptions, *number))?;
+    let Some(rank) = rank else {
+        return best;
+    };
+    match best {
+        Some(best) if best < rank => Some(best),
+        _ => Some(rank),
     }
-    Ok(ranks)
+}
+
+// The best of those that wait among these numbers.
+fn best_of(subscriptions: &BTreeMap<u32, Subscription>, numbers: &[u32]) -> Option<Rank>
+    ensures { result ≡ first_of (waiting_of_spec subscriptions.now.entries numbers.now) }
+{
+    let mut best = None;
+    for number in numbers {
+        best = better(best, waiting_rank(subscriptions, *number));
+    }
+    best
 }
 
 // Whether there is one whose timer is due. It looks at the list's first alone.
@@ -120,16 +131,11 @@ impl LiveSubscriptions {
         }
     }
 
-    /// The best of those that wait among these numbers.
-    pub(crate) fn best_waiting(
-        &self,
-        alloc: Global,
-        numbers: &[u32],
-    ) -> Result<Option<Rank>, AllocError>
-        ensures { IfOk result (λ best. best ≡ first_of (waiting_of_spec self.now.subscriptions numbers.now)) }
+    /// The best of those that wait among these numbers. Takes no memory.
+    pub(crate) fn best_waiting(&self, numbers: &[u32]) -> Option<Rank>
+        ensures { result ≡ first_of (waiting_of_spec self.now.subscriptions numbers.now) }
     {
-        let ranks = waiting_of(alloc, &self.subscriptions, numbers)?;
-        Ok(ranks.first())
+        best_of(&self.subscriptions, numbers)
     }
 
     /// The numbers of those whose timer is due, the best first. Takes no memory where there is none.
