@@ -1,4 +1,5 @@
 pub mod Folding
+pub mod Keepings
 pub mod Sendings
 pub mod Doings
 pub mod Meetings

@@ -303,6 +303,14 @@ moved number before t q old new was is found set listed changed =
     ∙ moved_by before t (is_at (nat_cmp number) q.number) q.moment old (λ at. found at q.moment)
     ∙ ap (is_moment q.moment) (sym set)
 
+-- the same moment stays
+pub stayed : (number : ℕ) (moment : Moment) (q : Due) (was : Bool) → cond (is_at (due_cmp (due_at moment number)) q) true was ≡ has_moved number moment moment q was
+stayed number moment q was = by (is_at (due_cmp (due_at moment number)) q)
+  where
+    by : (x : Bool) → cond x true was ≡ cond x true (cond x false was)
+    by true = refl
+    by false = refl
+
 -- the new moment may come before the old one goes
 pub swapped : (number : ℕ) (before after : Moment) (q : Due) (was : Bool) → before ≢ after
     → cond (is_at (due_cmp (due_at before number)) q) false (cond (is_at (due_cmp (due_at after number)) q) true was) ≡ has_moved number before after q was

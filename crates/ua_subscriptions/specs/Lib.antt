@@ -1,6 +1,7 @@
 pub mod Queues
 pub mod Settings
 pub mod Messages
+pub mod Kept
 pub mod Answers
 pub mod Calls
 pub mod Subscriptions

@@ -71,7 +71,7 @@ fn keep_message(
 {
     subscription.kept.push(message)?;
     if subscription.kept.len() > bound as usize {
-        let _ = subscription.kept.pop();
+        subscription.kept.drop_oldest();
     }
     Ok(())
 }

@@ -13,8 +13,9 @@
 //!
 //! What a contract sees: the live subscriptions, and what each session has of subscriptions, under their numbers
 //! (`specs/Tables`). `Scenes` has the actions as definitions; `Firing` a row; `Making`, `Named`, `Publishing` and `Ending`
-//! the calls, `Ranks` who comes first, and `Subscriptions` what a call leaves. `DueLists` has what no call shows: the
-//! moments of the timers, in order. What follows from any calls, one after the other, the crate `subscription_laws` says.
+//! the calls, `Ranks` who comes first, and `Subscriptions` what a call leaves. `DueLists` and `Kept` have what no call shows:
+//! the moments of the timers in their order, and where a kept message stands. What follows from any calls, one after the
+//! other, the crate `subscription_laws` says.
 //!
 //! Read docs/SUBSCRIPTIONS.md first, then [`Subscriptions`], then `src/acting.rt`.
 #![tactic(auto)]
@@ -25,6 +26,7 @@ mod call;
 mod due_list;
 mod ending;
 mod firing;
+mod kept;
 mod listing;
 mod making;
 mod messages;
@@ -46,6 +48,7 @@ pub use acting::number_after;
 pub use answered::Answered;
 pub use call::Call;
 pub use due_list::{Due, DueList};
+pub use kept::{Kept, Place};
 pub use making::Revised;
 pub use messages::KeptMessage;
 pub use number_set::NumberSet;

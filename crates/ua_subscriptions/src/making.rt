@@ -9,7 +9,6 @@ ghost use Rattle.ua_subscriptions.specs.Ranks.{is_any_due};
 use crate::call::Call;
 use crate::firing::fire;
 use crate::listing::insert_at;
-use crate::publishing::message;
 use crate::round::Round;
 use crate::session_part::SessionSubscriptions;
 use crate::settings::{Settings, revised_keep_alive_count, revised_lifetime_count};
@@ -195,7 +194,7 @@ impl LiveSubscriptions {
         ensures { option_map (λ bytes. bytes.now) result ≡ kept_at number wanted self.now }
     {
         let subscription = self.subscriptions.get(&number)?;
-        let message = message(&subscription.kept, wanted)?;
+        let message = subscription.kept.find(wanted)?;
         Some(message.bytes.as_slice())
     }
 
@@ -206,7 +205,7 @@ impl LiveSubscriptions {
         let Some(subscription) = self.subscriptions.get(&number) else {
             return Ok(None);
         };
-        match message(&subscription.kept, wanted) {
+        match subscription.kept.find(wanted) {
             None => Ok(None),
             Some(message) => Ok(Some(message.bytes.clone()?)),
         }

@@ -1,10 +1,9 @@
 //! Publish requests, and how they are answered.
 
-ghost use Rattle.std.specs.Prelude.{◌≡◌, ◌++◌, IfOk, OnOk, map};
+ghost use Rattle.std.specs.Prelude.{◌≡◌, IfOk, map};
 ghost use Rattle.ua_subscriptions.specs.Answers.{published_of, refused_of, number_of};
 
-use crate::messages::KeptMessage;
-use crate::queue::Queue;
+use crate::kept::Kept;
 use bytes::Bytes;
 use server_messages::Reply;
 use std::alloc::{AllocError, Global};
@@ -26,26 +25,6 @@ pub struct PublishCall {
     pub results: Listed<Status>,
 }
 
-fn push_numbers(numbers: &mut Vec<u32>, messages: &[KeptMessage]) -> Result<(), AllocError>
-    ensures { OnOk result (numbers.new.items ≡ numbers.old.items ++ map number_of messages.now) }
-{
-    for message in messages {
-        numbers.push(message.number)?;
-    }
-    Ok(())
-}
-
-/// The numbers of messages, in their order.
-pub(crate) fn numbers(alloc: Global, kept: &Queue<KeptMessage>) -> Result<Vec<u32>, AllocError>
-    ensures { IfOk result (λ numbers. numbers.items ≡ map number_of kept.now) }
-{
-    let mut numbers = Vec::with_capacity(alloc, kept.len())?;
-    let (front, back) = kept.items.as_slices();
-    push_numbers(&mut numbers, front)?;
-    push_numbers(&mut numbers, back)?;
-    Ok(numbers)
-}
-
 impl PublishCall {
     /// The answer that brings a message of a subscription, which keeps these. `more`: values are left that the message had
     /// no room for.
@@ -54,13 +33,13 @@ impl PublishCall {
         alloc: Global,
         clock: Moment,
         subscription: u32,
-        kept: &Queue<KeptMessage>,
+        kept: &Kept,
         more: bool,
         message: &[u8],
     ) -> Result<Reply, AllocError>
         ensures { IfOk result (λ reply. reply ≡ published_of clock self subscription (map number_of kept.now) more message.now) }
     {
-        let numbers = numbers(alloc, kept)?;
+        let numbers = kept.numbers(alloc)?;
         let results = self.results.as_slice();
         if numbers.len() >= 1 << 31 || results.len() >= 1 << 31 {
             return Err(AllocError);

@@ -1,19 +1,16 @@
 //! Publish: acknowledgements, notes of time-outs, and who answers.
 
-ghost use Rattle.std.specs.Prelude.{◌≡◌, List, find, OnOk, IfOk};
-ghost use Rattle.std.specs.List.{position};
-ghost use Rattle.std.specs.Option.{is_some, option_copied};
+ghost use Rattle.std.specs.Prelude.{◌≡◌, List, OnOk, IfOk};
 ghost use Rattle.ua_subscriptions.specs.DueLists.{AreListed};
 ghost use Rattle.ua_subscriptions.specs.declared.due_list.Due.{Due as DueLem};
-ghost use Rattle.ua_subscriptions.specs.Messages.{has_number};
-ghost use Rattle.ua_subscriptions.specs.Publishing.{forgotten, acknowledged, acknowledged_all, note_of, without_note, note_told, answered_to, published};
+ghost use Rattle.ua_subscriptions.specs.Publishing.{acknowledged, acknowledged_all, note_of, without_note, note_told, answered_to, published};
 ghost use Rattle.ua_subscriptions.specs.Tables.{world, Meets};
 
 use crate::call::Call;
-use crate::messages::{KeptMessage, timeout_message};
+use crate::kept::Kept;
+use crate::messages::timeout_message;
 use crate::named::is_own;
 use crate::publish_call::PublishCall;
-use crate::queue::Queue;
 use crate::round::Round;
 use crate::session_part::{SessionSubscriptions, TimeoutNote};
 use crate::subscription::Subscription;
@@ -24,36 +21,6 @@ use std::collections::BTreeMap;
 use ua_monitored_items::Items;
 use ua_subscription_messages::SubscriptionAcknowledgement;
 use ua_types::{Listed, Status};
-
-// The place of the first message with this number.
-fn place_of(kept: &Queue<KeptMessage>, number: u32) -> Option<usize>
-    ensures { result ≡ position (has_number number) kept.now }
-{
-    kept.items
-        .iter()
-        .position(|message| message.number == number)
-}
-
-/// The first message with this number.
-pub(crate) fn message(kept: &Queue<KeptMessage>, number: u32) -> Option<&KeptMessage>
-    ensures { option_copied result ≡ find (has_number number) kept.now }
-{
-    kept.items.iter().find(|message| message.number == number)
-}
-
-// Drops the first message with this number, and tells whether there is one.
-fn forget(kept: &mut Queue<KeptMessage>, number: u32) -> bool
-    ensures known { result ≡ is_some (position (has_number number) kept.old) }
-    ensures kept { kept.new ≡ forgotten number kept.old }
-{
-    match place_of(kept, number) {
-        None => false,
-        Some(place) => {
-            let _ = kept.items.remove(place);
-            true
-        }
-    }
-}
 
 #[tactic(auto, unfolding(crate::specs::Publishing::acknowledged))]
 fn acknowledge(
@@ -72,7 +39,7 @@ fn acknowledge(
     match subscriptions.get_mut(&own) {
         None => Status::BAD_SUBSCRIPTION_ID_INVALID,
         Some(subscription) => {
-            if forget(&mut subscription.kept, acknowledgement.sequence_number) {
+            if subscription.kept.forget(acknowledgement.sequence_number) {
                 Status::GOOD
             } else {
                 Status::BAD_SEQUENCE_NUMBER_UNKNOWN
@@ -122,7 +89,7 @@ fn tell_note(
     ensures { OnOk result (round.new ≡ note_told round.old call note) }
 {
     let bytes = timeout_message(alloc, note.number, round.clock)?;
-    let none = Queue::new(alloc);
+    let none = Kept::new(alloc);
     let message = bytes.as_slice();
     let reply = call.published(alloc, round.clock, note.subscription, &none, false, message)?;
     round.replies.push(reply)

@@ -3,8 +3,7 @@
 ghost use Rattle.std.specs.Prelude.{◌≡◌};
 ghost use Rattle.ua_subscriptions.specs.Subscriptions.{unborn, vars_with};
 
-use crate::messages::KeptMessage;
-use crate::queue::Queue;
+use crate::kept::Kept;
 use std::alloc::Global;
 use ua_monitored_items::Items;
 use ua_state_table::{State, Vars};
@@ -43,7 +42,7 @@ pub struct Subscription {
     /// The last number that a message of it got, 0 before the first.
     pub number: u32,
     /// The messages that may be asked for again, in the order in which they were sent.
-    pub kept: Queue<KeptMessage>,
+    pub kept: Kept,
 }
 
 impl Subscription {
@@ -66,7 +65,7 @@ impl Subscription {
             due: Moment(0),
             message_count: 0,
             number: 0,
-            kept: Queue::new(alloc),
+            kept: Kept::new(alloc),
         }
     }
 

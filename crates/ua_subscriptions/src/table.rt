@@ -12,7 +12,6 @@ use crate::call::Call;
 use crate::due_list::DueList;
 use crate::firing::{fire, is_closed};
 use crate::listing::remove_at;
-use crate::publish_call::numbers;
 use crate::round::Round;
 use crate::session_part::SessionSubscriptions;
 use crate::subscription::Subscription;
@@ -175,7 +174,7 @@ impl LiveSubscriptions {
     {
         match self.subscriptions.get(&number) {
             None => Ok(Vec::new(alloc)),
-            Some(subscription) => numbers(alloc, &subscription.kept),
+            Some(subscription) => subscription.kept.numbers(alloc),
         }
     }
 
