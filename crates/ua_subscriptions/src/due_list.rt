@@ -51,10 +51,8 @@ impl DueList {
         ensures ok { OnOk result ((q : DueLem) → has_due self.new q ≡ (if is_at (due_cmp due) q then true else has_due self.old q)) }
         ensures err { OnErr result (self.new ≡ self.old) }
     {
-        match self.dues.insert(due) {
-            Ok(_) => Ok(()),
-            Err(_) => Err(AllocError),
-        }
+        self.dues.insert(due)?;
+        Ok(())
     }
 
     /// One less, in logarithmic time. Takes no memory.
