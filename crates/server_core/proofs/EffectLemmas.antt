@@ -132,36 +132,68 @@ spent_effects occurrences d e = spent_before (occurring occurrences) (doing d.ou
 pub spent_answered : (outs : List Out) (occurrences : List Occurrence) (d : Delivery) → list_any is_spent occurrences ≡ true → are_spent (doing outs ++ effects_of occurrences d) ≡ true
 spent_answered outs occurrences d e = spent_behind (doing outs) (effects_of occurrences d) (spent_effects occurrences d e)
 
+-- ---- none spent
+
+neither : (a b c d : Bool) → (b ≡ false → c ≡ d) → (a || b) ≡ false → (a || c) ≡ d
+neither true b c d f e = absurd (false≢true (sym e))
+neither false b c d f e = f e
+
+pub none_before : (xs ys : List Effect) → are_spent xs ≡ false → are_spent (xs ++ ys) ≡ are_spent ys
+none_before [] ys e = refl
+none_before (x ∷ xs) ys e = neither (is_spending x) (are_spent xs) (are_spent (xs ++ ys)) (are_spent ys) (none_before xs ys) e
+
+pub doing_spends_none : (outs : List Out) → are_spent (doing outs) ≡ false
+doing_spends_none [] = refl
+doing_spends_none (out ∷ outs) = doing_spends_none outs
+
+losing_spends_none : (replies : List Reply) → are_spent (losing replies) ≡ false
+losing_spends_none [] = refl
+losing_spends_none (reply ∷ replies) = losing_spends_none replies
+
+pub effects_spend_none : (occurrences : List Occurrence) (d : Delivery) → list_any is_spent occurrences ≡ false → are_spent (effects_of occurrences d) ≡ false
+effects_spend_none occurrences d e =
+    none_before (occurring occurrences) (doing d.outs ++ losing d.lost) (spent_acting occurrences ∙ e)
+    ∙ none_before (doing d.outs) (losing d.lost) (doing_spends_none d.outs)
+    ∙ losing_spends_none d.lost
+
+pub answered_spends_none : (outs : List Out) (occurrences : List Occurrence) (d : Delivery) → list_any is_spent occurrences ≡ false → are_spent (doing outs ++ effects_of occurrences d) ≡ false
+answered_spends_none outs occurrences d e = none_before (doing outs) (effects_of occurrences d) (doing_spends_none outs) ∙ effects_spend_none occurrences d e
+
 -- ---- one thing done after another, as the code has it
 
 module _ (more : Core → Done Core Effect) where
-  behind : (before : Step) (state : Core) (effects : List Effect) →
+  behind : (before : Step) (state : Core) (effects : List Effect) → are_spent effects ≡ false →
       doing_after before (after_outs effects (more state)) ≡ doing_after (after_step before effects) (more state)
-  behind before state effects =
-      ap (λ (s : Step). doing_so (more state).state s (more state).goes_on) (after_both before effects (more state).outs)
+  behind before state effects none =
+      let rest = more state in
+      ap (λ (s : Step). let x : Doing = record (doing_after before (after_outs effects rest)) { step = s } in x) (after_both before effects rest.outs)
+      ∙ ap (λ (b : Bool). let x : Doing = record (doing_after (after_step before effects) rest) { spends = b } in x) (none_before effects rest.outs none)
 
-  next_by : (before : Step) (state : Core) (effects : List Effect) (b : Bool) → b ≡ true →
+  next_by : (before : Step) (state : Core) (effects : List Effect) (b : Bool) → b ≡ true → are_spent effects ≡ false →
       doing_after before (and_then (record { state = state; outs = effects; goes_on = b }) more) ≡ doing_after (after_step before effects) (more state)
-  next_by before state effects true e = behind before state effects
-  next_by before state effects false e = absurd (false≢true e)
+  next_by before state effects true e none = behind before state effects none
+  next_by before state effects false e none = absurd (false≢true e)
 
   -- where the first goes on, what comes next comes behind it
   pub shows_next : (new : Core) (before after : Step) (d : Done Core Effect) → Shows new before after true d →
       doing_after before (and_then d more) ≡ doing_after after (more new)
   shows_next new before after d e =
-      next_by before d.state d.outs d.goes_on (sym (ap (λ (x : Doing). x.goes_on) e))
+      next_by before d.state d.outs d.goes_on (sym (ap (λ (x : Doing). x.goes_on) e)) (sym (ap (λ (x : Doing). x.spends) e))
       ∙ ap (λ (x : Doing). doing_after x.step (more x.core)) (sym e)
 
-  end_by : (before : Step) (state : Core) (effects : List Effect) (b : Bool) → b ≡ false →
+  end_by : (before : Step) (state : Core) (effects : List Effect) (b : Bool) → b ≡ false → are_spent effects ≡ false →
       doing_after before (and_then (record { state = state; outs = effects; goes_on = b }) more) ≡ doing_so state (after_step before effects) b
-  end_by before state effects true e = absurd (false≢true (sym e))
-  end_by before state effects false e = refl
+  end_by before state effects true e none = absurd (false≢true (sym e))
+  end_by before state effects false e none = ap (λ (b : Bool). let x : Doing = record (doing_so state (after_step before effects) false) { spends = b } in x) none
 
   -- where it doesn't, that is all
   pub shows_end : (new : Core) (before after : Step) (d : Done Core Effect) → Shows new before after false d →
       Shows new before after false (and_then d more)
   shows_end new before after d e =
-      e ∙ sym (end_by before d.state d.outs d.goes_on (sym (ap (λ (x : Doing). x.goes_on) e)))
+      let none = sym (ap (λ (x : Doing). x.spends) e) in
+      e
+      ∙ ap (λ (b : Bool). let x : Doing = record (doing_after before d) { spends = b } in x) none
+      ∙ sym (end_by before d.state d.outs d.goes_on (sym (ap (λ (x : Doing). x.goes_on) e)) none)
 
   first_by : (state : Core) (effects : List Effect) (b : Bool) → are_spent effects ≡ true →
       are_spent (and_then (record { state = state; outs = effects; goes_on = b }) more).outs ≡ true

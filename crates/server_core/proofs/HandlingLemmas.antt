@@ -25,11 +25,11 @@ use Rattle.ua_services.specs.declared.services.Services.{Services}
 use Rattle.ua_services.specs.Serving.{Serving, Given, given, given_of}
 use Rattle.ua_services.specs.Services.{serving_of}
 use Rattle.server_core.specs.declared.out.Step.{Step}
-use Rattle.server_core.specs.Effects.{Effect, step, shown}
+use Rattle.server_core.specs.Effects.{Effect, are_spent, step, shown}
 use Rattle.server_core.specs.Handling.{Doing, doing_so, doing_after, Shows, asked_for, answered, handled, broken}
 use Rattle.server_core.specs.Stepping.{with_held, fed_to, fed}
 use Rattle.server_core.specs.World.{Core, World}
-use Rattle.server_core.proofs.EffectLemmas.{after_answered}
+use Rattle.server_core.proofs.EffectLemmas.{after_answered, answered_spends_none}
 
 -- ---- a request
 
@@ -51,6 +51,8 @@ sent_shows core before between s state served replies connections outs rows e g 
     ∙ ap (λ (fs : List Fired). shape core d.connections state (step (before.outs ++ between ++ d.outs) fs)) h
     ∙ ap (λ (x : Given). shape core d.connections x.state (step (before.outs ++ between ++ d.outs) (before.rows ++ x.served.rows))) e
     ∙ ap (shape core d.connections s.state) (sym (after_answered before between s.occurrences d))
+    ∙ ap (λ (b : Bool). let x : Doing = record (doing_after before (answered core between s)) { spends = b } in x)
+    (sym (answered_spends_none between s.occurrences d (sym (ap (λ (x : Given). x.spends) e))))
 
 pub request_shows : (conn : ℕ) (core : Core) (frame : Frame) (before : Step) (after outs : List Out) (rows : List Fired) (found : FrameOutcome) (request : Request) (connections connections' : Connections) (state : Services) (served : Served) (replies : List Reply) →
     taking connections after found ≡ taking_after before.outs (taking_of core.setting conn core.connections frame) → found ≡ outcome.Request request →
@@ -101,7 +103,7 @@ pub piece_shows : (world : World) (conn : ℕ) (piece : List ℕ) (framing : Fra
     (let framed = framed_of framing.limit framing.held piece in
     Shows core (step [] []) done b (and_then (all_handled (handled conn) world.core framed.frames) (refused_if (broken conn) (fault_at framed.end))) →
     ((fed world conn piece).world ≡ record { framers = framers_kept b conn (record { limit = framing.limit; held = held_at framed.end }) (remove world.framers conn); core = core })
-    × (shown (fed world conn piece).effects ≡ done))
+    × (shown (fed world conn piece).effects ≡ done) × (are_spent (fed world conn piece).effects ≡ false))
 unfolding fed
 piece_shows world conn piece framing core done b found e =
     let framed = framed_of framing.limit framing.held piece in
@@ -118,13 +120,16 @@ piece_shows world conn piece framing core done b found e =
       ap (λ (f : Option Framing). shown (fed_to world conn piece f).effects) found
           ∙ ap (λ (x : Stepped Core Effect). shown x.outs) by_last
           ∙ ap (λ (x : Doing). x.step) (sym e),
+      ap (λ (f : Option Framing). are_spent (fed_to world conn piece f).effects) found
+          ∙ ap (λ (x : Stepped Core Effect). are_spent x.outs) by_last
+          ∙ ap (λ (x : Doing). x.spends) (sym e),
     )
 
 -- a framer that took a piece in its place, and is dropped there where the connection doesn't go on
 pub piece_in_place : (world : World) (conn : ℕ) (piece : List ℕ) (before after : Framing) (given : Fed) (core : Core) (begun done : Step) (b : Bool) (lent left : FinMap nat_cmp Framing) → get world.framers conn ≡ Some before →
     begun.outs ≡ [] → begun.rows ≡ [] → feeding given after ≡ feeding_of before piece → Shows core begun done b (and_then (all_handled (handled conn) world.core given.frames) (refused_if (broken conn) given.fault)) →
     lent ≡ insert world.framers conn after → left ≡ (if b then lent else remove lent conn) →
-    ((fed world conn piece).world ≡ record { framers = left; core = core }) × (shown (fed world conn piece).effects ≡ done)
+    ((fed world conn piece).world ≡ record { framers = left; core = core }) × (shown (fed world conn piece).effects ≡ done) × (are_spent (fed world conn piece).effects ≡ false)
 piece_in_place world conn piece before after given core begun done b lent left there outs rows fed_is shows back is =
     let said : Fed → Done Core Effect = λ f. and_then (all_handled (handled conn) world.core f.frames) (refused_if (broken conn) f.fault) in
     let from_nothing = subst (λ (s : Step). Shows core s done b (said given)) (ap (λ (os : List Out). step os begun.rows) outs ∙ ap (λ (fs : List Fired). step [] fs) rows) shows in
@@ -135,6 +140,7 @@ piece_in_place world conn piece before after given core begun done b lent left t
           ∙ ap (λ (x : Feeding). at x.framing) (sym fed_is)
           ∙ ap (λ (ls : FinMap nat_cmp Framing). record { framers = ls; core = core }) (kept_in_place b conn after world.framers lent left back is),
       shown_so.1,
+      shown_so.2,
     )
 
 pub piece_spends : (world : World) (conn : ℕ) (piece : List ℕ) (framing : Framing) → get world.framers conn ≡ Some framing →

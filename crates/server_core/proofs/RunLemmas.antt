@@ -1,15 +1,16 @@
 -- A run of events, one after the other.
-use Rattle.std.proofs.Common.{◌≡◌, List, [], ◌∷◌, ◌++◌, map, Option, Some, None, Result, Ok, Err, refl, sym, ◌∙◌, ap, subst, append_assoc, append-nil}
-use Rattle.std.specs.Prelude.{is_ok}
+use Rattle.std.proofs.Common.{◌≡◌, Bool, true, false, List, [], ◌∷◌, ◌++◌, map, Option, Some, None, Result, Ok, Err, refl, sym, ◌∙◌, ap, subst, append_assoc, append-nil}
+use Rattle.std.specs.List.{list_any}
+use Rattle.std.specs.Prelude.{◌||◌, is_ok}
 use Rattle.std.proofs.lemmas.Bool.{false≢true}
 use Rattle.ua_types.specs.Answers as answers
 use Rattle.server_core.specs.declared.event.Event.{Event}
 use Rattle.server_core.specs.declared.out.Step.{Step}
 use Rattle.server_core.specs.declared.out.StepFault.{StepFault}
 use Rattle.server_core.specs.declared.out.StepFault.TheVariants.{KnownConnection, UnknownConnection, Memory, Halted, Exhausted}
-use Rattle.server_core.specs.Effects.{Effect, shown}
-use Rattle.server_core.specs.Stepping.{Served, step_on, answer_by, server_by, StepsTo, IsSpent}
-use Rattle.server_core.specs.Running.{Running, running, run_after, then_run, run_of, shown_as, shown_run, BreaksOff, Spends, Runs}
+use Rattle.server_core.specs.Effects.{Effect, are_spent, shown}
+use Rattle.server_core.specs.Stepping.{Served, step_on, answer_by, server_by, StepsTo, IsSpent, IsUnspent}
+use Rattle.server_core.specs.Running.{Running, Shown, running, run_after, then_run, run_of, shown_as, shown_run, BreaksOff, Spends, Runs}
 use Rattle.server_core.specs.World.{World}
 
 -- ---- a run of two lists of events
@@ -48,13 +49,26 @@ pub record Begun (old : Option World) (events left : List Event) (steps : List S
   pub done : List (List Effect)
   pub ran : run_of old passed ≡ running done None server
   pub given : map shown done ≡ steps
+  pub counted : list_any are_spent done ≡ false
 
 pub begun : (old : Option World) (events : List Event) → Begun old events events [] old
-begun old events = record { passed = []; split = refl; done = []; ran = refl; given = refl }
+begun old events = record { passed = []; split = refl; done = []; ran = refl; given = refl; counted = refl }
 
 steps_more : (done : List (List Effect)) (effects : List Effect) → map shown (done ++ effects ∷ []) ≡ map shown done ++ shown effects ∷ []
 steps_more [] effects = refl
 steps_more (x ∷ done) effects = ap (λ (ss : List Step). shown x ∷ ss) (steps_more done effects)
+
+neither_one : (a b : Bool) → a ≡ false → b ≡ false → (a || b) ≡ false
+neither_one true b x y = absurd (false≢true (sym x))
+neither_one false b x y = y
+
+none_more : (done : List (List Effect)) (effects : List Effect) → list_any are_spent done ≡ false → are_spent effects ≡ false → list_any are_spent (done ++ effects ∷ []) ≡ false
+none_more [] effects before none = neither_one (are_spent effects) false none refl
+none_more (x ∷ done) effects before none = by (are_spent x) before (λ rest. none_more done effects rest none)
+  where
+    by : (b : Bool) → (b || list_any are_spent done) ≡ false → (list_any are_spent done ≡ false → list_any are_spent (done ++ effects ∷ []) ≡ false) → (b || list_any are_spent (done ++ effects ∷ [])) ≡ false
+    by true e rest = absurd (false≢true (sym e))
+    by false e rest = rest e
 
 abbrev Answered : Type 0
 Answered = answers.Step Step StepFault (Option World)
@@ -74,9 +88,9 @@ module _ (old : Option World) (events : List Event) (event : Event) (left : List
       run_of-append old b.passed (event ∷ more) ∙ ap (λ (r : Running). and_run r (λ s. run_of s (event ∷ more))) b.ran
 
   -- an event that was answered goes to those that have passed
-  next_by : (r : Result Served StepFault) → step_on server event ≡ r → (given : Step) (after : Option World) → answers.step (Ok given) after ≡ answers.step (answer_by r) (server_by server r) →
+  next_by : (r : Result Served StepFault) → step_on server event ≡ r → (given : Step) (after : Option World) → answers.step (Ok given) after ≡ answers.step (answer_by r) (server_by server r) → IsUnspent r →
       Begun old events left (steps ++ given ∷ []) after
-  next_by (Ok s) is given after e = record {
+  next_by (Ok s) is given after e none = record {
     passed = b.passed ++ event ∷ [];
     split = b.split ∙ sym (append_assoc b.passed (event ∷ []) left);
     done = b.done ++ s.effects ∷ [];
@@ -85,11 +99,12 @@ module _ (old : Option World) (events : List Event) (event : Event) (left : List
         ∙ ap (λ (x : Answered). running (b.done ++ s.effects ∷ []) None x.state) (sym e);
     given = steps_more b.done s.effects ∙ ap (λ (ss : List Step). ss ++ shown s.effects ∷ []) b.given
         ∙ sym (ap (λ (x : Answered). steps ++ step_or given x.answer ∷ []) e);
+    counted = none_more b.done s.effects b.counted none;
   }
-  next_by (Err f) is given after e = absurd (false≢true (sym (ap (λ (x : Answered). is_ok x.answer) e)))
+  next_by (Err f) is given after e none = absurd (false≢true (sym (ap (λ (x : Answered). is_ok x.answer) e)))
 
-  pub next : (given : Step) (after : Option World) → StepsTo (Ok given) server after (step_on server event) → Begun old events left (steps ++ given ∷ []) after
-  next given after e = next_by (step_on server event) refl given after e
+  pub next : (given : Step) (after : Option World) → StepsTo (Ok given) server after (step_on server event) → IsUnspent (step_on server event) → Begun old events left (steps ++ given ∷ []) after
+  next given after e none = next_by (step_on server event) refl given after e none
 
   -- an event that was refused ends the run
   refused_by : (r : Result Served StepFault) → step_on server event ≡ r → (fault : StepFault) (after : Option World) → answers.step (Err fault) after ≡ answers.step (answer_by r) (server_by server r) →
@@ -98,7 +113,8 @@ module _ (old : Option World) (events : List Event) (event : Event) (left : List
   refused_by (Err f) is fault after e =
       ap (λ (x : Answered). shown_as steps (Some (fault_or fault x.answer)) x.state) e
       ∙ ap (λ (ss : List Step). shown_as ss (Some f) server) (sym b.given)
-      ∙ ap (λ (ss : List (List Effect)). shown_as (map shown ss) (Some f) server) (sym (append-nil b.done))
+      ∙ ap (λ (spends : Bool). let x : Shown = record (shown_as (map shown b.done) (Some f) server) { spends = spends } in x) (sym b.counted)
+      ∙ ap (λ (ss : List (List Effect)). shown_run (running ss (Some f) server)) (sym (append-nil b.done))
       ∙ ap (λ (r : Result Served StepFault). shown_run (run_after b.done (then_run server r (λ s. run_of s left)))) (sym is)
       ∙ ap shown_run (sym (whole left))
       ∙ ap (λ (es : List Event). shown_run (run_of old es)) (sym b.split)
@@ -132,5 +148,6 @@ module _ (old : Option World) (events : List Event) (event : Event) (left : List
 pub ran_out : (old : Option World) (events : List Event) (steps : List Step) (server : Option World) → Begun old events [] steps server → Runs None steps old events server
 ran_out old events steps server b =
     ap (λ (ss : List Step). shown_as ss None server) (sym b.given)
+    ∙ ap (λ (spends : Bool). let x : Shown = record (shown_as (map shown b.done) None server) { spends = spends } in x) (sym b.counted)
     ∙ ap shown_run (sym b.ran)
     ∙ ap (λ (es : List Event). shown_run (run_of old es)) (sym (append-nil b.passed) ∙ sym b.split)

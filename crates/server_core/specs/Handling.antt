@@ -67,22 +67,24 @@ ticked_core core clock =
 
 -- ---- what the code gives of it
 
--- the state after it, what is given, and whether the connection goes on
+-- the state after it, what is given, whether the connection goes on, and whether a serial has passed its last value
 pub record Doing : Type 0 where
   pub core : Core
   pub step : Step
   pub goes_on : Bool
+  pub spends : Bool
 
+-- what the code does has spent none
 abbrev pub doing_so : Core → Step → Bool → Doing
-doing_so core step b = record { core = core; step = step; goes_on = b }
+doing_so core step b = record { core = core; step = step; goes_on = b; spends = false }
 
 abbrev pub doing_after : Step → Done Core Effect → Doing
-doing_after before d = doing_so d.state (after_step before d.outs) d.goes_on
+doing_after before d = record { core = d.state; step = after_step before d.outs; goes_on = d.goes_on; spends = are_spent d.outs }
 
 abbrev pub Shows : Core → Step → Step → Bool → Done Core Effect → Type 0
 Shows new before after b said = doing_so new after b ≡ doing_after before said
 
--- a call does what is said of it, unless memory ran out, or a serial that is said to be spent
+-- a call does what is said of it, and no serial is said to be spent; unless memory ran out, or one is
 abbrev pub Handles : Result Bool Halt → Core → Step → Step → Done Core Effect → Type 0
 Handles (Ok b) new before after said = Shows new before after b said
 Handles (Err Memory) new before after said = ⊤

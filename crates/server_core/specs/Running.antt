@@ -8,7 +8,7 @@ use Rattle.server_core.specs.declared.event.Event.TheVariants.{Bytes}
 use Rattle.server_core.specs.declared.out.Step.{Step}
 use Rattle.server_core.specs.declared.out.StepFault.{StepFault}
 use Rattle.server_core.specs.declared.out.StepFault.TheVariants.{Memory, Exhausted}
-use Rattle.server_core.specs.Effects.{Effect, shown}
+use Rattle.server_core.specs.Effects.{Effect, are_spent, shown}
 use Rattle.server_core.specs.Stepping.{Served, step_on, IsSpent}
 use Rattle.server_core.specs.World.{World}
 
@@ -36,16 +36,19 @@ run_of server (event ∷ events) = then_run server (step_on server event) (λ s.
 
 -- ---- what the code gives of it
 
+-- the steps, the fault, the server after them, and whether one of the steps has spent a serial
 pub record Shown : Type 0 where
   pub steps : List Step
   pub fault : Option StepFault
   pub server : Option World
+  pub spends : Bool
 
+-- what the code gives has spent none
 abbrev pub shown_as : List Step → Option StepFault → Option World → Shown
-shown_as steps fault server = record { steps = steps; fault = fault; server = server }
+shown_as steps fault server = record { steps = steps; fault = fault; server = server; spends = false }
 
 abbrev pub shown_run : Running → Shown
-shown_run r = shown_as (map shown r.steps) r.fault r.server
+shown_run r = record { steps = map shown r.steps; fault = r.fault; server = r.server; spends = list_any are_spent r.steps }
 
 -- The run broke off at an event that is left: all before it were answered thus, and the server is halted
 pub record BreaksOff (old : Option World) (events : List Event) (given : List Step) (new : Option World) : Type 0 where
@@ -62,7 +65,8 @@ pub record Spends (old : Option World) (events : List Event) (given : List Step)
   pub breaks : BreaksOff old events given new
   pub spent : IsSpent (step_on (run_of old breaks.passed).server breaks.event)
 
--- A call runs as is said of it, unless memory ran out at an event, or a serial that is said to be spent
+-- A call runs as is said of it, and no step is said to spend a serial; unless memory ran out at an event, or the next one is said to
+-- spend one
 abbrev pub Runs : Option StepFault → List Step → Option World → List Event → Option World → Type 0
 Runs (Some Memory) steps old events new = BreaksOff old events steps new
 Runs (Some Exhausted) steps old events new = Spends old events steps new

@@ -1,5 +1,5 @@
 -- One event.
-use Rattle.std.specs.Prelude.{◌≡◌, ⊤, ℕ, Bool, true, not, nat_lt, List, [], ◌++◌, Option, Some, None, Result, Ok, Err, is_some, if◌then◌else◌}
+use Rattle.std.specs.Prelude.{◌≡◌, ⊤, ℕ, Bool, true, false, not, nat_lt, List, [], ◌++◌, Option, Some, None, Result, Ok, Err, is_some, if◌then◌else◌}
 use Rattle.std.specs.Ordering.{nat_cmp}
 use Rattle.std.specs.FinMap.{FinMap, get, insert, remove, len}
 use Rattle.ua_types.specs.Answers as answers
@@ -115,7 +115,7 @@ takes_no_memory world (Tick now) = is_idle (setting_at world.core (later world.c
 -- ---- what the code gives of it
 
 abbrev pub Feeds : Result Step Halt → World → Served → Type 0
-Feeds (Ok given) new said = (said.world ≡ new) × (shown said.effects ≡ given)
+Feeds (Ok given) new said = (said.world ≡ new) × (shown said.effects ≡ given) × (are_spent said.effects ≡ false)
 Feeds (Err halt.Memory) new said = ⊤
 Feeds (Err halt.Exhausted) new said = are_spent said.effects ≡ true
 
@@ -123,15 +123,20 @@ abbrev pub IsSpent : Result Served StepFault → Type 0
 IsSpent (Ok s) = are_spent s.effects ≡ true
 IsSpent (Err fault) = ⊥
 
+abbrev pub IsUnspent : Result Served StepFault → Type 0
+IsUnspent (Ok s) = are_spent s.effects ≡ false
+IsUnspent (Err fault) = ⊤
+
 -- a server is its world, or none once it is halted; a refused event changes nothing
 abbrev pub shown_by : World → Result Served StepFault → answers.Step Step StepFault World
 shown_by world (Ok s) = answers.step (Ok (shown s.effects)) s.world
 shown_by world (Err fault) = answers.step (Err fault) world
 
--- a call does what is said of it, unless memory ran out, or a serial that is said to be spent
+-- a call does what is said of it, and no serial is said to be spent; unless memory ran out, or one is
 abbrev pub Matches : Result Step StepFault → World → World → Result Served StepFault → Type 0
 Matches (Err Memory) old new said = ⊤
 Matches (Err Exhausted) old new said = IsSpent said
+Matches (Ok given) old new said = (shown_by old said ≡ answers.step (Ok given) new) × IsUnspent said
 Matches answer old new said = shown_by old said ≡ answers.step answer new
 
 -- ---- a server, which is its world, or none once it is halted

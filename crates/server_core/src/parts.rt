@@ -26,7 +26,7 @@ pub struct Core {
 
 impl Core {
     // Does what a frame asks for, and says whether the connection goes on.
-    #[tactic(auto, using(crate::proofs::EffectLemmas::after_doing, crate::proofs::EffectLemmas::spent_answered), unfolding(crate::specs::Handling::handled))]
+    #[tactic(auto, using(crate::proofs::EffectLemmas::after_doing, crate::proofs::EffectLemmas::spent_answered, crate::proofs::EffectLemmas::doing_spends_none), unfolding(crate::specs::Handling::handled))]
     fn handle(
         &mut self,
         alloc: Global,
@@ -60,7 +60,7 @@ impl Core {
     }
 
     // Closes a connection on which comes what can be no frame.
-    #[tactic(auto, using(crate::proofs::EffectLemmas::after_doing), unfolding(crate::specs::Handling::broken))]
+    #[tactic(auto, using(crate::proofs::EffectLemmas::after_doing, crate::proofs::EffectLemmas::doing_spends_none), unfolding(crate::specs::Handling::broken))]
     fn break_off(
         &mut self,
         alloc: Global,
@@ -126,7 +126,7 @@ impl Core {
     }
 
     /// Does what is due as time has passed.
-    #[tactic(auto, using(crate::proofs::EffectLemmas::shown_effects, crate::proofs::EffectLemmas::spent_effects))]
+    #[tactic(auto, using(crate::proofs::EffectLemmas::shown_effects, crate::proofs::EffectLemmas::spent_effects, crate::proofs::EffectLemmas::effects_spend_none))]
     pub fn tick(&mut self, alloc: Global, clock: Moment) -> Result<Step, Halt>
         ensures ticks { TicksTo result self.new (ticked_core self.old clock) }
         ensures idle { is_idle (setting_at self.old clock) self.old.services ≡ true → IsOk result }

@@ -2,7 +2,7 @@
 
 ghost use Rattle.std.specs.Prelude.{◌≡◌, option_map, Some, None, Err, false, IfOk};
 ghost use Rattle.server_core.specs.World.{opening, world_of};
-ghost use Rattle.server_core.specs.Stepping.{step_on, StepsTo, takes_no_memory_on};
+ghost use Rattle.server_core.specs.Stepping.{step_on, StepsTo, IsUnspent, takes_no_memory_on};
 ghost use Rattle.server_core.specs.Subscriptions.{vars_on, kept_numbers_on, kept_on};
 ghost use Rattle.server_core.specs.Running.{Runs};
 ghost use Rattle.server_core.specs.declared.out.StepFault.TheVariants as step_fault;
@@ -55,11 +55,12 @@ impl Server {
     /// `KnownConnection` and `UnknownConnection` refuse the event, and nothing has changed. `Memory`
     /// comes only where an allocation failed, and never for an event that is refused, is of a
     /// connection that is closed, is `Gone`, or is a `Tick` at which nothing is due. `Exhausted` comes
-    /// only where the event spends the last serial of 64 bits. Both halt the server, which answers
+    /// only where the event passes the last serial of 64 bits, and no such event is answered. Both halt the server, which answers
     /// `Halted` from then on, and at no other time.
     pub fn step(&mut self, alloc: Global, event: &Event) -> Result<Step, StepFault>
         ensures step { StepsTo result (world_of self.old) (world_of self.new) (step_on (world_of self.old) event.now) }
         ensures memory { result ≡ Err step_fault.Memory → takes_no_memory_on (world_of self.old) event.now ≡ false }
+        ensures counted { IfOk result (λ step. IsUnspent (step_on (world_of self.old) event.now)) }
     {
         let Some(world) = &mut self.world else {
             return Err(StepFault::Halted);

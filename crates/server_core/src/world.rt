@@ -59,7 +59,7 @@ impl World {
         self.framers.len() < self.core.setting.config.connections as usize
     }
 
-    #[tactic(auto, using(crate::proofs::EffectLemmas::shown_doing))]
+    #[tactic(auto, using(crate::proofs::EffectLemmas::shown_doing, crate::proofs::EffectLemmas::doing_spends_none))]
     fn open(&mut self, alloc: Global, conn: u64, key: &[u8; 32]) -> Result<Step, StepFault>
         ensures opened { Matches result self.old self.new (opened self.old conn key.now) }
         ensures memory { result ≡ Err step_fault.Memory → is_new self.old.core.connections conn ≡ true }

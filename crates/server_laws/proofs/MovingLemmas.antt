@@ -1,5 +1,6 @@
 -- The services go on by calls of the subscriptions and their items.
 use Rattle.std.proofs.Common.{◌≡◌, ◌⊎◌, inl, inr, ℕ, Bool, true, false, not, cond, List, [], ◌∷◌, ◌++◌, length, map, fold, Option, Some, None, Result, Ok, Err, refl, sym, ap, subst, ◌∙◌, append-nil, append_assoc}
+use Rattle.std.specs.Prelude.{◌&&◌}
 use Rattle.std.proofs.lemmas.List.Sums.{fold-append}
 use Rattle.std.specs.Prelude.{nat_lt}
 use Rattle.ua_types.specs.declared.moment.Moment.{Moment}
@@ -150,14 +151,14 @@ all_stand (x ∷ xs) = inl (refl, all_stand xs)
 stand_behind : (front xs : List Reply) → StandIn xs (front ++ xs)
 stand_behind front xs = stand_joined [] front xs xs tt (all_stand xs)
 
-still : (state : Services) {given : List Reply} → ComesOnWith state [] state [] given
+pub still : (state : Services) {given : List Reply} → ComesOnWith state [] state [] given
 still state so_far replies = record {
   answers = [];
   left = ap (λ (rows : List Fired). ran_at state rows replies) (sym (append-nil so_far)) ∙ ap (ran_at state (so_far ++ [])) (sym (append-nil replies));
   among = tt;
 }
 
-then_with : (before mid after : Services) (first_moves later : List Move) (xs ys : List Fired) (given more : List Reply) → ComesOnWith before first_moves mid xs given → ComesOnWith mid later after ys more → ComesOnWith before (first_moves ++ later) after (xs ++ ys) (given ++ more)
+pub then_with : (before mid after : Services) (first_moves later : List Move) (xs ys : List Fired) (given more : List Reply) → ComesOnWith before first_moves mid xs given → ComesOnWith mid later after ys more → ComesOnWith before (first_moves ++ later) after (xs ++ ys) (given ++ more)
 then_with before mid after first_moves later xs ys given more p q so_far replies =
     let first = p so_far replies in
     let second = q (so_far ++ xs) (replies ++ first.answers) in
@@ -320,7 +321,7 @@ write_on setting caller session request state = write_listed_on setting caller s
 -- a page is no call
 paged_on : {R : Type 0} (encoding : R → List ℕ) (setting : Setting) (caller : Caller) (session type_id : ℕ) (state : Services) (all : AllDone R) → ComesOnBy state [] (paged encoding setting caller session type_id state all)
 paged_on encoding setting caller session type_id state all =
-    subst (λ (rows : List Fired). ComesOnWith state [] (with_sessions state (with_points state.sessions session all.points)) rows (paged encoding setting caller session type_id state all).replies) (sym (no_rows (is_overspent all.points))) (still state)
+    subst (λ (rows : List Fired). ComesOnWith state [] (with_sessions state (with_points state.sessions session all.points)) rows (paged encoding setting caller session type_id state all).replies) (sym (no_rows (not (is_overspent (points_of state.sessions session)) && is_overspent all.points))) (still state)
 
 browse_listed_on : (setting : Setting) (caller : Caller) (session requested : ℕ) (state : Services) (r : Result (List BrowseDescription) Status) → ComesOnBy state [] (browse_listed setting caller session requested state r)
 browse_listed_on setting caller session requested state (Ok descriptions) =

@@ -254,7 +254,7 @@ few_shown space d size place page sound is =
 
 pub takes_page : (references : List ReferenceDescription) (held : Result ℕ Refusal) (old new : PointsState) (said : Step ℕ Status PointsState) → TakesSerial held old new said →
     TakesSerial (result_map_both (λ serial. page_of references (Some serial)) (λ refusal. refusal) held) old new (with_point references said)
-takes_page references (Ok serial) old new said e = ap (with_point references) e
-takes_page references (Err (Service code)) old new said e = ap (with_point references) e
+takes_page references (Ok serial) old new said e = (ap (with_point references) e.0, e.1)
+takes_page references (Err (Service code)) old new said e = (ap (with_point references) e.0, e.1)
 takes_page references (Err Memory) old new said e = e
 takes_page references (Err Exhausted) old new said e = e

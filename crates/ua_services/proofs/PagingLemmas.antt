@@ -1,6 +1,7 @@
 -- Things that are asked for, done one after the other with a session's continuation points.
 use Rattle.std.proofs.Common.{◌≡◌, ℕ, ◌≤◌, ◌^◌, Bool, true, false, if◌then◌else◌, List, [], ◌∷◌, ◌++◌, Option, Some, None, is_some, Result, Ok, Err, refl, sym, ap, subst, ◌∙◌, arith}
-use Rattle.std.specs.List.{fold}
+use Rattle.std.specs.List.{fold, list_any}
+use Rattle.std.specs.Prelude.{◌&&◌, not}
 use Rattle.std.proofs.lemmas.Bool.{false≢true, leb-true, le-leb}
 use Rattle.std.specs.Borrow.{MutBor}
 use Rattle.std.specs.Option.{option_copied_mut, unwrap_or}
@@ -11,20 +12,19 @@ use Rattle.ua_types.specs.Answers.{Step}
 use Rattle.ua_types.specs.declared.refusal.Refusal.{Refusal}
 use Rattle.ua_types.specs.declared.refusal.Refusal.TheVariants as refusals
 use Rattle.ua_types.specs.declared.status.Status.{Status}
-use Rattle.ua_session.specs.Points.{PointsState, TakesSerial, is_overspent}
-use Rattle.ua_session.specs.Sessions.{SessionsState, with_points}
+use Rattle.ua_session.specs.Points.{PointsState, TakesSerial, GivesInRange, is_overspent}
+use Rattle.ua_session.specs.Sessions.{SessionsState, points_of, with_points}
 use Rattle.server_messages.specs.declared.halt.Halt.{Halt}
 use Rattle.server_messages.specs.declared.halt.Halt.TheVariants.{Memory, Exhausted}
 use Rattle.server_messages.specs.declared.served.Served.{Served}
 use Rattle.server_messages.specs.declared.setting.Setting.{Setting}
-use Rattle.ua_services.specs.Paging.{Done, AllDone, told_as, with_one, all_done, Rises, paged, results_body_of, Tells, DoesOne, DoesAll}
-use Rattle.ua_services.specs.Serving.{Judges, refusal_by, given, given_of, replied, reply_of, rows_of}
+use Rattle.ua_services.specs.Paging.{Done, AllDone, told_as, with_one, all_done, Rises, paged, results_body_of, spent_by_points, Tells, DoesOne, DoesAll}
+use Rattle.ua_services.specs.Serving.{Given, Judges, refusal_by, given, given_of, is_spent, replied, reply_of, rows_of}
 use Rattle.ua_services.specs.Serving.Occurrence.{Spent}
 use Rattle.ua_services.specs.ServicesState.{Services}
 use Rattle.ua_services.specs.SessionServing.{with_sessions}
 use Rattle.ua_services.specs.declared.caller.Caller.{Caller}
 use Rattle.ua_services.specs.declared.unserved.Unserved.TheVariants.{Halted}
-use Rattle.ua_services.proofs.SubLemmas.{any_spent}
 
 -- ---- one thing
 
@@ -38,15 +38,19 @@ module _ {P R : Type 0} (tell : Result P Status → R) where
   tells_halt Exhausted refusal is = ap (λ (r : Refusal). let answer : Result P Refusal = Err r in answer) is
 
   -- what a call answered, told as a result
-  pub does_one : (told : Result R Halt) (answer : Result P Refusal) (old new : PointsState) (said : Step P Status PointsState) → Tells tell told answer → TakesSerial answer old new said → DoesOne told new (told_as tell said)
-  does_one (Ok told) (Ok page) old new said t h = (t ∙ ap (λ (s : Step P Status PointsState). tell s.answer) (sym h), ap (λ (s : Step P Status PointsState). s.state) (sym h))
-  does_one (Ok told) (Err (refusals.Service code)) old new said t h = (t ∙ ap (λ (s : Step P Status PointsState). tell s.answer) (sym h), ap (λ (s : Step P Status PointsState). s.state) (sym h))
+  pub does_one : (told : Result R Halt) (answer : Result P Refusal) (old new : PointsState) (said : Step P Status PointsState) → Tells tell told answer → TakesSerial answer old new said → DoesOne told old new (told_as tell said)
+  does_one (Ok told) (Ok page) old new said t h = (t ∙ ap (λ (s : Step P Status PointsState). tell s.answer) (sym h.0), ap (λ (s : Step P Status PointsState). s.state) (sym h.0), h.1)
+  does_one (Ok told) (Err (refusals.Service code)) old new said t h = (t ∙ ap (λ (s : Step P Status PointsState). tell s.answer) (sym h.0), ap (λ (s : Step P Status PointsState). s.state) (sym h.0), h.1)
   does_one (Ok told) (Err refusals.Memory) old new said t h = absurd t
   does_one (Ok told) (Err refusals.Exhausted) old new said t h = absurd t
   does_one (Err Memory) answer old new said t h = tt
-  does_one (Err Exhausted) answer old new said t h = (subst (λ (a : Result P Refusal). TakesSerial a old new said) t h).0
+  does_one (Err Exhausted) answer old new said t h = let spent = subst (λ (a : Result P Refusal). TakesSerial a old new said) t h in (spent.1, spent.0)
 
 -- ---- all things
+
+not_true : (b : Bool) → (b ≡ true → ⊥) → b ≡ false
+not_true true f = absurd (f refl)
+not_true false f = refl
 
 module _ {A R : Type 0} (f : PointsState → A → Done R) where
   fold_rises : Rises f → (xs : List A) (b : AllDone R) → b.points.made ≤ (fold (with_one f) b xs).points.made
@@ -60,15 +64,20 @@ module _ {A R : Type 0} (f : PointsState → A → Done R) where
   overspent_later : (old later : PointsState) → old.made ≤ later.made → is_overspent old ≡ true → is_overspent later ≡ true
   overspent_later old later rises spent = let n = leb-true (2 ^ 64) old.made spent in le-leb (2 ^ 64) later.made (omega (arith, n, rises))
 
+  earlier_in_range : (old later : PointsState) → old.made ≤ later.made → is_overspent later ≡ false → is_overspent old ≡ false
+  earlier_in_range old later rises in_range = not_true (is_overspent old) (λ spent. false≢true (sym in_range ∙ overspent_later old later rises spent))
+
   -- a halt at one thing, after those before it, is one of all
   pub halts_all : Rises f → (halt : Halt) (points new : PointsState) (before : List A) (x : A) (rest all : List A) → before ++ x ∷ rest ≡ all →
-      DoesOne (Err halt) new (f (all_done f points before).points x) → DoesAll (Err halt) new (all_done f points all)
+      DoesOne (Err halt) (all_done f points before).points new (f (all_done f points before).points x) → DoesAll (Err halt) points new (all_done f points all)
   halts_all rises Memory points new before x rest all is h = tt
   halts_all rises Exhausted points new before x rest all is h =
       let b = all_done f points before in
-      let later = fold_rises rises rest (with_one f b x) in
-      overspent_later (f b.points x).points (all_done f points all).points
-      (subst (λ (after : AllDone R). (f b.points x).points.made ≤ after.points.made) (sym (fold_joined before (x ∷ rest) (record { results = []; points = points })) ∙ ap (all_done f points) is) later) h
+      let later = fold_rises rises rest (with_one f b x) in (
+        earlier_in_range points b.points (fold_rises rises before (record { results = []; points = points })) h.0,
+        overspent_later (f b.points x).points (all_done f points all).points
+            (subst (λ (after : AllDone R). (f b.points x).points.made ≤ after.points.made) (sym (fold_joined before (x ∷ rest) (record { results = []; points = points })) ∙ ap (all_done f points) is) later) h.1,
+      )
 
 -- ---- the answer
 
@@ -96,19 +105,36 @@ no_rows : (spent : Bool) → rows_of (if spent then Spent ∷ [] else []) ≡ []
 no_rows true = refl
 no_rows false = refl
 
--- what was answered of all, and a halt in the middle
-pub served_all : {R : Type 0} (encoding : R → List ℕ) (setting : Setting) (caller : Caller) (session type_id : ℕ) (state : Services) (opened left : SessionsState) (before : PointsState) (served : Served) (b done : AllDone R)
-    → opened ≡ with_points state.sessions session before → left ≡ with_points opened session b.points
-    → served ≡ replied (reply_of caller (results_body_of encoding setting caller type_id b.results)) → b ≡ done
-    → given (with_sessions state left) served ≡ given_of (paged encoding setting caller session type_id state done)
-served_all encoding setting caller session type_id state opened left before served b done is e answered all =
-    let state_is : left ≡ with_points state.sessions session b.points =
-    e ∙ ap (λ s. with_points s session b.points) is ∙ ap (λ held. record state.sessions { points = held }) (insert_again state.sessions.points session before b.points) in
-    ap (λ s. given (with_sessions state s) served) state_is
-    ∙ ap (given (with_sessions state (with_points state.sessions session b.points))) answered
-    ∙ ap (λ rows. given (with_sessions state (with_points state.sessions session b.points)) (record { replies = reply_of caller (results_body_of encoding setting caller type_id b.results) ∷ []; rows = rows })) (sym (no_rows (is_overspent b.points)))
-    ∙ ap (λ x. given_of (paged encoding setting caller session type_id state x)) all
+-- those that are in range spend none
+in_range_spend_none : (before after : Bool) → (before ≡ false → after ≡ false) → list_any is_spent (if not before && after then Spent ∷ [] else []) ≡ false
+in_range_spend_none true after h = refl
+in_range_spend_none false true h = h refl
+in_range_spend_none false false h = refl
 
-pub halted_all : {R : Type 0} (encoding : R → List ℕ) (setting : Setting) (caller : Caller) (session type_id : ℕ) (state after : Services) (halt : Halt) (new : PointsState) (said : AllDone R) → DoesAll (Err halt) new said → Judges setting caller (Err (Halted halt)) after (paged encoding setting caller session type_id state said)
-halted_all encoding setting caller session type_id state after Memory new said h = refl
-halted_all encoding setting caller session type_id state after Exhausted new said h = any_spent (is_overspent said.points) h
+past_range_spend_one : (before after : Bool) → before ≡ false → after ≡ true → list_any is_spent (if not before && after then Spent ∷ [] else []) ≡ true
+past_range_spend_one true after b a = absurd (false≢true (sym b))
+past_range_spend_one false true b a = refl
+past_range_spend_one false false b a = a
+
+-- what was answered of all, and a halt in the middle
+module _ {R : Type 0} (encoding : R → List ℕ) (setting : Setting) (caller : Caller) (session type_id : ℕ) (state : Services) where
+  pub served_all : (opened left : SessionsState) (served : Served) (b done : AllDone R)
+      → opened ≡ with_points state.sessions session (points_of state.sessions session) → left ≡ with_points opened session b.points
+      → served ≡ replied (reply_of caller (results_body_of encoding setting caller type_id b.results)) → b ≡ done → GivesInRange (points_of state.sessions session) b.points
+      → given (with_sessions state left) served ≡ given_of (paged encoding setting caller session type_id state done)
+  served_all opened left served b done is e answered all in_range =
+      let before = points_of state.sessions session in
+      let state_is : left ≡ with_points state.sessions session b.points =
+      e ∙ ap (λ s. with_points s session b.points) is ∙ ap (λ held. record state.sessions { points = held }) (insert_again state.sessions.points session before b.points) in
+      let after : Services = with_sessions state (with_points state.sessions session b.points) in
+      let replies = reply_of caller (results_body_of encoding setting caller type_id b.results) ∷ [] in
+      ap (λ s. given (with_sessions state s) served) state_is
+      ∙ ap (given after) answered
+      ∙ ap (λ rows. given after (record { replies = replies; rows = rows })) (sym (no_rows (not (is_overspent before) && is_overspent b.points)))
+      ∙ ap (λ spends. let g : Given = record { state = after; served = record { replies = replies; rows = rows_of (spent_by_points before b.points) }; spends = spends } in g)
+      (sym (in_range_spend_none (is_overspent before) (is_overspent b.points) in_range))
+      ∙ ap (λ x. given_of (paged encoding setting caller session type_id state x)) all
+
+  pub halted_all : (after : Services) (halt : Halt) (new : PointsState) (said : AllDone R) → DoesAll (Err halt) (points_of state.sessions session) new said → Judges setting caller (Err (Halted halt)) after (paged encoding setting caller session type_id state said)
+  halted_all after Memory new said h = refl
+  halted_all after Exhausted new said h = past_range_spend_one (is_overspent (points_of state.sessions session)) (is_overspent said.points) h.0 h.1

@@ -10,6 +10,7 @@ use Rattle.ua_subscriptions.specs.Named.{Outcome, outcome, own_met, named_one, n
 use Rattle.ua_subscriptions.specs.SubscriptionCalls as subs
 use Rattle.ua_subscriptions.specs.SubscriptionCalls.{SubscriptionsState, Said, told, Halts}
 use Rattle.ua_subscriptions.specs.Ranks.{due_numbers, is_any_due}
+use Rattle.ua_subscriptions.specs.Scenes.{is_overspent}
 use Rattle.ua_subscriptions.specs.Tables.{World, all_met}
 use Rattle.ua_subscriptions.proofs.Dues.{none_due}
 use Rattle.ua_session.specs.Sessions.{ticked, ended_by}
@@ -26,7 +27,7 @@ use Rattle.server_messages.specs.declared.reply.Reply.{Reply}
 use Rattle.server_messages.specs.declared.served.Served.{Served}
 use Rattle.server_messages.specs.declared.setting.Setting.{Setting}
 use Rattle.ua_services.specs.ServicesState.{Services}
-use Rattle.ua_services.specs.Serving.{Occurrence, Serving, Serves, is_spent, given, given_of, rows_of, reply_of, Judges}
+use Rattle.ua_services.specs.Serving.{Occurrence, Serving, Given, Serves, is_spent, given, given_of, rows_of, reply_of, Judges}
 use Rattle.ua_services.specs.Serving.Occurrence.{Fire, Spent}
 use Rattle.ua_services.specs.declared.caller.Caller.{Caller}
 use Rattle.ua_services.specs.declared.unserved.Unserved.TheVariants.{Halted}
@@ -60,6 +61,21 @@ spent_right [] ys e = e
 spent_right (Fire fired ∷ xs) ys e = spent_right xs ys e
 spent_right (Spent ∷ xs) ys e = refl
 
+none_in_both : (xs ys : List Occurrence) → list_any is_spent xs ≡ false → list_any is_spent ys ≡ false → list_any is_spent (xs ++ ys) ≡ false
+none_in_both [] ys first second = second
+none_in_both (Fire fired ∷ xs) ys first second = none_in_both xs ys first second
+none_in_both (Spent ∷ xs) ys first second = first
+
+rows_spend_none : (rows : List Fired) → list_any is_spent (fires rows) ≡ false
+rows_spend_none [] = refl
+rows_spend_none (fired ∷ rows) = rows_spend_none rows
+
+-- messages that were counted spend none
+counted_in : (halted : Option Halt) (round : Round) → halted ≡ None → is_overspent round ≡ false → list_any is_spent (occurrences_of halted round) ≡ false
+counted_in halted round going counted =
+    none_in_both (fires round.rows) (uncounted halted round) (rows_spend_none round.rows)
+    (ap (λ (h : Option Halt). list_any is_spent (uncounted h round)) going ∙ ap (λ (b : Bool). list_any is_spent (cond b (Spent ∷ []) [])) counted)
+
 pub any_spent : (b : Bool) → b ≡ true → list_any is_spent (cond b (Spent ∷ []) []) ≡ true
 any_spent b e = ap (λ (t : Bool). list_any is_spent (cond t (Spent ∷ []) [])) e
 
@@ -79,6 +95,7 @@ module _ {A : Type 0} (state : Services) (own : A → List Reply) (said : Said A
       ∙ ap (λ (s : SubscriptionsState). given (with_subs state s items) (record { replies = own said.outcome.answer ++ round.replies; rows = round.rows })) h.2
       ∙ ap (λ (i : ItemsState). given (with_subs state said.state i) (record { replies = own said.outcome.answer ++ round.replies; rows = round.rows })) h.3
       ∙ ap (λ (rows : List Fired). given (with_subs state said.state said.outcome.world.items) (record { replies = own said.outcome.answer ++ round.replies; rows = rows })) (sym (rows_of_round state.subs.halted round))
+      ∙ ap (λ (b : Bool). let g : Given = record (given_of (called state own said)) { spends = b } in g) (sym (counted_in state.subs.halted round h.0 h.4))
 
   pub called_halts : (halt : Halt) (new : SubscriptionsState) (items : ItemsState) → subs.Serves (Err halt) state.subs new items said → Serves (Err halt) (with_subs state new items) (called state own said)
   called_halts Memory new items h = tt
@@ -121,6 +138,8 @@ joined_gives s t mid new a b all p q e =
     ∙ ap (λ (g : _). given new (record { replies = g.served.replies ++ b.replies; rows = g.served.rows ++ b.rows })) p
     ∙ ap (λ (g : _). given g.state (record { replies = s.replies ++ g.served.replies; rows = rows_of s.occurrences ++ g.served.rows })) q
     ∙ ap (λ (rows : List Fired). given t.state (record { replies = s.replies ++ t.replies; rows = rows })) (sym (rows_joined s.occurrences t.occurrences))
+    ∙ ap (λ (b : Bool). let g : Given = record (given_of (both s t)) { spends = b } in g)
+    (sym (none_in_both s.occurrences t.occurrences (sym (ap (λ (g : Given). g.spends) p)) (sym (ap (λ (g : Given). g.spends) q))))
 
 pub then_gives : (s : Serving) (more : Services → Serving) (mid new : Services) (a b all : Served) → given mid a ≡ given_of s → given new b ≡ given_of (more mid) → all ≡ record { replies = a.replies ++ b.replies; rows = a.rows ++ b.rows } →
     given new all ≡ given_of (and_then s more)

@@ -1,6 +1,6 @@
 -- What the services with continuation points share: things that are asked for are done one after the other, with the points that
 -- those before them left.
-use Rattle.std.specs.Prelude.{◌≡◌, ◌≤◌, ⊤, ℕ, true, false, List, [], ◌∷◌, ◌++◌, Result, Ok, Err, if◌then◌else◌}
+use Rattle.std.specs.Prelude.{◌≡◌, ◌≤◌, ⊤, ℕ, ◌&&◌, not, true, false, List, [], ◌∷◌, ◌++◌, Result, Ok, Err, if◌then◌else◌}
 use Rattle.std.specs.List.{fold}
 use Rattle.ua_types.specs.Answers.{Step}
 use Rattle.ua_types.specs.declared.refusal.Refusal.{Refusal}
@@ -9,8 +9,8 @@ use Rattle.ua_types.specs.declared.status.Status.{Status}
 use Rattle.ua_messages.specs.Bodies.{body_encoding}
 use Rattle.ua_messages.specs.Headers.{plain_header}
 use Rattle.ua_messages.specs.ResultLists.{results_encoding, results_of}
-use Rattle.ua_session.specs.Points.{PointsState, is_overspent}
-use Rattle.ua_session.specs.Sessions.{with_points}
+use Rattle.ua_session.specs.Points.{PointsState, GivesInRange, is_overspent}
+use Rattle.ua_session.specs.Sessions.{points_of, with_points}
 use Rattle.server_messages.specs.declared.halt.Halt.{Halt}
 use Rattle.server_messages.specs.declared.halt.Halt.TheVariants.{Memory, Exhausted}
 use Rattle.server_messages.specs.declared.setting.Setting.{Setting}
@@ -58,16 +58,16 @@ abbrev pub results_body_of : {R : Type 0} → (R → List ℕ) → Setting → C
 results_body_of encoding setting caller type_id results =
     body_encoding (results_encoding encoding) type_id (results_of (plain_header caller.handle (record { 0 = 0 }) setting.clock) results)
 
--- a point takes a serial, and the last one may be spent
-abbrev pub spent_by_points : PointsState → List Occurrence
-spent_by_points points = if is_overspent points then Spent ∷ [] else []
+-- a point takes a serial, and none may be left for it
+abbrev pub spent_by_points : PointsState → PointsState → List Occurrence
+spent_by_points before after = if not (is_overspent before) && is_overspent after then Spent ∷ [] else []
 
 -- the session has the points that are left, and all results are answered
 abbrev pub paged : {R : Type 0} → (R → List ℕ) → Setting → Caller → ℕ → ℕ → Services → AllDone R → Serving
 paged encoding setting caller session type_id state done = record {
   state = with_sessions state (with_points state.sessions session done.points);
   replies = reply_of caller (results_body_of encoding setting caller type_id done.results) ∷ [];
-  occurrences = spent_by_points done.points;
+  occurrences = spent_by_points (points_of state.sessions session) done.points;
   is_refused = false;
 }
 
@@ -82,14 +82,14 @@ Tells tell (Ok told) (Err refusals.Exhausted) = ⊥
 Tells tell (Err Memory) answer = ⊤
 Tells tell (Err Exhausted) answer = answer ≡ Err refusals.Exhausted
 
--- one thing is done as it is said, unless memory ran out, or serials that are said to be spent
-abbrev pub DoesOne : {R : Type 0} → Result R Halt → PointsState → Done R → Type 0
-DoesOne (Ok told) new said = (told ≡ said.result) × (new ≡ said.points)
-DoesOne (Err Memory) new said = ⊤
-DoesOne (Err Exhausted) new said = is_overspent said.points ≡ true
+-- one thing is done as it is said, and no serial past the last one is given; unless memory ran out, or that is said to give one
+abbrev pub DoesOne : {R : Type 0} → Result R Halt → PointsState → PointsState → Done R → Type 0
+DoesOne (Ok told) old new said = (told ≡ said.result) × (new ≡ said.points) × GivesInRange old new
+DoesOne (Err Memory) old new said = ⊤
+DoesOne (Err Exhausted) old new said = (is_overspent old ≡ false) × (is_overspent said.points ≡ true)
 
--- all are done as they are said, unless memory ran out, or serials that are said to be spent
-abbrev pub DoesAll : {R : Type 0} → Result (List R) Halt → PointsState → AllDone R → Type 0
-DoesAll (Ok results) new said = record { results = results; points = new } ≡ said
-DoesAll (Err Memory) new said = ⊤
-DoesAll (Err Exhausted) new said = is_overspent said.points ≡ true
+-- all are done as they are said, and no serial past the last one is given; unless memory ran out, or they are said to give one
+abbrev pub DoesAll : {R : Type 0} → Result (List R) Halt → PointsState → PointsState → AllDone R → Type 0
+DoesAll (Ok results) old new said = (record { results = results; points = new } ≡ said) × GivesInRange old new
+DoesAll (Err Memory) old new said = ⊤
+DoesAll (Err Exhausted) old new said = (is_overspent old ≡ false) × (is_overspent said.points ≡ true)

@@ -74,18 +74,20 @@ is_spent Spent = true
 abbrev pub replied : Reply → Served
 replied reply = record { replies = reply ∷ []; rows = [] }
 
--- what is kept, and what is given
+-- what is kept, what is given, and whether a serial has passed its last value
 pub record Given : Type 0 where
   pub state : Services
   pub served : Served
+  pub spends : Bool
 
+-- what the code gives has spent none
 abbrev pub given : Services → Served → Given
-given state served = record { state = state; served = served }
+given state served = record { state = state; served = served; spends = false }
 
 abbrev pub given_of : Serving → Given
-given_of s = given s.state (record { replies = s.replies; rows = rows_of s.occurrences })
+given_of s = record { state = s.state; served = record { replies = s.replies; rows = rows_of s.occurrences }; spends = list_any is_spent s.occurrences }
 
--- a call does what is said of it, unless memory ran out, or a serial that is said to be spent
+-- A call does what is said of it, and no serial is said to be spent; unless memory ran out, or one is
 abbrev pub Serves : Result Served Halt → Services → Serving → Type 0
 Serves (Ok served) new said = given new served ≡ given_of said
 Serves (Err Memory) new said = ⊤

@@ -113,7 +113,7 @@ fn page_told(
     wanted: Wanted,
     asked: &HistoryReadValueId,
 ) -> Result<HistoryReadResult, Halt>
-    ensures { DoesOne result points.new (told_as (history_result_of wanted.timestamps) (read_raw_of history.now space.now.nodes wanted.range points.old asked.now)) }
+    ensures { DoesOne result points.old points.new (told_as (history_result_of wanted.timestamps) (read_raw_of history.now space.now.nodes wanted.range points.old asked.now)) }
 {
     let page = read_raw(alloc, history, space, points, wanted.range, asked);
     history_told(alloc, wanted.timestamps, page)

@@ -49,7 +49,7 @@ pub(crate) trait Pages {
         points: &mut Points,
         asked: Self::Asked,
     ) -> Result<Self::Answer, Halt>
-        ensures { DoesOne result points.new (meaning self.now space.now history.now points.old asked) };
+        ensures { DoesOne result points.old points.new (meaning self.now space.now history.now points.old asked) };
 
     /// No serial is given twice.
     ghost rises: { (wanted : Self) (space : SpaceState) (history : HistoryState) → Rises (meaning wanted space history) };
@@ -64,7 +64,7 @@ fn all_pages<P: Pages>(
     wanted: &P,
     list: Vec<P::Asked>,
 ) -> Result<Vec<P::Answer>, Halt>
-    ensures all { DoesAll (result_map_both (λ rs. rs.items) (λ halt. halt) result) points.new (all_done (P.meaning wanted.now space.now history.now) points.old list.items) }
+    ensures all { DoesAll (result_map_both (λ rs. rs.items) (λ halt. halt) result) points.old points.new (all_done (P.meaning wanted.now space.now history.now) points.old list.items) }
     ensures count { IfOk result (λ rs. length rs.items ≡ length list.items) }
 {
     let mut results = Vec::with_capacity(alloc, list.len())?;

@@ -1,5 +1,5 @@
 -- Continuation points of a session: where long answers go on (ContinuationPoint, IEC 62541-4, section 7).
-use Rattle.std.specs.Prelude.{◌≡◌, ℕ, ◌+◌, ◌-◌, ◌^◌, ◌==◌, Bool, true, nat_le, List, length, Option, Some, None, Result, Ok, Err, if◌then◌else◌}
+use Rattle.std.specs.Prelude.{◌≡◌, ℕ, ◌+◌, ◌-◌, ◌^◌, ◌==◌, Bool, true, false, nat_le, List, length, Option, Some, None, Result, Ok, Err, if◌then◌else◌}
 use Rattle.std.specs.FinMap.{FinMap, insert, remove, empty, len}
 use Rattle.std.specs.Int.{w64, from_le_bytes}
 use Rattle.std.specs.Ordering.{nat_cmp}
@@ -48,13 +48,17 @@ is_at_last s = nat_le (2 ^ 64 - 1) s.made
 abbrev pub is_overspent : PointsState → Bool
 is_overspent s = nat_le (2 ^ 64) s.made
 
--- A call takes the step that is said of it, unless memory ran out, or the serials did, as the step said shows: then the state is
--- the old one
+-- no serial past the last one is given
+abbrev pub GivesInRange : PointsState → PointsState → Type 0
+GivesInRange old new = is_overspent old ≡ false → is_overspent new ≡ false
+
+-- A call takes the step that is said of it, and no serial past the last one is given; unless memory ran out, or the step said gives
+-- such a serial: then the state is the old one
 abbrev pub TakesSerial : {A : Type 0} → Result A Refusal → PointsState → PointsState → Step A Status PointsState → Type 0
-TakesSerial (Ok x) old new said = said ≡ step (Ok x) new
-TakesSerial (Err (Service code)) old new said = said ≡ step (Err code) new
+TakesSerial (Ok x) old new said = (said ≡ step (Ok x) new) × GivesInRange old new
+TakesSerial (Err (Service code)) old new said = (said ≡ step (Err code) new) × GivesInRange old new
 TakesSerial (Err Memory) old new said = new ≡ old
-TakesSerial (Err Exhausted) old new said = (is_overspent said.state ≡ true) × (new ≡ old)
+TakesSerial (Err Exhausted) old new said = (is_overspent said.state ≡ true) × (is_overspent old ≡ false) × (new ≡ old)
 
 -- ---- points as their clients know them
 

@@ -93,10 +93,10 @@ with_nonce s = record s { nonces = s.nonces + 1 }
 abbrev pub next_nonce : SessionsState → List ℕ → List ℕ
 next_nonce s key = nonce_of key (s.nonces + 1)
 
--- A call takes the step that is said of it, unless memory ran out, or the nonces did where one is to be given: then the state is
--- the old one. Neither takes the place of a refusal, nor want of memory that of the nonces' end
+-- A call takes the step that is said of it, and gives no nonce past the last one; unless memory ran out, or the nonces did where one
+-- is to be given: then the state is the old one. Neither takes the place of a refusal, nor want of memory that of the nonces' end
 abbrev pub TakesNonce : {A : Type 0} → Result A Refusal → SessionsState → SessionsState → Step A Status SessionsState → Type 0
-TakesNonce (Ok x) old new said = said ≡ step (Ok x) new
+TakesNonce (Ok x) old new said = (said ≡ step (Ok x) new) × (is_spent old ≡ false)
 TakesNonce (Err (Service status)) old new said = said ≡ step (Err status) new
 TakesNonce (Err Memory) old new said = (is_spent old ≡ false) × IsOk said.answer × (new ≡ old)
 TakesNonce (Err Exhausted) old new said = (is_spent old ≡ true) × IsOk said.answer × (new ≡ old)

@@ -1,5 +1,5 @@
 -- The subscriptions of a server, and what each call leaves.
-use Rattle.std.specs.Prelude.{◌≡◌, ⊤, ℕ, ◌+◌, ◌-◌, ◌^◌, ◌||◌, Bool, true, nat_le, [], length, Option, Some, None, Result, Ok, Err, if◌then◌else◌}
+use Rattle.std.specs.Prelude.{◌≡◌, ⊤, ℕ, ◌+◌, ◌-◌, ◌^◌, ◌||◌, Bool, true, false, nat_le, [], length, Option, Some, None, Result, Ok, Err, if◌then◌else◌}
 use Rattle.ua_types.specs.Configuration.{Configuration}
 use Rattle.ua_types.specs.declared.moment.Moment.{Moment}
 use Rattle.ua_types.specs.declared.status.Status.{Status}
@@ -64,9 +64,9 @@ Halts (Some before) halt round = halt ≡ before
 Halts None Memory round = ⊤
 Halts None Exhausted round = is_overspent round ≡ true
 
--- a call gives and leaves what is said of it; or it ends for good
+-- a call gives and leaves what is said of it, and its messages were counted; or it ends for good
 abbrev pub Serves : {A : Type 0} → Result (Answered A) Halt → SubscriptionsState → SubscriptionsState → ItemsState → Said A → Type 0
-Serves (Ok x) old new items s = (old.halted ≡ None) × (x ≡ answered_of s.outcome) × (new ≡ s.state) × (items ≡ s.outcome.world.items)
+Serves (Ok x) old new items s = (old.halted ≡ None) × (x ≡ answered_of s.outcome) × (new ≡ s.state) × (items ≡ s.outcome.world.items) × (is_overspent s.outcome.world.round ≡ false)
 Serves (Err halt) old new items s = (new.halted ≡ Some halt) × Halts old.halted halt s.outcome.world.round
 
 -- how the code ends a call

@@ -6,7 +6,8 @@ ghost use Rattle.ua_subscriptions.specs.Making.{kept_at, modified, republished, 
 ghost use Rattle.ua_subscriptions.specs.Named.{is_own as is_own_spec, named_all, deleted};
 ghost use Rattle.ua_subscriptions.specs.Publishing.{published};
 ghost use Rattle.ua_subscriptions.specs.Ranks.{is_any_due};
-ghost use Rattle.ua_subscriptions.specs.SubscriptionCalls.{no_subscriptions, round_of, world_of, settled, Serves, said, told, is_full as is_full_spec, refused, created_one, created};
+ghost use Rattle.ua_subscriptions.specs.Scenes.{is_overspent};
+ghost use Rattle.ua_subscriptions.specs.SubscriptionCalls.{no_subscriptions, round_of, world_of, settled as settled_spec, Serves, said, told, is_full as is_full_spec, refused, created_one, created};
 ghost use Rattle.ua_subscriptions.specs.Tables.{met, vars_found, kept_found};
 ghost use Rattle.ua_subscriptions.specs.declared.call.Call.TheVariants.{Items as ItemsCall, SetMode};
 
@@ -99,7 +100,8 @@ impl Subscriptions {
         round: Round,
         answer: Result<T, Halt>,
     ) -> Result<Answered<T>, Halt>
-        ensures { record { result = result; state = self.new } ≡ settled self.old round answer }
+        ensures settled { record { result = result; state = self.new } ≡ settled_spec self.old round answer }
+        ensures counted { is_overspent round ≡ false }
     {
         match answer {
             Ok(answer) => {

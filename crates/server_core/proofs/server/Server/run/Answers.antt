@@ -46,4 +46,4 @@ loop-event-preserved c =
     let items : c.push.new.self ≡ steps ++ c.in-Ok.step ∷ [] = pushed ∙ ap (λ (ss : List Step). ss ++ c.in-Ok.step ∷ []) c.reserve_one.ensures in
     subst (λ (ss : List Step). Begun old events rest ss (world_of c.step.new.self)) (sym items)
     (next old events event rest steps server (unrolled old server events i event steps c.loop-event-test.true c.event-item.is c.loop-event.invariant)
-    c.in-Ok.step (world_of c.step.new.self) c.in-Ok.ensures.step)
+    c.in-Ok.step (world_of c.step.new.self) c.in-Ok.ensures.step c.in-Ok.ensures.counted)
