@@ -8,8 +8,10 @@ pub mod ReplyLemmas
 pub mod ServicesKept
 pub mod ServersKept
 pub mod ClockLemmas
+pub mod DecidingLemmas
 pub mod BoundLemmas
 pub mod PointsFew
 pub mod FewLemmas
 pub mod NotingLemmas
+pub mod PostingLemmas
 pub mod ReachingLemmas

@@ -9,4 +9,5 @@ pub mod Fates
 pub mod Replying
 pub mod Bounds
 pub mod Tellings
+pub mod Postings
 pub mod Reaching

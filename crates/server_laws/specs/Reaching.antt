@@ -1,66 +1,167 @@
 -- How the values that items queued reach their clients.
-use Rattle.std.specs.Prelude.{◌≡◌, ⊤, ◌⊎◌, ℕ, Bool, true, List, [], ◌∷◌}
+use Rattle.std.specs.Prelude.{◌≡◌, ⊤, ◌⊎◌, ℕ, zero, suc, ◌<◌, ◌≤◌, Bool, true, false, List, [], ◌∷◌, ◌++◌, drop, length, map, Option, Some, None, Result, Ok, not}
 use Rattle.ua_types.specs.Configuration.{Configuration}
+use Rattle.ua_types.specs.declared.moment.Moment.{Moment}
 use Rattle.ua_space.specs.Nodes.{SpaceState}
 use Rattle.ua_values.specs.declared.data_value.DataValue.{DataValue}
-use Rattle.ua_item_queue.specs.Fates.{Fate, AccountEntry, is_first_marked}
+use Rattle.ua_item_queue.specs.Fates.{Fate, AccountEntry, account, any_marked, is_first_marked, is_waiting, waiting}
 use Rattle.ua_item_queue.specs.Fates.Fate.{Waits, WasSent, WasLost, WasCleared}
-use Rattle.ua_item_queue.specs.ItemQueue.{entry}
+use Rattle.ua_item_queue.specs.ItemQueue.{QueueMove, entry}
+use Rattle.ua_item_queue.specs.ItemQueue.QueueMove.{Sample}
 use Rattle.ua_item_queue.specs.declared.entry.Entry.{Entry}
+use Rattle.ua_monitored_items.specs.Causes.{call_may_give}
 use Rattle.ua_monitored_items.specs.Givings.{entries_of}
-use Rattle.ua_monitored_items.specs.Moves.{queue_at}
+use Rattle.ua_monitored_items.specs.Moves as item_moves
+use Rattle.ua_monitored_items.specs.Moves.{account_of, queue_at}
+use Rattle.ua_subscriptions.specs.declared.messages.KeptMessage.{KeptMessage}
+use Rattle.ua_subscriptions.specs.Making.{republished}
+use Rattle.ua_subscriptions.specs.SubscriptionCalls.{world_of}
+use Rattle.subscription_laws.specs.ItemCalls.{item_calls}
 use Rattle.subscription_laws.specs.MessageContents.{Taken, IsMadeOf, all_taken}
-use Rattle.subscription_laws.specs.Messaging.{Made}
-use Rattle.subscription_laws.specs.Runs.{run}
-use Rattle.subscription_laws.specs.Tellings.{Telling, Notifications, answer_of}
+use Rattle.subscription_laws.specs.Messaging.{Made, IsAmong, messages_for}
+use Rattle.subscription_laws.specs.Tellings.{Telling, Told, Notifications, KeepAlive, TimedOut, Refused, answer_of}
 use Rattle.ua_services.specs.declared.services.Services.{Services}
+use Rattle.server_core.specs.Subscriptions.{kept_on}
 use Rattle.server_core.specs.declared.world.World.{World}
 use Rattle.server_core.specs.declared.event.Event.{Event}
 use Rattle.server_laws.specs.EventMoves.{moves_of}
-use Rattle.server_laws.specs.Fates.{account_after}
+use Rattle.server_laws.specs.Fates.{queue_moves_after, account_after}
 use Rattle.server_laws.specs.Messages.{made_by}
+use Rattle.server_laws.specs.Postings.{Posting, posted}
 use Rattle.server_laws.specs.Tellings.{told_by}
 
 abbrev pub StandsIn : {A : Type 0} → A → List A → Type 0
 StandsIn x [] = ⊥
 StandsIn x (y ∷ ys) = (x ≡ y) ⊎ StandsIn x ys
 
--- these stand at the same place of two lists
-abbrev pub StandTogether : {A B : Type 0} → A → B → List A → List B → Type 0
-StandTogether x y [] bs = ⊥
-StandTogether x y (a ∷ ls) [] = ⊥
-StandTogether x y (a ∷ ls) (b ∷ bs) = ((x ≡ a) × (y ≡ b)) ⊎ StandTogether x y ls bs
+-- ---- which answer brings which value
 
--- An answer that the run gave brings this value of the item of a number, with its mark: it brings a message that was made of what the
--- items of its subscription gave then, whose bytes are the notes of that, and the value is among what the item gave. It goes to the
--- request that it answers
-pub record IsBrought (config : Configuration) (space : SpaceState) (events : List Event) (number : ℕ) (value : Entry DataValue) : Type 0 where
+-- a value of an item that an answer brings: the answer, its message, what the items of the message's subscription gave for it, and
+-- the value
+pub record BroughtValue : Type 0 where
   pub answer : Telling
   pub message : Made
-  pub more : Bool
   pub taken : Taken
-  pub brings : answer.told ≡ Notifications message more
-  pub given : StandsIn answer (told_by config space events)
-  pub answered : StandsIn (answer_of answer) (run config (moves_of config space events)).replies
-  pub made : StandTogether message taken (made_by config space events) (all_taken config (moves_of config space events))
-  pub notes : IsMadeOf message taken
-  pub among : StandsIn value (entries_of number taken.givings)
+  pub value : Entry DataValue
 
--- what has come of a value: it stands in the queue; it was sent; it was lost, and if nothing was cleared since and the queue holds
--- more than one value, the first one behind it that is left carries a mark; or it was cleared
-abbrev pub HasCome : List (Entry DataValue) → (Entry DataValue → Type 0) → Entry DataValue → (needs_mark : Bool) → List (AccountEntry DataValue) → Fate → Type 0
-HasCome queue IsSent value needs_mark behind Waits = StandsIn value queue
-HasCome queue IsSent value needs_mark behind WasSent = IsSent value
-HasCome queue IsSent value needs_mark behind WasLost = needs_mark ≡ true → is_first_marked behind ≡ true
-HasCome queue IsSent value needs_mark behind WasCleared = ⊤
+abbrev pub brought_value : Telling → Made → Taken → Entry DataValue → BroughtValue
+brought_value answer message taken value = record { answer = answer; message = message; taken = taken; value = value }
 
--- so it is with each value of an account
-abbrev pub HaveCome : List (Entry DataValue) → (Entry DataValue → Type 0) → List (AccountEntry DataValue) → Type 0
-HaveCome queue IsSent [] = ⊤
-HaveCome queue IsSent (t ∷ ts) = HasCome queue IsSent (entry t.value t.marked) t.needs_mark ts t.fate × HaveCome queue IsSent ts
+abbrev pub by_message : ℕ → Telling → Made → List Taken → (List Taken → List BroughtValue) → List BroughtValue
+by_message number answer message [] rest = []
+by_message number answer message (t ∷ ts) rest = map (brought_value answer message t) (entries_of number t.givings) ++ rest ts
 
--- and with each that the item of a number queued in a run
+abbrev pub by_answer : ℕ → Telling → Told → List Taken → (List Taken → List BroughtValue) → List BroughtValue
+by_answer number answer (Notifications message more) taken rest = by_message number answer message taken rest
+by_answer number answer (KeepAlive subscription next) taken rest = rest taken
+by_answer number answer (TimedOut note) taken rest = rest taken
+by_answer number answer (Refused code) taken rest = rest taken
+
+-- The values of the item of a number that answers bring, answer after answer. Each answer with notifications brings what was taken
+-- next, in the order in which the item gave it; the others bring nothing
+abbrev pub brought_values : ℕ → List Telling → List Taken → List BroughtValue
+brought_values number [] taken = []
+brought_values number (answer ∷ answers) taken = by_answer number answer answer.told taken (λ left. brought_values number answers left)
+
+-- all of a run
+abbrev pub brought_in : Configuration → SpaceState → List Event → ℕ → List BroughtValue
+brought_in config space events number = brought_values number (told_by config space events) (all_taken config (moves_of config space events))
+
+-- a message is the only one of its subscription with its number: the numbers begin anew once 32 bits are used up
+abbrev pub IsAlone : Made → List Made → Type 0
+IsAlone m made = (other : KeptMessage) → IsAmong other (messages_for m.subscription made) → other.number ≡ m.message.number → other ≡ m.message
+
+-- The run posted the answer, to the request that it answers: it goes out on the connection that the request came by, or, where it is
+-- too large for its client, a fault does in its place. It brings the message, whose bytes are the notes of what the items gave for
+-- it, in their order, and nothing else. Those bytes are what the server keeps under the message's number, as long as it does,
+-- and what Republish gives then, to whichever session
+pub record IsBrought (config : Configuration) (space : SpaceState) (events : List Event) (world : World) (b : BroughtValue) : Type 0 where
+  pub more : Bool
+  pub brings : b.answer.told ≡ Notifications b.message more
+  pub posting : Posting
+  pub carries : posting.reply ≡ answer_of b.answer
+  pub goes_out : StandsIn posting (posted config space events)
+  pub notes : IsMadeOf b.message b.taken
+  pub kept : IsAlone b.message (made_by config space events) → (bytes : List ℕ) → kept_on (Some world) b.message.subscription b.message.message.number ≡ Some bytes → bytes ≡ b.message.message.bytes
+  pub republished : IsAlone b.message (made_by config space events) → (clock : Moment) (session : ℕ) (bytes : List ℕ) → let services : Services = world.core.services in
+      (republished session b.message.subscription b.message.message.number (world_of services.subs services.items clock)).answer ≡ Ok bytes → bytes ≡ b.message.message.bytes
+
+-- ---- why a value is gone
+
+-- the fate of the value at a place of an account, if there is one
+abbrev pub fate_at : {V : Type 0} → ℕ → List (AccountEntry V) → Option Fate
+fate_at place [] = None
+fate_at zero (t ∷ ts) = Some t.fate
+fate_at (suc place) (t ∷ ts) = fate_at place ts
+
+abbrev pub is_decided : Option Fate → Bool
+is_decided None = false
+is_decided (Some fate) = not (is_waiting fate)
+
+-- The value at a place of an item's account has its fate by a call of the items that gives such ones, and that stands among those of
+-- the run: before it the value waited, or wasn't there; after it, it has the fate
+pub record IsCausedBy (config : Configuration) (calls : List item_moves.Move) (number place : ℕ) (fate : Fate) : Type 0 where
+  pub before : List item_moves.Move
+  pub call : item_moves.Move
+  pub after : List item_moves.Move
+  pub among : calls ≡ before ++ call ∷ after
+  pub gives : call_may_give call fate ≡ true
+  pub undecided : is_decided (fate_at place (account_of config before number)) ≡ false
+  pub decided : fate_at place (account_of config (before ++ call ∷ []) number) ≡ Some fate
+
+-- The value at a place was lost where another one was queued and as many waited as the queue holds. Where that is more than one, a
+-- later value carried the mark at once
+pub record IsDrivenOut (queue_moves : List (QueueMove DataValue)) (place : ℕ) : Type 0 where
+  pub before : List (QueueMove DataValue)
+  pub size : ℕ
+  pub discard_oldest : Bool
+  pub newer : DataValue
+  pub after : List (QueueMove DataValue)
+  pub among : queue_moves ≡ before ++ Sample size discard_oldest newer ∷ after
+  pub full : size ≤ length (waiting (account before))
+  pub waited : fate_at place (account before) ≡ Some Waits
+  pub lost : fate_at place (account (before ++ Sample size discard_oldest newer ∷ [])) ≡ Some WasLost
+  pub marked : 1 < size → any_marked (drop (suc place) (account (before ++ Sample size discard_oldest newer ∷ []))) ≡ true
+
+-- ---- what has come of each
+
+-- what is said of a value that an answer brings, and of one that was lost or cleared, by its place
+pub record Sayings : Type 1 where
+  pub Brought : BroughtValue → Type 0
+  pub Lost : ℕ → Type 0
+  pub Cleared : ℕ → Type 0
+
+abbrev pub HasWaited : Entry DataValue → List (Entry DataValue) → (List (Entry DataValue) → Type 0) → Type 0
+HasWaited value [] Rest = ⊥
+HasWaited value (first ∷ queue) Rest = (first ≡ value) × Rest queue
+
+abbrev pub WasBrought : (BroughtValue → Type 0) → Entry DataValue → List BroughtValue → (List BroughtValue → Type 0) → Type 0
+WasBrought Brought value [] Rest = ⊥
+WasBrought Brought value (first ∷ brought) Rest = (first.value ≡ value) × Brought first × Rest brought
+
+-- A value waits as the next one of the queue; or it is the next one that answers bring, with its mark; or it was lost, and if nothing
+-- was cleared since and the queue holds more than one value, the first one behind it that is left carries the mark; or it was cleared
+abbrev pub HasCome : Sayings → List (Entry DataValue) → List BroughtValue → (place : ℕ) → AccountEntry DataValue → (behind : List (AccountEntry DataValue)) → (List (Entry DataValue) → List BroughtValue → Type 0) → Fate → Type 0
+HasCome S queue brought place t behind Rest Waits = HasWaited (entry t.value t.marked) queue (λ left. Rest left brought)
+HasCome S queue brought place t behind Rest WasSent = WasBrought S.Brought (entry t.value t.marked) brought (λ left. Rest queue left)
+HasCome S queue brought place t behind Rest WasLost = S.Lost place × (t.needs_mark ≡ true → is_first_marked behind ≡ true) × Rest queue brought
+HasCome S queue brought place t behind Rest WasCleared = S.Cleared place × Rest queue brought
+
+-- So it is with each value of an account, in order, from a place on; and the queue holds no other value, and the answers bring no other
+abbrev pub HaveCome : Sayings → List (Entry DataValue) → List BroughtValue → (place : ℕ) → List (AccountEntry DataValue) → Type 0
+HaveCome S queue brought place [] = (queue ≡ []) × (brought ≡ [])
+HaveCome S queue brought place (t ∷ ts) = HasCome S queue brought place t ts (λ q ds. HaveCome S q ds (suc place) ts) t.fate
+
+-- of an item of a run
+abbrev pub sayings : Configuration → SpaceState → List Event → ℕ → World → Sayings
+sayings config space events number world = record {
+  Brought = IsBrought config space events world;
+  Lost = λ place. IsDrivenOut (queue_moves_after config space events number) place × IsCausedBy config (item_calls config (moves_of config space events)) number place WasLost;
+  Cleared = λ place. IsCausedBy config (item_calls config (moves_of config space events)) number place WasCleared;
+}
+
+-- and with each value that the item of a number queued in a run
 abbrev pub ValuesHaveCome : Configuration → SpaceState → List Event → ℕ → World → Type 0
 ValuesHaveCome config space events number world =
     let services : Services = world.core.services in
-    HaveCome (queue_at number services.items.items) (IsBrought config space events number) (account_after config space events number)
+    HaveCome (sayings config space events number world) (queue_at number services.items.items) (brought_in config space events number) 0 (account_after config space events number)

@@ -48,7 +48,7 @@ have_their_causes queue_moves before after queue_move is =
     subst (λ (ts : List (AccountEntry DataValue)). GetsOnly (may_give (account before) queue_move) (account before) ts) (sym (fold-append account_after [] before (queue_move ∷ []))) (own_fates queue_move (account before))
 
 -- what stands in the account stays, whatever else is done
-stays : (before : List (QueueMove DataValue)) (queue_move : QueueMove DataValue) (after : List (QueueMove DataValue)) → GoesOn (account (before ++ queue_move ∷ [])) (account (before ++ queue_move ∷ after))
+pub stays : (before : List (QueueMove DataValue)) (queue_move : QueueMove DataValue) (after : List (QueueMove DataValue)) → GoesOn (account (before ++ queue_move ∷ [])) (account (before ++ queue_move ∷ after))
 stays before queue_move after =
     subst (λ (ts : List (AccountEntry DataValue)). GoesOn (account (before ++ queue_move ∷ [])) ts)
     (sym (fold-append account_after [] (before ++ queue_move ∷ []) after) ∙ ap (λ (queue_moves : List (QueueMove DataValue)). account queue_moves) (append_assoc before (queue_move ∷ []) after))
