@@ -80,9 +80,9 @@ next_writable header w = record {
 }
 
 reads_within : (n limit : ℕ) (header : ChunkHeader) (room : ℕ) (body : List ℕ) → 0 < room → room + 24 ≤ limit → IsWritable header → length body ≤ n → (room < length body) ⊎ (length body ≤ room) →
-    Reads limit header.request_id body (cut_of header room body).chunks
+    Reads limit header.request_id body (cut_of Final header room body).chunks
 reads_within n limit header room body r m w l (inr fits) =
-    subst (Reads limit header.request_id body) (sym (ap (λ (c : Cut). c.chunks) (cut_last header room body r fits)))
+    subst (Reads limit header.request_id body) (sym (ap (λ (c : Cut). c.chunks) (cut_last Final header room body r fits)))
     (last_read limit header body (omega arith) w)
 reads_within zero limit header room body r m w l (inl long) = absurd (omega arith)
 reads_within (suc n) limit header room body r m w l (inl long) =
@@ -90,10 +90,10 @@ reads_within (suc n) limit header room body r m w l (inl long) =
     let next = next_header header in
     let fewer : length rest ≡ length body - room = length-drop room body in
     let full : length (take room body) ≡ room = length-take-le room body (omega arith) in
-    let rs : Reads limit header.request_id rest (cut_of next room rest).chunks = reads_within n limit next room rest r m (next_writable header w) (omega arith) (cases_lt room (length rest)) in
-    subst (λ (b : List ℕ). Reads limit header.request_id b (cut_of header room body).chunks) (take-append-drop room body)
-    (subst (Reads limit header.request_id (take room body ++ rest)) (sym (ap (λ (c : Cut). c.chunks) (cut_more header room body r long)))
-    (more_read limit header (take room body) rest (cut_of next room rest).chunks (omega arith) w rs))
+    let rs : Reads limit header.request_id rest (cut_of Final next room rest).chunks = reads_within n limit next room rest r m (next_writable header w) (omega arith) (cases_lt room (length rest)) in
+    subst (λ (b : List ℕ). Reads limit header.request_id b (cut_of Final header room body).chunks) (take-append-drop room body)
+    (subst (Reads limit header.request_id (take room body ++ rest)) (sym (ap (λ (c : Cut). c.chunks) (cut_more Final header room body r long)))
+    (more_read limit header (take room body) rest (cut_of Final next room rest).chunks (omega arith) w rs))
 
 -- the stream of the chunks is read as frames that join to the one message
 pub message_read : (s : ChannelState) (request_id : ℕ) (body : List ℕ) (chunks : List (List ℕ)) → 24 < s.agreed.send_size → s.agreed.send_size < 2 ^ 32 → IsWritable (header_of s request_id) →

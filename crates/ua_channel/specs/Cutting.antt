@@ -1,4 +1,4 @@
--- Answers cut into chunks.
+-- Messages cut into chunks.
 use Rattle.std.specs.Prelude.{ℕ, zero, suc, ◌+◌, ◌-◌, ◌==◌, ◌/◌, Bool, ◌&&◌, ◌||◌, not, nat_lt, List, [], ◌∷◌, ◌++◌, length, take, drop, Option, Some, None, Ok, Err, if◌then◌else◌}
 use Rattle.ua_types.specs.Answers.{Step, step}
 use Rattle.ua_tcp.specs.Agreements.{Agreement}
@@ -36,21 +36,21 @@ pub record Cut : Type 0 where
 abbrev pub cut_after : List (List ℕ) → Cut → Cut
 cut_after front rest = record { chunks = front ++ rest.chunks; sent = rest.sent }
 
-abbrev pub last_cut : ChunkHeader → List ℕ → Cut
-last_cut header body = record { chunks = chunk_encoding header Final body ∷ []; sent = header.sequence_number }
+abbrev pub last_cut : ChunkType → ChunkHeader → List ℕ → Cut
+last_cut last header body = record { chunks = chunk_encoding header last body ∷ []; sent = header.sequence_number }
 
 -- at most so many chunks before the last
-unfoldable pub cut_within : ℕ → ChunkHeader → ℕ → List ℕ → Cut
-cut_within zero header room body = last_cut header body
-cut_within (suc n) header room body =
+unfoldable pub cut_within : ℕ → ChunkType → ChunkHeader → ℕ → List ℕ → Cut
+cut_within zero last header room body = last_cut last header body
+cut_within (suc n) last header room body =
     if nat_lt room (length body)
-    then cut_after (chunk_encoding header Intermediate (take room body) ∷ []) (cut_within n (next_header header) room (drop room body))
-    else last_cut header body
+    then cut_after (chunk_encoding header Intermediate (take room body) ∷ []) (cut_within n last (next_header header) room (drop room body))
+    else last_cut last header body
 
--- The chunks of a body, of which each holds so many bytes: all are full but the last, which is final.
+-- The chunks of a body, of which each holds so many bytes: all are full but the last, which has this type.
 -- An empty body has one.
-unfoldable pub cut_of : ChunkHeader → ℕ → List ℕ → Cut
-cut_of header room body = cut_within (length body) header room body
+unfoldable pub cut_of : ChunkType → ChunkHeader → ℕ → List ℕ → Cut
+cut_of last header room body = cut_within (length body) last header room body
 
 -- what of a frame is left for a part of the body
 abbrev pub room_of : Agreement → ℕ
@@ -89,7 +89,7 @@ sent_by s cut = step (Ok cut.chunks) (record s { sent = cut.sent })
 abbrev pub send_of : ChannelState → ℕ → List ℕ → Step (List (List ℕ)) SendFault ChannelState
 send_of s request_id body =
     if is_too_large s.agreed (length body) then step (Err TooLarge) s
-    else sent_by s (cut_of (header_of s request_id) (room_of s.agreed) body)
+    else sent_by s (cut_of Final (header_of s request_id) (room_of s.agreed) body)
 
 -- ---- the answer to an OPN
 

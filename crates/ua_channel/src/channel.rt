@@ -290,7 +290,7 @@ impl Channel {
             sequence_number: sequence_number_after(self.sent),
             request_id: id,
         };
-        let (chunks, sent) = cut(alloc, header, room(&self.agreed), body)?;
+        let (chunks, sent) = cut(alloc, ChunkType::Final, header, room(&self.agreed), body)?;
         self.sent = sent;
         Ok(chunks)
     }

@@ -1,4 +1,4 @@
-//! Answers cut into chunks.
+//! Messages cut into chunks.
 
 ghost use Rattle.std.specs.Prelude.{◌≡◌, ◌<◌, ◌≤◌, ◌+◌, ◌^◌, ℕ, length, false, IfOk};
 ghost use Rattle.ua_tcp.specs.Encoding.{frame_encoding};
@@ -36,18 +36,19 @@ pub(crate) fn exceeds(limit: u32, n: usize) -> bool
     limit != 0 && n > limit as usize
 }
 
-// The chunks of a body, and the sequence number of the last of them.
-pub(crate) fn cut(
+/// The chunks of a body, each of which holds so many bytes of it, and the sequence number of the last of them. The
+/// first has this header, and the last this type.
+pub fn cut(
     alloc: Global,
+    last: ChunkType,
     first: ChunkHeader,
     room: usize,
     body: &[u8],
 ) -> Result<(Listed<Bytes>, u32), AllocError>
     requires some { 0 < room }
     requires small { room + 24 < 2 ^ 32 }
-    requires first { first.sequence_number ≤ 4294966272 }
-    ensures cut { IfOk result (λ cut. record { chunks = cut.0; sent = cut.1 } ≡ cut_of first room body.now) }
-    ensures last { IfOk result (λ cut. cut.1 ≤ 4294966272) }
+    ensures cut { IfOk result (λ cut. record { chunks = cut.0; sent = cut.1 } ≡ cut_of last first room body.now) }
+    ensures sent { first.sequence_number ≤ 4294966272 → IfOk result (λ cut. cut.1 ≤ 4294966272) }
 {
     let mut chunks = Vec::new(alloc);
     let mut header = first;
@@ -58,13 +59,13 @@ pub(crate) fn cut(
         header.sequence_number = sequence_number_after(header.sequence_number);
         rest = behind;
     }
-    chunks.push(chunk(alloc, &header, ChunkType::Final, rest)?)?;
+    chunks.push(chunk(alloc, &header, last, rest)?)?;
     Ok((Listed::from_vec(chunks), header.sequence_number))
 }
 
-// A MSG of this type with this part of the body.
+/// A MSG of this type with this part of a body.
 #[tactic(auto, using(crate::proofs::HeaderLemmas::encoding_length))]
-fn chunk(
+pub fn chunk(
     alloc: Global,
     header: &ChunkHeader,
     chunk_type: ChunkType,
@@ -98,9 +99,9 @@ pub(crate) fn is_opening_too_large(agreed: &Agreed, body: &[u8]) -> bool
             > agreed.send_size as usize
 }
 
-// The OPN with this body.
+/// The OPN with this body.
 #[tactic(auto, using(crate::proofs::HeaderLemmas::opening_length))]
-pub(crate) fn opening_chunk(
+pub fn opening_chunk(
     alloc: Global,
     channel_id: u32,
     sequence_number: u32,

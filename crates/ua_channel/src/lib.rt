@@ -6,7 +6,7 @@
 //! do about it, a [`Taken`], or refuses the frame, after which the connection is closed. What the
 //! server answers goes out by [`Channel::send`] and [`Channel::send_opening`], which cut it into
 //! chunks. A request to open or renew the channel is answered by [`Channel::grant`], which gives
-//! the token.
+//! the token. The other side's requests are cut by the same [`cut`], and given up by a [`chunk`] of type `A`.
 //!
 //! Here is no clock and no socket: tokens don't end by time, and frames come in as values and go out
 //! as bytes. What a request says is not looked at, but for the one that opens the channel.
@@ -27,6 +27,7 @@ mod sequence_numbers;
 mod taken;
 
 pub use channel::Channel;
+pub use cutting::{chunk, cut, opening_chunk};
 pub use headers::{ChunkHeader, OpeningHeader};
 pub use send_fault::SendFault;
 pub use sequence_numbers::sequence_number_after;

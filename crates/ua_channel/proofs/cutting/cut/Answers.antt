@@ -11,14 +11,14 @@ loop-rest-preserved c =
     record {
       cut = rw (c.in_ok-push.ensures.items, c.in_ok-chunk.ensures, c.sequence_number_after.ensures.value, c.split_at.ensures.front, c.split_at.ensures.back)
           (cut_after_twice c.loop-rest.chunks.items (part ∷ []) _
-          ∙ ap (cut_after c.loop-rest.chunks.items) (sym (cut_more c.loop-rest.header c.args.room rest c.requires.some c.loop-rest-test.true))
+          ∙ ap (cut_after c.loop-rest.chunks.items) (sym (cut_more c.args.last c.loop-rest.header c.args.room rest c.requires.some c.loop-rest-test.true))
           ∙ c.loop-rest.invariant.cut);
-      small = c.sequence_number_after.ensures.small;
+      small = λ _. c.sequence_number_after.ensures.small;
     }
 
 pub returns-clause-cut : goal.returns-clause-cut
 returns-clause-cut c =
     let rest = c.loop-rest.rest.now in
     rw (c.from_vec.ensures, c.in_ok-push-2.ensures.items, c.in_ok-chunk-2.ensures)
-    (ap (cut_after c.loop-rest.chunks.items) (sym (cut_last c.loop-rest.header c.args.room rest c.requires.some c.loop-rest-test.false))
+    (ap (cut_after c.loop-rest.chunks.items) (sym (cut_last c.args.last c.loop-rest.header c.args.room rest c.requires.some c.loop-rest-test.false))
     ∙ c.loop-rest.invariant.cut)
