@@ -6,5 +6,5 @@ pub mod ReadLemmas
 pub mod FrameLemmas
 pub mod CountLemmas
 pub mod HeldLemmas
-pub mod TellingLemmas
+pub mod HappeningLemmas
 pub mod RefusalLemmas

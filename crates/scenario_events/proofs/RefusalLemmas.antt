@@ -1,4 +1,4 @@
--- Why a scenario is refused, and what is told by one that isn't.
+-- Why a scenario is refused, and what happens in one that isn't.
 use Rattle.std.proofs.Common.{◌≡◌, ◌≢◌, ℕ, Bool, true, false, cond, List, [], ◌∷◌, Option, Some, None, Result, Ok, Err, refl, sym, ap, ◌∙◌}
 use Rattle.std.specs.Prelude.{IfErr, IsOkAnd}
 use Rattle.ua_types.specs.Answers.{◌>>=◌}
@@ -11,8 +11,8 @@ use Rattle.scenario_text.specs.declared.scenario.Line.{Line}
 use Rattle.scenario_text.specs.declared.statement.Statement.{Statement}
 use Rattle.scenario_text.specs.declared.statement.Statement.TheVariants as statements
 use Rattle.scenario_events.specs.Assembly.{preceded, on_assembled, no_groups, groups_from, joined, events_of}
-use Rattle.scenario_events.specs.Groups.{nothing_counted, AreTold}
-use Rattle.scenario_events.specs.Meaning.{plain_manner, tellings_of, unless_bad, meaning}
+use Rattle.scenario_events.specs.Groups.{nothing_counted, AreGroups}
+use Rattle.scenario_events.specs.Meaning.{plain_manner, happenings_of, unless_bad, meaning}
 use Rattle.scenario_events.specs.Members.{Assembled, nothing_sent, sending, assembled_opening, assembled_service, assembled_of}
 use Rattle.scenario_events.specs.Sendings.{Sending, hello_of, opening_of, closing_of, service_of}
 use Rattle.scenario_events.specs.declared.assembler.Assembler.{Assembler}
@@ -79,15 +79,15 @@ fault_meant (Ok x) text given = tt
 fault_meant (Err f) text given = λ other short.
     let s = scenario_of text in
     let bad : s.fault ≡ Some f = refused_at s.fault nothing_sent 0 s.lines f short (of_joined _ f (given other)) in
-    ap (λ (fault : Option AsmFault). unless_bad fault (tellings_of plain_manner s.lines)) bad
+    ap (λ (fault : Option AsmFault). unless_bad fault (happenings_of plain_manner s.lines)) bad
 
--- what is told where no line is bad
-abbrev pub IsToldBy : Option AsmFault → List Line → List Event → Type 0
-IsToldBy fault ls es = (fault ≡ None) × AreTold nothing_counted (tellings_of plain_manner ls) es
+-- what happens where no line is bad
+abbrev pub IsMeantBy : Option AsmFault → List Line → List Event → Type 0
+IsMeantBy fault ls es = (fault ≡ None) × AreGroups nothing_counted (happenings_of plain_manner ls) es
 
-by_none : (fault : Option AsmFault) (ls : List Line) (es : List Event) → IsToldBy fault ls es → IsOkAnd (unless_bad fault (tellings_of plain_manner ls)) (λ tellings. AreTold nothing_counted tellings es)
-by_none None ls es told = told.1
-by_none (Some f) ls es told = absurd cc
+by_none : (fault : Option AsmFault) (ls : List Line) (es : List Event) → IsMeantBy fault ls es → IsOkAnd (unless_bad fault (happenings_of plain_manner ls)) (λ happenings. AreGroups nothing_counted happenings es)
+by_none None ls es meant = meant.1
+by_none (Some f) ls es meant = absurd cc
 
-pub text_told : (text : List ℕ) (es : List Event) → (let s = scenario_of text in IsToldBy s.fault s.lines es) → IsOkAnd (meaning text) (λ tellings. AreTold nothing_counted tellings es)
-text_told text es told = let s = scenario_of text in by_none s.fault s.lines es told
+pub text_meant : (text : List ℕ) (es : List Event) → (let s = scenario_of text in IsMeantBy s.fault s.lines es) → IsOkAnd (meaning text) (λ happenings. AreGroups nothing_counted happenings es)
+text_meant text es meant = let s = scenario_of text in by_none s.fault s.lines es meant

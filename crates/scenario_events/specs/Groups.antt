@@ -1,4 +1,4 @@
--- That events are what a scenario tells: a group for each thing told, in their order, whose bytes read as it.
+-- That events are what happens in a scenario: a group for each happening, in their order, whose bytes read as it.
 use Rattle.std.specs.Prelude.{◌≡◌, ℕ, zero, suc, ◌≤◌, ◌-◌, Bool, true, false, List, [], ◌∷◌, ◌++◌, length, map, replicate, slice_get, unwrap_or, Option, Some, None, Ok}
 use Rattle.std.specs.List.{concat}
 use Rattle.std.specs.Ordering.{nat_cmp}
@@ -27,7 +27,7 @@ use Rattle.scenario_text.specs.declared.choices.ChannelRequest.{ChannelRequest}
 use Rattle.scenario_text.specs.declared.choices.ChannelRequest.TheVariants.{Issue, Renew}
 use Rattle.scenario_requests.specs.Messages.{IsServiceBody, IsEndpointsBody, IsSessionBody, IsOpeningBody, IsClosingBody}
 use Rattle.scenario_requests.specs.Structures.{plain_request}
-use Rattle.scenario_events.specs.Meaning.{Asking, Endpoints, NewSession, Service, Told, Opening, Closing, Passing, Greeting, ChannelOpening, ChannelEnd, Asked, Unread, Telling}
+use Rattle.scenario_events.specs.Meaning.{Asking, Endpoints, NewSession, Service, Kind, Opening, Closing, Passing, Greeting, ChannelOpening, ChannelEnd, Asked, Unread, Happening}
 use Rattle.scenario_events.specs.Reading.{messages_of}
 use Rattle.scenario_events.specs.declared.assembler.Session.{Session}
 use Rattle.scenario_events.specs.declared.clients.Client.{Client}
@@ -149,7 +149,7 @@ pub record Bring (cut connection : ℕ) (IsBytes : List ℕ → Type 0) (group :
   pub comes : ComesIn cut connection bytes group
   pub said : IsBytes bytes
 
--- ---- what is told
+-- ---- what happens
 
 abbrev pub greeting : Option (List ℕ) → Hello
 greeting url = record {
@@ -189,8 +189,8 @@ with_asking c connection NewSession =
     record c { sessions = c.sessions ++ record { key = (numbers_on c connection).key; number = sequence_number_after (length c.sessions) } ∷ [] }
 with_asking c connection (Service session request) = c
 
--- a group of events is what is told, and this is counted after it
-abbrev pub IsGroup : Counts → ℕ → ℕ → Told → List Event → Counts → Type 0
+-- a group of events is what happens, and this is counted after it
+abbrev pub IsGroup : Counts → ℕ → ℕ → Kind → List Event → Counts → Type 0
 IsGroup c cut chunk (Opening connection key) group after = (group ≡ events.Opened connection key ∷ []) × (after ≡ with_numbers c connection (first_numbers key))
 IsGroup c cut chunk (Closing connection) group after = (group ≡ events.Gone connection ∷ []) × (after ≡ record c { clients = remove c.clients connection })
 IsGroup c cut chunk (Passing now) group after = (group ≡ events.Tick now ∷ []) × (after ≡ c)
@@ -213,8 +213,8 @@ IsGroup c cut chunk (Asked connection aborted asking) group after =
     (count : ℕ) × Bring cut connection (IsRequest aborted chunk (first_header n) (IsAskingBody c n.request_id asking) count) group
     × (after ≡ with_numbers (with_asking c connection asking) connection (after_chunks count n))
 
--- the events fall into a group for each thing that is told, in their order
-unfoldable pub AreTold : Counts → List Telling → List Event → Type 0
-AreTold c [] es = es ≡ []
-AreTold c (t ∷ ts) es =
-    (group : List Event) × (others : List Event) × (after : Counts) × (es ≡ group ++ others) × IsGroup c t.cut t.chunk t.told group after × AreTold after ts others
+-- the events fall into a group for each happening, in their order
+unfoldable pub AreGroups : Counts → List Happening → List Event → Type 0
+AreGroups c [] es = es ≡ []
+AreGroups c (h ∷ hs) es =
+    (group : List Event) × (others : List Event) × (after : Counts) × (es ≡ group ++ others) × IsGroup c h.cut h.chunk h.kind group after × AreGroups after hs others

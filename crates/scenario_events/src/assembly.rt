@@ -7,8 +7,8 @@ ghost use Rattle.scenario_text.specs.declared.fault.Cause.TheVariants.{Limit, Me
 ghost use Rattle.scenario_events.specs.Pieces.{pieces_of};
 ghost use Rattle.scenario_events.specs.Assembly.{Puts, event_limit, stream_events, group_of, in_line, joined, groups_from, MeansAs, events_of as events_of_spec};
 ghost use Rattle.scenario_events.specs.Members.{nothing_sent};
-ghost use Rattle.scenario_events.specs.Meaning.{plain_manner, tellings_of, meaning};
-ghost use Rattle.scenario_events.specs.Groups.{nothing_counted, AreTold};
+ghost use Rattle.scenario_events.specs.Meaning.{plain_manner, happenings_of, meaning};
+ghost use Rattle.scenario_events.specs.Groups.{nothing_counted, AreGroups};
 
 use crate::assembler::{Assembler, Member};
 use bytes::Bytes;
@@ -103,14 +103,14 @@ fn in_line<T: Drop>(number: u64, outcome: Result<T, Cause>) -> Result<T, AsmFaul
 }
 
 // The events of these lines, unless one of them comes to too much.
-#[tactic(auto, using(crate::proofs::AssemblyLemmas::begins, crate::proofs::CountLemmas::nothing_counted, crate::proofs::TellingLemmas::begins_told))]
+#[tactic(auto, using(crate::proofs::AssemblyLemmas::begins, crate::proofs::CountLemmas::nothing_counted, crate::proofs::HappeningLemmas::begins_grouped))]
 fn events_of(
     alloc: Global,
     fault: Option<AsmFault>,
     lines: Vec<Line>,
 ) -> Result<Vec<Event>, AsmFault>
     ensures given { MeansAs (λ v. v.items) result (joined (groups_from fault nothing_sent 0 lines.items)) }
-    ensures meant { IfOk result (λ v. (fault ≡ None) × AreTold nothing_counted (tellings_of plain_manner lines.items) v.items) }
+    ensures meant { IfOk result (λ v. (fault ≡ None) × AreGroups nothing_counted (happenings_of plain_manner lines.items) v.items) }
 {
     let mut assembler = Assembler::new(alloc);
     let mut events = Vec::new(alloc);
@@ -127,16 +127,16 @@ fn events_of(
 
 /// The events of a scenario: a group for each line that says something, in their order.
 ///
-/// `meant` says what the events are without the definition `given`: what the text tells, in order, each in frames
+/// `meant` says what the events are without the definition `given`: what the text says happens, in order, each in frames
 /// that are read as it.
 ///
 /// The error is the first bad line, with the cause of its leftmost bad word. Where all words of the line
 /// are good it is [`Cause::Limit`]: the line brings more than 100,000 events together, or a body of more
 /// than 1,048,576 bytes. `Memory` comes only where an allocation failed.
-#[tactic(auto, using(crate::proofs::RefusalLemmas::fault_meant, crate::proofs::RefusalLemmas::text_told))]
+#[tactic(auto, using(crate::proofs::RefusalLemmas::fault_meant, crate::proofs::RefusalLemmas::text_meant))]
 pub fn assemble(alloc: Global, text: &str) -> Result<Listed<Event>, AsmFault>
     ensures given { Means result (events_of_spec text.now) }
-    ensures meant { IfOk result (λ events. IsOkAnd (meaning text.now) (λ tellings. AreTold nothing_counted tellings events)) }
+    ensures meant { IfOk result (λ events. IsOkAnd (meaning text.now) (λ happenings. AreGroups nothing_counted happenings events)) }
     ensures refused { IfErr result (λ f. f.cause ≢ Memory → f.cause ≢ Limit → meaning text.now ≡ Err f) }
 {
     let Scenario { lines, fault } = readable(alloc, text)?;

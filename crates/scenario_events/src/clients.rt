@@ -87,7 +87,7 @@ fn after_request(client: &Client, sequence_number: u32) -> Client
 }
 
 /// A Hello.
-#[tactic(auto, using(crate::proofs::TellingLemmas::alone), unfolding(crate::specs::Sendings::hello_of))]
+#[tactic(auto, using(crate::proofs::HappeningLemmas::alone), unfolding(crate::specs::Sendings::hello_of))]
 pub(crate) fn hello(alloc: Global, client: &Client, url: Text) -> Result<(Vec<u8>, Client), Cause>
     ensures given { GivesAs Memory (λ s. (s.0.items, s.1)) result (hello_of client.now url) }
     ensures read { OnOk result (hello_reading (hello_encoding (hello_said url).0) ≡ Ok (hello_said url)) }

@@ -10,7 +10,7 @@
 //! bytes are cut. [`laws`] states that what was cut is whole again, and that a server reads each request from
 //! its chunks, and each Hello and each opening and end of a channel from its frame (`Reading`).
 //!
-//! [`assemble`] says too that its events are what the scenario tells: `Meaning` is what that is, without a frame
+//! [`assemble`] says too that its events are what the scenario tells: `Meaning` is what happens, without a frame
 //! or a byte of a stream, and `Groups` when events are it, by rules of counting of its own.
 //!
 //! Read docs/SCENARIOS.md first, then [`assemble`].

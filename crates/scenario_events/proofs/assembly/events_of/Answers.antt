@@ -5,7 +5,7 @@ use Rattle.scenario_events.specs.Members.{nothing_sent}
 use Rattle.scenario_events.proofs.AssemblyLemmas.{goes_on, fails, exceeds, ends_well, ends_badly, taken, refused, put_well, put_badly, few_put}
 use Rattle.scenario_events.specs.Reading.{AfterCounted}
 use Rattle.scenario_events.proofs.CountLemmas.{assembled_counted}
-use Rattle.scenario_events.proofs.TellingLemmas.{of_line, line_told, goes_on_told, all_told}
+use Rattle.scenario_events.proofs.HappeningLemmas.{of_line, line_grouped, goes_on_grouped, all_grouped}
 use Rattle.scenario_events.proofs.assembly.events_of.Goals as goal
 
 pub returns-in_err-member : goal.returns-in_err-member
@@ -29,11 +29,11 @@ loop-line-preserved c =
     record {
       whole = goes_on c.args.fault c.loop-line.assembler c.take.new.self c.in_ok-member.member c.loop-line.events.items c.put_group.new.events.items c.in-Some.line c.next.new.self.rest.items total assembled put.0 put.1 so_far;
       counted = subst AfterCounted assembled (assembled_counted c.loop-line.assembler c.in-Some.line.statement c.loop-line.invariant.counted);
-      told =
-          (let told_so_far = rw c.in-Some.ensures.steps.0 at c.loop-line.invariant.told in
+      grouped =
+          (let grouped_so_far = rw c.in-Some.ensures.steps.0 at c.loop-line.invariant.grouped in
           let read = of_line c.take.result c.in-Some.line.number c.in_ok-member.member _ c.take.ensures.read c.in_ok-member.ensures in
-          goes_on_told _ c.loop-line.assembler (c.in_ok-member.member, c.take.new.self) c.loop-line.events.items c.put_group.new.events.items c.in-Some.line c.next.new.self.rest.items
-          (line_told c.loop-line.assembler c.in-Some.line.statement (c.in_ok-member.member, c.take.new.self) assembled c.loop-line.invariant.counted read) put.0 told_so_far);
+          goes_on_grouped _ c.loop-line.assembler (c.in_ok-member.member, c.take.new.self) c.loop-line.events.items c.put_group.new.events.items c.in-Some.line c.next.new.self.rest.items
+          (line_grouped c.loop-line.assembler c.in-Some.line.statement (c.in_ok-member.member, c.take.new.self) assembled c.loop-line.invariant.counted read) put.0 grouped_so_far);
       few = few_put c.loop-line.events.items c.put_group.new.events.items (group_of c.take.new.self.cut c.in_ok-member.member) put.0 put.1;
     }
 
@@ -55,7 +55,7 @@ returns-in-None-fault c =
     let left : length c.loop-line.line-iterator.rest.items ≡ 0 = sym c.loop-line.line-iterator.rest.ok.0 ∙ c.in-None.ensures.steps.0 in
     record {
       given = ends_well c.args.fault c.loop-line.assembler c.loop-line.events.items c.loop-line.line-iterator.rest.items (joined (groups_from c.args.fault nothing_sent 0 c.args.lines.items)) c.in-None-fault.is left c.loop-line.invariant.whole;
-      meant = (c.in-None-fault.is, all_told _ c.loop-line.assembler c.loop-line.events.items c.loop-line.line-iterator.rest.items left c.loop-line.invariant.told);
+      meant = (c.in-None-fault.is, all_grouped _ c.loop-line.assembler c.loop-line.events.items c.loop-line.line-iterator.rest.items left c.loop-line.invariant.grouped);
     }
 
 pub returns : goal.returns

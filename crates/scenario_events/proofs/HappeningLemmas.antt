@@ -30,8 +30,8 @@ use Rattle.scenario_text.specs.declared.statement.Statement.TheVariants as state
 use Rattle.scenario_requests.specs.Messages.{opening_body, closing_body, request_body, IsServiceBody, IsOpeningBody, IsClosingBody}
 use Rattle.scenario_requests.specs.Structures.{plain_request}
 use Rattle.scenario_events.specs.Assembly.{group_of, in_line, stream_events}
-use Rattle.scenario_events.specs.Groups.{Counts, nothing_counted, asked_channel, AreTold, IsGroup, Bring, IsOneFrame, IsNothing, no_limit, greeting, null_header, with_numbers, with_token, after_chunks, first_header, given_token, session_header, with_asking, IsAskingBody, chunks_later}
-use Rattle.scenario_events.specs.Meaning.{Manner, Telling, Asked, Asking, Endpoints, NewSession, Service, plain_manner, told_by, tellings_of}
+use Rattle.scenario_events.specs.Groups.{Counts, nothing_counted, asked_channel, AreGroups, IsGroup, Bring, IsOneFrame, IsNothing, no_limit, greeting, null_header, with_numbers, with_token, after_chunks, first_header, given_token, session_header, with_asking, IsAskingBody, chunks_later}
+use Rattle.scenario_events.specs.Meaning.{Manner, Happening, Asked, Asking, Endpoints, NewSession, Service, plain_manner, happens_by, happenings_of}
 use Rattle.scenario_events.specs.Members.{Assembled, client_of, channels_after, token_in, token_at, with_client, with_session, nothing_sent, sent_on, sending, assembled_opening, assembled_service, assembled_of}
 use Rattle.scenario_events.specs.ReadBodies.{IsRead}
 use Rattle.scenario_events.specs.Reading.{hello_said, IsCounted, AllCounted}
@@ -56,15 +56,15 @@ counts_of a = record { clients = a.clients; channels = a.channels; sessions = a.
 abbrev pub manner_of : Assembler → Manner
 manner_of a = record { cut = a.cut; chunk = a.chunk; is_aborting = a.is_aborting }
 
--- what came of a line stands before what is told by the lines behind it
-abbrev pub Tells : Assembler → Statement → Assembled → Type 0
-Tells a statement r =
-    (others : Manner → List Telling) (tail : List Event) → AreTold (counts_of r.1) (others (manner_of r.1)) tail
-    → AreTold (counts_of a) (told_by (manner_of a) statement others) (group_of r.1.cut r.0 ++ tail)
+-- what came of a line stands before what happens by the lines behind it
+abbrev pub Happens : Assembler → Statement → Assembled → Type 0
+Happens a statement r =
+    (others : Manner → List Happening) (tail : List Event) → AreGroups (counts_of r.1) (others (manner_of r.1)) tail
+    → AreGroups (counts_of a) (happens_by (manner_of a) statement others) (group_of r.1.cut r.0 ++ tail)
 
-told_on : (c after : Counts) (t : Telling) (ts : List Telling) (group tail : List Event) → IsGroup c t.cut t.chunk t.told group after → AreTold after ts tail → AreTold c (t ∷ ts) (group ++ tail)
-unfolding AreTold
-told_on c after t ts group tail is rest = (group, tail, after, refl, is, rest)
+group_on : (c after : Counts) (h : Happening) (hs : List Happening) (group tail : List Event) → IsGroup c h.cut h.chunk h.kind group after → AreGroups after hs tail → AreGroups c (h ∷ hs) (group ++ tail)
+unfolding AreGroups
+group_on c after h hs group tail is rest = (group, tail, after, refl, is, rest)
 
 -- ---- what is sent in one frame
 
@@ -88,18 +88,18 @@ brought cut connection message_type reading value IsBehind front body behind few
 
 -- a body that is too long is refused
 unless_long : (long : Bool) (a b : Assembler) (statement : Statement) (connection : ℕ) (body : List ℕ) (f : List ℕ → Sending) → nat_lt body_limit (length body) ≡ long
-    → (length body ≤ body_limit → Tells a statement (sent_on b connection (f body))) → IfOk (sending b connection (cond long (Err Limit) (Ok body) >>= λ x. Ok (f x))) (Tells a statement)
+    → (length body ≤ body_limit → Happens a statement (sent_on b connection (f body))) → IfOk (sending b connection (cond long (Err Limit) (Ok body) >>= λ x. Ok (f x))) (Happens a statement)
 unfolding sending
-unless_long true a b statement connection body f e tells = tt
-unless_long false a b statement connection body f e tells = tells (grind (arith, nat_tests))
+unless_long true a b statement connection body f e happens = tt
+unless_long false a b statement connection body f e happens = happens (grind (arith, nat_tests))
 
-hello_tells : (a : Assembler) (connection : ℕ) (url : Option (List ℕ)) → IsRead a (statements.Hello connection url) → IfOk (assembled_of a (statements.Hello connection url)) (Tells a (statements.Hello connection url))
+hello_happens : (a : Assembler) (connection : ℕ) (url : Option (List ℕ)) → IsRead a (statements.Hello connection url) → IfOk (assembled_of a (statements.Hello connection url)) (Happens a (statements.Hello connection url))
 unfolding assembled_of hello_of
-hello_tells a connection url read =
+hello_happens a connection url read =
     let body = hello_encoding (hello_said url).0 in
     unless_long (nat_lt body_limit (length body)) a a (statements.Hello connection url) connection body (λ b. (frame_encoding (framed_as message.Hello b), client_of a connection)) refl
     (λ short others tail rest.
-    told_on _ _ _ _ _ tail (brought a.cut connection message.Hello hello_reading (greeting url) IsNothing [] body [] (omega arith) short refl read refl, refl) rest)
+    group_on _ _ _ _ _ tail (brought a.cut connection message.Hello hello_reading (greeting url) IsNothing [] body [] (omega arith) short refl read refl, refl) rest)
 
 opening_counts : (a : Assembler) (connection : ℕ) (request : ChannelRequest) →
     (let client = client_of a connection in
@@ -114,10 +114,10 @@ same_channel : (client : Client) (request : ChannelRequest) → named_channel cl
 same_channel client Issue l = refl
 same_channel client Renew l = refl
 
-opening_tells : (a : Assembler) (connection : ℕ) (request : ChannelRequest) → AllCounted a → IsRead a (statements.OpenChannel connection request)
-    → IfOk (assembled_of a (statements.OpenChannel connection request)) (Tells a (statements.OpenChannel connection request))
+opening_happens : (a : Assembler) (connection : ℕ) (request : ChannelRequest) → AllCounted a → IsRead a (statements.OpenChannel connection request)
+    → IfOk (assembled_of a (statements.OpenChannel connection request)) (Happens a (statements.OpenChannel connection request))
 unfolding assembled_of assembled_opening opening_of
-opening_tells a connection request w read =
+opening_happens a connection request w read =
     let client = client_of a connection in
     let number = channels_after a request in
     let named = named_channel client request in
@@ -133,12 +133,12 @@ opening_tells a connection request w read =
     (λ short others tail rest.
     let one = brought a.cut connection message.OpenSecureChannel opening_header_reading header is front body body (omega (arith, opening_encoding_length named client.sequence_number client.request_id)) short refl again read in
     let one' = subst (λ (n : ℕ). Bring a.cut connection (IsOneFrame message.OpenSecureChannel opening_header_reading (opening_header_by n client.sequence_number client.request_id) is) (stream_events a.cut connection (frame_encoding (framed_as message.OpenSecureChannel (front ++ body))))) (same_channel client request small) one in
-    told_on _ _ _ _ _ tail (one', opening_counts a connection request) rest)
+    group_on _ _ _ _ _ tail (one', opening_counts a connection request) rest)
 
-closing_tells : (a : Assembler) (connection : ℕ) → AllCounted a → IsRead a (statements.CloseChannel connection)
-    → IfOk (assembled_of a (statements.CloseChannel connection)) (Tells a (statements.CloseChannel connection))
+closing_happens : (a : Assembler) (connection : ℕ) → AllCounted a → IsRead a (statements.CloseChannel connection)
+    → IfOk (assembled_of a (statements.CloseChannel connection)) (Happens a (statements.CloseChannel connection))
 unfolding assembled_of closing_of chunks_later
-closing_tells a connection w read =
+closing_happens a connection w read =
     let client = client_of a connection in
     let header = header_of client in
     let front = chunk_header_encoding header in
@@ -146,7 +146,7 @@ closing_tells a connection w read =
     unless_long (nat_lt body_limit (length body)) a a (statements.CloseChannel connection) connection body
     (λ b. (frame_encoding (framed_as message.CloseSecureChannel (front ++ b)), after_request client (sequence_number_after client.sequence_number))) refl
     (λ short others tail rest.
-    told_on _ _ _ _ _ tail
+    group_on _ _ _ _ _ tail
     (brought a.cut connection message.CloseSecureChannel chunk_header_reading (first_header client) (IsClosingBody (null_header client.request_id)) front body body (omega (arith, encoding_length header)) short refl (header_again header body (w.clients connection)) read, refl)
     rest)
 
@@ -161,18 +161,18 @@ service_counts : (c : Counts) (connection : ℕ) (client : Client) (n count : �
     → with_numbers c connection (after_request client n) ≡ with_numbers c connection (after_chunks count client)
 service_counts c connection client n count e = ap (λ (m : ℕ). with_numbers c connection (after_request client m)) e
 
-asking_is : (a : Assembler) (connection : ℕ) (asking : Asking) (others : Manner → List Telling) →
-    told_by (manner_of a) (asking_statement connection asking) others
-    ≡ record { cut = a.cut; chunk = a.chunk; told = Asked connection a.is_aborting asking } ∷ others (record { cut = a.cut; chunk = a.chunk; is_aborting = false })
+asking_is : (a : Assembler) (connection : ℕ) (asking : Asking) (others : Manner → List Happening) →
+    happens_by (manner_of a) (asking_statement connection asking) others
+    ≡ record { cut = a.cut; chunk = a.chunk; kind = Asked connection a.is_aborting asking } ∷ others (record { cut = a.cut; chunk = a.chunk; is_aborting = false })
 asking_is a connection Endpoints others = refl
 asking_is a connection NewSession others = refl
 asking_is a connection (Service session request) others = refl
 
-service_tells : (a : Assembler) (sessions : List Session) (connection : ℕ) (asking : Asking) (body : List ℕ) → AllCounted a → counts_of (record a { sessions = sessions }) ≡ with_asking (counts_of a) connection asking
+service_happens : (a : Assembler) (sessions : List Session) (connection : ℕ) (asking : Asking) (body : List ℕ) → AllCounted a → counts_of (record a { sessions = sessions }) ≡ with_asking (counts_of a) connection asking
     → IsAskingBody (counts_of a) (client_of a connection).request_id asking body
-    → IfOk (assembled_service (record a { sessions = sessions }) connection body) (Tells a (asking_statement connection asking))
+    → IfOk (assembled_service (record a { sessions = sessions }) connection body) (Happens a (asking_statement connection asking))
 unfolding assembled_service service_of
-service_tells a sessions connection asking body w counts is =
+service_happens a sessions connection asking body w counts is =
     let client = client_of a connection in
     let header = header_of client in
     unless_long (nat_lt body_limit (length body)) a (record a { sessions = sessions; is_aborting = false }) (asking_statement connection asking) connection body
@@ -181,7 +181,7 @@ service_tells a sessions connection asking body w counts is =
     let run = request_run a.is_aborting header (room_of a.chunk) body in
     let one = request_brought a.is_aborting a.cut a.chunk connection header (IsAskingBody (counts_of a) client.request_id asking) body short (w.clients connection) is in
     let after = ap (λ (c : Counts). with_numbers c connection (after_request client run.next.sequence_number)) counts ∙ service_counts (with_asking (counts_of a) connection asking) connection client run.next.sequence_number one.0 one.2 in
-    rw (asking_is a connection asking others) (told_on _ _ _ _ _ tail (one.0, one.1, after) rest))
+    rw (asking_is a connection asking others) (group_on _ _ _ _ _ tail (one.0, one.1, after) rest))
 
 same_token : (o : Option Session) → token_in o ≡ given_token o
 same_token None = refl
@@ -195,46 +195,46 @@ ask_read a connection session request read =
     let body = request_body (plain_request (token_at a session) id) request in
     subst (λ (token : NodeId). IsServiceBody (plain_request token id) request body) (same_token _) read
 
-pub line_tells : (a : Assembler) (statement : Statement) → AllCounted a → IsRead a statement → IfOk (assembled_of a statement) (Tells a statement)
+pub line_happens : (a : Assembler) (statement : Statement) → AllCounted a → IsRead a statement → IfOk (assembled_of a statement) (Happens a statement)
 unfolding assembled_of
-line_tells a (statements.Open connection key) w read = λ others tail rest. told_on _ _ _ _ _ tail (refl, refl) rest
-line_tells a (statements.Hello connection url) w read = hello_tells a connection url read
-line_tells a (statements.OpenChannel connection request) w read = opening_tells a connection request w read
-line_tells a (statements.CloseChannel connection) w read = closing_tells a connection w read
-line_tells a (statements.Gone connection) w read = λ others tail rest. told_on _ _ _ _ _ tail (refl, refl) rest
-line_tells a (statements.Tick now) w read = λ others tail rest. told_on _ _ _ _ _ tail (refl, refl) rest
-line_tells a (statements.Raw connection bytes) w read = λ others tail rest. told_on _ _ _ _ _ tail (comes_in a.cut connection bytes, refl) rest
-line_tells a (statements.Cut size) w read = λ others tail rest. rest
-line_tells a (statements.Chunk size) w read = λ others tail rest. rest
-line_tells a statements.Abort w read = λ others tail rest. rest
-line_tells a (statements.GetEndpoints connection) w read = service_tells a a.sessions connection Endpoints _ w refl read
-line_tells a (statements.CreateSession connection) w read = service_tells a (with_session a connection).sessions connection NewSession _ w refl read
-line_tells a (statements.Ask connection session request) w read = service_tells a a.sessions connection (Service session request) _ w refl (ask_read a connection session request read)
+line_happens a (statements.Open connection key) w read = λ others tail rest. group_on _ _ _ _ _ tail (refl, refl) rest
+line_happens a (statements.Hello connection url) w read = hello_happens a connection url read
+line_happens a (statements.OpenChannel connection request) w read = opening_happens a connection request w read
+line_happens a (statements.CloseChannel connection) w read = closing_happens a connection w read
+line_happens a (statements.Gone connection) w read = λ others tail rest. group_on _ _ _ _ _ tail (refl, refl) rest
+line_happens a (statements.Tick now) w read = λ others tail rest. group_on _ _ _ _ _ tail (refl, refl) rest
+line_happens a (statements.Raw connection bytes) w read = λ others tail rest. group_on _ _ _ _ _ tail (comes_in a.cut connection bytes, refl) rest
+line_happens a (statements.Cut size) w read = λ others tail rest. rest
+line_happens a (statements.Chunk size) w read = λ others tail rest. rest
+line_happens a statements.Abort w read = λ others tail rest. rest
+line_happens a (statements.GetEndpoints connection) w read = service_happens a a.sessions connection Endpoints _ w refl read
+line_happens a (statements.CreateSession connection) w read = service_happens a (with_session a connection).sessions connection NewSession _ w refl read
+line_happens a (statements.Ask connection session request) w read = service_happens a a.sessions connection (Service session request) _ w refl (ask_read a connection session request read)
 
 -- ---- lines one after the other
 
-pub line_told : (a : Assembler) (statement : Statement) (r : Assembled) → assembled_of a statement ≡ Ok r → AllCounted a → IsRead a statement → Tells a statement r
-line_told a statement r is w read = subst (λ (x : Result Assembled Cause). IfOk x (Tells a statement)) is (line_tells a statement w read)
+pub line_grouped : (a : Assembler) (statement : Statement) (r : Assembled) → assembled_of a statement ≡ Ok r → AllCounted a → IsRead a statement → Happens a statement r
+line_grouped a statement r is w read = subst (λ (x : Result Assembled Cause). IfOk x (Happens a statement)) is (line_happens a statement w read)
 
--- from what is left to be told, to what is told of it all
-abbrev pub GoesOn : List Telling → Assembler → List Line → List Event → Type 0
-GoesOn all a ls es = (tail : List Event) → AreTold (counts_of a) (tellings_of (manner_of a) ls) tail → AreTold nothing_counted all (es ++ tail)
+-- from the groups of what is left to those of it all
+abbrev pub GoesOn : List Happening → Assembler → List Line → List Event → Type 0
+GoesOn all a ls es = (tail : List Event) → AreGroups (counts_of a) (happenings_of (manner_of a) ls) tail → AreGroups nothing_counted all (es ++ tail)
 
-pub begins_told : (ls : List Line) → GoesOn (tellings_of plain_manner ls) nothing_sent ls []
-begins_told ls = λ tail rest. rest
+pub begins_grouped : (ls : List Line) → GoesOn (happenings_of plain_manner ls) nothing_sent ls []
+begins_grouped ls = λ tail rest. rest
 
-pub goes_on_told : (all : List Telling) (a : Assembler) (r : Assembled) (es new : List Event) (l : Line) (ls : List Line) → Tells a l.statement r → new ≡ es ++ group_of r.1.cut r.0
+pub goes_on_grouped : (all : List Happening) (a : Assembler) (r : Assembled) (es new : List Event) (l : Line) (ls : List Line) → Happens a l.statement r → new ≡ es ++ group_of r.1.cut r.0
     → GoesOn all a (l ∷ ls) es → GoesOn all r.1 ls new
-unfolding tellings_of
-goes_on_told all a r es new l ls tells put so_far = λ tail rest.
+unfolding happenings_of
+goes_on_grouped all a r es new l ls happens put so_far = λ tail rest.
     let group = group_of r.1.cut r.0 in
-    let told : AreTold nothing_counted all (es ++ (group ++ tail)) = so_far (group ++ tail) (tells (λ m. tellings_of m ls) tail rest) in
-    rw put (subst (AreTold nothing_counted all) (sym (append_assoc es group tail)) told)
+    let groups : AreGroups nothing_counted all (es ++ (group ++ tail)) = so_far (group ++ tail) (happens (λ m. happenings_of m ls) tail rest) in
+    rw put (subst (AreGroups nothing_counted all) (sym (append_assoc es group tail)) groups)
 
-pub all_told : (all : List Telling) (a : Assembler) (es : List Event) (ls : List Line) → length ls ≡ 0 → GoesOn all a ls es → AreTold nothing_counted all es
-unfolding tellings_of AreTold
-all_told all a es [] left so_far = subst (AreTold nothing_counted all) (append-nil es) (so_far [] refl)
-all_told all a es (l ∷ ls) left so_far = absurd (omega arith)
+pub all_grouped : (all : List Happening) (a : Assembler) (es : List Event) (ls : List Line) → length ls ≡ 0 → GoesOn all a ls es → AreGroups nothing_counted all es
+unfolding happenings_of AreGroups
+all_grouped all a es [] left so_far = subst (AreGroups nothing_counted all) (append-nil es) (so_far [] refl)
+all_grouped all a es (l ∷ ls) left so_far = absurd (omega arith)
 
 pub of_line : (r : Result Member Cause) (number : ℕ) (m : Member) (P : Type 0) → OnOk r P → Ok m ≡ in_line number r → P
 of_line (Ok x) number m P read is = read
