@@ -1,13 +1,12 @@
 -- Every header can be written, whatever lines come.
-use Rattle.std.proofs.Common.{◌≡◌, ℕ, ◌<◌, ◌≤◌, ◌^◌, Bool, true, false, cond, List, [], ◌∷◌, ◌++◌, Option, Some, None, Result, Ok, Err, sym, ap, arith, subst}
+use Rattle.std.proofs.Common.{ℕ, ◌<◌, ◌≤◌, ◌^◌, Bool, true, false, cond, List, Option, Some, None, Result, Ok, Err, sym, arith, subst}
 use Rattle.std.specs.Prelude.{unwrap_or}
 use Rattle.std.specs.Ordering.{nat_cmp, eq_by_cmp}
 use Rattle.std.specs.Cmp.{nat_cmp_total}
 use Rattle.std.specs.FinMap.{FinMap, get, insert, remove, get-insert, get-remove, get-empty}
 use Rattle.ua_types.specs.Answers.{◌>>=◌}
-use Rattle.ua_tcp.specs.declared.frame.ChunkType.{ChunkType}
-use Rattle.ua_tcp.specs.declared.frame.ChunkType.TheVariants.{Final, Aborted}
-use Rattle.ua_channel.specs.Cutting.{next_header}
+use Rattle.ua_tcp.specs.declared.frame.ChunkType.TheVariants.{Intermediate, Final}
+use Rattle.ua_channel.specs.Cutting.{cut_of}
 use Rattle.ua_channel.specs.SequenceNumbers.{sequence_number_after}
 use Rattle.ua_channel.proofs.HeaderLemmas.{sequence_number_small}
 use Rattle.ua_channel.specs.declared.headers.ChunkHeader.{ChunkHeader}
@@ -16,9 +15,7 @@ use Rattle.scenario_text.specs.declared.choices.ChannelRequest.TheVariants.{Issu
 use Rattle.scenario_text.specs.declared.fault.Cause.{Cause}
 use Rattle.scenario_text.specs.declared.statement.Statement.{Statement}
 use Rattle.scenario_text.specs.declared.statement.Statement.TheVariants as statements
-use Rattle.scenario_events.specs.Runs.{run_of, request_run, no_reason}
-use Rattle.scenario_events.specs.Pieces.{pieces_of}
-use Rattle.scenario_events.proofs.Pieces.{some_piece}
+use Rattle.scenario_events.specs.Runs.{request_run}
 use Rattle.scenario_events.specs.Sendings.{Sending, room_of, no_client, new_client, header_of, after_request, opened, hello_of, opening_of, closing_of, service_of}
 use Rattle.scenario_events.specs.Members.{client_of, sending, assembled_opening, assembled_service, channels_after, with_session, assembled_of, nothing_sent}
 use Rattle.scenario_events.specs.Reading.{IsCounted, AllCounted, AfterCounted}
@@ -95,20 +92,10 @@ unfolding closing_of
 closing_counted client w = then_counted _ _ (λ b. after_counted client (sequence_number_after client.sequence_number) (sequence_number_small client.sequence_number) w)
 
 -- the chunk behind a run has a number again
-run_next : (last : ChunkType) (header : ChunkHeader) (p : List ℕ) (ps : List (List ℕ)) → (run_of last header (p ∷ ps)).next.sequence_number ≤ 4294966272
-unfolding run_of
-run_next last header p [] = sequence_number_small header.sequence_number
-run_next last header p (q ∷ qs) = run_next last (next_header header) q qs
-
-parts_next : (last : ChunkType) (header : ChunkHeader) (parts : List (List ℕ)) (p : List ℕ) (ps : List (List ℕ)) → parts ≡ p ∷ ps → (run_of last header parts).next.sequence_number ≤ 4294966272
-parts_next last header parts p ps is = subst (λ (qs : List (List ℕ)). (run_of last header qs).next.sequence_number ≤ 4294966272) (sym is) (run_next last header p ps)
-
 request_next : (aborted : Bool) (header : ChunkHeader) (room : ℕ) (body : List ℕ) → (request_run aborted header room body).next.sequence_number ≤ 4294966272
 unfolding request_run
-request_next false header room body = let some = some_piece room body in parts_next Final header (pieces_of room body) some.0 some.1 some.2
-request_next true header room body =
-    let some = some_piece room body in
-    parts_next Aborted header (pieces_of room body ++ no_reason ∷ []) some.0 (some.1 ++ no_reason ∷ []) (ap (λ (ps : List (List ℕ)). ps ++ no_reason ∷ []) some.2)
+request_next false header room body = sequence_number_small (cut_of Final header room body).sent
+request_next true header room body = sequence_number_small (sequence_number_after (cut_of Intermediate header room body).sent)
 
 service_counted : (aborted : Bool) (chunk : ℕ) (client : Client) (body : List ℕ) → IsCounted client → LeavesCounted (service_of aborted chunk client body)
 unfolding service_of

@@ -21,11 +21,12 @@ use Rattle.scenario_events.specs.Assembly.{stream_events}
 use Rattle.scenario_events.specs.Groups.{AreFull, AreSized, ComesIn, AreFrames, no_limit, type_of, Hold, HoldRequest, IsRequest, Bring, chunks_later}
 use Rattle.scenario_events.specs.Pieces.{pieces_of, pieces_within}
 use Rattle.scenario_events.specs.Reading.{messages_of}
-use Rattle.scenario_events.specs.Runs.{run_of, request_run, type_before, no_reason}
+use Rattle.scenario_events.specs.Runs.{Run, request_run, no_reason}
 use Rattle.scenario_events.specs.Sendings.{body_limit, room_of}
 use Rattle.scenario_events.proofs.FrameLemmas.{none_yet}
 use Rattle.scenario_events.proofs.Pieces.{pieces_last, short_pieces, some_within, whole_pieces}
 use Rattle.scenario_events.proofs.ReadLemmas.{Fits, one_more, request_read}
+use Rattle.scenario_events.proofs.RunLemmas.{run_of, type_before, parts_run, request_is}
 
 -- ---- sizes
 
@@ -117,22 +118,27 @@ held last header (p ∷ ps) few w =
     }
 
 -- the chunks of a request
-record HeldRequest (aborted : Bool) (header : ChunkHeader) (room : ℕ) (body : List ℕ) : Type 0 where
+record HeldRequest (aborted : Bool) (header : ChunkHeader) (parts : List (List ℕ)) (run : Run) : Type 0 where
   fs : List Frame
-  text : (request_run aborted header room body).bytes ≡ flat_map frame_encoding fs
+  text : run.bytes ≡ flat_map frame_encoding fs
   each : AllByRecursion (IsFrame no_limit) fs
-  says : HoldRequest aborted header (pieces_of room body) fs
-  next : (request_run aborted header room body).next.sequence_number ≡ chunks_later (length fs) header.sequence_number
+  says : HoldRequest aborted header parts fs
+  next : run.next.sequence_number ≡ chunks_later (length fs) header.sequence_number
 
-held_request : (aborted : Bool) (header : ChunkHeader) (room : ℕ) (body : List ℕ) → 0 < room → room ≤ body_limit → IsWritable header → HeldRequest aborted header room body
-unfolding request_run
-held_request false header room body r m w =
+held_pieces : (aborted : Bool) (header : ChunkHeader) (room : ℕ) (body : List ℕ) → 0 < room → room ≤ body_limit → IsWritable header
+    → HeldRequest aborted header (pieces_of room body) (parts_run aborted header (pieces_of room body))
+held_pieces false header room body r m w =
     let h = held Final header (pieces_of room body) (short_pieces no_limit room body r (omega arith)) w in
     record { fs = h.fs; text = h.text; each = h.each; says = h.says; next = h.next }
-held_request true header room body r m w =
+held_pieces true header room body r m w =
     let few = one_more no_limit (pieces_of room body) no_reason (short_pieces no_limit room body r (omega arith)) (omega arith) in
     let h = held Aborted header (pieces_of room body ++ no_reason ∷ []) few w in
     record { fs = h.fs; text = h.text; each = h.each; says = (no_reason, h.says); next = h.next }
+
+held_request : (aborted : Bool) (header : ChunkHeader) (room : ℕ) (body : List ℕ) → 0 < room → room ≤ body_limit → IsWritable header
+    → HeldRequest aborted header (pieces_of room body) (request_run aborted header room body)
+held_request aborted header room body r m w =
+    subst (HeldRequest aborted header (pieces_of room body)) (sym (request_is aborted header room body)) (held_pieces aborted header room body r m w)
 
 pub frames_read : (bytes : List ℕ) (fs : List Frame) → bytes ≡ flat_map frame_encoding fs → AllByRecursion (IsFrame no_limit) fs → AreFrames bytes fs
 frames_read bytes fs text each =

@@ -13,9 +13,10 @@ use Rattle.ua_channel.specs.Chunks.{Begun, Messages, parts_of, is_of, joined_on,
 use Rattle.ua_channel.specs.Cutting.{chunk_frame, chunk_encoding, next_header}
 use Rattle.ua_channel.proofs.ReadAgainLemmas.{none_yet, is_frame, read_chunk, next_writable}
 use Rattle.scenario_events.specs.Pieces.{pieces_of}
-use Rattle.scenario_events.specs.Runs.{run_of, request_run, no_reason}
-use Rattle.scenario_events.specs.Reading.{IsReadAgain}
+use Rattle.scenario_events.specs.Runs.{Run, no_reason}
+use Rattle.scenario_events.specs.Reading.{messages_of, IsReadAgain}
 use Rattle.scenario_events.proofs.Pieces.{some_piece, short_pieces, whole_pieces}
+use Rattle.scenario_events.proofs.RunLemmas.{run_of, parts_run, request_is}
 
 -- what comes of a run that ends so
 abbrev outcome : ChunkType → ℕ → List ℕ → Messages
@@ -80,20 +81,30 @@ pub one_more : (limit : ℕ) (parts : List (List ℕ)) (q : List ℕ) → AllByR
 one_more limit [] q few fits = (fits, tt)
 one_more limit (p ∷ ps) q few fits = (few.0, one_more limit ps q few.1 fits)
 
-pub request_read : (aborted : Bool) (limit : ℕ) (header : ChunkHeader) (room : ℕ) (body : List ℕ) → 0 < room → room + 24 ≤ limit → 32 ≤ limit → limit < 2 ^ 32 → IsWritable header
-    → IsReadAgain aborted limit header room body
-unfolding request_run
-request_read false limit header room body r m n l w =
+-- a run is read as the messages that are to come of a request
+abbrev IsRead : Bool → ℕ → ℕ → List ℕ → Run → Type 0
+IsRead aborted limit id body run =
+    let read = frames limit run.bytes in
+    (read.end ≡ Rest []) × (joins None read.frames ≡ messages_of aborted id body)
+
+pieces_read : (aborted : Bool) (limit : ℕ) (header : ChunkHeader) (room : ℕ) (body : List ℕ) → 0 < room → room + 24 ≤ limit → 32 ≤ limit → limit < 2 ^ 32 → IsWritable header
+    → IsRead aborted limit header.request_id body (parts_run aborted header (pieces_of room body))
+pieces_read false limit header room body r m n l w =
     let some = some_piece room body in
     let few = short_pieces limit room body r m in
     let rs = parts_read limit header Final (pieces_of room body) some.0 some.1 some.2 few w in
     let whole : Reads limit header.request_id Final body (run_of Final header (pieces_of room body)).bytes =
     subst (λ (b : List ℕ). Reads limit header.request_id Final b (run_of Final header (pieces_of room body)).bytes) (whole_pieces room body) rs in
     stream_read limit header.request_id Final body (run_of Final header (pieces_of room body)).bytes l whole
-request_read true limit header room body r m n l w =
+pieces_read true limit header room body r m n l w =
     let some = some_piece room body in
     let few = one_more limit (pieces_of room body) no_reason (short_pieces limit room body r m) (omega arith) in
     let parts = pieces_of room body ++ no_reason ∷ [] in
     let is : parts ≡ some.0 ∷ (some.1 ++ no_reason ∷ []) = ap (λ (ps : List (List ℕ)). ps ++ no_reason ∷ []) some.2 in
     let rs = parts_read limit header Aborted parts some.0 (some.1 ++ no_reason ∷ []) is few w in
     stream_read limit header.request_id Aborted (concat parts) (run_of Aborted header parts).bytes l rs
+
+pub request_read : (aborted : Bool) (limit : ℕ) (header : ChunkHeader) (room : ℕ) (body : List ℕ) → 0 < room → room + 24 ≤ limit → 32 ≤ limit → limit < 2 ^ 32 → IsWritable header
+    → IsReadAgain aborted limit header room body
+request_read aborted limit header room body r m n l w =
+    subst (IsRead aborted limit header.request_id body) (sym (request_is aborted header room body)) (pieces_read aborted limit header room body r m n l w)

@@ -2,8 +2,6 @@
 
 ghost use Rattle.std.specs.Prelude.{◌≡◌, ◌<◌, ◌≤◌, length, Ok, IfOk, OnOk};
 ghost use Rattle.ua_types.specs.Answers.{Gives, GivesAs};
-ghost use Rattle.ua_tcp.specs.Encoding.{frame_encoding};
-ghost use Rattle.ua_channel.specs.Cutting.{opening_frame, opening_header_by};
 ghost use Rattle.scenario_text.specs.declared.fault.Cause.TheVariants.{Memory};
 ghost use Rattle.ua_tcp.specs.Hellos.{hello_reading, hello_encoding};
 ghost use Rattle.scenario_requests.specs.Messages.{opening_body, closing_body, IsOpeningBody, IsClosingBody};
@@ -16,7 +14,7 @@ use scenario_requests::{closing_body, opening_body, request_header};
 use scenario_text::{Cause, ChannelRequest};
 use std::alloc::Global;
 use ua_binary::Wire;
-use ua_channel::{ChunkHeader, OpeningHeader, sequence_number_after};
+use ua_channel::{ChunkHeader, opening_chunk, sequence_number_after};
 use ua_tcp::{ChunkType, Hello, MessageType};
 use ua_types::{NodeId, Text};
 
@@ -137,32 +135,6 @@ fn opened(number: u32, request: ChannelRequest, client: &Client) -> Client
     opened
 }
 
-// An OPN with this body.
-#[tactic(auto, using(ua_channel::proofs::HeaderLemmas::opening_length))]
-fn opening_frame(
-    alloc: Global,
-    channel_id: u32,
-    sequence_number: u32,
-    request_id: u32,
-    body: &[u8],
-) -> Result<Vec<u8>, Cause>
-    requires { length body.now ≤ body_limit }
-    ensures { GivesAs Memory (λ v. v.items) result (Ok (frame_encoding (opening_frame (opening_header_by channel_id sequence_number request_id) body.now))) }
-{
-    let header = OpeningHeader::unsecured(alloc, channel_id, sequence_number, request_id)?;
-    let mut inside = Vec::new(alloc);
-    header.encode(&mut inside)?;
-    inside.extend_from_slice(body)?;
-    let mut out = Vec::new(alloc);
-    put_frame(
-        &mut out,
-        MessageType::OpenSecureChannel,
-        ChunkType::Final,
-        inside.as_slice(),
-    )?;
-    Ok(out)
-}
-
 /// A request for a channel, which has this number where it is new, or for a new token.
 #[tactic(auto, unfolding(crate::specs::Sendings::opening_of))]
 pub(crate) fn opening(
@@ -177,13 +149,15 @@ pub(crate) fn opening(
     let header = request_header(NodeId::null(), client.request_id);
     let body = limited(opening_body(alloc, header, request)?)?;
     let channel_id = named_channel(client, request);
-    let out = opening_frame(
+    let frame = opening_chunk(
         alloc,
         channel_id,
         client.sequence_number,
         client.request_id,
         body.as_slice(),
     )?;
+    let mut out = Vec::new(alloc);
+    out.extend_from_slice(frame.as_slice())?;
     let after = after_request(client, sequence_number_after(client.sequence_number));
     Ok((out, opened(number, request, &after)))
 }

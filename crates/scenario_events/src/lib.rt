@@ -6,8 +6,8 @@
 //! that one would refuse is assembled all the same.
 //!
 //! `specs/Assembly` defines the events, a group for each line; `Members` what a line comes to and what is so
-//! after it; `Sendings` what a client sends, with its numbers; `Runs` the chunks of a request; `Pieces` how
-//! bytes are cut. [`laws`] states that what was cut is whole again, and that a server reads each request from
+//! after it; `Sendings` what a client sends, with its numbers; `Runs` the chunks of a request, which `ua_channel`
+//! cuts; `Pieces` how bytes are cut into events. [`laws`] states that what was cut is whole again, and that a server reads each request from
 //! its chunks, and each Hello and each opening and end of a channel from its frame (`Reading`).
 //!
 //! [`assemble`] says too that its events are what the scenario tells: `Meaning` is what happens, without a frame

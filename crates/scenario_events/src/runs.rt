@@ -1,14 +1,13 @@
 //! Frames, and the chunks of a request.
 
-ghost use Rattle.std.specs.Prelude.{◌≡◌, ◌<◌, ◌≤◌, ◌+◌, ◌^◌, ◌++◌, length, OnOk, IfOk};
+ghost use Rattle.std.specs.Prelude.{◌≡◌, ◌<◌, ◌+◌, ◌^◌, ◌++◌, true, false, length, OnOk, IfOk};
+ghost use Rattle.std.specs.List.{concat};
 ghost use Rattle.ua_tcp.specs.Encoding.{letters_of, frame_encoding};
-ghost use Rattle.ua_channel.specs.Cutting.{chunk_encoding, next_header};
-ghost use Rattle.scenario_events.specs.Runs.{no_reason, request_run};
-ghost use Rattle.ua_tcp.specs.declared.frame.ChunkType.TheVariants.{Intermediate, Aborted};
+ghost use Rattle.scenario_events.specs.Runs.{request_run};
 
+use bytes::Bytes;
 use std::alloc::{AllocError, Global};
-use ua_binary::Wire;
-use ua_channel::{ChunkHeader, sequence_number_after};
+use ua_channel::{ChunkHeader, chunk, cut, sequence_number_after};
 use ua_tcp::{ChunkType, MessageType};
 
 /// Why a message is given up: a status of 0 and a reason that is null.
@@ -46,42 +45,56 @@ pub(crate) fn put_frame(
     Ok(())
 }
 
-// Writes a chunk with this part of a message.
-#[tactic(auto, using(ua_channel::proofs::HeaderLemmas::encoding_length))]
-fn put_chunk(
-    alloc: Global,
-    out: &mut Vec<u8>,
-    header: &ChunkHeader,
-    chunk_type: ChunkType,
-    part: &[u8],
-) -> Result<(), AllocError>
-    requires { length part.now + 24 < 2 ^ 32 }
-    ensures { OnOk result (out.new.items ≡ out.old.items ++ chunk_encoding header.now chunk_type part.now) }
+// Writes chunks, one behind the other.
+fn put_chunks(out: &mut Vec<u8>, chunks: &[Bytes]) -> Result<(), AllocError>
+    ensures { OnOk result (out.new.items ≡ out.old.items ++ concat chunks.now) }
 {
-    let mut body = Vec::new(alloc);
-    header.encode(&mut body)?;
-    body.extend_from_slice(part)?;
-    put_frame(out, MessageType::Message, chunk_type, body.as_slice())
+    for chunk in chunks {
+        out.extend_from_slice(chunk.as_slice())?;
+    }
+    Ok(())
 }
 
-// Writes the last part of a message that isn't its end, and gives up the message.
-fn give_up(
+#[tactic(auto, unfolding(crate::specs::Runs::request_run))]
+fn put_whole(
     alloc: Global,
     out: &mut Vec<u8>,
-    header: ChunkHeader,
-    part: &[u8],
+    first: &ChunkHeader,
+    room: usize,
+    body: &[u8],
 ) -> Result<u32, AllocError>
-    requires { length part.now + 24 < 2 ^ 32 }
-    ensures bytes { OnOk result (out.new.items ≡ out.old.items ++ chunk_encoding header Intermediate part.now
-        ++ chunk_encoding (next_header header) Aborted no_reason) }
-    ensures next { IfOk result (λ n. n ≡ (next_header (next_header header)).sequence_number) }
+    requires some { 0 < room }
+    requires small { room + 24 < 2 ^ 32 }
+    ensures bytes { OnOk result (out.new.items ≡ out.old.items ++ (request_run false first.now room body.now).bytes) }
+    ensures next { IfOk result (λ n. n ≡ (request_run false first.now room body.now).next.sequence_number) }
 {
-    put_chunk(alloc, out, &header, ChunkType::Intermediate, part)?;
+    let (chunks, sent) = cut(alloc, ChunkType::Final, *first, room, body)?;
+    put_chunks(out, chunks.as_slice())?;
+    Ok(sequence_number_after(sent))
+}
+
+// Writes all parts, and then the chunk that gives up the message.
+#[tactic(auto, unfolding(crate::specs::Runs::request_run))]
+fn put_aborted(
+    alloc: Global,
+    out: &mut Vec<u8>,
+    first: &ChunkHeader,
+    room: usize,
+    body: &[u8],
+) -> Result<u32, AllocError>
+    requires some { 0 < room }
+    requires small { room + 24 < 2 ^ 32 }
+    ensures bytes { OnOk result (out.new.items ≡ out.old.items ++ (request_run true first.now room body.now).bytes) }
+    ensures next { IfOk result (λ n. n ≡ (request_run true first.now room body.now).next.sequence_number) }
+{
+    let (chunks, sent) = cut(alloc, ChunkType::Intermediate, *first, room, body)?;
+    put_chunks(out, chunks.as_slice())?;
     let next = ChunkHeader {
-        sequence_number: sequence_number_after(header.sequence_number),
-        ..header
+        sequence_number: sequence_number_after(sent),
+        ..*first
     };
-    put_chunk(alloc, out, &next, ChunkType::Aborted, &NO_REASON)?;
+    let end = chunk(alloc, &next, ChunkType::Aborted, &NO_REASON)?;
+    out.extend_from_slice(end.as_slice())?;
     Ok(sequence_number_after(next.sequence_number))
 }
 
@@ -100,18 +113,8 @@ pub(crate) fn put_request(
     ensures bytes { OnOk result (out.new.items ≡ out.old.items ++ (request_run aborted first.now room body.now).bytes) }
     ensures next { IfOk result (λ n. n ≡ (request_run aborted first.now room body.now).next.sequence_number) }
 {
-    let mut header = *first;
-    let mut rest = body;
-    while rest.len() > room {
-        let (part, more) = rest.split_at(room);
-        put_chunk(alloc, out, &header, ChunkType::Intermediate, part)?;
-        header.sequence_number = sequence_number_after(header.sequence_number);
-        rest = more;
+    match aborted {
+        true => put_aborted(alloc, out, first, room, body),
+        false => put_whole(alloc, out, first, room, body),
     }
-    if aborted {
-        let next = give_up(alloc, out, header, rest)?;
-        return Ok(next);
-    }
-    put_chunk(alloc, out, &header, ChunkType::Final, rest)?;
-    Ok(sequence_number_after(header.sequence_number))
 }
