@@ -1,13 +1,14 @@
 -- What `serve` comes to.
-use Rattle.std.proofs.Common.{◌≡◌, ℕ, true, false, Result, Ok, Err, MatchResult, refl, subst, inl, inr}
+use Rattle.std.proofs.Common.{◌≡◌, ℕ, true, false, List, [], Result, Ok, Err, MatchResult, refl, sym, subst, ◌∙◌, inl, inr, append-nil}
+use Rattle.std.specs.Io.KnownBytes.{Appends}
 use Rattle.stream_server.specs.Pumped.{State}
-use Rattle.row_tracer.specs.TraceText.{rows_text}
+use Rattle.scenario_lines.specs.TraceText.{rows_text}
 use Rattle.socket_server.specs.Sockets.{ServeState}
 use Rattle.socket_server.specs.Serving.{IsServed, IsStopped, IsOutside}
-use Rattle.socket_server.specs.Output.{no_output}
+use Rattle.socket_server.specs.Output.{Puts, PutsPart, no_output}
 use Rattle.socket_server.specs.declared.serve_fault.ServeFault.{ServeFault}
 use Rattle.socket_server.specs.declared.serve_fault.ServeFault.TheVariants as serve_fault
-use Rattle.scenario_lines.specs.Held.{Place}
+use Rattle.scenario_lines.specs.Held.{Place, Printed, CutShort}
 use Rattle.commands.specs.Serving.{ServesWith, text_of, output_at}
 use Rattle.commands.specs.Commands.{ListensAndServes, ServesOn, status_served}
 use Rattle.commands.specs.declared.program.Listening.{Listening}
@@ -48,3 +49,23 @@ module _ (turns : ℕ) (sockets : ServeState) (server : State) (old new : Place)
       → ServesWith false turns sockets server old new r
   served_without (Ok x) e h = (h, e)
   served_without (Err f) e h = (h, e)
+
+-- ---- the lines of a trace
+
+module _ (text : List ℕ) (old new : Place) (writer : ℕ) where
+  pub lines_put : Printed old new text [] → Puts (output_at writer old) (output_at writer new) text
+  lines_put p = record {
+    writer = refl;
+    written = subst (Appends old.bytes new.bytes) (sym (p.whole ∙ append-nil p.out)) p.written;
+    failures = p.failures;
+  }
+
+  -- or a part of them
+  pub part_put : CutShort old new text → PutsPart (output_at writer old) (output_at writer new) text
+  part_put q = record {
+    out = q.out;
+    left = q.left;
+    whole = q.whole;
+    puts = record { writer = refl; written = q.written; failures = q.failures };
+    failed = q.failed;
+  }

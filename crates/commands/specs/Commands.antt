@@ -22,7 +22,8 @@ use Rattle.command_line.specs.declared.stop.Stop.{Stop}
 use Rattle.command_line.specs.declared.stop.Stop.TheVariants.{Help, Usage as UsageStop, Memory}
 use Rattle.commands.specs.NodeFiles.{ReadFile, ReadsNone, Made, made_in, made_of_none}
 use Rattle.scenario_lines.specs.Held.{Place, Printed, CutShort, place}
-use Rattle.commands.specs.Scenarios.{AssemblesFile, TellsFiles, TracesFiles}
+use Rattle.scenario_lines.specs.declared.runs.Lines.TheVariants.{Outs, Rows}
+use Rattle.commands.specs.Scenarios.{AssemblesFile, TellsFiles}
 use Rattle.commands.specs.declared.status.Status.{Status}
 use Rattle.commands.specs.declared.status.Status.TheVariants.{Done, Usage, Nodes, Halted, Network, Stream}
 use Rattle.commands.specs.declared.program.Ended.{Ended}
@@ -157,9 +158,9 @@ module _ {R W : Type 0} (remaining : R → Option (List ℕ)) (contents : W → 
   Commanded (Asm scenario) e =
       AssemblesFile (place contents output) (place contents output') scenario.now e.status e.scenario × (input' ≡ input)
   Commanded (Run nodes scenario) e =
-      TellsFiles (place contents output) (place contents output') nodes.now scenario.now e.status e.file e.scenario × (input' ≡ input)
+      TellsFiles Outs (place contents output) (place contents output') nodes.now scenario.now e.status e.file e.scenario × (input' ≡ input)
   Commanded (Trace nodes scenario) e =
-      TracesFiles (place contents output) (place contents output') nodes.now scenario.now e.status e.file e.scenario × (input' ≡ input)
+      TellsFiles Rows (place contents output) (place contents output') nodes.now scenario.now e.status e.file e.scenario × (input' ≡ input)
   Commanded (Serve nodes port turns address trace) e =
       ServesFile (place contents output) (place contents output') (record { address = address; port = port; turns = turns; trace = trace }) nodes.now
       e.status e.file × (input' ≡ input)

@@ -1,5 +1,5 @@
 -- What the commands come to that take a scenario.
-use Rattle.std.specs.Prelude.{◌≡◌, ◌⊎◌, ⊤, ℕ, List, [], Option, Some, None, Result, Ok, Err, MatchResult}
+use Rattle.std.specs.Prelude.{◌≡◌, ◌⊎◌, ⊤, ℕ, List, [], Option, Some, None, Result, Ok, Err}
 use Rattle.server_core.specs.World.{opening}
 use Rattle.server_core.specs.declared.world.World.{World}
 use Rattle.server_core.specs.declared.event.Event.{Event}
@@ -9,12 +9,9 @@ use Rattle.scenario_lines.specs.Held.{Place, EventsPrinted}
 use Rattle.scenario_lines.specs.Runs.{RunPrinted}
 use Rattle.scenario_lines.specs.declared.held.PrintFault.{PrintFault}
 use Rattle.scenario_lines.specs.declared.held.PrintFault.TheVariants as print
+use Rattle.scenario_lines.specs.declared.runs.Lines.{Lines}
 use Rattle.scenario_lines.specs.declared.runs.RunFault.{RunFault}
 use Rattle.scenario_lines.specs.declared.runs.RunFault.TheVariants as fault
-use Rattle.row_tracer.specs.Tracing as tracing
-use Rattle.row_tracer.specs.Tracing.{Scene}
-use Rattle.row_tracer.specs.declared.fault.TraceFault.{TraceFault}
-use Rattle.row_tracer.specs.declared.fault.TraceFault.TheVariants as trace
 use Rattle.commands.specs.NodeFiles.{ReadFile, ReadsNone, Made, made_in}
 use Rattle.commands.specs.declared.status.Status.{Status}
 use Rattle.commands.specs.declared.status.Status.TheVariants.{Done, Nodes, Scenario, Halted, Stream}
@@ -70,7 +67,7 @@ Assembles old new said status =
 abbrev pub AssemblesFile : Place → Place → List ℕ → Status → Option ReadFile → Type 0
 AssemblesFile old new path status scenario = OfScenario (Assembles old new) (new ≡ old) path status scenario
 
--- ---- run
+-- ---- run and trace
 
 -- how a run of events ends the program
 abbrev pub status_told : Result (Unit {0}) RunFault → Status
@@ -79,45 +76,16 @@ status_told (Err fault.Write) = Stream
 status_told (Err fault.Memory) = Halted
 status_told (Err (fault.Step f)) = Halted
 
--- The events happen to the server of what was made, what it sends is printed, and the status tells how that ended;
--- or nothing is printed, and the status tells why
-abbrev pub Tells : Place → Place → Made → Assembled → Status → Type 0
-Tells old new made said status =
+-- The events happen to the server of what was made, from the first on, these lines of what it does are printed, and the status
+-- tells how that ended; or nothing is printed, and the status tells why
+abbrev pub Tells : Lines → Place → Place → Made → Assembled → Status → Type 0
+Tells lines old new made said status =
     ((events : List Event) × (ran : Result (Unit {0}) RunFault) × (after : Option World) × (said ≡ Ok events)
-    × RunPrinted ran (Some (opening made.0 made.1)) after old new events [] × (status ≡ status_told ran))
+    × RunPrinted lines ran (Some (opening made.0 made.1)) after old new events [] × (status ≡ status_told ran))
     ⊎ ((new ≡ old) × BlamesIt said status)
 
-abbrev pub TellsFile : Place → Place → Made → List ℕ → Status → Option ReadFile → Type 0
-TellsFile old new made path status scenario = OfScenario (Tells old new made) (new ≡ old) path status scenario
+abbrev pub TellsFile : Lines → Place → Place → Made → List ℕ → Status → Option ReadFile → Type 0
+TellsFile lines old new made path status scenario = OfScenario (Tells lines old new made) (new ≡ old) path status scenario
 
-abbrev pub TellsFiles : Place → Place → List ℕ → List ℕ → Status → Option ReadFile → Option ReadFile → Type 0
-TellsFiles old new nodes path status file scenario = OfFiles (Tells old new) (new ≡ old) nodes path status file scenario
-
--- ---- trace
-
--- how a trace of events ends the program
-abbrev pub status_traced : Result (Unit {0}) TraceFault → Status
-status_traced (Ok x) = Done
-status_traced (Err trace.Write) = Stream
-status_traced (Err trace.Memory) = Halted
-status_traced (Err (trace.Step f)) = Halted
-
--- a server and the writer of its trace
-abbrev pub beside : Option World → Place → Scene
-beside server at = record { server = server; held = at.bytes; failures = at.failures }
-
--- The events happen to the server of what was made, from the first on, the rows that fire are printed, and the status tells how
--- that ended; or nothing is printed, and the status tells why
-abbrev pub Traces : Place → Place → Made → Assembled → Status → Type 0
-Traces old new made said status =
-    ((events : List Event) × (ran : Result (Unit {0}) TraceFault) × (after : Option World) × (said ≡ Ok events)
-    × MatchResult ran (λ x. tracing.Done 1 (beside (Some (opening made.0 made.1)) old) (beside after new) events)
-    (tracing.Stopped 1 (beside (Some (opening made.0 made.1)) old) (beside after new) events)
-    × (status ≡ status_traced ran))
-    ⊎ ((new ≡ old) × BlamesIt said status)
-
-abbrev pub TracesFile : Place → Place → Made → List ℕ → Status → Option ReadFile → Type 0
-TracesFile old new made path status scenario = OfScenario (Traces old new made) (new ≡ old) path status scenario
-
-abbrev pub TracesFiles : Place → Place → List ℕ → List ℕ → Status → Option ReadFile → Option ReadFile → Type 0
-TracesFiles old new nodes path status file scenario = OfFiles (Traces old new) (new ≡ old) nodes path status file scenario
+abbrev pub TellsFiles : Lines → Place → Place → List ℕ → List ℕ → Status → Option ReadFile → Option ReadFile → Type 0
+TellsFiles lines old new nodes path status file scenario = OfFiles (Tells lines old new) (new ≡ old) nodes path status file scenario

@@ -1,7 +1,7 @@
 -- What `serve` puts out while it serves.
 use Rattle.std.specs.Prelude.{◌≡◌, ℕ, Bool, true, false, [], Option, Result, Ok, Err}
 use Rattle.server_core.specs.declared.world.World.{World}
-use Rattle.row_tracer.specs.TraceText.{rows_text}
+use Rattle.scenario_lines.specs.TraceText.{rows_text}
 use Rattle.socket_server.specs.Sockets.{ServeState}
 use Rattle.socket_server.specs.Serving.{IsServed, IsStopped}
 use Rattle.socket_server.specs.Output.{Output, EventText, no_output}

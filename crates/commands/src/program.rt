@@ -9,12 +9,13 @@ ghost use Rattle.commands.specs.NodeFiles.{Made, ReadsNone, built, made_in, made
 ghost use Rattle.commands.specs.Commands.{MadeBy, Says, Checks, ChecksFile, opened, status_of, status_served, Pipes, PipesMade, PipesFile, ServesOn, ServesBy, ServesMade, ServesFile, Runs};
 ghost use Rattle.commands.specs.Commands.{counts_line as counts_line_spec, listening_line as listening_line_spec};
 
-use crate::scenarios::{asm_at, run_at, trace_at};
+use crate::scenarios::{asm_at, run_at};
 use crate::status::Status;
 use crate::text_file::{FileFault, TextFile};
 use crate::watching::{Tracing, Visitors};
 use command_line::{Command, Stop, parse};
 use node_loader::{Cause, Loaded, load};
+use scenario_lines::Lines;
 use server_core::{Event, Server, StepFault};
 use socket_server::{Serve, ServeFault};
 use std::alloc::{AllocError, Global};
@@ -477,7 +478,7 @@ fn serve_on<R: Net + RandomSource + Clock + Wait, O: Write, E: Write>(
 /// that, on standard error, what is served. There it tells too which connections come and go.
 ///
 /// With a trace the rows of the subscriptions' state table that fire follow, a line for each, in the form of
-/// [`row_tracer`]. The events that the server is handed count from 1 on.
+/// [`scenario_lines`]. The events that the server is handed count from 1 on.
 ///
 /// `Done` comes after the turns, `Network` where the port or the address can't be had, or where the system
 /// refuses the wait, the clock or random bytes, and `Halted` where memory ran out or the server halted. `Stream`
@@ -554,8 +555,12 @@ pub fn run<R: Files + AllocGlobal + Net + RandomSource + Clock + Wait, I: Read, 
         Ok(Command::Pipe { nodes }) => pipe_with(rt, nodes, input, output, errors),
         Ok(Command::Check { nodes }) => check_at(rt, nodes, output, errors),
         Ok(Command::Asm { scenario }) => asm_at(rt, scenario, output, errors),
-        Ok(Command::Run { nodes, scenario }) => run_at(rt, nodes, scenario, output, errors),
-        Ok(Command::Trace { nodes, scenario }) => trace_at(rt, nodes, scenario, output, errors),
+        Ok(Command::Run { nodes, scenario }) => {
+            run_at(rt, Lines::Outs, nodes, scenario, output, errors)
+        }
+        Ok(Command::Trace { nodes, scenario }) => {
+            run_at(rt, Lines::Rows, nodes, scenario, output, errors)
+        }
         Ok(
             Command::Serve {
                 nodes,

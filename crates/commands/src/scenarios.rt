@@ -3,14 +3,13 @@
 ghost use Rattle.std.specs.Prelude.{◌≡◌};
 ghost use Rattle.scenario_events.specs.Assembly.{events_of};
 ghost use Rattle.scenario_lines.specs.Held.{place};
-ghost use Rattle.commands.specs.Scenarios.{AssembledBy, Assembles, AssemblesFile, Tells, TellsFile, TellsFiles, Traces, TracesFile, TracesFiles, status_printed, status_told, status_traced};
+ghost use Rattle.commands.specs.Scenarios.{AssembledBy, Assembles, AssemblesFile, Tells, TellsFile, TellsFiles, status_printed, status_told};
 
 use crate::program::{Ended, no_memory, nodes_in, read_file, step_fault, stream};
 use crate::status::Status;
 use crate::text_file::TextFile;
-use row_tracer::TraceFault;
 use scenario_events::assemble;
-use scenario_lines::{PrintFault, RunFault, print_events, print_run};
+use scenario_lines::{Lines, PrintFault, RunFault, print_events, print_run};
 use scenario_text::Cause;
 use server_core::{Event, Server};
 use std::alloc::Global;
@@ -99,22 +98,23 @@ fn told<E: Write>(ran: Result<(), RunFault>, errors: &mut E) -> Status
     }
 }
 
-/// Hands the events of a scenario to a server of this configuration and address space, and prints what it
-/// sends.
-pub(crate) fn run<O: Write, E: Write>(
+// Hands the events of a scenario to a server of this configuration and address space, and prints these lines of
+// what it does.
+fn run<O: Write, E: Write>(
     alloc: Global,
+    lines: Lines,
     config: Config,
     space: Space,
     text: &str,
     output: &mut Tap<O>,
     errors: &mut E,
 ) -> Status
-    ensures { Tells (place O.contents output.old) (place O.contents output.new) (config, space) (events_of text.now) result }
+    ensures { Tells lines (place O.contents output.old) (place O.contents output.new) (config, space) (events_of text.now) result }
 {
     match events_in(alloc, text, errors) {
         Ok(events) => {
             let mut server = Server::new(alloc, config, space);
-            let ran = print_run(alloc, &mut server, events.as_slice(), output);
+            let ran = print_run(alloc, lines, &mut server, events.as_slice(), output);
             told(ran, errors)
         }
         Err(status) => status,
@@ -124,32 +124,42 @@ pub(crate) fn run<O: Write, E: Write>(
 // `run` of what was made, with the scenario at this path.
 fn run_with<R: Files + AllocGlobal, O: Write, E: Write>(
     rt: &R,
+    lines: Lines,
     config: Config,
     space: Space,
     path: &str,
     output: &mut Tap<O>,
     errors: &mut E,
 ) -> (Status, Option<TextFile>)
-    ensures { TellsFile (place O.contents output.old) (place O.contents output.new) (config, space) path.now result.0 result.1 }
+    ensures { TellsFile lines (place O.contents output.old) (place O.contents output.new) (config, space) path.now result.0 result.1 }
 {
     match read_file(rt, path, errors) {
         Ok(file) => {
-            let status = run(rt.alloc(), config, space, file.text(), output, errors);
+            let status = run(
+                rt.alloc(),
+                lines,
+                config,
+                space,
+                file.text(),
+                output,
+                errors,
+            );
             (status, Some(file))
         }
         Err(status) => (status, None),
     }
 }
 
-/// `run` of the node file and the scenario at these paths.
+/// These lines of the events of the scenario at a path, on a server of the node file at another.
 pub(crate) fn run_at<R: Files + AllocGlobal, O: Write, E: Write>(
     rt: &R,
+    lines: Lines,
     nodes: &str,
     scenario: &str,
     output: &mut Tap<O>,
     errors: &mut E,
 ) -> Ended
-    ensures { TellsFiles (place O.contents output.old) (place O.contents output.new) nodes.now scenario.now
+    ensures { TellsFiles lines (place O.contents output.old) (place O.contents output.new) nodes.now scenario.now
         result.status result.file result.scenario }
 {
     let file = match read_file(rt, nodes, errors) {
@@ -158,89 +168,7 @@ pub(crate) fn run_at<R: Files + AllocGlobal, O: Write, E: Write>(
     };
     match nodes_in(rt.alloc(), file.text(), errors) {
         Ok((config, space)) => {
-            let (status, told) = run_with(rt, config, space, scenario, output, errors);
-            Ended {
-                status,
-                file: Some(file),
-                scenario: told,
-            }
-        }
-        Err(status) => Ended::with_nodes(status, file),
-    }
-}
-
-// How a trace of events ends the program.
-fn traced<E: Write>(ran: Result<(), TraceFault>, errors: &mut E) -> Status
-    ensures { result ≡ status_traced ran }
-{
-    match ran {
-        Ok(()) => Status::Done,
-        Err(TraceFault::Write) => stream(errors),
-        Err(TraceFault::Memory) => no_memory(errors),
-        Err(TraceFault::Step(fault)) => step_fault(fault, errors),
-    }
-}
-
-/// Hands the events of a scenario to a server of this configuration and address space, and prints which
-/// rows of the subscriptions' state table fire.
-pub(crate) fn trace<O: Write, E: Write>(
-    alloc: Global,
-    config: Config,
-    space: Space,
-    text: &str,
-    output: &mut Tap<O>,
-    errors: &mut E,
-) -> Status
-    ensures { Traces (place O.contents output.old) (place O.contents output.new) (config, space) (events_of text.now) result }
-{
-    match events_in(alloc, text, errors) {
-        Ok(events) => {
-            let mut server = Server::new(alloc, config, space);
-            let ran = row_tracer::trace(alloc, &mut server, events.as_slice(), output);
-            traced(ran, errors)
-        }
-        Err(status) => status,
-    }
-}
-
-// `trace` of what was made, with the scenario at this path.
-fn trace_with<R: Files + AllocGlobal, O: Write, E: Write>(
-    rt: &R,
-    config: Config,
-    space: Space,
-    path: &str,
-    output: &mut Tap<O>,
-    errors: &mut E,
-) -> (Status, Option<TextFile>)
-    ensures { TracesFile (place O.contents output.old) (place O.contents output.new) (config, space) path.now result.0 result.1 }
-{
-    match read_file(rt, path, errors) {
-        Ok(file) => {
-            let status = trace(rt.alloc(), config, space, file.text(), output, errors);
-            (status, Some(file))
-        }
-        Err(status) => (status, None),
-    }
-}
-
-/// `trace` of the node file and the scenario at these paths.
-pub(crate) fn trace_at<R: Files + AllocGlobal, O: Write, E: Write>(
-    rt: &R,
-    nodes: &str,
-    scenario: &str,
-    output: &mut Tap<O>,
-    errors: &mut E,
-) -> Ended
-    ensures { TracesFiles (place O.contents output.old) (place O.contents output.new) nodes.now scenario.now
-        result.status result.file result.scenario }
-{
-    let file = match read_file(rt, nodes, errors) {
-        Ok(file) => file,
-        Err(status) => return Ended::by(status),
-    };
-    match nodes_in(rt.alloc(), file.text(), errors) {
-        Ok((config, space)) => {
-            let (status, told) = trace_with(rt, config, space, scenario, output, errors);
+            let (status, told) = run_with(rt, lines, config, space, scenario, output, errors);
             Ended {
                 status,
                 file: Some(file),

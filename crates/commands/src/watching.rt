@@ -2,12 +2,12 @@
 //! subscriptions' state table that fire on standard output.
 
 ghost use Rattle.std.specs.Prelude.{◌≡◌, ℕ, []};
-ghost use Rattle.row_tracer.specs.TraceText.{rows_text};
+ghost use Rattle.scenario_lines.specs.TraceText.{rows_text};
 ghost use Rattle.scenario_lines.specs.Held.{place};
 ghost use Rattle.socket_server.specs.Output.{PutsOrFails, no_output};
 ghost use Rattle.commands.specs.Serving.{output_at};
 
-use row_tracer::{TraceFault, put_rows};
+use scenario_lines::{PrintFault, put_rows};
 use server_core::Fired;
 use socket_server::{Observer, ServeFault};
 use std::io::Write;
@@ -80,18 +80,14 @@ fn put_out<O: Write>(
         (output_at writer (place O.contents output.new)) result }
 {
     match put_rows(text, event, rows, output) {
-        Ok(()) => {}
-        Err(TraceFault::Memory) => return Err(ServeFault::Memory),
-        Err(_) => return Err(ServeFault::Trace),
-    }
-    match output.flush() {
         Ok(()) => Ok(()),
-        Err(_) => Err(ServeFault::Trace),
+        Err(PrintFault::Memory) => Err(ServeFault::Memory),
+        Err(PrintFault::Write) => Err(ServeFault::Trace),
     }
 }
 
 /// Tells on standard error which connections come and go, and on standard output which rows fire: a line
-/// for each, in the tracer's form. All of it is lent.
+/// for each, in the form of a trace. All of it is lent.
 #[derive(Drop)]
 pub struct Tracing<'a, 'b, 'c, 'd, O, E> {
     pub output: &'a mut Tap<O>,

@@ -1,5 +1,5 @@
 -- Text on its way to a writer: its beginning is out, and the rest of it is held.
-use Rattle.std.specs.Prelude.{◌≡◌, ℕ, ◌≤◌, List, ◌++◌, Option, Result, Ok, Err}
+use Rattle.std.specs.Prelude.{◌≡◌, ℕ, ◌≤◌, List, [], ◌++◌, Option, Result, Ok, Err}
 use Rattle.std.specs.Io.KnownBytes.{Appends}
 use Rattle.server_core.specs.declared.event.Event.{Event}
 use Rattle.stream_taps.specs.Tapped.{Tapped, Rose}
@@ -37,6 +37,12 @@ abbrev pub Holds : Result (Unit {0}) PrintFault → Place → Place → List ℕ
 Holds (Ok x) old new before lines after = Printed old new (before ++ lines) after
 Holds (Err Write) old new before lines after = CutShort old new (before ++ lines)
 Holds (Err Memory) old new before lines after = (new ≡ old) × (after ≡ before)
+
+-- this text is out; or a part of it is, from its beginning on, and a call failed; or there was no room for it, and nothing is out
+abbrev pub Puts : Result (Unit {0}) PrintFault → Place → Place → List ℕ → Type 0
+Puts (Ok x) old new text = Printed old new text []
+Puts (Err Write) old new text = CutShort old new text
+Puts (Err Memory) old new text = new ≡ old
 
 -- The lines of these events are out, but for what is held; where there is no room, those of the events before
 abbrev pub EventsPrinted : Result (Unit {0}) PrintFault → Place → Place → List Event → List ℕ → Type 0

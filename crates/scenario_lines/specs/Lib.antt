@@ -1,3 +1,4 @@
 pub mod Texts
+pub mod TraceText
 pub mod Held
 pub mod Runs

@@ -7,7 +7,6 @@ use Rattle.server_messages.specs.declared.out.Out.{Out}
 use Rattle.server_messages.specs.declared.out.Out.TheVariants.{Send, Close}
 use Rattle.server_core.specs.declared.event.Event.{Event}
 use Rattle.server_core.specs.declared.event.Event.TheVariants.{Opened, Bytes, Gone, Tick}
-use Rattle.server_core.specs.declared.out.Step.{Step}
 
 -- a word, a number, and what ends a line
 abbrev pub numbered : List ℕ → ℕ → List ℕ → List ℕ
@@ -37,9 +36,3 @@ events_lines events = flat_map event_line events
 
 abbrev pub outs_lines : List Out → List ℕ
 outs_lines outs = flat_map out_line outs
-
-abbrev pub step_lines : Step → List ℕ
-step_lines step = outs_lines step.outs
-
-abbrev pub steps_lines : List Step → List ℕ
-steps_lines steps = flat_map step_lines steps

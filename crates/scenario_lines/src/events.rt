@@ -4,7 +4,7 @@ ghost use Rattle.std.specs.Prelude.{◌≡◌, [], string_bytes};
 ghost use Rattle.scenario_lines.specs.Held.{EventsPrinted, Holds, place};
 ghost use Rattle.scenario_lines.specs.Texts.{event_line as event_line_spec};
 
-use crate::held::{PrintFault, hold, put_held};
+use crate::held::{MOST_HELD, PrintFault, hold, put_held};
 use crate::texts::event_line;
 use server_core::Event;
 use std::alloc::Global;
@@ -22,7 +22,7 @@ fn hold_event<W: Write>(
         (string_bytes held.old) (event_line_spec event.now) (string_bytes held.new) }
 {
     let line = event_line(alloc, event)?;
-    hold(writer, held, line.as_str())
+    hold(writer, held, line.as_str(), MOST_HELD)
 }
 
 // Lines of events, the last of which may still be held.

@@ -1,6 +1,6 @@
 //! Lines on their way to a writer.
 
-ghost use Rattle.std.specs.Prelude.{◌≡◌, [], MatchResult, string_bytes};
+ghost use Rattle.std.specs.Prelude.{◌≡◌, ◌<◌, [], length, MatchResult, OnOk, string_bytes};
 ghost use Rattle.scenario_lines.specs.Held.{CutShort, Holds, Printed, place};
 ghost use Rattle.scenario_lines.specs.declared.held.PrintFault.TheVariants.{Memory};
 
@@ -9,8 +9,8 @@ use std::io::Write;
 use stream_taps::{Tap, put_bytes};
 use thiserror::Error;
 
-/// From so many bytes on, lines are written.
-const MOST_HELD: usize = 65_536;
+/// From so many bytes on, lines that needn't be out at once are written.
+pub(crate) const MOST_HELD: usize = 65_536;
 
 /// Why not all lines are out.
 #[derive(Clone, Copy, Debug, PartialEq, Eq, Error)]
@@ -50,17 +50,20 @@ pub(crate) fn put_held<W: Write>(writer: &mut Tap<W>, held: &mut String) -> Resu
     Ok(())
 }
 
-/// Holds some lines, and writes all that is held once that is much.
+/// Holds some lines, and writes all that is held once it is so much.
 pub(crate) fn hold<W: Write>(
     writer: &mut Tap<W>,
     held: &mut String,
     lines: &str,
+    most: usize,
 ) -> Result<(), PrintFault>
-    ensures { Holds result (place W.contents writer.old) (place W.contents writer.new)
+    requires { 0 < most }
+    ensures holds { Holds result (place W.contents writer.old) (place W.contents writer.new)
         (string_bytes held.old) lines.now (string_bytes held.new) }
+    ensures few { OnOk result (length (string_bytes held.new) < most) }
 {
     held.push_str(lines)?;
-    if held.len() < MOST_HELD {
+    if held.len() < most {
         return Ok(());
     }
     put_held(writer, held)

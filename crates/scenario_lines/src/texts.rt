@@ -1,9 +1,13 @@
-//! Events and what is sent, as lines.
+//! Events, what is sent and which rows fire, as lines.
 
 ghost use Rattle.std.specs.Prelude.{◌≡◌, IfOk, string_bytes};
 ghost use Rattle.scenario_lines.specs.Texts.{event_line, out_line, outs_lines};
+ghost use Rattle.scenario_lines.specs.TraceText.{rows_text};
+ghost use Rattle.scenario_lines.specs.Runs.{step_lines};
 
-use server_core::{Event, Out};
+use crate::runs::Lines;
+use crate::trace_text::append_lines;
+use server_core::{Event, Fired, Out, Step};
 use std::alloc::{AllocError, Global};
 use ua_types::Moment;
 
@@ -43,8 +47,8 @@ fn out_line(alloc: Global, out: &Out) -> Result<String, AllocError>
     }
 }
 
-/// A line for each thing that is to be done, in order.
-pub(crate) fn outs_lines(alloc: Global, outs: &[Out]) -> Result<String, AllocError>
+// A line for each thing that is to be done, in order.
+fn outs_lines(alloc: Global, outs: &[Out]) -> Result<String, AllocError>
     ensures { IfOk result (λ lines. string_bytes lines ≡ outs_lines outs.now) }
 {
     let mut lines = String::new(alloc);
@@ -53,4 +57,28 @@ pub(crate) fn outs_lines(alloc: Global, outs: &[Out]) -> Result<String, AllocErr
         lines.push_str(line.as_str())?;
     }
     Ok(lines)
+}
+
+// A line for each row that fired at the event of this number.
+fn rows_lines(alloc: Global, number: u64, rows: &[Fired]) -> Result<String, AllocError>
+    ensures { IfOk result (λ lines. string_bytes lines ≡ rows_text number rows.now) }
+{
+    let mut lines = String::new(alloc);
+    append_lines(&mut lines, number, rows)?;
+    Ok(lines)
+}
+
+/// The lines of a step that came of the event of this number.
+pub(crate) fn step_lines(
+    alloc: Global,
+    lines: Lines,
+    number: u64,
+    step: &Step,
+) -> Result<String, AllocError>
+    ensures { IfOk result (λ text. string_bytes text ≡ step_lines lines number step.now) }
+{
+    match lines {
+        Lines::Outs => outs_lines(alloc, step.outs.as_slice()),
+        Lines::Rows => rows_lines(alloc, number, step.rows.as_slice()),
+    }
 }

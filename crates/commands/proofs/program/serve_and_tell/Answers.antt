@@ -1,7 +1,7 @@
 use Rattle.std.proofs.Common.{◌≡◌, Bool, true, false, refl, subst, sym}
 use Rattle.stream_taps.specs.Tapped.{Tapped}
 use Rattle.server_core.specs.World.{world_of}
-use Rattle.row_tracer.specs.TraceText.{rows_text}
+use Rattle.scenario_lines.specs.TraceText.{rows_text}
 use Rattle.socket_server.specs.Serving.{unknown, uncounted}
 use Rattle.socket_server.specs.Output.{no_output}
 use Rattle.socket_server.proofs.ServingLemmas.{ran, run_writer}

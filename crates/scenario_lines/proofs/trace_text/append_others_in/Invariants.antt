@@ -1,7 +1,7 @@
 use Rattle.std.proofs.Common.{◌≡◌, ◌++◌, string_bytes, take}
 use Rattle.std.specs.List.{flat_map}
-use Rattle.row_tracer.specs.TraceText.{other_text}
-use Rattle.row_tracer.proofs.trace_text.append_others_in.Given as goal
+use Rattle.scenario_lines.specs.TraceText.{other_text}
+use Rattle.scenario_lines.proofs.trace_text.append_others_in.Given as goal
 
 -- what is said of the rows so far
 abbrev pub invariant-loop-row : goal.invariant-loop-row

@@ -1,5 +1,5 @@
 -- The text of a trace: a line for each row of the state table that fired.
-use Rattle.std.specs.Prelude.{◌+◌, ◌&&◌, ℕ, Bool, not, List, [], ◌∷◌, ◌++◌, codes, Option, Some, None, if◌then◌else◌}
+use Rattle.std.specs.Prelude.{◌&&◌, ℕ, Bool, not, List, [], ◌++◌, codes, Option, Some, None, if◌then◌else◌}
 use Rattle.std.specs.List.{flat_map}
 use Rattle.std.specs.Fmt.{decimal}
 use Rattle.ua_state_table.specs.declared.condition.Condition.{Condition}
@@ -48,8 +48,3 @@ row_line event fired =
 -- the lines of the rows that fired at an event
 abbrev pub rows_text : ℕ → List Fired → List ℕ
 rows_text event fired = flat_map (row_line event) fired
-
--- the lines of the events that count from this number on
-abbrev pub trace_text : ℕ → List (List Fired) → List ℕ
-trace_text event [] = []
-trace_text event (fired ∷ later) = rows_text event fired ++ trace_text (event + 1) later

@@ -1,6 +1,6 @@
 use Rattle.std.proofs.Common.{◌≡◌, ◌++◌, string_bytes, take}
-use Rattle.row_tracer.specs.TraceText.{rows_text}
-use Rattle.row_tracer.proofs.trace_text.append_lines.Given as goal
+use Rattle.scenario_lines.specs.TraceText.{rows_text}
+use Rattle.scenario_lines.proofs.trace_text.append_lines.Given as goal
 
 -- the lines so far
 abbrev pub invariant-loop-fired : goal.invariant-loop-fired

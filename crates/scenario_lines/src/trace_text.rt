@@ -2,7 +2,7 @@
 
 ghost use Rattle.std.specs.Prelude.{◌≡◌, ◌++◌, OnOk, string_bytes};
 ghost use Rattle.std.specs.List.{flat_map};
-ghost use Rattle.row_tracer.specs.TraceText.{is_other, reason_text, other_text, others_text, move_text, counters_text, row_line, rows_text};
+ghost use Rattle.scenario_lines.specs.TraceText.{is_other, reason_text, other_text, others_text, move_text, counters_text, row_line, rows_text};
 ghost use Rattle.ua_state_table.specs.StateTable.{first_false};
 
 use server_core::Fired;

@@ -1,2 +1,0 @@
-pub mod TraceText
-pub mod Tracing
