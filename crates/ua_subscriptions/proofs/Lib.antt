@@ -10,6 +10,8 @@ pub mod Listings
 pub mod Choosing
 pub mod MapEntries
 pub mod OwingRows
+pub mod AskingRows
+pub mod Askings
 pub mod OwingTables
 pub mod OwingCalls
 pub mod OwingSubs

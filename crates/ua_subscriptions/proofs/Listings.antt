@@ -19,6 +19,7 @@ use Rattle.ua_subscriptions.specs.declared.subscription.Subscription.{Subscripti
 use Rattle.ua_subscriptions.specs.DueLists.{due_at, due_cmp, has_due, has_moved, is_past, any_past, past_at, is_moment, AreListed, rising_due, rank_by, with_rank_at, ranks_at}
 use Rattle.ua_subscriptions.specs.Ranks.{is_due, is_due_at, is_any_due, with_due, due_of, with_rank, rank_of}
 use Rattle.ua_subscriptions.specs.Tables.{subscription_at}
+use Rattle.ua_subscriptions.proofs.MapEntries.{AreFound, all_found}
 
 -- ---- what the orders tell apart
 
@@ -202,24 +203,6 @@ any_past_in clock (d ∷ ds) q there past = by (is_at (due_cmp q) d) refl there 
     by : (b : Bool) → is_at (due_cmp q) d ≡ b → (b || has_due ds q) ≡ true → (has_due ds q ≡ true → any_past clock ds ≡ true) → any_past clock (d ∷ ds) ≡ true
     by true at h rest = subst (λ (e : Due). any_past clock (e ∷ ds) ≡ true) (same_due q d at) (rw past refl)
     by false at h rest = or_right (is_past clock d) (any_past clock ds) (rest h)
-
--- each stands under its number
-abbrev AreFound : List (ℕ × Subscription) → List (ℕ × Subscription) → Type 0
-AreFound all es = AllByRecursion (λ (e : ℕ × Subscription). subscription_at e.0 all ≡ Some e.1) es
-
-found_behind : (e : ℕ × Subscription) (all es : List (ℕ × Subscription)) → Above e.0 (keys_of es) → AreFound all es → AreFound (e ∷ all) es
-found_behind e all [] above h = tt
-found_behind e all (f ∷ fs) above h = (by (nat_cmp f.0 e.0) refl, found_behind e all fs above.1 h.1)
-  where
-    by : (o : Ordering) → nat_cmp f.0 e.0 ≡ o → subscription_at f.0 (e ∷ all) ≡ Some f.1
-    by Less is = rw is h.0
-    by Greater is = rw is h.0
-    by Equal is = absurd (grind (arith, exact_unsigned f.0 e.0 is, above.0))
-
-pub all_found : (es : List (ℕ × Subscription)) → IsStrictlySortedBy nat_cmp (keys_of es) → AreFound es es
-unfolding IsStrictlySortedBy
-all_found [] h = tt
-all_found (e ∷ es) h = (rw (number_itself e.0) refl, found_behind e es es h.0 (all_found es h.1))
 
 any_due_found : (clock : Moment) (all es : List (ℕ × Subscription)) (dues : List Due) → AreListed all dues → AreFound all es → is_any_due clock es ≡ true → any_past clock dues ≡ true
 any_due_found clock all [] dues listed found h = absurd (cc)

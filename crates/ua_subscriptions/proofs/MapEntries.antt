@@ -1,10 +1,12 @@
 -- Maps under numbers: what stands at other numbers than the one that changes, and what holds of all entries.
-use Rattle.std.proofs.Common.{◌≡◌, ◌≢◌, ℕ, Bool, true, false, List, [], ◌∷◌, Option, Some, unwrap_or, cond, refl, sym, ap, subst, ◌∙◌}
+use Rattle.std.proofs.Common.{◌≡◌, ◌≢◌, ℕ, Bool, true, false, List, [], ◌∷◌, Option, Some, unwrap_or, cond, refl, sym, ap, subst, ◌∙◌, arith}
 use Rattle.std.proofs.lemmas.Bool.{false≢true}
+use Rattle.std.proofs.lemmas.Map.Lookups.{exact_unsigned}
 use Rattle.std.specs.Prelude.{⊤}
 use Rattle.std.specs.BTreeMap.{is_at, insert_entry}
 use Rattle.std.specs.List.{AllByRecursion}
-use Rattle.std.specs.Map.{lookup, set_value, remove_entry}
+use Rattle.std.specs.List.Sorted.{IsStrictlySortedBy}
+use Rattle.std.specs.Map.{lookup, keys_of, set_value, remove_entry}
 use Rattle.std.specs.Ordering.{nat_cmp, match_ordering, is_eq}
 use Rattle.std.specs.declared.cmp.Ordering.{Ordering}
 use Rattle.std.specs.declared.cmp.Ordering.TheVariants.{Less, Equal, Greater}
@@ -181,3 +183,24 @@ module _ {X : Type 0} where
   distinct_inserted k w [] none h = (tt, tt)
   distinct_inserted k w (e ∷ es) none h =
       joined_by k w e es (insert_entry nat_cmp es k w) (nat_cmp k e.0) none h (none_more e.0 k w es (λ same. none.0 (sym same)) h.0) (distinct_inserted k w es none.1 h.1)
+
+-- ---- maps whose numbers rise
+
+module _ {X : Type 0} where
+  abbrev pub AreFound : List (ℕ × X) → List (ℕ × X) → Type 0
+  AreFound all es = AllByRecursion (λ (e : ℕ × X). lookup (is_at (nat_cmp e.0)) all ≡ Some e.1) es
+
+  found_behind : (e : ℕ × X) (all es : List (ℕ × X)) → AllByRecursion (λ n. nat_cmp e.0 n ≡ Less) (keys_of es) → AreFound all es → AreFound (e ∷ all) es
+  found_behind e all [] above h = tt
+  found_behind e all (f ∷ fs) above h = (by (nat_cmp f.0 e.0) refl, found_behind e all fs above.1 h.1)
+    where
+      by : (o : Ordering) → nat_cmp f.0 e.0 ≡ o → lookup (is_at (nat_cmp f.0)) (e ∷ all) ≡ Some f.1
+      by Less is = rw is h.0
+      by Greater is = rw is h.0
+      by Equal is = absurd (grind (arith, exact_unsigned f.0 e.0 is, above.0))
+
+  -- each is found under its number
+  pub all_found : (es : List (ℕ × X)) → IsStrictlySortedBy nat_cmp (keys_of es) → AreFound es es
+  unfolding IsStrictlySortedBy
+  all_found [] h = tt
+  all_found (e ∷ es) h = (rw (numbers_same e.0 e.0 refl) refl, found_behind e es es h.0 (all_found es h.1))

@@ -28,14 +28,14 @@ module _ {A : Type 0} (P : A → Type 0) where
   all_dropped (x ∷ xs) h = h.1
 
 module _ (Such : ℕ → Type 0) where
-  first_by : (calls : List PublishCall) → AllBy Such calls → AskedBy Such (first_of calls)
+  pub first_by : (calls : List PublishCall) → AllBy Such calls → AskedBy Such (first_of calls)
   first_by [] h = tt
   first_by (call ∷ calls) h = h.0
 
-  calls_append : (xs ys : List PublishCall) → AllBy Such xs → AllBy Such ys → AllBy Such (xs ++ ys)
+  pub calls_append : (xs ys : List PublishCall) → AllBy Such xs → AllBy Such ys → AllBy Such (xs ++ ys)
   calls_append = all_append (λ (call : PublishCall). Such call.conn)
 
-  calls_dropped : (calls : List PublishCall) → AllBy Such calls → AllBy Such (drop 1 calls)
+  pub calls_dropped : (calls : List PublishCall) → AllBy Such calls → AllBy Such (drop 1 calls)
   calls_dropped = all_dropped (λ (call : PublishCall). Such call.conn)
 
   pub one_more : (replies : List Reply) (reply : Reply) → RepliedTo Such replies → Such reply.conn → RepliedTo Such (replies ++ reply ∷ [])

@@ -16,3 +16,4 @@ pub mod Ending
 pub mod Making
 pub mod SubscriptionCalls
 pub mod Owing
+pub mod Askers

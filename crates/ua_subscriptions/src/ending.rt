@@ -1,9 +1,14 @@
 //! The end of sessions and connections.
 
-ghost use Rattle.std.specs.Prelude.{◌≡◌, true, filter};
-ghost use Rattle.ua_subscriptions.specs.Ending.{session_ended, came_by_other, part_without_conn, without_conn};
-ghost use Rattle.ua_subscriptions.specs.Tables.{world, Meets};
+ghost use Rattle.std.specs.Prelude.{◌≡◌, map, filter};
+ghost use Rattle.std.specs.BTreeMap.{is_at};
+ghost use Rattle.std.specs.Map.{set_value};
+ghost use Rattle.std.specs.Ordering.{nat_cmp};
+ghost use Rattle.ua_subscriptions.specs.Askers.{AreAsked};
+ghost use Rattle.ua_subscriptions.specs.Ending.{session_ended, came_by_other, part_without_conn, entry_without_conn, without_conn};
+ghost use Rattle.ua_subscriptions.specs.Tables.{world, Meets, part_at};
 
+use crate::askers::AskerList;
 use crate::call::Call;
 use crate::publish_call::PublishCall;
 use crate::queue::Queue;
@@ -12,6 +17,7 @@ use crate::session_part::SessionSubscriptions;
 use crate::table::LiveSubscriptions;
 use server_messages::Halt;
 use std::alloc::Global;
+use std::collections::BTreeMap;
 use ua_monitored_items::Items;
 use ua_types::Status;
 
@@ -37,6 +43,7 @@ impl LiveSubscriptions {
         }
         self.refuse_all(alloc, round, session, Status::BAD_SESSION_CLOSED)?;
         let _ = self.sessions.remove(&session);
+        self.askers.forget(session);
         Ok(())
     }
 
@@ -45,7 +52,7 @@ impl LiveSubscriptions {
     pub(crate) fn gone(&mut self, conn: u64)
         ensures { self.new ≡ without_conn conn self.old }
     {
-        self.sessions.retain(|_, part| forget_requests(part, conn));
+        forget_conn(&mut self.sessions, &mut self.askers, conn);
     }
 }
 
@@ -56,11 +63,30 @@ fn drop_requests(requests: &mut Queue<PublishCall>, conn: u64)
     requests.items.retain(|call| call.conn != conn);
 }
 
-// The requests of a session that came by a connection go. Answers true: the session stays.
-fn forget_requests(part: &mut SessionSubscriptions, conn: u64) -> bool
-    ensures kept { result ≡ true }
-    ensures part { part.new ≡ part_without_conn conn part.old }
+// Those of a session.
+fn forget_at(sessions: &mut BTreeMap<u32, SessionSubscriptions>, session: u32, conn: u64)
+    ensures { sessions.new.entries ≡ set_value (is_at (nat_cmp session)) sessions.old.entries (part_without_conn conn (part_at session sessions.old.entries)) }
 {
-    drop_requests(&mut part.requests, conn);
-    true
+    match sessions.get_mut(&session) {
+        None => {}
+        Some(part) => drop_requests(&mut part.requests, conn),
+    }
+}
+
+// Those of all sessions with which it stands.
+fn forget_conn(
+    sessions: &mut BTreeMap<u32, SessionSubscriptions>,
+    askers: &mut AskerList,
+    conn: u64,
+)
+    requires { AreAsked sessions.old.entries askers.old }
+    ensures sessions { sessions.new.entries ≡ map (entry_without_conn conn) sessions.old.entries }
+    ensures asked { AreAsked sessions.new.entries askers.new }
+{
+    if sessions.len() == 0 {
+        return;
+    }
+    while let Some(session) = askers.take(conn) {
+        forget_at(sessions, session, conn);
+    }
 }

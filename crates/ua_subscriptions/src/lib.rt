@@ -13,15 +13,17 @@
 //!
 //! What a contract sees: the live subscriptions, and what each session has of subscriptions, under their numbers
 //! (`specs/Tables`). `Scenes` has the actions as definitions; `Firing` a row; `Making`, `Named`, `Publishing` and `Ending`
-//! the calls, `Ranks` who comes first, and `Subscriptions` what a call leaves. `DueLists` and `Kept` have what no call shows:
-//! the moments of the timers in their order, and where a kept message stands. What follows from any calls, one after the
-//! other, the crate `subscription_laws` says.
+//! the calls, `Ranks` who comes first, and `Subscriptions` what a call leaves. `DueLists`, `Kept` and `Askers` have what no
+//! call shows: the moments of the timers in their order, where a kept message stands, and by which connections the requests
+//! of a session came. What follows from any calls, one after the other, the crate `subscription_laws` says.
 //!
 //! Read docs/SUBSCRIPTIONS.md first, then [`Subscriptions`], then `src/acting.rt`.
 #![tactic(auto)]
 
 mod acting;
 mod answered;
+mod askers;
+mod asking;
 mod call;
 mod due_list;
 mod ending;
@@ -46,6 +48,7 @@ mod waiting;
 
 pub use acting::number_after;
 pub use answered::Answered;
+pub use askers::{Asked, Asker, AskerList};
 pub use call::Call;
 pub use due_list::{Due, DueList};
 pub use kept::{Kept, Place};

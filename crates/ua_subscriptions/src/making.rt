@@ -6,6 +6,7 @@ ghost use Rattle.ua_subscriptions.specs.Named.{Comes};
 ghost use Rattle.ua_subscriptions.specs.Tables.{world, Meets, part_at};
 ghost use Rattle.ua_subscriptions.specs.Ranks.{is_any_due};
 
+use crate::asking::fire_of;
 use crate::call::Call;
 use crate::firing::fire;
 use crate::listing::insert_at;
@@ -109,7 +110,16 @@ impl LiveSubscriptions {
             None => SessionSubscriptions::new(alloc),
         };
         let mut subscription = Subscription::unborn(alloc, session);
-        match fire(round, alloc, &mut subscription, &mut part, items) {
+        let askers = &mut self.askers;
+        match fire_of(
+            round,
+            alloc,
+            &mut subscription,
+            session,
+            &mut part,
+            askers,
+            items,
+        ) {
             Ok(()) => {}
             Err(halt) => return Err(halt),
         }

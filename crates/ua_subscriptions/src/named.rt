@@ -1,6 +1,8 @@
 //! Requests that name subscriptions of their session.
 
-ghost use Rattle.std.specs.Prelude.{◌≡◌, [], map, OnOk};
+ghost use Rattle.std.specs.Prelude.{◌≡◌, List, [], map, OnOk};
+ghost use Rattle.ua_subscriptions.specs.Askers.{AreAsked};
+ghost use Rattle.ua_subscriptions.specs.declared.askers.Asker.{Asker as AskerLem};
 ghost use Rattle.ua_subscriptions.specs.Named.{is_own as is_own_spec, is_own_in, Comes, own_met, named_all, with_replies, requests_refused, sessions_without_requests, all_refused, has_none, deleted};
 ghost use Rattle.ua_subscriptions.specs.Answers.{refused_of};
 ghost use Rattle.ua_subscriptions.specs.Tables.{world, subscription_at};
@@ -16,6 +18,7 @@ use crate::table::LiveSubscriptions;
 use server_messages::Halt;
 use std::alloc::{AllocError, Global};
 use std::collections::BTreeMap;
+use std::mem::replace;
 use ua_monitored_items::Items;
 use ua_types::{Listed, Status};
 
@@ -159,9 +162,13 @@ fn refuse_at(
 ) -> Result<(), AllocError>
     ensures round { OnOk result (round.new ≡ requests_refused session status round.old sessions.old.entries) }
     ensures sessions { OnOk result (sessions.new.entries ≡ sessions_without_requests session sessions.old.entries) }
+    ensures asked { (askers : List AskerLem) → AreAsked sessions.old.entries askers → AreAsked sessions.new.entries askers }
 {
     match sessions.get_mut(&session) {
         None => Ok(()),
-        Some(part) => refuse_requests(round, alloc, &mut part.requests, status),
+        Some(part) => {
+            let mut requests = replace(&mut part.requests, Queue::new(alloc));
+            refuse_requests(round, alloc, &mut requests, status)
+        }
     }
 }

@@ -1,7 +1,9 @@
 //! Publish: acknowledgements, notes of time-outs, and who answers.
 
 ghost use Rattle.std.specs.Prelude.{◌≡◌, List, OnOk, IfOk};
+ghost use Rattle.ua_subscriptions.specs.Askers.{AreAsked};
 ghost use Rattle.ua_subscriptions.specs.DueLists.{AreListed};
+ghost use Rattle.ua_subscriptions.specs.declared.askers.Asker.{Asker as AskerLem};
 ghost use Rattle.ua_subscriptions.specs.declared.due_list.Due.{Due as DueLem};
 ghost use Rattle.ua_subscriptions.specs.Publishing.{acknowledged, acknowledged_all, note_of, without_note, note_told, answered_to, published};
 ghost use Rattle.ua_subscriptions.specs.Tables.{world, Meets};
@@ -72,6 +74,7 @@ fn take_note(
 ) -> Option<TimeoutNote>
     ensures note { result ≡ note_of session sessions.old.entries }
     ensures sessions { sessions.new.entries ≡ without_note session sessions.old.entries }
+    ensures asked { (askers : List AskerLem) → AreAsked sessions.old.entries askers → AreAsked sessions.new.entries askers }
 {
     match sessions.get_mut(&session) {
         None => None,

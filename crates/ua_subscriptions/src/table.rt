@@ -2,12 +2,15 @@
 
 ghost use Rattle.std.specs.Prelude.{◌≡◌, true, OnOk, IfOk, IfErr};
 ghost use Rattle.server_messages.specs.declared.halt.Halt.TheVariants.{Exhausted};
+ghost use Rattle.ua_subscriptions.specs.Askers.{AreAsked};
 ghost use Rattle.ua_subscriptions.specs.DueLists.{due_at, has_due, has_moved, AreListed};
 ghost use Rattle.ua_subscriptions.specs.declared.due_list.Due.{Due as DueLem};
 ghost use Rattle.ua_subscriptions.specs.Tables.{no_table, part_of, vars_found, kept_found, met_in, one_met, met_at, world, met, all_met, Meets};
 ghost use Rattle.ua_subscriptions.specs.Subscriptions.{is_any};
 ghost use Rattle.ua_subscriptions.specs.Scenes.{is_overspent};
 
+use crate::askers::AskerList;
+use crate::asking::fire_of;
 use crate::call::Call;
 use crate::due_list::DueList;
 use crate::firing::{fire, is_closed};
@@ -30,9 +33,12 @@ pub struct LiveSubscriptions {
     pub(crate) sessions: BTreeMap<u32, SessionSubscriptions>,
     // The moment of each subscription's timer stands here, and nothing else does.
     pub(crate) dues: DueList,
+    // The connection of each request that waits stands here, with its session.
+    pub(crate) askers: AskerList,
 }
 
 impl Model for LiveSubscriptions {
+    ghost use Rattle.ua_subscriptions.specs.Askers.{AreAsked};
     ghost use Rattle.ua_subscriptions.specs.DueLists.{AreListed};
     ghost use Rattle.ua_subscriptions.specs.Tables.{TableState};
 
@@ -40,7 +46,7 @@ impl Model for LiveSubscriptions {
 
     ghost view = { λ t. record { subscriptions = t.subscriptions.entries; sessions = t.sessions.entries } };
 
-    ghost invariant = { λ t. AreListed t.subscriptions.entries t.dues };
+    ghost invariant = { λ t. AreListed t.subscriptions.entries t.dues × AreAsked t.sessions.entries t.askers };
 }
 
 // Fires a row, where what the session has of subscriptions is found under its number.
@@ -50,10 +56,13 @@ fn fire_in(
     alloc: Global,
     subscription: &mut Subscription,
     sessions: &mut BTreeMap<u32, SessionSubscriptions>,
+    askers: &mut AskerList,
     items: &mut Items,
 ) -> Result<(), Halt>
+    requires { AreAsked sessions.old.entries askers.old }
     ensures ok { OnOk result (record { round = round.new; subscription = subscription.new; sessions = sessions.new.entries; items = items.new } ≡ met_in round.old subscription.old sessions.old.entries items.old) }
     ensures exhausted { IfErr result (λ halt. halt ≡ Exhausted → is_overspent (met_in round.old subscription.old sessions.old.entries items.old).round ≡ true) }
+    ensures asked { AreAsked sessions.new.entries askers.new }
 {
     let Some(session) = subscription.session else {
         return fire(
@@ -72,7 +81,7 @@ fn fire_in(
             &mut SessionSubscriptions::new(alloc),
             items,
         ),
-        Some(part) => fire(round, alloc, subscription, part, items),
+        Some(part) => fire_of(round, alloc, subscription, session, part, askers, items),
     }
 }
 
@@ -83,16 +92,19 @@ fn fire_listed(
     subscription: &mut Subscription,
     dues: &mut DueList,
     sessions: &mut BTreeMap<u32, SessionSubscriptions>,
+    askers: &mut AskerList,
     items: &mut Items,
 ) -> Result<(), Halt>
-    requires { has_due dues.old (due_at subscription.old.due round.old.own) ≡ true }
+    requires listed { has_due dues.old (due_at subscription.old.due round.old.own) ≡ true }
+    requires asked { AreAsked sessions.old.entries askers.old }
     ensures ok { OnOk result (record { round = round.new; subscription = subscription.new; sessions = sessions.new.entries; items = items.new } ≡ met_in round.old subscription.old sessions.old.entries items.old) }
     ensures exhausted { IfErr result (λ halt. halt ≡ Exhausted → is_overspent (met_in round.old subscription.old sessions.old.entries items.old).round ≡ true) }
     ensures listed { (q : DueLem) → has_due dues.new q ≡ has_moved round.old.own subscription.old.due subscription.new.due q (has_due dues.old q) }
+    ensures asked { AreAsked sessions.new.entries askers.new }
 {
     let own = round.own;
     let before = subscription.due;
-    match fire_in(round, alloc, subscription, sessions, items) {
+    match fire_in(round, alloc, subscription, sessions, askers, items) {
         Ok(()) => {}
         Err(halt) => {
             subscription.due = before;
@@ -116,17 +128,20 @@ fn fire_at(
     subscriptions: &mut BTreeMap<u32, Subscription>,
     dues: &mut DueList,
     sessions: &mut BTreeMap<u32, SessionSubscriptions>,
+    askers: &mut AskerList,
     items: &mut Items,
 ) -> Result<bool, Halt>
-    requires { AreListed subscriptions.old.entries dues.old }
+    requires listed { AreListed subscriptions.old.entries dues.old }
+    requires asked { AreAsked sessions.old.entries askers.old }
     ensures ok { IfOk result (λ closed. one_met round.new subscriptions.new.entries sessions.new.entries items.new closed ≡ met_at round.old subscriptions.old.entries sessions.old.entries items.old) }
     ensures exhausted { IfErr result (λ halt. halt ≡ Exhausted → is_overspent (met_at round.old subscriptions.old.entries sessions.old.entries items.old).round ≡ true) }
     ensures listed { AreListed subscriptions.new.entries dues.new }
+    ensures asked { AreAsked sessions.new.entries askers.new }
 {
     match subscriptions.get_mut(&round.own) {
         None => Ok(false),
         Some(subscription) => {
-            match fire_listed(round, alloc, subscription, dues, sessions, items) {
+            match fire_listed(round, alloc, subscription, dues, sessions, askers, items) {
                 Ok(()) => Ok(is_closed(subscription)),
                 Err(halt) => Err(halt),
             }
@@ -143,6 +158,7 @@ impl LiveSubscriptions {
             subscriptions: BTreeMap::new(alloc),
             sessions: BTreeMap::new(alloc),
             dues: DueList::new(alloc),
+            askers: AskerList::new(alloc),
         }
     }
 
@@ -199,6 +215,7 @@ impl LiveSubscriptions {
             &mut self.subscriptions,
             &mut self.dues,
             &mut self.sessions,
+            &mut self.askers,
             items,
         )? {
             remove_at(&mut self.subscriptions, &mut self.dues, own);
