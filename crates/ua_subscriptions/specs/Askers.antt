@@ -27,6 +27,13 @@ asked_cmp = asked_order.ghosts.cmp
 abbrev pub has_asker : List Asker → Asker → Bool
 has_asker askers q = list_any (is_at (asker_cmp q)) askers
 
+abbrev pub has_asked : List Asked → Asked → Bool
+has_asked pairs q = list_any (is_at (asked_cmp q)) pairs
+
+-- both have the same pairs
+abbrev pub AreMirrored : List Asker → List Asked → Type 0
+AreMirrored askers pairs = (q : Asker) → has_asked pairs (asked_at q.session q.conn) ≡ has_asker askers q
+
 -- each request that waits in a session came by a connection that stands there with the session
 abbrev pub AreAsked : List (ℕ × SessionSubscriptions) → List Asker → Type 0
 AreAsked sessions askers = (session : ℕ) → AllBy (λ conn. has_asker askers (asker_at conn session) ≡ true) (part_at session sessions).requests

@@ -2,11 +2,10 @@
 
 ghost use Rattle.std.specs.Prelude.{◌≡◌, ◌<◌, ℕ, [], true, false, length, if◌then◌else◌, OnOk};
 ghost use Rattle.std.specs.BTreeMap.{is_at};
-ghost use Rattle.std.specs.BTreeSet.{contains};
 ghost use Rattle.std.specs.Option.{IfSome, IfNone};
 ghost use Rattle.std.specs.Ordering.{nat_cmp};
 ghost use Rattle.ua_subscriptions.specs.declared.askers.Asker.{Asker as AskerLem};
-ghost use Rattle.ua_subscriptions.specs.Askers.{asker_at, asker_cmp, asked_at, asked_cmp, has_asker};
+ghost use Rattle.ua_subscriptions.specs.Askers.{asker_at, asker_cmp, asked_at, has_asker, has_asked, AreMirrored};
 
 use std::alloc::{AllocError, Global};
 use std::collections::BTreeSet;
@@ -41,10 +40,13 @@ pub struct AskerList {
 impl Model for AskerList {
     ghost use Rattle.std.specs.Prelude.{List};
     ghost use Rattle.ua_subscriptions.specs.declared.askers.Asker.{Asker as AskerLem};
+    ghost use Rattle.ua_subscriptions.specs.Askers.{AreMirrored};
 
     ghost Value = { List AskerLem };
 
     ghost view = { λ a. a.by_conn.keys };
+
+    ghost invariant = { λ a. AreMirrored a.by_conn.keys a.by_session.keys };
 }
 
 // The first session with which a connection stands there.
@@ -61,7 +63,8 @@ fn first_session(by_conn: &BTreeSet<Asker>, conn: u64) -> Option<u32>
 
 // The first connection with which a session stands there.
 fn first_conn(by_session: &BTreeSet<Asked>, session: u32) -> Option<u64>
-    ensures { IfSome result (λ conn. contains asked_cmp by_session.now (asked_at session conn) ≡ true) }
+    ensures none { IfNone result ((conn : ℕ) → has_asked by_session.now.keys (asked_at session conn) ≡ false) }
+    ensures some { IfSome result (λ conn. has_asked by_session.now.keys (asked_at session conn) ≡ true) }
 {
     let mut rest = by_session.range(Asked { session, conn: 0 }..);
     match rest.next() {
@@ -72,7 +75,10 @@ fn first_conn(by_session: &BTreeSet<Asked>, session: u32) -> Option<u64>
 
 // Takes out the connections with which a session stands there.
 fn forget_conns(by_conn: &mut BTreeSet<Asker>, by_session: &mut BTreeSet<Asked>, session: u32)
-    ensures { (q : AskerLem) → is_at (nat_cmp session) q.session ≡ false → has_asker by_conn.new.keys q ≡ has_asker by_conn.old.keys q }
+    requires { AreMirrored by_conn.old.keys by_session.old.keys }
+    ensures others { (q : AskerLem) → is_at (nat_cmp session) q.session ≡ false → has_asker by_conn.new.keys q ≡ has_asker by_conn.old.keys q }
+    ensures gone { (conn : ℕ) → has_asker by_conn.new.keys (asker_at conn session) ≡ false }
+    ensures mirrored { AreMirrored by_conn.new.keys by_session.new.keys }
 {
     while let Some(conn) = first_conn(by_session, session) {
         let _ = by_conn.remove(&Asker { conn, session });
@@ -97,7 +103,10 @@ impl AskerList {
         ensures more { (q : AskerLem) → has_asker self.old q ≡ true → has_asker self.new q ≡ true }
     {
         self.by_session.insert(Asked { session, conn })?;
-        self.by_conn.insert(Asker { conn, session })?;
+        let Ok(_) = self.by_conn.insert(Asker { conn, session }) else {
+            let _ = self.by_session.remove(&Asked { session, conn });
+            return Err(AllocError);
+        };
         Ok(())
     }
 
@@ -116,7 +125,8 @@ impl AskerList {
 
     /// A session ends: it stands there no more. Takes no memory.
     pub(crate) fn forget(&mut self, session: u32)
-        ensures { (q : AskerLem) → is_at (nat_cmp session) q.session ≡ false → has_asker self.new q ≡ has_asker self.old q }
+        ensures others { (q : AskerLem) → is_at (nat_cmp session) q.session ≡ false → has_asker self.new q ≡ has_asker self.old q }
+        ensures gone { (conn : ℕ) → has_asker self.new (asker_at conn session) ≡ false }
     {
         forget_conns(&mut self.by_conn, &mut self.by_session, session);
     }

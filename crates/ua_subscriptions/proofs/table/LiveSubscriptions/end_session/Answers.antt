@@ -13,5 +13,5 @@ pub invariant_of-self : goal.invariant_of-self
 invariant_of-self c = (
   c.self.invariant.0,
   out_asked c.args.session c.self.inside.sessions.entries c.remove.new.self.entries c.self.inside.askers c.forget.new.self c.remove.ensures.updates.0 c.self.invariant.1
-      (λ q apart there. c.forget.ensures q apart ∙ there),
+      (λ q apart there. c.forget.ensures.others q apart ∙ there),
 )
