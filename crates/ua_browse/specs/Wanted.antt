@@ -1,5 +1,6 @@
 -- Which references of a node are wanted (BrowseDescription, IEC 62541-4, "Browse").
-use Rattle.std.specs.Prelude.{◌≡◌, ℕ, ◌/◌, ◌%◌, ◌==◌, suc, pos, Bool, true, false, not, ◌&&◌, ◌||◌, List, [], ◌∷◌, drop, filter, Option, Some, None, is_some, IfSome, Result, Ok, Err, if◌then◌else◌}
+use Rattle.std.specs.Prelude.{◌≡◌, ℕ, ◌/◌, ◌%◌, ◌==◌, suc, pos, Bool, true, false, not, ◌&&◌, ◌||◌, List, [], ◌∷◌, drop, filter, Option, Some, None, is_some, Result, Ok, Err, if◌then◌else◌}
+use Rattle.std.specs.List.{list_any}
 use Rattle.std.specs.Ordering.{int_eq}
 use Rattle.ua_types.specs.NodeClasses.{class_number}
 use Rattle.ua_types.specs.NodeIdOrder.{same_id}
@@ -19,7 +20,8 @@ use Rattle.ua_space.specs.declared.node.Node.{Node}
 use Rattle.ua_space.specs.declared.references.Direction.{Direction}
 use Rattle.ua_space.specs.declared.references.Direction.TheVariants as directions
 use Rattle.ua_space.specs.declared.triple.Triple.{Triple}
-use Rattle.ua_browse.specs.declared.wanted.Verdict.{Verdict}
+use Rattle.ua_browse.specs.declared.wanted.Types.{Types}
+use Rattle.ua_browse.specs.declared.wanted.Types.TheVariants as types
 
 -- a mask has a bit, which is told by its value
 abbrev pub has_bit : ℕ → ℕ → Bool
@@ -87,6 +89,11 @@ judged nodes d =
 
 -- ---- words of the contracts
 
--- a verdict on a type says whether the description asks for that type
-abbrev pub IsRight : List Triple → BrowseDescription → Option Verdict → Type 0
-IsRight triples d verdict = IfSome verdict (λ v. v.wanted ≡ is_type_wanted triples d v.id.now)
+abbrev pub allows : Types → NodeId → NodeId → Bool
+allows types.All named id = true
+allows types.Named named id = same_id id named
+allows (types.Below ids) named id = list_any (same_id id) ids
+
+-- the types that are allowed are those that a description asks for
+abbrev pub AllowsWanted : List Triple → BrowseDescription → Types → Type 0
+AllowsWanted triples d types = (id : NodeId) → allows types d.reference_type_id id ≡ is_type_wanted triples d id

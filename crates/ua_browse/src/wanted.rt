@@ -1,12 +1,11 @@
 //! Which references of a node are wanted.
 
-ghost use Rattle.std.specs.Prelude.{◌≡◌, ◌<◌, List, None, Some, IfSome};
-ghost use Rattle.ua_browse.specs.Wanted.{has_bit as has_bit_spec, goes as goes_spec, is_direction as is_direction_spec, is_type_wanted as is_type_wanted_spec, IsRight, is_class_in as is_class_in_spec, is_class_wanted as is_class_wanted_spec, is_wanted as is_wanted_spec, judged as judged_spec};
-ghost use Rattle.ua_space.specs.Subtypes.{is_subtype};
-ghost use Rattle.ua_space.specs.declared.triple.Triple.{Triple};
+ghost use Rattle.std.specs.Prelude.{◌≡◌, ◌<◌, IfOk};
+ghost use Rattle.ua_browse.specs.Wanted.{has_bit as has_bit_spec, goes as goes_spec, is_direction as is_direction_spec, allows as allows_spec, AllowsWanted, is_class_in as is_class_in_spec, is_class_wanted as is_class_wanted_spec, is_wanted as is_wanted_spec, judged as judged_spec};
 
+use std::alloc::{AllocError, Global};
 use ua_service_messages::{BrowseDescription, BrowseDirection};
-use ua_space::{Direction, Reference, Space};
+use ua_space::{Direction, Reference, Space, Subtypes};
 use ua_types::{NodeClass, NodeId, Status};
 
 /// Whether a mask has a bit, which is told by its value.
@@ -38,46 +37,41 @@ fn goes(wanted: BrowseDirection, direction: Direction) -> bool
     }
 }
 
-/// A type of references, and whether a description asks for it.
+/// Which types of references are wanted.
 #[derive(Debug, Drop)]
-pub struct Verdict<'a> {
-    pub id: &'a NodeId,
-    pub wanted: bool,
+pub enum Types {
+    All,
+    /// The one that the description names.
+    Named,
+    /// That one and all its subtypes.
+    Below(Subtypes),
 }
 
-// Whether a type is wanted, where that is known without a walk through its supertypes: `last` is the verdict on
-// the type from which the last walk went.
-fn known(description: &BrowseDescription, last: &Option<Verdict<'_>>, id: &NodeId) -> Option<bool>
-    ensures known { (triples : List Triple) → IsRight triples description.now last.now → IfSome result (λ wanted. wanted ≡ is_type_wanted_spec triples description.now id.now) }
-    ensures unknown { (triples : List Triple) → result ≡ None → is_type_wanted_spec triples description.now id.now ≡ is_subtype triples id.now description.now.reference_type_id }
+/// The types that a description asks for.
+pub(crate) fn types_of(
+    alloc: Global,
+    space: &Space,
+    description: &BrowseDescription,
+) -> Result<Types, AllocError>
+    ensures { IfOk result (λ types. AllowsWanted space.now.triples description.now types) }
 {
-    let named = &description.reference_type_id;
-    if named.is_null() {
-        return Some(true);
+    if description.reference_type_id.is_null() {
+        return Ok(Types::All);
     }
     if !description.include_subtypes {
-        return Some(id == named);
+        return Ok(Types::Named);
     }
-    match last {
-        None => None,
-        Some(verdict) => {
-            if verdict.id == id {
-                Some(verdict.wanted)
-            } else {
-                None
-            }
-        }
-    }
+    Ok(Types::Below(space.subtypes(alloc, &description.reference_type_id)?))
 }
 
-// Whether a walk through the supertypes of a type leads to the one that is named. The verdict is kept.
-fn judge<'a>(space: &Space, named: &NodeId, last: &mut Option<Verdict<'a>>, id: &'a NodeId) -> bool
-    ensures wanted { result ≡ is_subtype space.now.triples id.now named.now }
-    ensures kept { last.new ≡ Some (record { id = id.entry; wanted = result }) }
+fn allows(types: &Types, named: &NodeId, id: &NodeId) -> bool
+    ensures { result ≡ allows_spec types.now named.now id.now }
 {
-    let wanted = space.is_subtype(id, named);
-    *last = Some(Verdict { id, wanted });
-    wanted
+    match types {
+        Types::All => true,
+        Types::Named => id == named,
+        Types::Below(ids) => ids.contains(id),
+    }
 }
 
 fn is_class_in(mask: u32, class: NodeClass) -> bool
@@ -105,32 +99,23 @@ fn is_class_wanted(space: &Space, mask: u32, id: &NodeId) -> bool
     }
 }
 
-/// Whether a reference is one that a description asks for. `last` goes from one reference to the next, so that
-/// a run of references with the same type takes one walk through the type's supertypes. What takes less is
-/// judged first: a class is looked up before a walk, and after a type that is known.
-pub(crate) fn is_wanted<'a>(
+/// Whether a reference is one that a description asks for; `types` are those that it asks for.
+pub(crate) fn is_wanted(
     space: &Space,
+    types: &Types,
     description: &BrowseDescription,
-    last: &mut Option<Verdict<'a>>,
-    reference: &Reference<'a>,
+    reference: &Reference<'_>,
 ) -> bool
-    requires { IsRight space.now.triples description.now last.old }
-    ensures wanted { result ≡ is_wanted_spec space.now description.now reference.now }
-    ensures right { IsRight space.now.triples description.now last.new }
+    requires { AllowsWanted space.now.triples description.now types.now }
+    ensures { result ≡ is_wanted_spec space.now description.now reference.now }
 {
-    if !goes(description.browse_direction, reference.direction) {
-        return false;
-    }
-    let id = &reference.triple.reference_type;
-    match known(description, last, id) {
-        Some(wanted) => {
-            wanted && is_class_wanted(space, description.node_class_mask, reference.end())
-        }
-        None => {
-            is_class_wanted(space, description.node_class_mask, reference.end())
-                && judge(space, &description.reference_type_id, last, id)
-        }
-    }
+    goes(description.browse_direction, reference.direction)
+        && allows(
+            types,
+            &description.reference_type_id,
+            &reference.triple.reference_type,
+        )
+        && is_class_wanted(space, description.node_class_mask, reference.end())
 }
 
 /// Whether a description can be served, or why not.
