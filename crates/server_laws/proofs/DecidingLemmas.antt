@@ -1,11 +1,11 @@
 -- What decided the fate of a value: the first call, or the first thing done with its queue, after which it has one.
-use Rattle.std.proofs.Common.{◌≡◌, ◌⊎◌, inl, inr, ℕ, zero, suc, ◌<◌, ◌≤◌, ◌-◌, Bool, true, false, cond, List, [], ◌∷◌, ◌++◌, drop, length, fold, Option, Some, None, is_some, refl, sym, subst, ap, ◌∙◌, append_assoc, append-nil, arith}
-use Rattle.std.specs.Prelude.{⊤, ◌&&◌, not, nat_lt}
+use Rattle.std.proofs.Common.{◌≡◌, ◌⊎◌, inl, inr, ℕ, zero, suc, ◌≤◌, ◌-◌, Bool, true, false, cond, List, [], ◌∷◌, ◌++◌, drop, length, fold, Option, Some, None, is_some, refl, sym, subst, ap, ◌∙◌, append_assoc, append-nil, arith}
+use Rattle.std.specs.Prelude.{⊤, not, nat_lt}
 use Rattle.std.proofs.lemmas.Bool.{false≢true, not-true, not-false, ltb-true, ltb-false}
 use Rattle.std.proofs.lemmas.List.Sums.{fold-append}
 use Rattle.ua_types.specs.Configuration.{Configuration}
 use Rattle.ua_values.specs.declared.data_value.DataValue.{DataValue}
-use Rattle.ua_item_queue.specs.Causes.{GetsOnly, gives, may_drop, may_give}
+use Rattle.ua_item_queue.specs.Causes.{GetsOnly, may_give}
 use Rattle.ua_item_queue.specs.Fates.{Fate, AccountEntry, IsKept, GoesOn, NewLossesAreMarked, account, account_after, accounted, any_marked, entered, first_get, first_marked, is_waiting, is_lost, others_get, settled, waiting, with_fate}
 use Rattle.ua_item_queue.specs.Fates.Fate.{Waits, WasSent, WasLost, WasCleared}
 use Rattle.ua_item_queue.specs.ItemQueue.{QueueMove, entry}

@@ -1,5 +1,5 @@
 -- The answers of a run are posted, and all that is posted goes out.
-use Rattle.std.proofs.Common.{◌≡◌, ◌⊎◌, inl, inr, ℕ, Bool, true, false, not, cond, List, [], ◌∷◌, ◌++◌, map, append-nil, append_assoc, fold, Option, Some, None, Result, Ok, Err, refl, sym, ap, subst, ◌∙◌}
+use Rattle.std.proofs.Common.{◌≡◌, ℕ, Bool, true, false, not, cond, List, [], ◌∷◌, ◌++◌, map, append-nil, append_assoc, Option, Some, None, Result, Ok, Err, refl, sym, ap, subst, ◌∙◌}
 use Rattle.std.specs.Prelude.{⊤}
 use Rattle.std.specs.FinMap.{get}
 use Rattle.ua_types.specs.Configuration.{Configuration}
@@ -20,7 +20,7 @@ use Rattle.server_connections.specs.Delivering.{delivered, delivery_of}
 use Rattle.server_connections.specs.declared.connections.Connections.{Connections}
 use Rattle.server_connections.specs.declared.frame_outcome.FrameOutcome.{FrameOutcome}
 use Rattle.server_connections.specs.declared.frame_outcome.FrameOutcome.TheVariants as outcome
-use Rattle.subscription_laws.specs.Runs.{Move, Ran, moved, run, start}
+use Rattle.subscription_laws.specs.Runs.{Move, Ran, run}
 use Rattle.ua_services.specs.Services.{serving_of, ticking_of, forgotten}
 use Rattle.ua_services.specs.Serving.{Serving, rows_of}
 use Rattle.ua_services.specs.declared.services.Services.{Services}

@@ -1,12 +1,11 @@
 -- The values that items queued, and the answers that bring them.
-use Rattle.std.proofs.Common.{◌≡◌, ◌⊎◌, inl, inr, ℕ, zero, suc, ◌+◌, ◌<◌, ◌≤◌, Bool, true, false, cond, List, [], ◌∷◌, ◌++◌, map, drop, length, Option, Some, None, Ok, refl, sym, subst, ap, ◌∙◌, arith}
+use Rattle.std.proofs.Common.{◌≡◌, ◌⊎◌, inl, inr, ℕ, suc, ◌+◌, Bool, true, false, List, [], ◌∷◌, ◌++◌, map, Option, Some, None, refl, sym, subst, ap, ◌∙◌, arith}
 use Rattle.std.specs.Prelude.{⊤}
 use Rattle.std.proofs.lemmas.Bool.{false≢true}
 use Rattle.ua_types.specs.Configuration.{Configuration}
-use Rattle.ua_types.specs.declared.moment.Moment.{Moment}
 use Rattle.ua_space.specs.Nodes.{SpaceState}
 use Rattle.ua_values.specs.declared.data_value.DataValue.{DataValue}
-use Rattle.ua_item_queue.specs.Fates.{Fate, AccountEntry, waiting, is_waiting, is_first_marked, LossesAreMarked}
+use Rattle.ua_item_queue.specs.Fates.{Fate, AccountEntry, waiting, LossesAreMarked}
 use Rattle.ua_item_queue.specs.Fates.Fate.{Waits, WasSent, WasLost, WasCleared}
 use Rattle.ua_item_queue.specs.ItemQueue.{entry}
 use Rattle.ua_item_queue.specs.Sendings.{sent_of}
@@ -14,8 +13,6 @@ use Rattle.ua_item_queue.specs.declared.entry.Entry.{Entry}
 use Rattle.ua_monitored_items.specs.Givings.{entries_of}
 use Rattle.ua_monitored_items.specs.Moves.{queue_at}
 use Rattle.ua_subscriptions.specs.declared.messages.KeptMessage.{KeptMessage}
-use Rattle.ua_subscriptions.specs.Making.{republished}
-use Rattle.ua_subscriptions.specs.SubscriptionCalls.{world_of}
 use Rattle.server_messages.specs.declared.reply.Reply.{Reply}
 use Rattle.subscription_laws.specs.ItemCalls.{item_calls}
 use Rattle.subscription_laws.specs.MessageContents.{Taken, IsMadeOf, AreMadeOf, all_taken, entries_sent}
@@ -25,7 +22,6 @@ use Rattle.subscription_laws.specs.Tellings.{Telling, Told, Notifications, KeepA
 use Rattle.subscription_laws.proofs.TellingRuns.{all_are_told, messages_told}
 use Rattle.ua_services.specs.declared.services.Services.{Services}
 use Rattle.server_core.specs.Coherent.{reached, IfRuns}
-use Rattle.server_core.specs.Subscriptions.{kept_on}
 use Rattle.server_core.specs.declared.event.Event.{Event}
 use Rattle.server_core.specs.declared.world.World.{World}
 use Rattle.server_laws.specs.EventMoves.{moves_of}
@@ -33,7 +29,7 @@ use Rattle.server_laws.specs.Fates.{account_after, queue_moves_after, HoldsWhatW
 use Rattle.server_laws.specs.Messages.{made_by, KeepsWhatWasMade, GivesAgainWhatWasMade}
 use Rattle.server_laws.specs.Moving.{StandIn}
 use Rattle.server_laws.specs.Postings.{Posting, reply_posted, posted}
-use Rattle.server_laws.specs.Reaching.{StandsIn, BroughtValue, brought_value, by_message, by_answer, brought_values, brought_in, IsAlone, IsBrought, fate_at, IsCausedBy, IsDrivenOut, Sayings, HasWaited, WasBrought, HasCome, HaveCome, sayings, ValuesHaveCome}
+use Rattle.server_laws.specs.Reaching.{StandsIn, BroughtValue, brought_value, by_answer, brought_values, brought_in, IsAlone, IsBrought, fate_at, Sayings, HasCome, HaveCome, sayings, ValuesHaveCome}
 use Rattle.server_laws.specs.Tellings.{told_by}
 use Rattle.server_laws.proofs.FateLemmas.{have_one_fate, stand_in_messages, marks_losses}
 use Rattle.server_laws.proofs.DecidingLemmas.{is_caused_by, is_driven_out}

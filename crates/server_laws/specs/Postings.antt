@@ -1,5 +1,5 @@
 -- What goes out for each reply of a run.
-use Rattle.std.specs.Prelude.{◌≡◌, ⊤, ℕ, List, [], ◌∷◌, ◌++◌, map, Option, Some, None, Result, Ok, Err, if◌then◌else◌}
+use Rattle.std.specs.Prelude.{◌≡◌, ⊤, ℕ, List, [], ◌∷◌, ◌++◌, Option, Some, None, Result, Ok, Err, if◌then◌else◌}
 use Rattle.std.specs.FinMap.{get}
 use Rattle.ua_types.specs.Configuration.{Configuration}
 use Rattle.ua_types.specs.Moments.{later}
@@ -15,8 +15,6 @@ use Rattle.server_connections.specs.declared.connections.Connections.{Connection
 use Rattle.server_connections.specs.declared.frame_outcome.FrameOutcome.{FrameOutcome}
 use Rattle.server_connections.specs.declared.frame_outcome.FrameOutcome.TheVariants as outcome
 use Rattle.ua_services.specs.Services.{serving_of, ticking_of}
-use Rattle.ua_services.specs.Serving.{Serving}
-use Rattle.server_core.specs.Coherent.{reached}
 use Rattle.server_core.specs.Effects.{outs_of}
 use Rattle.server_core.specs.Handling.{handled, setting_at}
 use Rattle.server_core.specs.Running.{Running, joined_effects}
