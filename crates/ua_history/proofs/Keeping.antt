@@ -10,7 +10,7 @@ use Rattle.ua_values.specs.declared.data_value.DataValue.{DataValue}
 use Rattle.ua_history.specs.Histories.{Values, put_in, latest}
 use Rattle.ua_history.specs.HistoryLaws.{KeepsWithinBounds, IsByTime}
 
-one_more : (time : ℤ) (value : DataValue) (values : Values) → length (put_in time value values) ≤ length values + 1
+pub one_more : (time : ℤ) (value : DataValue) (values : Values) → length (put_in time value values) ≤ length values + 1
 one_more time value [] = omega arith
 one_more time value (e ∷ es) = by (int_cmp time e.0) (one_more time value es)
   where

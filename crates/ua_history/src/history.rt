@@ -12,26 +12,26 @@ use crate::pages::{Cut, page};
 use std::alloc::{AllocError, Global};
 use std::collections::BTreeMap;
 use std::marker::Model;
+use time_segments::Segments;
 use ua_types::{Config, Copyable, Listed, Moment, NodeId};
 use ua_values::DataValue;
 
 /// The values of one node, by the times of their source. Contracts see a list, by rising time.
 #[derive(Drop)]
 pub struct NodeHistory {
-    values: BTreeMap<i64, DataValue>,
+    values: Segments<DataValue>,
 }
 
 impl Model for NodeHistory {
+    ghost use Rattle.std.specs.Prelude.{◌<◌, ◌^◌, length};
     ghost use Rattle.ua_history.specs.Histories.{Values};
-    ghost use Rattle.std.specs.BTreeMap.{keys};
-    ghost use Rattle.std.specs.List.Sorted.{IsStrictlySortedBy};
-    ghost use Rattle.std.specs.Ordering.{int_cmp};
 
     ghost Value = { Values };
 
-    ghost view = { λ h. h.values.entries };
+    ghost view = { λ h. h.values };
 
-    ghost invariant = { λ h. IsStrictlySortedBy int_cmp (keys h.values) };
+    // As many as may be kept are counted in 32 bits.
+    ghost invariant = { λ h. length h.values < 2 ^ 32 };
 }
 
 impl NodeHistory {
@@ -39,23 +39,29 @@ impl NodeHistory {
         ensures { result ≡ [] }
     {
         NodeHistory {
-            values: BTreeMap::new(alloc),
+            values: Segments::new(alloc),
         }
     }
 
     fn soundness(&self)
         ensures { IsByTime self.now }
     {
-        let _ = &self.values;
+        self.values.soundness();
     }
 
     // One more value, in the place of one that was there at that time. Where it is one too many, the one with the
     // least time goes.
-    fn keep(&mut self, most: u32, time: i64, value: DataValue) -> Result<(), AllocError>
+    fn keep(
+        &mut self,
+        alloc: Global,
+        most: u32,
+        time: i64,
+        value: DataValue,
+    ) -> Result<(), AllocError>
         ensures ok { OnOk result (self.new ≡ kept_in most time value self.old) }
         ensures err { OnErr result (self.new ≡ self.old) }
     {
-        self.values.insert(time, value)?;
+        self.values.insert(alloc, time, value)?;
         if self.values.len() > most as usize {
             self.values.pop_first();
         }
@@ -106,10 +112,10 @@ impl History {
             return Ok(());
         };
         if let Some(values) = self.nodes.get_mut(node) {
-            return values.keep(self.most, time.0, value);
+            return values.keep(alloc, self.most, time.0, value);
         }
         let mut values = NodeHistory::new(alloc);
-        values.keep(self.most, time.0, value)?;
+        values.keep(alloc, self.most, time.0, value)?;
         self.nodes.insert(node.copy(alloc)?, values)?;
         Ok(())
     }
@@ -141,7 +147,7 @@ impl History {
     {
         match self.nodes.get(node) {
             None => None,
-            Some(values) => values.values.get(&time.0),
+            Some(values) => values.values.get(time.0),
         }
     }
 

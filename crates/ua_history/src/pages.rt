@@ -9,8 +9,8 @@ ghost use Rattle.ua_history.specs.Pages.{IsCut, last_time, seen};
 
 use crate::intervals::Interval;
 use std::alloc::{AllocError, Global};
-use std::collections::BTreeMap;
 use std::ops::Bound;
+use time_segments::Segments;
 use ua_types::{Listed, Moment};
 use ua_values::DataValue;
 
@@ -48,16 +48,16 @@ impl Cut<'_> {
 /// The first of the values between these times, rising. It looks at one more of them, if there is one.
 pub(crate) fn rising_page<'a>(
     alloc: Global,
-    values: &'a BTreeMap<i64, DataValue>,
+    values: &'a Segments<DataValue>,
     low: Bound<i64>,
     high: Bound<i64>,
     count: u32,
 ) -> Result<Cut<'a>, AllocError>
     requires { IsForward (IsLeBy int_cmp) (IsLtBy int_cmp) low high }
-    ensures { IfOk result (λ cut. IsCut cut count (entries_between int_cmp low high values.now.entries)) }
+    ensures { IfOk result (λ cut. IsCut cut count (entries_between int_cmp low high values.now)) }
 {
     let mut page = Vec::new(alloc);
-    for (time, value) in values.range((low, high)) {
+    for (time, value) in values.range(low, high) {
         if page.len() >= count as usize {
             return Ok(Cut {
                 values: Listed::from_vec(page),
@@ -65,7 +65,7 @@ pub(crate) fn rising_page<'a>(
             });
         }
         page.push(Kept {
-            time: Moment(*time),
+            time: Moment(time),
             value,
         })?;
     }
@@ -78,16 +78,16 @@ pub(crate) fn rising_page<'a>(
 /// The first of the values between these times, falling. It looks at one more of them, if there is one.
 pub(crate) fn falling_page<'a>(
     alloc: Global,
-    values: &'a BTreeMap<i64, DataValue>,
+    values: &'a Segments<DataValue>,
     low: Bound<i64>,
     high: Bound<i64>,
     count: u32,
 ) -> Result<Cut<'a>, AllocError>
     requires { IsForward (IsLeBy int_cmp) (IsLtBy int_cmp) low high }
-    ensures { IfOk result (λ cut. IsCut cut count (reverse (entries_between int_cmp low high values.now.entries))) }
+    ensures { IfOk result (λ cut. IsCut cut count (reverse (entries_between int_cmp low high values.now))) }
 {
     let mut page = Vec::new(alloc);
-    let mut left = values.range((low, high));
+    let mut left = values.range(low, high);
     while let Some((time, value)) = left.next_back() {
         if page.len() >= count as usize {
             return Ok(Cut {
@@ -96,7 +96,7 @@ pub(crate) fn falling_page<'a>(
             });
         }
         page.push(Kept {
-            time: Moment(*time),
+            time: Moment(time),
             value,
         })?;
     }
@@ -125,11 +125,11 @@ fn is_forward(low: Bound<i64>, high: Bound<i64>) -> bool
 #[tactic(auto, using(crate::proofs::Between::goes_forward, crate::proofs::Between::none_backward))]
 pub(crate) fn page<'a>(
     alloc: Global,
-    values: &'a BTreeMap<i64, DataValue>,
+    values: &'a Segments<DataValue>,
     interval: Interval,
     count: u32,
 ) -> Result<Cut<'a>, AllocError>
-    ensures { IfOk result (λ cut. IsCut cut count (raw values.now.entries interval)) }
+    ensures { IfOk result (λ cut. IsCut cut count (raw values.now interval)) }
 {
     let Interval {
         low,

@@ -12,5 +12,5 @@ decreases-loop-time l = length l.left
 -- the values so far and those that are left, from the last on, are all
 abbrev pub invariant-loop-time : goal.invariant-loop-time
 invariant-loop-time l =
-    (map seen l.page.items ++ reverse l.left ≡ reverse (entries_between int_cmp l.fn.low l.fn.high l.values.entries))
+    (map seen l.page.items ++ reverse l.left ≡ reverse (entries_between int_cmp l.fn.low l.fn.high l.values))
     × (length l.page.items ≤ l.count)

@@ -8,5 +8,5 @@ use Rattle.ua_history.proofs.pages.rising_page.Given as goal
 abbrev pub invariant-loop-time : goal.invariant-loop-time
 invariant-loop-time l =
     (goal.iterator-loop-time).can_next l.time-iterator × (goal.iterator-loop-time).is_finite l.time-iterator
-    × (map seen l.page.items ++ l.time-iterator ≡ entries_between int_cmp l.fn.low l.fn.high l.values.entries)
+    × (map seen l.page.items ++ l.time-iterator ≡ entries_between int_cmp l.fn.low l.fn.high l.values)
     × (length l.page.items ≤ l.count)

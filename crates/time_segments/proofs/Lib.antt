@@ -1,0 +1,9 @@
+pub mod Times
+pub mod Entries
+pub mod Lists
+pub mod Segmented
+pub mod Changes
+pub mod Splitting
+pub mod Ends
+pub mod Counting
+pub mod Reading

@@ -1,0 +1,120 @@
+//! A part of one segment, read in place.
+
+ghost use Rattle.std.specs.Prelude.{◌≡◌, []};
+ghost use Rattle.std.specs.BTreeMap.Range.{entries_between};
+ghost use Rattle.std.specs.List.Sorted.{IsStrictlySortedBy};
+ghost use Rattle.std.specs.Map.{keys_of};
+ghost use Rattle.std.specs.Map.Iter.{TakesFirst, TakesLast};
+ghost use Rattle.std.specs.Ordering.{int_cmp};
+ghost use Rattle.time_segments.specs.Parts.{IsCountBefore, IsCountUpTo, IsStartIn, IsEndIn};
+
+use crate::segment::place;
+use std::collections::VecDeque;
+use std::collections::vec_deque::Iter;
+use std::marker::Model;
+use std::ops::Bound;
+
+// How many entries lie before a time.
+fn count_before<V>(segment: &VecDeque<(i64, V)>, time: i64) -> usize
+    requires { IsStrictlySortedBy int_cmp (keys_of segment.now.items) }
+    ensures { IsCountBefore time segment.now.items result }
+{
+    match place(segment, time) {
+        Ok(at) => at,
+        Err(at) => at,
+    }
+}
+
+// How many entries lie before a time or at it.
+fn count_up_to<V>(segment: &VecDeque<(i64, V)>, time: i64) -> usize
+    requires { IsStrictlySortedBy int_cmp (keys_of segment.now.items) }
+    ensures { IsCountUpTo time segment.now.items result }
+{
+    match place(segment, time) {
+        Ok(at) => at + 1,
+        Err(at) => at,
+    }
+}
+
+// How many entries lie before a start.
+fn start_in<V>(segment: &VecDeque<(i64, V)>, low: Bound<i64>) -> usize
+    requires { IsStrictlySortedBy int_cmp (keys_of segment.now.items) }
+    ensures { IsStartIn low segment.now.items result }
+{
+    match low {
+        Bound::Included(time) => count_before(segment, time),
+        Bound::Excluded(time) => count_up_to(segment, time),
+        Bound::Unbounded => 0,
+    }
+}
+
+// How many entries lie up to an end.
+fn end_in<V>(segment: &VecDeque<(i64, V)>, high: Bound<i64>) -> usize
+    requires { IsStrictlySortedBy int_cmp (keys_of segment.now.items) }
+    ensures { IsEndIn high segment.now.items result }
+{
+    match high {
+        Bound::Included(time) => count_up_to(segment, time),
+        Bound::Excluded(time) => count_before(segment, time),
+        Bound::Unbounded => segment.len(),
+    }
+}
+
+/// Entries of a segment that are still to be read, each where it stands.
+#[derive(Drop)]
+pub(crate) struct Part<'a, V> {
+    entries: Option<Iter<'a, (i64, V)>>,
+}
+
+impl<'a, V> Model for Part<'a, V> {
+    ghost use Rattle.std.specs.Prelude.{ℤ, List};
+    ghost use Rattle.time_segments.specs.Parts.{rest_of};
+
+    ghost Value = { List (ℤ × V) };
+
+    ghost view = { λ p. rest_of p.entries };
+}
+
+impl<'a, V> Part<'a, V> {
+    pub(crate) fn none() -> Part<'a, V>
+        ensures { result ≡ [] }
+    {
+        Part { entries: None }
+    }
+
+    /// Those between two times, found by binary searches.
+    pub(crate) fn within(
+        segment: &'a VecDeque<(i64, V)>,
+        low: Bound<i64>,
+        high: Bound<i64>,
+    ) -> Part<'a, V>
+        requires { IsStrictlySortedBy int_cmp (keys_of segment.now.items) }
+        ensures { result ≡ entries_between int_cmp low high segment.now.items }
+    {
+        let start = start_in(segment, low);
+        let end = end_in(segment, high).max(start);
+        Part {
+            entries: Some(segment.range(start..end)),
+        }
+    }
+
+    pub(crate) fn next(&mut self) -> Option<(i64, &'a V)>
+        ensures { TakesFirst (λ e. (e.0, e.1.now)) self.old result self.new }
+    {
+        let Some(entries) = &mut self.entries else {
+            return None;
+        };
+        let (time, value) = entries.next()?;
+        Some((*time, value))
+    }
+
+    pub(crate) fn next_back(&mut self) -> Option<(i64, &'a V)>
+        ensures { TakesLast (λ e. (e.0, e.1.now)) self.old result self.new }
+    {
+        let Some(entries) = &mut self.entries else {
+            return None;
+        };
+        let (time, value) = entries.next_back()?;
+        Some((*time, value))
+    }
+}
