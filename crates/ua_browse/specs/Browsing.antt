@@ -15,7 +15,6 @@ use Rattle.ua_space.specs.Nodes.{SpaceState}
 use Rattle.ua_browse.specs.Describing.{described}
 use Rattle.ua_browse.specs.Wanted.{Placed, wanted_from, judged}
 use Rattle.ua_browse.specs.declared.browsing.Page.{Page}
-use Rattle.ua_browse.specs.declared.pages.Cut.{Cut}
 
 -- as many as are asked for, where 0 asks for all, and never more than the most
 abbrev pub page_size : ℕ → ℕ → ℕ
@@ -94,8 +93,3 @@ released s serial other = step (Err status.BAD_CONTINUATION_POINT_INVALID) s
 -- the point is given up, and nothing else
 abbrev pub release_of : PointsState → ℕ → Step (Unit {0}) Status PointsState
 release_of s serial = released s serial (get s.held serial)
-
--- ---- words of the contracts
-
-abbrev pub cut_of : Cut → Part
-cut_of cut = record { references = cut.references.items; next = cut.next }

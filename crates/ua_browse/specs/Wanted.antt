@@ -1,5 +1,5 @@
 -- Which references of a node are wanted (BrowseDescription, IEC 62541-4, "Browse").
-use Rattle.std.specs.Prelude.{◌≡◌, ℕ, ◌/◌, ◌%◌, ◌==◌, suc, pos, Bool, true, false, not, ◌&&◌, ◌||◌, List, [], ◌∷◌, drop, filter, Option, Some, None, is_some, Result, Ok, Err, if◌then◌else◌}
+use Rattle.std.specs.Prelude.{◌≡◌, ℕ, ◌/◌, ◌%◌, ◌==◌, suc, pos, Bool, true, false, not, ◌&&◌, ◌||◌, List, [], ◌∷◌, drop, filter, Option, Some, None, is_some, IfSome, All, Result, Ok, Err, if◌then◌else◌}
 use Rattle.std.specs.List.{list_any}
 use Rattle.std.specs.Ordering.{int_eq}
 use Rattle.ua_types.specs.NodeClasses.{class_number}
@@ -20,8 +20,7 @@ use Rattle.ua_space.specs.declared.node.Node.{Node}
 use Rattle.ua_space.specs.declared.references.Direction.{Direction}
 use Rattle.ua_space.specs.declared.references.Direction.TheVariants as directions
 use Rattle.ua_space.specs.declared.triple.Triple.{Triple}
-use Rattle.ua_browse.specs.declared.wanted.Types.{Types}
-use Rattle.ua_browse.specs.declared.wanted.Types.TheVariants as types
+use Rattle.ua_browse.specs.declared.wanted.Verdicts.{Verdicts}
 
 -- a mask has a bit, which is told by its value
 abbrev pub has_bit : ℕ → ℕ → Bool
@@ -89,11 +88,7 @@ judged nodes d =
 
 -- ---- words of the contracts
 
-abbrev pub allows : Types → NodeId → NodeId → Bool
-allows types.All named id = true
-allows types.Named named id = same_id id named
-allows (types.Below ids) named id = list_any (same_id id) ids
-
--- the types that are allowed are those that a description asks for
-abbrev pub AllowsWanted : List Triple → BrowseDescription → Types → Type 0
-AllowsWanted triples d types = (id : NodeId) → allows types d.reference_type_id id ≡ is_type_wanted triples d id
+-- what a page remembers of types says whether each is the named one or one of its subtypes
+pub record IsRight (triples : List Triple) (named : NodeId) (verdicts : Verdicts) : Type 0 where
+  pub few : All (λ v. v.is_below ≡ is_subtype triples v.id.now named) verdicts.few.items
+  pub set : IfSome verdicts.set (λ ids. (id : NodeId) → list_any (same_id id) ids ≡ is_subtype triples id named)

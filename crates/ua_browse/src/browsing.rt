@@ -5,11 +5,11 @@ ghost use Rattle.std.specs.Result.{result_map_both};
 ghost use Rattle.ua_types.specs.Answers.{step};
 ghost use Rattle.ua_types.specs.declared.refusal.Refusal.TheVariants.{Service};
 ghost use Rattle.ua_session.specs.Points.{TakesSerial};
-ghost use Rattle.ua_browse.specs.Browsing.{page_size as page_size_spec, page_of, cut_of, part, browse_of, browse_next_of, release_of};
+ghost use Rattle.ua_browse.specs.Browsing.{page_size as page_size_spec, page_of, browse_of, browse_next_of, release_of};
 ghost use Rattle.ua_browse.specs.Wanted.{judged as judged_spec};
 
-use crate::pages::{Cut, page_from};
-use crate::wanted::{judged, types_of};
+use crate::pages::page_from;
+use crate::wanted::judged;
 use std::alloc::{AllocError, Global};
 use ua_service_messages::{BrowseDescription, ReferenceDescription};
 use ua_session::{BrowsePoint, Point, Points};
@@ -34,20 +34,6 @@ pub fn page_size(most: u32, requested: u32) -> u32
     } else {
         requested
     }
-}
-
-fn page_cut(
-    alloc: Global,
-    space: &Space,
-    description: &BrowseDescription,
-    size: u32,
-    start: usize,
-) -> Result<Cut, AllocError>
-    ensures part { IfOk result (λ cut. cut_of cut ≡ part space.now description.now size start) }
-    ensures few { IfOk result (λ cut. length cut.references.items < 2 ^ 31) }
-{
-    let types = types_of(alloc, space, description)?;
-    page_from(alloc, space, &types, description, size, start)
 }
 
 // The page that goes on at a point, where one could be held.
@@ -89,7 +75,7 @@ pub fn browse(
     if let Err(status) = judged(space, &description) {
         return Err(Refusal::Service(status));
     }
-    let cut = page_cut(alloc, space, &description, size, 0)?;
+    let cut = page_from(alloc, space, &description, size, 0)?;
     match cut.next {
         None => Ok(Page {
             references: Array::new(cut.references),
@@ -138,7 +124,7 @@ pub fn browse_next(
         return Err(Refusal::Service(Status::BAD_CONTINUATION_POINT_INVALID));
     };
     let size = point.size;
-    let cut = page_cut(alloc, space, &point.description, size, point.next)?;
+    let cut = page_from(alloc, space, &point.description, size, point.next)?;
     match cut.next {
         None => {
             points.give_up(serial);

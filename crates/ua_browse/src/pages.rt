@@ -1,11 +1,11 @@
 //! Pages of references.
 
 ghost use Rattle.std.specs.Prelude.{◌≡◌, ◌<◌, ◌^◌, length, IfOk};
-ghost use Rattle.ua_browse.specs.Wanted.{AllowsWanted, wanted_from};
+ghost use Rattle.ua_browse.specs.Wanted.{wanted_from};
 ghost use Rattle.ua_browse.specs.Browsing.{descriptions_of, shown_of, next_of};
 
 use crate::describing::described;
-use crate::wanted::{Types, is_wanted};
+use crate::wanted::{Verdicts, is_wanted};
 use std::alloc::{AllocError, Global};
 use ua_service_messages::{BrowseDescription, ReferenceDescription};
 use ua_space::Space;
@@ -22,12 +22,10 @@ pub struct Cut {
 pub(crate) fn page_from(
     alloc: Global,
     space: &Space,
-    types: &Types,
     description: &BrowseDescription,
     size: u32,
     start: usize,
 ) -> Result<Cut, AllocError>
-    requires { AllowsWanted space.now.triples description.now types.now }
     ensures references { IfOk result (λ cut. cut.references.items ≡ descriptions_of space.now description.now (shown_of size (wanted_from space.now description.now start))) }
     ensures few { IfOk result (λ cut. length cut.references.items < 2 ^ 31) }
     ensures next { IfOk result (λ cut. cut.next ≡ next_of size (wanted_from space.now description.now start)) }
@@ -35,9 +33,10 @@ pub(crate) fn page_from(
     space.soundness();
     let all = space.references(&description.node_id);
     let mut references = Vec::new(alloc);
+    let mut verdicts = Verdicts::new(alloc);
     for place in start..all.len() {
         if let Some(reference) = all.get(place) {
-            if is_wanted(space, types, description, &reference) {
+            if is_wanted(alloc, space, description, &mut verdicts, &reference)? {
                 if references.len() >= size as usize {
                     return Ok(Cut {
                         references,

@@ -1,7 +1,10 @@
 //! Which references of a node are wanted.
 
-ghost use Rattle.std.specs.Prelude.{◌≡◌, ◌<◌, IfOk};
-ghost use Rattle.ua_browse.specs.Wanted.{has_bit as has_bit_spec, goes as goes_spec, is_direction as is_direction_spec, allows as allows_spec, AllowsWanted, is_class_in as is_class_in_spec, is_class_wanted as is_class_wanted_spec, is_wanted as is_wanted_spec, judged as judged_spec};
+ghost use Rattle.std.specs.Prelude.{◌≡◌, ◌<◌, Bool, List, All, OnOk, IfOk, IfSome};
+ghost use Rattle.ua_types.specs.declared.node_id.NodeId.{NodeId};
+ghost use Rattle.ua_space.specs.Subtypes.{is_subtype};
+ghost use Rattle.ua_space.specs.declared.triple.Triple.{Triple};
+ghost use Rattle.ua_browse.specs.Wanted.{has_bit as has_bit_spec, goes as goes_spec, is_direction as is_direction_spec, is_type_wanted as is_type_wanted_spec, IsRight, is_class_in as is_class_in_spec, is_class_wanted as is_class_wanted_spec, is_wanted as is_wanted_spec, judged as judged_spec};
 
 use std::alloc::{AllocError, Global};
 use ua_service_messages::{BrowseDescription, BrowseDirection};
@@ -37,41 +40,101 @@ fn goes(wanted: BrowseDirection, direction: Direction) -> bool
     }
 }
 
-/// Which types of references are wanted.
+/// How many types are judged by a walk from each, before the set of all subtypes is made.
+const FEW_TYPES: usize = 8;
+
+/// A type of references, and whether it is the named one or one of its subtypes.
 #[derive(Debug, Drop)]
-pub enum Types {
-    All,
-    /// The one that the description names.
-    Named,
-    /// That one and all its subtypes.
-    Below(Subtypes),
+pub struct Verdict<'a> {
+    pub id: &'a NodeId,
+    pub is_below: bool,
 }
 
-/// The types that a description asks for.
-pub(crate) fn types_of(
+/// What a page remembers of the types of its references: whether each is the named one or one of its subtypes.
+///
+/// The first few types are judged by a walk up from each, once for each of them: so a node whose references have
+/// few types wants no set of all subtypes. Where more types come the set is made, once, and asked from then on:
+/// so a node whose references go to and fro between many deep types takes no more walks.
+#[derive(Debug, Drop)]
+pub struct Verdicts<'a> {
+    // On the first types, at most `FEW_TYPES` of them.
+    pub few: Vec<Verdict<'a>>,
+    // None until there are more.
+    pub set: Option<Subtypes>,
+}
+
+// The verdict on a type, if there is one.
+fn verdict_on(few: &[Verdict<'_>], id: &NodeId) -> Option<bool>
+    ensures { (is_below : NodeId → Bool) → All (λ v. v.is_below ≡ is_below v.id.now) few.now → IfSome result (λ told. told ≡ is_below id.now) }
+{
+    for verdict in few {
+        if verdict.id == id {
+            return Some(verdict.is_below);
+        }
+    }
+    None
+}
+
+impl<'a> Verdicts<'a> {
+    /// What is known before the first reference: nothing.
+    pub(crate) fn new(alloc: Global) -> Verdicts<'a>
+        ensures { (triples : List Triple) (named : NodeId) → IsRight triples named result }
+    {
+        Verdicts {
+            few: Vec::new(alloc),
+            set: None,
+        }
+    }
+
+    // Whether a type is the named one or one of its subtypes.
+    fn is_below(
+        &mut self,
+        alloc: Global,
+        space: &Space,
+        named: &NodeId,
+        id: &'a NodeId,
+    ) -> Result<bool, AllocError>
+        requires { IsRight space.now.triples named.now self.old }
+        ensures below { IfOk result (λ is_below. is_below ≡ is_subtype space.now.triples id.now named.now) }
+        ensures right { OnOk result (IsRight space.now.triples named.now self.new) }
+    {
+        if let Some(set) = &self.set {
+            return Ok(set.contains(id));
+        }
+        if let Some(is_below) = verdict_on(&self.few, id) {
+            return Ok(is_below);
+        }
+        if self.few.len() < FEW_TYPES {
+            let is_below = space.is_subtype(id, named);
+            self.few.push(Verdict { id, is_below })?;
+            return Ok(is_below);
+        }
+        let set = space.subtypes(alloc, named)?;
+        let is_below = set.contains(id);
+        self.set = Some(set);
+        Ok(is_below)
+    }
+}
+
+fn is_type_wanted<'a>(
     alloc: Global,
     space: &Space,
     description: &BrowseDescription,
-) -> Result<Types, AllocError>
-    ensures { IfOk result (λ types. AllowsWanted space.now.triples description.now types) }
+    verdicts: &mut Verdicts<'a>,
+    id: &'a NodeId,
+) -> Result<bool, AllocError>
+    requires { IsRight space.now.triples description.now.reference_type_id verdicts.old }
+    ensures wanted { IfOk result (λ wanted. wanted ≡ is_type_wanted_spec space.now.triples description.now id.now) }
+    ensures right { OnOk result (IsRight space.now.triples description.now.reference_type_id verdicts.new) }
 {
-    if description.reference_type_id.is_null() {
-        return Ok(Types::All);
+    let named = &description.reference_type_id;
+    if named.is_null() {
+        return Ok(true);
     }
     if !description.include_subtypes {
-        return Ok(Types::Named);
+        return Ok(id == named);
     }
-    Ok(Types::Below(space.subtypes(alloc, &description.reference_type_id)?))
-}
-
-fn allows(types: &Types, named: &NodeId, id: &NodeId) -> bool
-    ensures { result ≡ allows_spec types.now named.now id.now }
-{
-    match types {
-        Types::All => true,
-        Types::Named => id == named,
-        Types::Below(ids) => ids.contains(id),
-    }
+    verdicts.is_below(alloc, space, named, id)
 }
 
 fn is_class_in(mask: u32, class: NodeClass) -> bool
@@ -99,23 +162,27 @@ fn is_class_wanted(space: &Space, mask: u32, id: &NodeId) -> bool
     }
 }
 
-/// Whether a reference is one that a description asks for; `types` are those that it asks for.
-pub(crate) fn is_wanted(
+/// Whether a reference is one that a description asks for. `verdicts` go from each reference to the next. The
+/// direction is judged first, since that takes the least.
+pub(crate) fn is_wanted<'a>(
+    alloc: Global,
     space: &Space,
-    types: &Types,
     description: &BrowseDescription,
-    reference: &Reference<'_>,
-) -> bool
-    requires { AllowsWanted space.now.triples description.now types.now }
-    ensures { result ≡ is_wanted_spec space.now description.now reference.now }
+    verdicts: &mut Verdicts<'a>,
+    reference: &Reference<'a>,
+) -> Result<bool, AllocError>
+    requires { IsRight space.now.triples description.now.reference_type_id verdicts.old }
+    ensures wanted { IfOk result (λ wanted. wanted ≡ is_wanted_spec space.now description.now reference.now) }
+    ensures right { OnOk result (IsRight space.now.triples description.now.reference_type_id verdicts.new) }
 {
-    goes(description.browse_direction, reference.direction)
-        && allows(
-            types,
-            &description.reference_type_id,
-            &reference.triple.reference_type,
-        )
-        && is_class_wanted(space, description.node_class_mask, reference.end())
+    if !goes(description.browse_direction, reference.direction) {
+        return Ok(false);
+    }
+    let id = &reference.triple.reference_type;
+    if !is_type_wanted(alloc, space, description, verdicts, id)? {
+        return Ok(false);
+    }
+    Ok(is_class_wanted(space, description.node_class_mask, reference.end()))
 }
 
 /// Whether a description can be served, or why not.

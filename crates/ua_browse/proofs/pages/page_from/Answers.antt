@@ -1,13 +1,13 @@
-use Rattle.std.proofs.Common.{◌∙◌, ◌≤◌, ◌+◌, ◌++◌, ◌∷◌, [], List, length, length-append, subst, ap, sym, arith}
+use Rattle.std.proofs.Common.{◌∙◌, ◌≤◌, ◌+◌, ◌++◌, ◌∷◌, [], List, length, length-append, refl, subst, ap, sym, arith}
 use Rattle.std.specs.Prelude.{slice_get}
 use Rattle.ua_service_messages.specs.declared.browsing.ReferenceDescription.{ReferenceDescription}
 use Rattle.ua_space.specs.References.{references_of}
 use Rattle.ua_browse.specs.Describing.{described}
-use Rattle.ua_browse.specs.Wanted.{Placed, is_wanted, wanted_from}
+use Rattle.ua_browse.specs.Wanted.{IsRight, Placed, is_wanted, wanted_from}
 use Rattle.ua_space.proofs.Places.{none_past}
 use Rattle.ua_browse.proofs.Paging.{IsFront, front_with, front_without, full_page, full_next, last_page, last_next, few_shown}
 use Rattle.ua_browse.proofs.pages.page_from.Goals as goal
-use Rattle.ua_browse.proofs.pages.page_from.Goals.{in-Some+then-is_wanted+else-len-size+in_ok-described+in_ok-push, in-Some+else-is_wanted, in_default}
+use Rattle.ua_browse.proofs.pages.page_from.Goals.{in-Some+in_ok-is_wanted+then-branch+else-len-size+in_ok-described+in_ok-push, in-Some+in_ok-is_wanted+else-branch, in_default}
 
 pub returns-then-len-size-clause-next : goal.returns-then-len-size-clause-next
 returns-then-len-size-clause-next c =
@@ -16,7 +16,7 @@ returns-then-len-size-clause-next c =
     full_next (λ p. described space d.result_mask p.reference) (is_wanted space d) (references_of d.node_id space.triples) (wanted_from space d c.args.start) c.loop-place.references.items c.loop-place.place
     c.args.size c.in-Some.reference
     (let few = c.loop-place.invariant.few in let long = c.len.ensures in let full = c.if-len-size.true in omega (arith, few, long, full))
-    (c.in-Some.ensures ∙ ap (λ rs. slice_get rs c.loop-place.place) c.references-all.ensures) (sym c.is_wanted.ensures ∙ c.if-is_wanted.true) c.loop-place.invariant.front
+    (c.in-Some.ensures ∙ ap (λ rs. slice_get rs c.loop-place.place) c.references-all.ensures) (sym c.in_ok-is_wanted.ensures.wanted ∙ c.if-branch.true) c.loop-place.invariant.front
 
 pub returns-then-len-size-clause-few : goal.returns-then-len-size-clause-few
 returns-then-len-size-clause-few c =
@@ -25,6 +25,18 @@ returns-then-len-size-clause-few c =
     few_shown space d c.args.size c.args.start c.loop-place.references.items c.soundness.ensures
     (full_page (λ p. described space d.result_mask p.reference) (is_wanted space d) (references_of d.node_id space.triples) (wanted_from space d c.args.start) c.loop-place.references.items c.loop-place.place
     c.args.size (let few = c.loop-place.invariant.few in let long = c.len.ensures in let full = c.if-len-size.true in omega (arith, few, long, full)) c.loop-place.invariant.front)
+
+pub loop-place-init : goal.loop-place-init
+loop-place-init c =
+    let space = c.args.space.now in
+    let d = c.args.description.now in
+    let all = wanted_from space d c.args.start in
+    let none = ap length c.new-references.ensures.items in
+    record {
+      front = subst (IsFront (λ p. described space d.result_mask p.reference) all all) (sym c.new-references.ensures.items) (record { front = refl; rest = refl });
+      few = omega (arith, none);
+      right = c.new-verdicts.ensures space.triples d.reference_type_id;
+    }
 
 pub loop-place-preserved : goal.loop-place-preserved
 loop-place-preserved c =
@@ -37,21 +49,23 @@ loop-place-preserved c =
     let i = c.loop-place.place in
     let few = c.loop-place.invariant.few in
     elim c.match-get.branch [
-      | in-Some+then-is_wanted+else-len-size+in_ok-described+in_ok-push w ↦ record {
+      | in-Some+in_ok-is_wanted+then-branch+else-len-size+in_ok-described+in_ok-push w ↦ record {
         front = front_with f (is_wanted space d) rs all page i (i + 1) w.in-Some.reference c.match-get.references.items (omega arith)
-            (w.in-Some.ensures ∙ ap (λ list. slice_get list i) c.references-all.ensures) (sym w.is_wanted.ensures ∙ w.if-is_wanted.true)
+            (w.in-Some.ensures ∙ ap (λ list. slice_get list i) c.references-all.ensures) (sym w.in_ok-is_wanted.ensures.wanted ∙ w.if-branch.true)
             (ap (λ v. v.items) w.references-is ∙ w.in_ok-push.ensures.items ∙ ap (λ x. page ++ x ∷ []) w.in_ok-described.ensures) c.loop-place.invariant.front;
         few =
             let grown = ap length (ap (λ v. v.items) w.references-is ∙ w.in_ok-push.ensures.items) ∙ length-append page (w.in_ok-described.field-0 ∷ []) in
             let long = w.len.ensures in
             let room = w.if-len-size.false in
             omega (arith, grown, long, room);
+        right = subst (IsRight space.triples d.reference_type_id) (sym w.verdicts-is) w.in_ok-is_wanted.ensures.right;
       }
-      | in-Some+else-is_wanted w ↦ record {
+      | in-Some+in_ok-is_wanted+else-branch w ↦ record {
         front = subst (λ (list : List ReferenceDescription). IsFront f all (wanted_from space d (i + 1)) list) (sym (ap (λ v. v.items) w.references-is))
             (front_without f (is_wanted space d) rs all page i (i + 1) w.in-Some.reference (omega arith)
-            (w.in-Some.ensures ∙ ap (λ list. slice_get list i) c.references-all.ensures) (sym w.is_wanted.ensures ∙ w.if-is_wanted.false) c.loop-place.invariant.front);
+            (w.in-Some.ensures ∙ ap (λ list. slice_get list i) c.references-all.ensures) (sym w.in_ok-is_wanted.ensures.wanted ∙ w.if-branch.false) c.loop-place.invariant.front);
         few = let same = ap length (ap (λ v. v.items) w.references-is) in omega (arith, same, few);
+        right = subst (IsRight space.triples d.reference_type_id) (sym w.verdicts-is) w.in_ok-is_wanted.ensures.right;
       }
       | in_default w ↦ absurd (none_past c.references-all.result i w.in_default.ensures (let long = c.len-place-end.ensures in let under = c.loop-place-test.true in omega (arith, long, under)))
     ]
