@@ -9,6 +9,7 @@ ghost use Rattle.server_core.specs.declared.out.StepFault.TheVariants as step_fa
 use crate::event::Event;
 use crate::out::{Step, StepFault};
 use crate::parts::Core;
+use bytes::Bytes;
 use server_messages::Halt;
 use std::alloc::{AllocError, Global};
 use ua_tcp::Framer;
@@ -27,7 +28,7 @@ pub struct World {
 impl World {
     // Takes a piece of a connection's stream. One that is closed takes nothing, and no memory.
     #[tactic(auto, unfolding(crate::specs::Stepping::fed))]
-    fn feed(&mut self, alloc: Global, conn: u64, piece: &[u8]) -> Result<Step, Halt>
+    fn feed(&mut self, alloc: Global, conn: u64, piece: &Bytes) -> Result<Step, Halt>
         ensures fed { Feeds result self.new (fed self.old conn piece.now) }
         ensures closed { get self.old.framers conn ≡ None → IsOk result }
     {
@@ -89,7 +90,7 @@ impl World {
                 if !self.core.connections.is_known(*conn) {
                     return Err(StepFault::UnknownConnection);
                 }
-                Ok(self.feed(alloc, *conn, bytes.as_slice())?)
+                Ok(self.feed(alloc, *conn, bytes)?)
             }
             Event::Gone { conn } => {
                 if !self.core.connections.is_known(*conn) {

@@ -6,7 +6,7 @@ use Rattle.std.proofs.lemmas.List.{take-append-le, drop-append-le, length-append
 use Rattle.std.proofs.lemmas.Bool.Decides.{nat_tests}
 use Rattle.ua_types.proofs.Choices.{chosen}
 use Rattle.ua_tcp.specs.Header.{judgement_of, header_of, judgement_at, header_from, message_type_of, chunk_type_of, may_come_in}
-use Rattle.ua_tcp.specs.Frames.{End, Rest, Framed, frame_of, with_front, frames_by, framed_within, frames, frames_then}
+use Rattle.ua_tcp.specs.Frames.{End, Rest, Broken, Framed, frame_of, with_front, frames_by, framed_within, frames, continuation_of, frames_then}
 use Rattle.ua_tcp.specs.declared.frame.MessageType.{MessageType}
 use Rattle.ua_tcp.specs.declared.frame.ChunkType.{ChunkType}
 use Rattle.ua_tcp.specs.declared.frame.Frame.{Frame}
@@ -158,6 +158,21 @@ append_within (suc n) limit x y l (Whole h) e =
 -- a stream cut in two gives the same frames, joined
 pub frames-append : (limit : ℕ) (x y : List ℕ) → frames limit (x ++ y) ≡ frames_then limit (frames limit x) y
 frames-append limit x y = append_within (length x) limit x y (omega arith) (judgement_of limit x) refl
+
+-- behind a fault nothing is read
+pub behind_fault : (limit : ℕ) (x y : List ℕ) (fault : FrameFault) → (frames limit x).end ≡ Broken fault → frames limit (x ++ y) ≡ frames limit x
+behind_fault limit x y fault e =
+    let fs = (frames limit x).frames in
+    let whole : frames limit x ≡ record { frames = fs; end = Broken fault } = ap (λ (end : End). record { frames = fs; end = end }) e in
+    frames-append limit x y
+    ∙ ap (λ (end : End). with_front fs (continuation_of limit end y)) e
+    ∙ ap (λ (all : List Frame). record { frames = all; end = Broken fault }) (append-nil fs)
+    ∙ sym whole
+
+-- what is left of the front, and what stands behind it, is read as one
+pub behind_rest : (limit : ℕ) (x y rest : List ℕ) → (frames limit x).end ≡ Rest rest → frames limit (x ++ y) ≡ with_front (frames limit x).frames (frames limit (rest ++ y))
+behind_rest limit x y rest e =
+    frames-append limit x y ∙ ap (λ (end : End). with_front (frames limit x).frames (continuation_of limit end y)) e
 
 -- a frame that is taken off goes to the end of those taken
 pub taken_one : (limit : ℕ) (rest : List ℕ) (h : Header) (taken : List Frame) (frame : Frame) → judgement_of limit rest ≡ Whole h → frame ≡ frame_of h rest → with_front (taken ++ frame ∷ []) (frames limit (drop h.size rest)) ≡ with_front taken (frames limit rest)

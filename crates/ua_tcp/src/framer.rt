@@ -130,12 +130,17 @@ impl Framer {
     /// │ MSGF size body ..│.. body │ MSGC size body │ MSGF size body ..│
     /// ├───────────────────────────┼────────────────┼──────────────────┤
     ///  first frame given           second one       held from now on
+    ///  (copied)                    (in place)       (copied)
     /// ```
     ///
-    /// A frame's body is a part of a buffer that it shares with the other frames of this feed. The
-    /// error is want of memory, and the framer is then as it was: the same piece may be fed again.
+    /// A frame that stands whole in the piece stays where it is: its body shares the piece's buffer. Of a
+    /// frame that was begun before, what is held and what completes it are copied into a buffer of its own;
+    /// where less than a header is held, the whole piece is. What is held from now on is a copy, so that no
+    /// piece is kept for the sake of it.
+    ///
+    /// The error is want of memory, and the framer is then as it was: the same piece may be fed again.
     /// A feed after a fault takes no memory. `bounded` says how little is held between two feeds.
-    pub fn feed(&mut self, alloc: Global, piece: &[u8]) -> Result<Fed, Memory>
+    pub fn feed(&mut self, alloc: Global, piece: &Bytes) -> Result<Fed, Memory>
         ensures fed { IfOk result (λ fed. feeding fed self.new ≡ feeding_of self.old piece.now) }
         ensures failed { self.old.held ≡ None → IsOk result }
         ensures err { OnErr result (self.new ≡ self.old) }
@@ -144,12 +149,15 @@ impl Framer {
         let Some(held) = &mut self.held else {
             return Ok(Fed::without_frames(alloc, Some(FrameFault::Failed)));
         };
-        let start = held.as_slice();
-        if start.len().saturating_add(piece.len()) < needed(self.limit, start) {
-            held.append(alloc, piece)?;
+        let missing = missing(self.limit, held.as_slice());
+        if piece.len() < missing {
+            held.append(alloc, piece.as_slice())?;
             return Ok(Fed::without_frames(alloc, None));
         }
-        let (fed, held) = cut_frames(alloc, self.limit, joined(alloc, start, piece)?)?;
+        let mut behind = piece.clone()?;
+        let completing = behind.split_to(missing)?;
+        let front = joined(alloc, held.as_slice(), completing)?;
+        let (fed, held) = cut_frames(alloc, self.limit, front, behind)?;
         self.held = held;
         Ok(fed)
     }
@@ -170,25 +178,43 @@ fn needed(limit: u32, held: &[u8]) -> usize
     }
 }
 
-// Both in one buffer.
-fn joined(alloc: Global, front: &[u8], back: &[u8]) -> Result<Bytes, AllocError>
-    ensures { IfOk result (λ all. all ≡ front.now ++ back.now) }
+// How many bytes the frame that these begin lacks, or its header. None where nothing is held.
+fn missing(limit: u32, held: &[u8]) -> usize
+    ensures { (piece : List ℕ) → length piece < result
+        → judgement_of limit (held.now ++ piece) ≡ Incomplete }
 {
+    if held.is_empty() {
+        return 0;
+    }
+    needed(limit, held).saturating_sub(held.len())
+}
+
+// Both in one buffer, which is the back's own where nothing stands before it.
+fn joined(alloc: Global, front: &[u8], back: Bytes) -> Result<Bytes, AllocError>
+    ensures { IfOk result (λ all. all ≡ front.now ++ back) }
+{
+    if front.is_empty() {
+        return Ok(back);
+    }
     let mut all = Vec::with_capacity(alloc, front.len().saturating_add(back.len()))?;
     all.extend_from_slice(front)?;
-    all.extend_from_slice(back)?;
+    all.extend_from_slice(back.as_slice())?;
     Ok(Bytes::from_vec(all)?)
 }
 
-// The frames of these bytes, and the bytes left behind them where no fault stands there.
-fn cut_frames(alloc: Global, limit: u32, bytes: Bytes) -> Result<(Fed, Option<Held>), AllocError>
+// The frames of both, and the bytes left behind them where no fault stands there.
+fn cut_frames(
+    alloc: Global,
+    limit: u32,
+    front: Bytes,
+    behind: Bytes,
+) -> Result<(Fed, Option<Held>), AllocError>
     ensures fed { IfOk result (λ cut. feeding cut.0 (record { limit = limit; held = cut.1 })
-        ≡ feeding_by limit (frames limit bytes)) }
+        ≡ feeding_by limit (frames limit (front ++ behind))) }
     ensures bounded { IfOk result (λ cut. IfSome cut.1 (λ held. length held < max limit 8)) }
 {
-    let mut rest = bytes;
     let mut frames = Vec::new(alloc);
-    let fault = split_frames(limit, &mut rest, &mut frames)?;
+    let (rest, fault) = split_both(alloc, limit, front, behind, &mut frames)?;
     let held = kept(alloc, rest.as_slice(), fault)?;
     Ok((
         Fed {
@@ -207,6 +233,28 @@ fn kept(alloc: Global, rest: &[u8], fault: Option<FrameFault>) -> Result<Option<
         None => Ok(Some(Held::from_slice(alloc, rest)?)),
         Some(_) => Ok(None),
     }
+}
+
+// Takes the whole frames off both, the one behind the other, and gives what is left of them and the fault
+// that stands there. Nothing is copied where the front ends with a frame.
+#[tactic(auto, using(crate::proofs::FramesLemmas::behind_fault))]
+fn split_both(
+    alloc: Global,
+    limit: u32,
+    front: Bytes,
+    behind: Bytes,
+    taken: &mut Vec<Frame>,
+) -> Result<(Bytes, Option<FrameFault>), AllocError>
+    ensures taken { OnOk result (taken.new.items ≡ taken.old.items ++ (frames limit (front ++ behind)).frames) }
+    ensures end { IfOk result (λ left. (frames limit (front ++ behind)).end ≡ end_of left.0 left.1) }
+{
+    let mut begun = front;
+    if let Some(fault) = split_frames(limit, &mut begun, taken)? {
+        return Ok((begun, Some(fault)));
+    }
+    let mut rest = joined(alloc, begun.as_slice(), behind)?;
+    let fault = split_frames(limit, &mut rest, taken)?;
+    Ok((rest, fault))
 }
 
 // Takes the whole frames off the front, and says which fault stands behind them.

@@ -7,7 +7,7 @@
 //! [`hello`] takes or refuses it, [`ack`] and [`err`] make the answers, and what was settled is
 //! [`Agreed`].
 //!
-//! Here is no clock, no socket and no connection: bytes come in as slices and go out as values. What
+//! Here is no clock, no socket and no connection: bytes come in as they were read and go out as values. What
 //! stands in the body of an OPN, MSG or CLO frame is not looked at.
 //!
 //! Read [`Framer`] and [`Frame`] first. `specs/` defines what the frames of a stream are (`Header`,
