@@ -152,11 +152,11 @@ impl Connections {
         &mut self,
         alloc: Global,
         setting: &Setting,
-        reply: &Reply,
+        reply: Reply,
         outs: &mut Listed<Out>,
     ) -> Result<(), AllocError>
         ensures { OnOk result (sending self.new outs.new
-            ≡ sending_after outs.old (delivered setting.now self.old reply.now)) }
+            ≡ sending_after outs.old (delivered setting.now self.old reply)) }
     {
         let Some(connection) = self.known.get_mut(reply.conn) else {
             return Ok(());
@@ -169,14 +169,14 @@ impl Connections {
         &mut self,
         alloc: Global,
         setting: &Setting,
-        replies: &[Reply],
+        replies: Listed<Reply>,
         outs: &mut Listed<Out>,
     ) -> Result<(), AllocError>
         ensures sent { OnOk result (sending self.new outs.new
-            ≡ sending_after outs.old (delivery_of setting.now self.old replies.now)) }
-        ensures none { replies.now ≡ [] → IsOk result }
+            ≡ sending_after outs.old (delivery_of setting.now self.old replies)) }
+        ensures none { replies ≡ [] → IsOk result }
     {
-        for reply in replies {
+        for reply in replies.into_vec() {
             self.deliver_one(alloc, setting, reply, outs)?;
         }
         Ok(())

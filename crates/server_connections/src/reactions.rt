@@ -9,7 +9,7 @@ use bytes::Bytes;
 use server_messages::{Out, Request, Setting};
 use std::alloc::{AllocError, Global};
 use ua_channel::{Channel, SendFault, Taken};
-use ua_messages::{OpenSecureChannelResponse, ResponseHeader, body, type_ids};
+use ua_messages::{MessageBody, OpenSecureChannelResponse, ResponseHeader, body, type_ids};
 use ua_tcp::{Agreed, Frame, FrameFault, Limits, MessageType, ack, err, hello};
 use ua_types::{ByteString, Listed, Refusal, Status};
 
@@ -140,8 +140,8 @@ fn opening_response(
     handle: u32,
     channel_id: u32,
     token_id: u32,
-) -> Result<Vec<u8>, AllocError>
-    ensures { IfOk result (λ bytes. bytes.items ≡ opening_body setting.now handle channel_id token_id) }
+) -> Result<MessageBody, AllocError>
+    ensures { IfOk result (λ body. body ≡ opening_body setting.now handle channel_id token_id) }
 {
     let response = OpenSecureChannelResponse {
         response_header: ResponseHeader::new(handle, Status(0), setting.clock),

@@ -24,7 +24,7 @@ fn too_large(
     ensures { IfOk result (λ chunks. record { frames = chunks; channel = channel.new } ≡ too_large_sent channel.old id handle clock) }
 {
     let body = fault(alloc, handle, Status::BAD_RESPONSE_TOO_LARGE, clock)?;
-    match channel.send(alloc, id, body.as_slice()) {
+    match channel.send(alloc, id, body) {
         Ok(chunks) => Ok(chunks),
         Err(SendFault::TooLarge) => Ok(Listed::new(alloc)),
         Err(SendFault::Memory) => Err(AllocError),
@@ -36,15 +36,21 @@ fn too_large(
 fn reply_chunks(
     alloc: Global,
     channel: &mut Channel,
-    reply: &Reply,
+    reply: Reply,
     clock: Moment,
 ) -> Result<Listed<Bytes>, AllocError>
     ensures { IfOk result (λ chunks. record { frames = chunks; channel = channel.new }
-        ≡ reply_sent channel.old reply.now clock) }
+        ≡ reply_sent channel.old reply clock) }
 {
-    match channel.send(alloc, reply.id, reply.body.as_slice()) {
+    let Reply {
+        conn: _,
+        id,
+        handle,
+        body,
+    } = reply;
+    match channel.send(alloc, id, body) {
         Ok(chunks) => Ok(chunks),
-        Err(SendFault::TooLarge) => too_large(alloc, channel, reply.id, reply.handle, clock),
+        Err(SendFault::TooLarge) => too_large(alloc, channel, id, handle, clock),
         Err(SendFault::Memory) => Err(AllocError),
     }
 }
@@ -54,16 +60,17 @@ pub(crate) fn say(
     alloc: Global,
     setting: &Setting,
     phase: &mut Phase,
-    reply: &Reply,
+    reply: Reply,
     outs: &mut Listed<Out>,
 ) -> Result<(), AllocError>
-    ensures { OnOk result (said phase.new outs.new ≡ said_after outs.old (said_by setting.now reply.now phase.old)) }
+    ensures { OnOk result (said phase.new outs.new ≡ said_after outs.old (said_by setting.now reply phase.old)) }
 {
     match phase {
         Phase::Greeting => Ok(()),
         Phase::Talking(channel) => {
+            let conn = reply.conn;
             let chunks = reply_chunks(alloc, channel, reply, setting.clock)?;
-            send_all(reply.conn, chunks, outs)
+            send_all(conn, chunks, outs)
         }
         Phase::Closed => Ok(()),
     }

@@ -7,7 +7,7 @@ ghost use Rattle.server_core.specs.Handling.{setting_at, Handles, Shows, TicksTo
 
 use crate::out::Step;
 use server_connections::{Connections, FrameOutcome};
-use server_messages::{Halt, Setting};
+use server_messages::{Halt, Served, Setting};
 use std::alloc::{AllocError, Global};
 use ua_services::Services;
 use ua_tcp::{Fed, Frame, FrameFault};
@@ -47,13 +47,10 @@ impl Core {
             }
             FrameOutcome::Request(request) => {
                 let served = self.services.serve(alloc, &self.setting, &request)?;
-                self.connections.deliver(
-                    alloc,
-                    &self.setting,
-                    served.replies.as_slice(),
-                    &mut step.outs,
-                )?;
-                step.rows.append(served.rows)?;
+                let Served { replies, rows } = served;
+                self.connections
+                    .deliver(alloc, &self.setting, replies, &mut step.outs)?;
+                step.rows.append(rows)?;
                 Ok(true)
             }
         }
@@ -134,13 +131,10 @@ impl Core {
         self.setting.clock = clock;
         let served = self.services.tick(alloc, &self.setting)?;
         let mut step = Step::new(alloc);
-        self.connections.deliver(
-            alloc,
-            &self.setting,
-            served.replies.as_slice(),
-            &mut step.outs,
-        )?;
-        step.rows = served.rows;
+        let Served { replies, rows } = served;
+        self.connections
+            .deliver(alloc, &self.setting, replies, &mut step.outs)?;
+        step.rows = rows;
         Ok(step)
     }
 }

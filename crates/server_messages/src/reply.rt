@@ -1,6 +1,6 @@
 //! The answer to a request.
 
-use bytes::Bytes;
+use ua_messages::MessageBody;
 
 /// The answer to a request, now or at a later event.
 #[derive(Debug, Drop)]
@@ -12,5 +12,5 @@ pub struct Reply {
     /// The handle in the request's header, 0 where the header can't be read.
     pub handle: u32,
     /// The type id and fields of the response or the fault.
-    pub body: Bytes,
+    pub body: MessageBody,
 }

@@ -1,5 +1,5 @@
 -- How long a header is, and that it is read again.
-use Rattle.std.proofs.Common.{◌≡◌, ℕ, ◌+◌, ◌<◌, ◌≤◌, Bool, true, false, cond, List, ◌++◌, length, take, drop, Ok, Err, refl, arith, append_assoc}
+use Rattle.std.proofs.Common.{◌≡◌, ℕ, ◌+◌, ◌<◌, ◌≤◌, Bool, true, false, cond, List, ◌∷◌, ◌++◌, length, take, drop, Ok, Err, refl, arith, append_assoc}
 use Rattle.std.specs.Prelude.{nat_lt}
 use Rattle.std.specs.Int.{w32, from_le_bytes}
 use Rattle.std.proofs.lemmas.List.{length-append, length-drop, drop_at}
@@ -43,6 +43,10 @@ header_length bytes read e =
 pub encoding_length : (header : ChunkHeader) → length (chunk_header_encoding header) ≡ 16
 unfolding chunk_header_encoding number_encoding
 encoding_length header = refl
+
+-- a head before a body is the frame of both
+pub head_before : (letters size header body : List ℕ) (letter : ℕ) → (letters ++ (letter ∷ (size ++ header))) ++ body ≡ letters ++ (letter ∷ (size ++ (header ++ body)))
+head_before letters size header body letter = simp append_assoc
 
 -- the fields, one after the other
 apart : (a b c d x : List ℕ) → (((a ++ b) ++ c) ++ d) ++ x ≡ a ++ (b ++ (c ++ (d ++ x)))

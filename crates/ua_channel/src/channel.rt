@@ -10,7 +10,7 @@ ghost use Rattle.ua_channel.specs.ChannelStates.{new_channel, token_after, grant
 ghost use Rattle.ua_channel.specs.Acceptance.{admission_of, comes_by_channel as comes_by_channel_spec, acceptance_of, take_of, message_taken, close_taken, opening_taken};
 ghost use Rattle.ua_channel.specs.Cutting.{send_of, send_opening_of};
 
-use crate::cutting::{cut, is_opening_too_large, is_too_large, opening_chunk, room};
+use crate::cutting::{cut_up, is_opening_too_large, is_too_large, opening_chunk, room};
 use crate::headers::ChunkHeader;
 use crate::messages::{Unfinished, join};
 use crate::openings::{judged_header, opening_request, renewal};
@@ -21,6 +21,7 @@ use bytes::Bytes;
 use std::alloc::Global;
 use std::marker::Model;
 use ua_binary::{Cursor, Wire};
+use ua_messages::MessageBody;
 use ua_tcp::{Agreed, ChunkType, Frame, MessageType};
 use ua_types::{Listed, Refusal, Status};
 
@@ -274,12 +275,19 @@ impl Channel {
     /// The chunks of the answer to the request `id`: MSG frames of the agreed send size, the last of
     /// which is `F` and may be shorter. An empty body has one chunk.
     ///
+    /// A body that one chunk holds is sent from where it was written; one that is cut is copied once.
+    ///
     /// The fault is `TooLarge` where the body is longer than the client's largest message, or has
     /// more chunks than the client takes, and `Memory` where an allocation failed. The channel is
     /// then as it was.
-    pub fn send(&mut self, alloc: Global, id: u32, body: &[u8]) -> Result<Listed<Bytes>, SendFault>
-        ensures taken { Takes send_fault.Memory result self.old self.new (send_of self.old id body.now) }
-        ensures refused { IfErr (send_of self.old id body.now).answer (λ fault. result ≡ Err fault) }
+    pub fn send(
+        &mut self,
+        alloc: Global,
+        id: u32,
+        body: MessageBody,
+    ) -> Result<Listed<Bytes>, SendFault>
+        ensures taken { Takes send_fault.Memory result self.old self.new (send_of self.old id body) }
+        ensures refused { IfErr (send_of self.old id body).answer (λ fault. result ≡ Err fault) }
     {
         if is_too_large(&self.agreed, body.len()) {
             return Err(SendFault::TooLarge);
@@ -290,7 +298,7 @@ impl Channel {
             sequence_number: sequence_number_after(self.sent),
             request_id: id,
         };
-        let (chunks, sent) = cut(alloc, ChunkType::Final, header, room(&self.agreed), body)?;
+        let (chunks, sent) = cut_up(alloc, header, room(&self.agreed), body)?;
         self.sent = sent;
         Ok(chunks)
     }

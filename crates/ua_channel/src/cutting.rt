@@ -1,7 +1,11 @@
 //! Messages cut into chunks.
 
-ghost use Rattle.std.specs.Prelude.{◌≡◌, ◌<◌, ◌≤◌, ◌+◌, ◌^◌, ℕ, length, false, IfOk};
-ghost use Rattle.ua_tcp.specs.Encoding.{frame_encoding};
+ghost use Rattle.std.specs.Prelude.{◌≡◌, ◌<◌, ◌≤◌, ◌+◌, ◌^◌, ◌∷◌, ◌++◌, ℕ, length, false, IfOk};
+ghost use Rattle.std.specs.Int.{w32, to_le_bytes};
+ghost use Rattle.ua_tcp.specs.Encoding.{frame_encoding, letters_of, letter_of};
+ghost use Rattle.ua_tcp.specs.declared.frame.MessageType.TheVariants.{Message};
+ghost use Rattle.ua_tcp.specs.declared.frame.ChunkType.TheVariants.{Final};
+ghost use Rattle.ua_channel.specs.Headers.{chunk_header_encoding};
 ghost use Rattle.ua_channel.specs.Cutting.{chunk_encoding, cut_of, is_too_large as is_too_large_spec, exceeds as exceeds_spec, opening_frame, opening_header_by, is_opening_too_large as is_opening_too_large_spec};
 
 use crate::headers::{ChunkHeader, FRAME_HEADER_SIZE, OPENING_FRAME_HEADER_SIZE, OpeningHeader};
@@ -9,6 +13,7 @@ use crate::sequence_numbers::sequence_number_after;
 use bytes::Bytes;
 use std::alloc::{AllocError, Global};
 use ua_binary::Wire;
+use ua_messages::{HEAD_SIZE, MessageBody};
 use ua_tcp::{Agreed, ChunkType};
 use ua_types::Listed;
 
@@ -61,6 +66,76 @@ pub fn cut(
     }
     chunks.push(chunk(alloc, &header, last, rest)?)?;
     Ok((Listed::from_vec(chunks), header.sequence_number))
+}
+
+/// The chunks of a body that is given away, and the sequence number of the last of them. Where one chunk holds the body, it
+/// is sent from where it was written, and none of it is copied.
+#[tactic(auto, using(crate::proofs::CuttingLemmas::cut_last))]
+pub(crate) fn cut_up(
+    alloc: Global,
+    first: ChunkHeader,
+    room: usize,
+    body: MessageBody,
+) -> Result<(Listed<Bytes>, u32), AllocError>
+    requires some { 0 < room }
+    requires small { room + 24 < 2 ^ 32 }
+    ensures cut { IfOk result (λ cut. record { chunks = cut.0; sent = cut.1 } ≡ cut_of Final first room body) }
+    ensures sent { first.sequence_number ≤ 4294966272 → IfOk result (λ cut. cut.1 ≤ 4294966272) }
+{
+    if body.len() > room {
+        return cut(alloc, ChunkType::Final, first, room, body.as_slice());
+    }
+    let mut chunks = Vec::new(alloc);
+    chunks.push(only_chunk(&first, body)?)?;
+    Ok((Listed::from_vec(chunks), first.sequence_number))
+}
+
+// The one chunk of a body.
+#[tactic(auto, using(crate::proofs::HeaderLemmas::encoding_length, crate::proofs::HeaderLemmas::head_before))]
+fn only_chunk(header: &ChunkHeader, body: MessageBody) -> Result<Bytes, AllocError>
+    requires { length body + 24 < 2 ^ 32 }
+    ensures { IfOk result (λ chunk. chunk ≡ chunk_encoding header.now Final body) }
+{
+    let head = head(header, (HEAD_SIZE + body.len()) as u32);
+    body.into_frame(&head)
+}
+
+// What stands before the body in its one chunk, which has this size.
+#[tactic(auto, unfolding(crate::specs::Headers::chunk_header_encoding, ua_binary::specs::Numbers::number_encoding))]
+fn head(header: &ChunkHeader, size: u32) -> [u8; HEAD_SIZE]
+    ensures { result ≡ letters_of Message ++ (letter_of Final ∷ (to_le_bytes w32 size ++ chunk_header_encoding header.now)) }
+{
+    let size = size.to_le_bytes();
+    let channel = header.channel_id.to_le_bytes();
+    let token = header.token_id.to_le_bytes();
+    let sequence = header.sequence_number.to_le_bytes();
+    let request = header.request_id.to_le_bytes();
+    [
+        b'M',
+        b'S',
+        b'G',
+        b'F',
+        size[0],
+        size[1],
+        size[2],
+        size[3],
+        channel[0],
+        channel[1],
+        channel[2],
+        channel[3],
+        token[0],
+        token[1],
+        token[2],
+        token[3],
+        sequence[0],
+        sequence[1],
+        sequence[2],
+        sequence[3],
+        request[0],
+        request[1],
+        request[2],
+        request[3],
+    ]
 }
 
 /// A MSG of this type with this part of a body.

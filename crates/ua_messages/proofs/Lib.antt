@@ -1,3 +1,5 @@
 pub mod BodiesAgain
 pub mod ResultLemmas
+pub mod RoomLemmas
 pub mod StructuresAgain
+pub mod SizedLemmas

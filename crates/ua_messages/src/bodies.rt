@@ -5,6 +5,7 @@ ghost use Rattle.ua_binary.specs.declared.fault.TakeFault.TheVariants.{Memory};
 ghost use Rattle.ua_types.specs.Answers.{Gives};
 ghost use Rattle.ua_messages.specs.Bodies.{message_id_of, message_of, body_encoding};
 
+use crate::message_body::MessageBody;
 use std::alloc::{AllocError, Global};
 use ua_binary::{Cursor, TakeFault, Wire};
 use ua_types::NodeId;
@@ -95,13 +96,13 @@ pub fn received<T: Walk>(alloc: Global, body: &[u8]) -> Result<T, TakeFault>
 
 /// The body of a message: the id with this number in namespace 0, and then the fields.
 #[tactic(auto, using(crate::proofs::BodiesAgain::message_again, crate::proofs::BodiesAgain::id_again))]
-pub fn body<T: Wire>(alloc: Global, type_id: u32, message: &T) -> Result<Vec<u8>, AllocError>
-    ensures ok { IfOk result (λ bytes. bytes.items ≡ body_encoding T.encoding type_id message.now) }
-    ensures again { IfOk result (λ bytes. message_of T.reading bytes.items ≡ Ok message.now) }
-    ensures id { IfOk result (λ bytes. message_id_of bytes.items ≡ Ok type_id) }
+pub fn body<T: Wire>(alloc: Global, type_id: u32, message: &T) -> Result<MessageBody, AllocError>
+    ensures ok { IfOk result (λ body. body ≡ body_encoding T.encoding type_id message.now) }
+    ensures again { IfOk result (λ body. message_of T.reading body ≡ Ok message.now) }
+    ensures id { IfOk result (λ body. message_id_of body ≡ Ok type_id) }
 {
-    let mut out = Vec::new(alloc);
-    NodeId::numeric(0, type_id).encode(&mut out)?;
-    message.encode(&mut out)?;
-    Ok(out)
+    let mut body = MessageBody::new(alloc)?;
+    body.write(&NodeId::numeric(0, type_id))?;
+    body.write(message)?;
+    Ok(body)
 }

@@ -6,11 +6,12 @@
 //! [`ua_binary::Wire`]: its *reading* and its *encoding* in `specs/` are that list of fields, and the
 //! trait says that what is written is read again. A *body* is the id of a message's encoding, and then
 //! the message. [`message_id`] tells which message a body holds, [`message`] reads it, [`body`] writes
-//! one, and [`fault`] writes the answer to a request that failed. [`Results`] is the response that has one
+//! one, and [`fault`] writes the answer to a request that failed; both give a [`MessageBody`], which has room for what stands
+//! before it in a frame. [`Results`] is the response that has one
 //! result for each thing asked for, and [`results_body`] writes it from results that stand elsewhere.
-//! [`structure`] reads what an ExtensionObject holds, and [`extension_object`] makes one. A server reads what a client
-//! sent by [`received`] and [`received_structure`], which answer a fault also where there is no memory: the types that
-//! clients send are [`ua_walks::Walk`] too.
+//! [`structure`] reads what an ExtensionObject holds, [`extension_object`] makes one, and [`write_structure`] writes one
+//! into the message that it stands in. A server reads what a client sent by [`received`] and [`received_structure`],
+//! which answer a fault also where there is no memory: the types that clients send are [`ua_walks::Walk`] too.
 //!
 //! Nothing here decides anything: no field is judged beyond its form, no session is looked up, and no
 //! clock is read. Frames and chunks are other crates' work.
@@ -26,12 +27,14 @@ mod enumerations;
 mod get_endpoints;
 mod headers;
 pub mod laws;
+mod message_body;
 mod read_value_ids;
 mod results;
 mod secure_channels;
 mod security_policies;
 mod service_faults;
 mod structures;
+mod structures_in_place;
 pub mod type_ids;
 
 pub use bodies::{body, message, message_id, received};
@@ -43,6 +46,7 @@ pub use enumerations::{
 };
 pub use get_endpoints::{GetEndpointsRequest, GetEndpointsResponse};
 pub use headers::{RequestHeader, ResponseHeader};
+pub use message_body::{HEAD_SIZE, MessageBody};
 pub use read_value_ids::ReadValueId;
 pub use results::{Results, results_body};
 pub use secure_channels::{
@@ -53,3 +57,4 @@ pub use service_faults::{ServiceFault, fault};
 pub use structures::{
     StructureFault, extension_object, is_structure, object_of_bytes, received_structure, structure,
 };
+pub use structures_in_place::write_structure;

@@ -6,8 +6,9 @@ ghost use Rattle.ua_messages.specs.ResultLists.{results_reading, results_encodin
 
 use crate::diagnostics::DiagnosticInfos;
 use crate::headers::ResponseHeader;
+use crate::message_body::MessageBody;
 use std::alloc::{AllocError, Global};
-use ua_binary::{Cursor, TakeFault, Wire, Written, write_list};
+use ua_binary::{Cursor, TakeFault, Wire, Written};
 use ua_types::{Array, NodeId};
 
 /// A response with one result for each thing that its request names, in the order of the request
@@ -49,14 +50,14 @@ pub fn results_body<W: Written>(
     type_id: u32,
     response_header: &ResponseHeader,
     results: &[W],
-) -> Result<Vec<u8>, AllocError>
+) -> Result<MessageBody, AllocError>
     requires { length results.now < 2 ^ 31 }
-    ensures { IfOk result (λ bytes. bytes.items ≡ body_encoding (results_encoding W.encoding) type_id (results_of response_header.now results.now)) }
+    ensures { IfOk result (λ body. body ≡ body_encoding (results_encoding W.encoding) type_id (results_of response_header.now results.now)) }
 {
-    let mut out = Vec::new(alloc);
-    NodeId::numeric(0, type_id).encode(&mut out)?;
-    response_header.encode(&mut out)?;
-    write_list(results, &mut out)?;
-    DiagnosticInfos.encode(&mut out)?;
-    Ok(out)
+    let mut body = MessageBody::new(alloc)?;
+    body.write(&NodeId::numeric(0, type_id))?;
+    body.write(response_header)?;
+    body.write_list(results)?;
+    body.write(&DiagnosticInfos)?;
+    Ok(body)
 }

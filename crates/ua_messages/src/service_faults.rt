@@ -5,6 +5,7 @@ ghost use Rattle.ua_messages.specs.ServiceFaults.{service_fault_reading, service
 
 use crate::bodies::body;
 use crate::headers::ResponseHeader;
+use crate::message_body::MessageBody;
 use crate::type_ids::SERVICE_FAULT;
 use std::alloc::{AllocError, Global};
 use ua_binary::{Cursor, TakeFault, Wire};
@@ -41,8 +42,8 @@ pub fn fault(
     handle: u32,
     status: Status,
     moment: Moment,
-) -> Result<Vec<u8>, AllocError>
-    ensures { IfOk result (λ bytes. bytes.items ≡ fault_body handle status moment) }
+) -> Result<MessageBody, AllocError>
+    ensures { IfOk result (λ body. body ≡ fault_body handle status moment) }
 {
     let response_header = ResponseHeader::new(handle, status, moment);
     body(alloc, SERVICE_FAULT, &ServiceFault { response_header })

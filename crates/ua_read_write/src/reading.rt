@@ -15,8 +15,7 @@ use crate::answer::{Answer, copied, refused};
 use crate::attributes::{Attribute, attribute_at};
 use crate::timestamps::Timestamps;
 use std::alloc::{AllocError, Global};
-use ua_binary::{Wire, Written};
-use ua_messages::{DiagnosticInfos, ReadValueId, ResponseHeader, type_ids};
+use ua_messages::{DiagnosticInfos, MessageBody, ReadValueId, ResponseHeader, type_ids};
 use ua_space::Space;
 use ua_types::{Moment, NodeId, Status, Text};
 use ua_values::DataValue;
@@ -120,14 +119,14 @@ fn write_answers(
     clock: Moment,
     timestamps: Timestamps,
     requests: &[ReadValueId],
-    out: &mut Vec<u8>,
+    body: &mut MessageBody,
 ) -> Result<(), AllocError>
     requires { length requests.now < 2 ^ 31 }
-    ensures { OnOk result (out.new.items ≡ out.old.items ++ array_encoding data_value_encoding (Some (all_read space.now.nodes clock timestamps requests.now))) }
+    ensures { OnOk result (body.new ≡ body.old ++ array_encoding data_value_encoding (Some (all_read space.now.nodes clock timestamps requests.now))) }
 {
-    (requests.len() as u32).encode(out)?;
+    body.write(&(requests.len() as u32))?;
     for request in requests {
-        read(space, clock, timestamps, request).write(out)?;
+        body.write(&read(space, clock, timestamps, request))?;
     }
     Ok(())
 }
@@ -142,15 +141,15 @@ pub fn read_body(
     timestamps: Timestamps,
     response_header: &ResponseHeader,
     requests: &[ReadValueId],
-) -> Result<Vec<u8>, AllocError>
+) -> Result<MessageBody, AllocError>
     requires { length requests.now < 2 ^ 31 }
-    ensures { IfOk result (λ bytes. bytes.items ≡ body_encoding (results_encoding data_value_encoding) READ_RESPONSE
+    ensures { IfOk result (λ body. body ≡ body_encoding (results_encoding data_value_encoding) READ_RESPONSE
         (results_of response_header.now (all_read space.now.nodes clock timestamps requests.now))) }
 {
-    let mut out = Vec::new(alloc);
-    NodeId::numeric(0, type_ids::READ_RESPONSE).encode(&mut out)?;
-    response_header.encode(&mut out)?;
-    write_answers(space, clock, timestamps, requests, &mut out)?;
-    DiagnosticInfos.encode(&mut out)?;
-    Ok(out)
+    let mut body = MessageBody::new(alloc)?;
+    body.write(&NodeId::numeric(0, type_ids::READ_RESPONSE))?;
+    body.write(response_header)?;
+    write_answers(space, clock, timestamps, requests, &mut body)?;
+    body.write(&DiagnosticInfos)?;
+    Ok(body)
 }

@@ -1,13 +1,12 @@
 //! The service HistoryRead, and the reading of raw values by it.
 
-ghost use Rattle.std.specs.Prelude.{◌≡◌, ◌<◌, ◌^◌, length, Some, IfOk, ⊤};
-ghost use Rattle.ua_messages.specs.declared.type_ids.TheConstants.{HISTORY_DATA};
-ghost use Rattle.ua_messages.specs.Structures.{object_around};
+ghost use Rattle.std.specs.Prelude.{◌≡◌, ◌<◌, ◌^◌, length, Some, ⊤};
 ghost use Rattle.ua_service_messages.specs.History.{read_raw_modified_details_reading, read_raw_modified_details_encoding, history_data_reading, history_data_encoding, history_read_value_id_reading, history_read_value_id_encoding, history_read_request_reading, history_read_request_encoding, history_read_result_reading, history_read_result_encoding};
 
 use std::alloc::{AllocError, Global};
-use ua_binary::{BorrowedDataValue, Cursor, TakeFault, Wire, write_list};
-use ua_messages::{RequestHeader, Results, TimestampsToReturn, object_of_bytes, type_ids};
+use std::marker::Model;
+use ua_binary::{BorrowedDataValue, Cursor, TakeFault, Wire, Written, write_list};
+use ua_messages::{RequestHeader, Results, TimestampsToReturn};
 use ua_types::{Array, ByteString, ExtensionObject, Moment, NodeId, QualifiedName, Status, Text};
 use ua_values::DataValue;
 use ua_walks::Walk;
@@ -92,18 +91,44 @@ impl Wire for HistoryData {
     }
 }
 
-/// An object that holds [`HistoryData`] of these values, which are written where they stand.
-#[tactic(auto, unfolding(crate::specs::History::history_data_encoding))]
-pub fn history_data_object(
-    alloc: Global,
-    values: &[BorrowedDataValue<'_>],
-) -> Result<ExtensionObject, AllocError>
-    requires { length values.now < 2 ^ 31 }
-    ensures { IfOk result (λ object. object ≡ object_around HISTORY_DATA (history_data_encoding (record { data_values = Some values.now }))) }
-{
-    let mut bytes = Vec::new(alloc);
-    write_list(values, &mut bytes)?;
-    object_of_bytes(type_ids::HISTORY_DATA, bytes)
+/// [`HistoryData`] of values that stand elsewhere, to be written from there. Contracts see the HistoryData.
+#[derive(Debug, Drop)]
+pub struct BorrowedHistoryData<'a> {
+    // Fewer than 2^31, as many as can be spelled.
+    values: Vec<BorrowedDataValue<'a>>,
+}
+
+impl<'a> Model for BorrowedHistoryData<'a> {
+    ghost use Rattle.std.specs.Prelude.{Some, length, ◌<◌, ◌^◌};
+    ghost use Rattle.ua_service_messages.specs.declared.history.HistoryData.{HistoryData};
+
+    ghost Value = { HistoryData };
+
+    ghost view = { λ d. record { data_values = Some d.values.items } };
+
+    ghost invariant = { λ d. length d.values.items < 2 ^ 31 };
+}
+
+impl<'a> BorrowedHistoryData<'a> {
+    /// That of these values.
+    pub fn new(values: Vec<BorrowedDataValue<'a>>) -> BorrowedHistoryData<'a>
+        requires { length values.items < 2 ^ 31 }
+        ensures { result ≡ record { data_values = Some values.entry.items } }
+    {
+        BorrowedHistoryData { values }
+    }
+}
+
+#[tactic(auto, using(ua_binary::proofs::Fields::fields1), unfolding(crate::specs::History::history_data_reading, crate::specs::History::history_data_encoding))]
+impl Written for BorrowedHistoryData<'_> {
+    ghost reading = { history_data_reading };
+
+    ghost encoding = { history_data_encoding };
+
+    fn write(&self, out: &mut Vec<u8>) -> Result<(), AllocError> {
+        write_list(&self.values, out)?;
+        Ok(())
+    }
 }
 
 /// A node, and where in its history to go on (HistoryReadValueId, IEC 62541-4, section 5, HistoryRead).

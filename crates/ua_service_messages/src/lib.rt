@@ -24,8 +24,8 @@ pub use browsing::{
     BrowseResponse, BrowseResult, ReferenceDescription,
 };
 pub use history::{
-    HistoryData, HistoryReadRequest, HistoryReadResponse, HistoryReadResult, HistoryReadValueId,
-    ReadRawModifiedDetails, history_data_object,
+    BorrowedHistoryData, HistoryData, HistoryReadRequest, HistoryReadResponse, HistoryReadResult,
+    HistoryReadValueId, ReadRawModifiedDetails,
 };
 pub use reading::{ReadRequest, ReadResponse};
 pub use sessions::{

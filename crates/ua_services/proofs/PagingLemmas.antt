@@ -1,6 +1,9 @@
 -- Things that are asked for, done one after the other with a session's continuation points.
-use Rattle.std.proofs.Common.{◌≡◌, ℕ, ◌≤◌, ◌^◌, Bool, true, false, if◌then◌else◌, List, [], ◌∷◌, ◌++◌, Option, Some, None, is_some, Result, Ok, Err, refl, sym, ap, subst, ◌∙◌, arith}
-use Rattle.std.specs.List.{fold, list_any}
+use Rattle.std.proofs.Common.{◌≡◌, ℕ, ◌≤◌, ◌^◌, ◌+◌, length, Bool, true, false, if◌then◌else◌, List, [], ◌∷◌, ◌++◌, Option, Some, None, is_some, Result, Ok, Err, refl, sym, ap, subst, ◌∙◌, arith, append_assoc}
+use Rattle.std.specs.Int.{w32}
+use Rattle.std.proofs.lemmas.List.{length-append, append-nil}
+use Rattle.std.proofs.lemmas.Grind.{flat_map-append}
+use Rattle.std.specs.List.{fold, flat_map, list_any}
 use Rattle.std.specs.Prelude.{◌&&◌, not}
 use Rattle.std.proofs.lemmas.Bool.{false≢true, leb-true, le-leb}
 use Rattle.std.specs.Borrow.{MutBor}
@@ -9,6 +12,13 @@ use Rattle.std.specs.Ordering.{nat_cmp}
 use Rattle.std.specs.FinMap.{FinMap, get, insert}
 use Rattle.ua_types.proofs.NumberMaps.{insert_removed, remove_given, get_inserted}
 use Rattle.ua_types.specs.Answers.{Step}
+use Rattle.ua_types.specs.NodeIds.{numeric_id}
+use Rattle.ua_binary.specs.Arrays.{array_encoding}
+use Rattle.ua_binary.specs.NodeIds.{node_id_encoding}
+use Rattle.ua_binary.specs.Numbers.{number_encoding}
+use Rattle.ua_messages.specs.Diagnostics.{diagnostic_infos_encoding}
+use Rattle.ua_messages.specs.Headers.{plain_header, response_header_encoding}
+use Rattle.ua_messages.specs.ResultLists.{results_encoding}
 use Rattle.ua_types.specs.declared.refusal.Refusal.{Refusal}
 use Rattle.ua_types.specs.declared.refusal.Refusal.TheVariants as refusals
 use Rattle.ua_types.specs.declared.status.Status.{Status}
@@ -18,7 +28,7 @@ use Rattle.server_messages.specs.declared.halt.Halt.{Halt}
 use Rattle.server_messages.specs.declared.halt.Halt.TheVariants.{Memory, Exhausted}
 use Rattle.server_messages.specs.declared.served.Served.{Served}
 use Rattle.server_messages.specs.declared.setting.Setting.{Setting}
-use Rattle.ua_services.specs.Paging.{Done, AllDone, told_as, with_one, all_done, Rises, paged, results_body_of, spent_by_points, Tells, DoesOne, DoesAll}
+use Rattle.ua_services.specs.Paging.{Done, AllDone, told_as, with_one, all_done, Rises, paged, results_head_of, results_body_of, spent_by_points, Tells, Halts, DoesOne}
 use Rattle.ua_services.specs.Serving.{Given, Judges, refusal_by, given, given_of, is_spent, replied, reply_of, rows_of}
 use Rattle.ua_services.specs.Serving.Occurrence.{Spent}
 use Rattle.ua_services.specs.ServicesState.{Services}
@@ -28,21 +38,24 @@ use Rattle.ua_services.specs.declared.unserved.Unserved.TheVariants.{Halted}
 
 -- ---- one thing
 
-module _ {P R : Type 0} (tell : Result P Status → R) where
+module _ {P R : Type 0} (encoding : R → List ℕ) (tell : Result P Status → R) (before after : List ℕ) where
   -- a status is told, and a halt is no result
-  pub tells_status : (told : R) (refusal : Refusal) (code : Status) → refusal ≡ refusal_by (Ok code) → told ≡ tell (Err code) → Tells tell (Ok told) (Err refusal)
-  tells_status told refusal code is e = subst (λ (r : Refusal). Tells tell (Ok told) (Err r)) (sym is) e
+  pub tells_status : (refusal : Refusal) (code : Status) → refusal ≡ refusal_by (Ok code) → after ≡ before ++ encoding (tell (Err code)) → Tells encoding tell (Ok tt) before after (Err refusal)
+  tells_status refusal code is e = subst (λ (r : Refusal). Tells encoding tell (Ok tt) before after (Err r)) (sym is) e
 
-  pub tells_halt : (halt : Halt) (refusal : Refusal) → refusal ≡ refusal_by (Err halt) → Tells tell (Err halt) (Err refusal)
+  pub tells_halt : (halt : Halt) (refusal : Refusal) → refusal ≡ refusal_by (Err halt) → Tells encoding tell (Err halt) before after (Err refusal)
   tells_halt Memory refusal is = tt
   tells_halt Exhausted refusal is = ap (λ (r : Refusal). let answer : Result P Refusal = Err r in answer) is
 
+  told_alike : (a b : Result P Status) → a ≡ b → after ≡ before ++ encoding (tell a) → after ≡ before ++ encoding (tell b)
+  told_alike a b e h = h ∙ ap (λ (x : Result P Status). before ++ encoding (tell x)) e
+
   -- what a call answered, told as a result
-  pub does_one : (told : Result R Halt) (answer : Result P Refusal) (old new : PointsState) (said : Step P Status PointsState) → Tells tell told answer → TakesSerial answer old new said → DoesOne told old new (told_as tell said)
-  does_one (Ok told) (Ok page) old new said t h = (t ∙ ap (λ (s : Step P Status PointsState). tell s.answer) (sym h.0), ap (λ (s : Step P Status PointsState). s.state) (sym h.0), h.1)
-  does_one (Ok told) (Err (refusals.Service code)) old new said t h = (t ∙ ap (λ (s : Step P Status PointsState). tell s.answer) (sym h.0), ap (λ (s : Step P Status PointsState). s.state) (sym h.0), h.1)
-  does_one (Ok told) (Err refusals.Memory) old new said t h = absurd t
-  does_one (Ok told) (Err refusals.Exhausted) old new said t h = absurd t
+  pub does_one : (told : Result (Unit {0}) Halt) (answer : Result P Refusal) (old new : PointsState) (said : Step P Status PointsState) → Tells encoding tell told before after answer → TakesSerial answer old new said → DoesOne encoding told before after old new (told_as tell said)
+  does_one (Ok done) (Ok page) old new said t h = (told_alike (Ok page) said.answer (ap (λ (s : Step P Status PointsState). s.answer) (sym h.0)) t, ap (λ (s : Step P Status PointsState). s.state) (sym h.0), h.1)
+  does_one (Ok done) (Err (refusals.Service code)) old new said t h = (told_alike (Err code) said.answer (ap (λ (s : Step P Status PointsState). s.answer) (sym h.0)) t, ap (λ (s : Step P Status PointsState). s.state) (sym h.0), h.1)
+  does_one (Ok done) (Err refusals.Memory) old new said t h = absurd t
+  does_one (Ok done) (Err refusals.Exhausted) old new said t h = absurd t
   does_one (Err Memory) answer old new said t h = tt
   does_one (Err Exhausted) answer old new said t h = let spent = subst (λ (a : Result P Refusal). TakesSerial a old new said) t h in (spent.1, spent.0)
 
@@ -67,11 +80,37 @@ module _ {A R : Type 0} (f : PointsState → A → Done R) where
   earlier_in_range : (old later : PointsState) → old.made ≤ later.made → is_overspent later ≡ false → is_overspent old ≡ false
   earlier_in_range old later rises in_range = not_true (is_overspent old) (λ spent. false≢true (sym in_range ∙ overspent_later old later rises spent))
 
+  -- each has its result
+  fold_counted : (xs : List A) (b : AllDone R) → length (fold (with_one f) b xs).results ≡ length b.results + length xs
+  fold_counted [] b = omega arith
+  fold_counted (x ∷ xs) b =
+      let rest = fold_counted xs (with_one f b x) in
+      let one = length-append b.results ((f b.points x).result ∷ []) in
+      omega (arith, rest, one)
+
+  pub all_counted : (points : PointsState) (xs : List A) → length (all_done f points xs).results ≡ length xs
+  all_counted points xs = let n = fold_counted xs (record { results = []; points = points }) in omega (arith, n)
+
+  -- what is written of those so far, and then of one more
+  pub written_more : (encoding : R → List ℕ) (points : PointsState) (before : List A) (x : A) (front : List ℕ) →
+      (front ++ flat_map encoding (all_done f points before).results) ++ encoding (f (all_done f points before).points x).result
+      ≡ front ++ flat_map encoding (all_done f points (before ++ x ∷ [])).results
+  written_more encoding points before x front =
+      let b = all_done f points before in
+      let r = (f b.points x).result in
+      append_assoc front (flat_map encoding b.results) (encoding r)
+      ∙ ap (λ bytes. front ++ (flat_map encoding b.results ++ bytes)) (sym (append-nil (encoding r)))
+      ∙ ap (λ bytes. front ++ bytes) (sym (flat_map-append encoding b.results (r ∷ [])))
+      ∙ ap (λ (after : AllDone R). front ++ flat_map encoding after.results) (sym (fold_joined before (x ∷ []) (record { results = []; points = points })))
+
+  pub points_after : (points : PointsState) (before : List A) (x : A) → (f (all_done f points before).points x).points ≡ (all_done f points (before ++ x ∷ [])).points
+  points_after points before x = ap (λ (after : AllDone R). after.points) (sym (fold_joined before (x ∷ []) (record { results = []; points = points })))
+
   -- a halt at one thing, after those before it, is one of all
-  pub halts_all : Rises f → (halt : Halt) (points new : PointsState) (before : List A) (x : A) (rest all : List A) → before ++ x ∷ rest ≡ all →
-      DoesOne (Err halt) (all_done f points before).points new (f (all_done f points before).points x) → DoesAll (Err halt) points new (all_done f points all)
-  halts_all rises Memory points new before x rest all is h = tt
-  halts_all rises Exhausted points new before x rest all is h =
+  pub halts_all : Rises f → (halt : Halt) (points : PointsState) (before : List A) (x : A) (rest all : List A) → before ++ x ∷ rest ≡ all →
+      Halts halt (all_done f points before).points (f (all_done f points before).points x).points → Halts halt points (all_done f points all).points
+  halts_all rises Memory points before x rest all is h = tt
+  halts_all rises Exhausted points before x rest all is h =
       let b = all_done f points before in
       let later = fold_rises rises rest (with_one f b x) in (
         earlier_in_range points b.points (fold_rises rises before (record { results = []; points = points })) h.0,
@@ -116,6 +155,18 @@ past_range_spend_one true after b a = absurd (false≢true (sym b))
 past_range_spend_one false true b a = refl
 past_range_spend_one false false b a = a
 
+-- the head, the results and what stands behind them are the whole body
+whole : (id header count results infos : List ℕ) → (((id ++ header) ++ count) ++ results) ++ infos ≡ id ++ ((header ++ (count ++ results)) ++ infos)
+whole id header count results infos = simp append_assoc
+
+pub body_written : {R : Type 0} (encoding : R → List ℕ) (setting : Setting) (caller : Caller) (type_id count : ℕ) (results : List R) → length results ≡ count →
+    (results_head_of setting caller type_id count ++ flat_map encoding results) ++ diagnostic_infos_encoding (record {}) ≡ results_body_of encoding setting caller type_id results
+unfolding results_encoding array_encoding
+body_written encoding setting caller type_id count results e =
+    let header = plain_header caller.handle (record { 0 = 0 }) setting.clock in
+    whole (node_id_encoding (numeric_id 0 type_id)) (response_header_encoding header) (number_encoding w32 count) (flat_map encoding results) (diagnostic_infos_encoding (record {}))
+    ∙ ap (λ n. node_id_encoding (numeric_id 0 type_id) ++ ((response_header_encoding header ++ (number_encoding w32 n ++ flat_map encoding results)) ++ diagnostic_infos_encoding (record {}))) (sym e)
+
 -- what was answered of all, and a halt in the middle
 module _ {R : Type 0} (encoding : R → List ℕ) (setting : Setting) (caller : Caller) (session type_id : ℕ) (state : Services) where
   pub served_all : (opened left : SessionsState) (served : Served) (b done : AllDone R)
@@ -135,6 +186,6 @@ module _ {R : Type 0} (encoding : R → List ℕ) (setting : Setting) (caller : 
       (sym (in_range_spend_none (is_overspent before) (is_overspent b.points) in_range))
       ∙ ap (λ x. given_of (paged encoding setting caller session type_id state x)) all
 
-  pub halted_all : (after : Services) (halt : Halt) (new : PointsState) (said : AllDone R) → DoesAll (Err halt) (points_of state.sessions session) new said → Judges setting caller (Err (Halted halt)) after (paged encoding setting caller session type_id state said)
-  halted_all after Memory new said h = refl
-  halted_all after Exhausted new said h = past_range_spend_one (is_overspent (points_of state.sessions session)) (is_overspent said.points) h.0 h.1
+  pub halted_all : (after : Services) (halt : Halt) (said : AllDone R) → Halts halt (points_of state.sessions session) said.points → Judges setting caller (Err (Halted halt)) after (paged encoding setting caller session type_id state said)
+  halted_all after Memory said h = refl
+  halted_all after Exhausted said h = past_range_spend_one (is_overspent (points_of state.sessions session)) (is_overspent said.points) h.0 h.1

@@ -11,6 +11,7 @@ use Rattle.ua_values.specs.declared.data_value.DataValue.{DataValue}
 use Rattle.ua_messages.specs.Structures.{object_around}
 use Rattle.ua_messages.specs.declared.type_ids.TheConstants.{HISTORY_DATA}
 use Rattle.ua_service_messages.specs.History.{history_data_encoding}
+use Rattle.ua_service_messages.specs.declared.history.HistoryData.{HistoryData}
 use Rattle.ua_service_messages.specs.declared.history.HistoryReadResult.{HistoryReadResult}
 use Rattle.ua_read_write.specs.Reading.{source_time_of}
 use Rattle.ua_read_write.specs.Timestamps.{has_server}
@@ -26,8 +27,12 @@ abbrev pub shown : Timestamps → DataValue → DataValue
 shown timestamps v = record { value = v.value; status = v.status; source_time = source_time_of timestamps v; server_time = stored_time_of timestamps v }
 
 -- the HistoryData of values, also of none
-abbrev pub history_data_of : Timestamps → Values → ExtensionObject
-history_data_of timestamps values = object_around HISTORY_DATA (history_data_encoding (record { data_values = Some (map (λ e. shown timestamps e.1) values) }))
+abbrev pub history_data_of : Timestamps → Values → HistoryData
+history_data_of timestamps values = record { data_values = Some (map (λ e. shown timestamps e.1) values) }
+
+-- the object that holds it
+abbrev pub history_object_of : Timestamps → Values → ExtensionObject
+history_object_of timestamps values = object_around HISTORY_DATA (history_data_encoding (history_data_of timestamps values))
 
 abbrev pub no_data : ExtensionObject
 no_data = record { type_id = numeric_id 0 0; body = Absent }
@@ -39,7 +44,7 @@ status_alone code = record { status_code = code; continuation_point = None; hist
 -- a page with the point for the next one; what is refused has its status alone
 abbrev pub history_result_of : Timestamps → Result RawPage Status → HistoryReadResult
 history_result_of timestamps (Ok page) =
-    record { status_code = page.status; continuation_point = option_map (to_le_bytes w64) page.point; history_data = history_data_of timestamps page.values }
+    record { status_code = page.status; continuation_point = option_map (to_le_bytes w64) page.point; history_data = history_object_of timestamps page.values }
 history_result_of timestamps (Err code) = status_alone code
 
 -- a point that was given up

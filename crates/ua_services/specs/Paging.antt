@@ -1,13 +1,17 @@
 -- What the services with continuation points share: things that are asked for are done one after the other, with the points that
 -- those before them left.
 use Rattle.std.specs.Prelude.{◌≡◌, ◌≤◌, ⊤, ℕ, ◌&&◌, not, true, false, List, [], ◌∷◌, ◌++◌, Result, Ok, Err, if◌then◌else◌}
-use Rattle.std.specs.List.{fold}
+use Rattle.std.specs.List.{fold, flat_map}
 use Rattle.ua_types.specs.Answers.{Step}
 use Rattle.ua_types.specs.declared.refusal.Refusal.{Refusal}
 use Rattle.ua_types.specs.declared.refusal.Refusal.TheVariants as refusals
 use Rattle.ua_types.specs.declared.status.Status.{Status}
+use Rattle.std.specs.Int.{w32}
+use Rattle.ua_types.specs.NodeIds.{numeric_id}
+use Rattle.ua_binary.specs.NodeIds.{node_id_encoding}
+use Rattle.ua_binary.specs.Numbers.{number_encoding}
 use Rattle.ua_messages.specs.Bodies.{body_encoding}
-use Rattle.ua_messages.specs.Headers.{plain_header}
+use Rattle.ua_messages.specs.Headers.{plain_header, response_header_encoding}
 use Rattle.ua_messages.specs.ResultLists.{results_encoding, results_of}
 use Rattle.ua_session.specs.Points.{PointsState, GivesInRange, is_overspent}
 use Rattle.ua_session.specs.Sessions.{points_of, with_points}
@@ -54,6 +58,11 @@ Rises {A = A} f = (points : PointsState) (x : A) → points.made ≤ (f points x
 
 -- ---- the answer
 
+-- what stands before the results of so many things, and behind them
+abbrev pub results_head_of : Setting → Caller → ℕ → ℕ → List ℕ
+results_head_of setting caller type_id count =
+    node_id_encoding (numeric_id 0 type_id) ++ response_header_encoding (plain_header caller.handle (record { 0 = 0 }) setting.clock) ++ number_encoding w32 count
+
 abbrev pub results_body_of : {R : Type 0} → (R → List ℕ) → Setting → Caller → ℕ → List R → List ℕ
 results_body_of encoding setting caller type_id results =
     body_encoding (results_encoding encoding) type_id (results_of (plain_header caller.handle (record { 0 = 0 }) setting.clock) results)
@@ -73,23 +82,27 @@ paged encoding setting caller session type_id state done = record {
 
 -- ---- words of the contracts
 
--- a result tells what a call answered, unless memory ran out, or serials did in that call
-abbrev pub Tells : {P R : Type 0} → (Result P Status → R) → Result R Halt → Result P Refusal → Type 0
-Tells tell (Ok told) (Ok page) = told ≡ tell (Ok page)
-Tells tell (Ok told) (Err (refusals.Service code)) = told ≡ tell (Err code)
-Tells tell (Ok told) (Err refusals.Memory) = ⊥
-Tells tell (Ok told) (Err refusals.Exhausted) = ⊥
-Tells tell (Err Memory) answer = ⊤
-Tells tell (Err Exhausted) answer = answer ≡ Err refusals.Exhausted
+-- the result that tells what a call answered is written behind what was, unless memory ran out, or serials did in that call
+abbrev pub Tells : {P R : Type 0} → (R → List ℕ) → (Result P Status → R) → Result (Unit {0}) Halt → (before after : List ℕ) → Result P Refusal → Type 0
+Tells encoding tell (Ok done) before after (Ok page) = after ≡ before ++ encoding (tell (Ok page))
+Tells encoding tell (Ok done) before after (Err (refusals.Service code)) = after ≡ before ++ encoding (tell (Err code))
+Tells encoding tell (Ok done) before after (Err refusals.Memory) = ⊥
+Tells encoding tell (Ok done) before after (Err refusals.Exhausted) = ⊥
+Tells encoding tell (Err Memory) before after answer = ⊤
+Tells encoding tell (Err Exhausted) before after answer = answer ≡ Err refusals.Exhausted
 
--- one thing is done as it is said, and no serial past the last one is given; unless memory ran out, or that is said to give one
-abbrev pub DoesOne : {R : Type 0} → Result R Halt → PointsState → PointsState → Done R → Type 0
-DoesOne (Ok told) old new said = (told ≡ said.result) × (new ≡ said.points) × GivesInRange old new
-DoesOne (Err Memory) old new said = ⊤
-DoesOne (Err Exhausted) old new said = (is_overspent old ≡ false) × (is_overspent said.points ≡ true)
+-- why nothing more is done: memory ran out, or that is said to give a serial past the last one
+abbrev pub Halts : Halt → PointsState → PointsState → Type 0
+Halts Memory old said = ⊤
+Halts Exhausted old said = (is_overspent old ≡ false) × (is_overspent said ≡ true)
 
--- all are done as they are said, and no serial past the last one is given; unless memory ran out, or they are said to give one
-abbrev pub DoesAll : {R : Type 0} → Result (List R) Halt → PointsState → PointsState → AllDone R → Type 0
-DoesAll (Ok results) old new said = (record { results = results; points = new } ≡ said) × GivesInRange old new
-DoesAll (Err Memory) old new said = ⊤
-DoesAll (Err Exhausted) old new said = (is_overspent old ≡ false) × (is_overspent said.points ≡ true)
+-- one thing is done as it is said, its result is written behind what was, and no serial past the last one is given; or the server
+-- halts
+abbrev pub DoesOne : {R : Type 0} → (R → List ℕ) → Result (Unit {0}) Halt → (before after : List ℕ) → (old new : PointsState) → Done R → Type 0
+DoesOne encoding (Ok done) before after old new said = (after ≡ before ++ encoding said.result) × (new ≡ said.points) × GivesInRange old new
+DoesOne encoding (Err halt) before after old new said = Halts halt old said.points
+
+-- all are done as they are said, and their results are written one behind the other
+abbrev pub DoesAll : {R : Type 0} → (R → List ℕ) → Result (Unit {0}) Halt → (before after : List ℕ) → (old new : PointsState) → AllDone R → Type 0
+DoesAll encoding (Ok done) before after old new said = (after ≡ before ++ flat_map encoding said.results) × (new ≡ said.points) × GivesInRange old new
+DoesAll encoding (Err halt) before after old new said = Halts halt old said.points

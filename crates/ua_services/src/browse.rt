@@ -7,7 +7,7 @@ ghost use Rattle.ua_services.specs.Browse.{browse_meaning};
 ghost use Rattle.ua_services.specs.BrowseResults.{browse_told};
 ghost use Rattle.ua_services.specs.RisingSerials.{browse_rises};
 
-use crate::browse_results::told;
+use crate::browse_results::tell;
 use crate::caller::Caller;
 use crate::operations::into_operations;
 use crate::paging::{Pages, serve_pages};
@@ -18,7 +18,7 @@ use server_messages::{Halt, Served, Setting};
 use std::alloc::Global;
 use ua_browse::{browse, page_size};
 use ua_history::History;
-use ua_messages::type_ids;
+use ua_messages::{MessageBody, type_ids};
 use ua_service_messages::{BrowseDescription, BrowseRequest, BrowseResult};
 use ua_session::Points;
 use ua_space::Space;
@@ -57,8 +57,10 @@ impl Pages for FirstPages {
         _history: &History,
         points: &mut Points,
         description: BrowseDescription,
-    ) -> Result<BrowseResult, Halt> {
-        told(alloc, browse(alloc, space, points, self.size, description))
+        body: &mut MessageBody,
+    ) -> Result<(), Halt> {
+        let page = browse(alloc, space, points, self.size, description);
+        tell(alloc, page, body)
     }
 
     ghost rises = { λ pages space history. browse_rises space pages.size };

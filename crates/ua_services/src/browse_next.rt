@@ -8,7 +8,7 @@ ghost use Rattle.ua_services.specs.BrowseNext.{emptied, go_on_of, browse_next_me
 ghost use Rattle.ua_services.specs.BrowseResults.{browse_told};
 ghost use Rattle.ua_services.specs.RisingSerials.{go_on_rises};
 
-use crate::browse_results::told;
+use crate::browse_results::tell;
 use crate::caller::Caller;
 use crate::operations::into_operations;
 use crate::paging::{Pages, serve_pages};
@@ -19,7 +19,7 @@ use server_messages::{Halt, Served, Setting};
 use std::alloc::Global;
 use ua_browse::{Page, browse_next, release};
 use ua_history::History;
-use ua_messages::type_ids;
+use ua_messages::{MessageBody, type_ids};
 use ua_service_messages::{BrowseNextRequest, BrowseResult};
 use ua_session::{Points, point_serial};
 use ua_space::Space;
@@ -81,8 +81,10 @@ impl Pages for NextPages {
         _history: &History,
         points: &mut Points,
         point: ByteString,
-    ) -> Result<BrowseResult, Halt> {
-        told(alloc, go_on(alloc, space, points, self.is_release, &point))
+        body: &mut MessageBody,
+    ) -> Result<(), Halt> {
+        let page = go_on(alloc, space, points, self.is_release, &point);
+        tell(alloc, page, body)
     }
 
     ghost rises = { λ pages space history. go_on_rises space pages.is_release };

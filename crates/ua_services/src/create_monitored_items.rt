@@ -9,7 +9,7 @@ use crate::services::Services;
 use crate::unserved::Unserved;
 use server_messages::Setting;
 use std::alloc::Global;
-use ua_messages::{ResponseHeader, results_body, type_ids};
+use ua_messages::{MessageBody, ResponseHeader, results_body, type_ids};
 use ua_read_write::Timestamps;
 use ua_subscription_messages::CreateMonitoredItemsRequest;
 use ua_types::Status;
@@ -39,7 +39,7 @@ impl ItemService for CreateMonitoredItems {
         caller: &Caller,
         request: CreateMonitoredItemsRequest,
         services: &mut Services,
-    ) -> Result<Vec<u8>, Unserved> {
+    ) -> Result<MessageBody, Unserved> {
         let Some(timestamps) = Timestamps::chosen(request.timestamps_to_return) else {
             return Err(Unserved::Fault(Status::BAD_TIMESTAMPS_TO_RETURN_INVALID));
         };

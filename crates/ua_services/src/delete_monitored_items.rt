@@ -10,7 +10,7 @@ use crate::status_results::statuses_body;
 use crate::unserved::Unserved;
 use server_messages::Setting;
 use std::alloc::Global;
-use ua_messages::type_ids;
+use ua_messages::{MessageBody, type_ids};
 use ua_subscription_messages::DeleteMonitoredItemsRequest;
 
 /// Deletes monitored items of a subscription of the session, one after the other ([`ua_monitored_items::Items::delete`]).
@@ -37,7 +37,7 @@ impl ItemService for DeleteMonitoredItems {
         caller: &Caller,
         request: DeleteMonitoredItemsRequest,
         services: &mut Services,
-    ) -> Result<Vec<u8>, Unserved> {
+    ) -> Result<MessageBody, Unserved> {
         let numbers = match operations(&setting.config, &request.monitored_item_ids) {
             Ok(numbers) => numbers,
             Err(status) => return Err(Unserved::Fault(status)),

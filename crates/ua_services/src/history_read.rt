@@ -7,12 +7,13 @@ ghost use Rattle.ua_messages.specs.declared.type_ids.TheConstants.{HISTORY_READ_
 ghost use Rattle.ua_read_write.specs.Timestamps.{timestamps_of};
 ghost use Rattle.ua_history.specs.Reading.{read_raw_of};
 ghost use Rattle.ua_services.specs.HistoryRead.{some_times as some_times_spec, is_time_given as is_time_given_spec, is_bounded as is_bounded_spec, range_of as range_of_spec, details_judged, node_read, history_read_meaning};
+ghost use Rattle.ua_service_messages.specs.History.{history_read_result_encoding};
 ghost use Rattle.ua_services.specs.HistoryResults.{history_result_of};
 ghost use Rattle.ua_services.specs.Paging.{DoesOne, told_as};
 ghost use Rattle.ua_services.specs.RisingSerials.{node_read_rises};
 
 use crate::caller::Caller;
-use crate::history_results::{history_told, release_told};
+use crate::history_results::{tell, tell_release};
 use crate::operations::into_operations;
 use crate::paging::{Pages, serve_pages};
 use crate::services::Services;
@@ -22,7 +23,7 @@ use server_messages::{Halt, Served, Setting};
 use std::alloc::Global;
 use ua_browse::page_size;
 use ua_history::{History, RawRange, read_raw, release};
-use ua_messages::{StructureFault, TimestampsToReturn, received_structure, type_ids};
+use ua_messages::{MessageBody, StructureFault, TimestampsToReturn, received_structure, type_ids};
 use ua_read_write::Timestamps;
 use ua_service_messages::{
     HistoryReadRequest, HistoryReadResult, HistoryReadValueId, ReadRawModifiedDetails,
@@ -105,18 +106,20 @@ fn judged(alloc: Global, config: &Config, object: &ExtensionObject) -> Result<Ra
     }
 }
 
-fn page_told(
+// Writes a page of a node's history.
+fn tell_page(
     alloc: Global,
     history: &History,
     space: &Space,
     points: &mut Points,
     wanted: Wanted,
     asked: &HistoryReadValueId,
-) -> Result<HistoryReadResult, Halt>
-    ensures { DoesOne result points.old points.new (told_as (history_result_of wanted.timestamps) (read_raw_of history.now space.now.nodes wanted.range points.old asked.now)) }
+    body: &mut MessageBody,
+) -> Result<(), Halt>
+    ensures { DoesOne history_read_result_encoding result body.old body.new points.old points.new (told_as (history_result_of wanted.timestamps) (read_raw_of history.now space.now.nodes wanted.range points.old asked.now)) }
 {
     let page = read_raw(alloc, history, space, points, wanted.range, asked);
-    history_told(alloc, wanted.timestamps, page)
+    tell(alloc, wanted.timestamps, page, body)
 }
 
 impl Pages for Wanted {
@@ -137,11 +140,13 @@ impl Pages for Wanted {
         history: &History,
         points: &mut Points,
         asked: HistoryReadValueId,
-    ) -> Result<HistoryReadResult, Halt> {
+        body: &mut MessageBody,
+    ) -> Result<(), Halt> {
         if self.is_release {
-            return Ok(release_told(release(points, &asked.continuation_point)));
+            let released = release(points, &asked.continuation_point);
+            return Ok(tell_release(released, body)?);
         }
-        page_told(alloc, history, space, points, *self, &asked)
+        tell_page(alloc, history, space, points, *self, &asked, body)
     }
 
     ghost rises = { λ wanted space history. node_read_rises history space.nodes wanted };

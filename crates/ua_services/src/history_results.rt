@@ -1,9 +1,10 @@
 //! What HistoryRead answers of each node.
 
-ghost use Rattle.std.specs.Prelude.{◌≡◌, map, IfOk};
+ghost use Rattle.std.specs.Prelude.{◌≡◌, ◌++◌, map, IfOk, OnOk};
 ghost use Rattle.std.specs.Result.{result_map_both};
 ghost use Rattle.ua_history.specs.Pages.{seen};
 ghost use Rattle.ua_history.specs.Reading.{page_seen};
+ghost use Rattle.ua_service_messages.specs.History.{history_read_result_encoding};
 ghost use Rattle.ua_services.specs.HistoryResults.{stored_time_of, shown as shown_spec, history_data_of, status_alone as status_alone_spec, history_result_of, release_result_of};
 ghost use Rattle.ua_services.specs.Paging.{Tells};
 ghost use Rattle.ua_read_write.specs.Reading.{source_time_of};
@@ -13,8 +14,9 @@ use server_messages::Halt;
 use std::alloc::{AllocError, Global};
 use ua_binary::BorrowedDataValue;
 use ua_history::{Kept, Page};
+use ua_messages::{MessageBody, type_ids};
 use ua_read_write::Timestamps;
-use ua_service_messages::{HistoryReadResult, history_data_object};
+use ua_service_messages::{BorrowedHistoryData, HistoryReadResult};
 use ua_session::point_bytes;
 use ua_types::{ByteString, ExtensionObject, ExtensionObjectBody, Moment, NodeId, Refusal, Status};
 use ua_values::DataValue;
@@ -52,12 +54,12 @@ fn shown(timestamps: Timestamps, value: &DataValue) -> BorrowedDataValue<'_>
 }
 
 // The HistoryData of these values. As many as can't be spelled, 2^31, are refused as by want of memory.
-fn history_data(
+fn history_data<'a>(
     alloc: Global,
     timestamps: Timestamps,
-    values: &[Kept<'_>],
-) -> Result<ExtensionObject, AllocError>
-    ensures { IfOk result (λ object. object ≡ history_data_of timestamps (map seen values.now)) }
+    values: &[Kept<'a>],
+) -> Result<BorrowedHistoryData<'a>, AllocError>
+    ensures { IfOk result (λ told. told ≡ history_data_of timestamps (map seen values.now)) }
 {
     if values.len() >= 1 << 31 {
         return Err(AllocError);
@@ -66,7 +68,7 @@ fn history_data(
     for kept in values {
         all.push(shown(timestamps, kept.value))?;
     }
-    history_data_object(alloc, &all)
+    Ok(BorrowedHistoryData::new(all))
 }
 
 // A result without data.
@@ -83,30 +85,37 @@ fn status_alone(status_code: Status) -> HistoryReadResult
     }
 }
 
-/// The result that tells what was read. Its values are written where they stand.
-pub(crate) fn history_told(
+/// Writes the result that tells what was read. Its values are written from where they stand, and once.
+#[tactic(auto, unfolding(ua_service_messages::specs::History::history_read_result_encoding))]
+pub(crate) fn tell(
     alloc: Global,
     timestamps: Timestamps,
     answer: Result<Page<'_>, Refusal>,
-) -> Result<HistoryReadResult, Halt>
-    ensures { Tells (history_result_of timestamps) result (result_map_both page_seen (λ refusal. refusal) answer.entry) }
+    body: &mut MessageBody,
+) -> Result<(), Halt>
+    ensures { Tells history_read_result_encoding (history_result_of timestamps) result body.old body.new (result_map_both page_seen (λ refusal. refusal) answer.entry) }
 {
-    match answer {
-        Ok(page) => Ok(HistoryReadResult {
-            status_code: page.status,
-            continuation_point: point_bytes(alloc, page.point)?,
-            history_data: history_data(alloc, timestamps, page.values.as_slice())?,
-        }),
-        Err(refusal) => Ok(status_alone(status_told(refusal)?)),
-    }
+    let page = match answer {
+        Ok(page) => page,
+        Err(refusal) => return Ok(body.write(&status_alone(status_told(refusal)?))?),
+    };
+    let data = history_data(alloc, timestamps, page.values.as_slice())?;
+    body.write(&page.status)?;
+    body.write(&point_bytes(alloc, page.point)?)?;
+    body.write_structure(type_ids::HISTORY_DATA, &data)?;
+    Ok(())
 }
 
-/// The result that tells whether a point was given up.
-pub(crate) fn release_told(released: Result<(), Status>) -> HistoryReadResult
-    ensures { result ≡ release_result_of released }
+/// Writes the result that tells whether a point was given up.
+pub(crate) fn tell_release(
+    released: Result<(), Status>,
+    body: &mut MessageBody,
+) -> Result<(), AllocError>
+    ensures { OnOk result (body.new ≡ body.old ++ history_read_result_encoding (release_result_of released)) }
 {
-    match released {
-        Ok(()) => status_alone(Status::GOOD),
-        Err(status_code) => status_alone(status_code),
-    }
+    let status_code = match released {
+        Ok(()) => Status::GOOD,
+        Err(status_code) => status_code,
+    };
+    body.write(&status_alone(status_code))
 }

@@ -14,7 +14,7 @@ use crate::sub_serving::{reply_first, served_alone};
 use crate::unserved::Unserved;
 use server_messages::{Served, Setting};
 use std::alloc::{AllocError, Global};
-use ua_messages::fault;
+use ua_messages::{MessageBody, fault};
 use ua_state_table::Vars;
 use ua_types::Status;
 use ua_walks::Walk;
@@ -46,8 +46,8 @@ pub trait ItemService {
         caller: &Caller,
         request: Self::Request,
         services: &mut Services,
-    ) -> Result<Vec<u8>, Unserved>
-        ensures body { IfOk result (λ body. body.items ≡ (change setting.now caller.now request services.old).body) }
+    ) -> Result<MessageBody, Unserved>
+        ensures body { IfOk result (λ body. body ≡ (change setting.now caller.now request services.old).body) }
         ensures items { OnOk result (services.new ≡ with_items services.old (change setting.now caller.now request services.old).items) }
         ensures refused { IfErr result (λ e. Refuses setting.now caller.now e services.old services.new (change setting.now caller.now request services.old)) };
 
@@ -59,8 +59,8 @@ pub trait ItemService {
         caller: &Caller,
         request: Self::Request,
         services: &mut Services,
-    ) -> Result<Vec<u8>, AllocError>
-        ensures body { IfOk result (λ body. body.items ≡ (change setting.now caller.now request services.old).body) }
+    ) -> Result<MessageBody, AllocError>
+        ensures body { IfOk result (λ body. body ≡ (change setting.now caller.now request services.old).body) }
         ensures items { OnOk result (services.new ≡ with_items services.old (change setting.now caller.now request services.old).items) }
     {
         match Self::change_items(alloc, setting, caller, request, services) {
@@ -91,10 +91,10 @@ fn answer_items(
     caller: &Caller,
     number: u32,
     before: Vars,
-    body: Vec<u8>,
+    body: MessageBody,
     services: &mut Services,
 ) -> Result<Served, Unserved>
-    ensures { Judges setting.now caller.now result services.new (fired_after setting.now caller.now number services.old before body.items) }
+    ensures { Judges setting.now caller.now result services.new (fired_after setting.now caller.now number services.old before body) }
 {
     let items = &mut services.items;
     let answered = services

@@ -10,7 +10,7 @@ use crate::sub_serving::{apart, reply_first};
 use crate::unserved::Unserved;
 use server_messages::{Served, Setting};
 use std::alloc::{AllocError, Global};
-use ua_messages::{ResponseHeader, body, fault, type_ids};
+use ua_messages::{MessageBody, ResponseHeader, body, fault, type_ids};
 use ua_subscription_messages::{ModifySubscriptionRequest, ModifySubscriptionResponse};
 use ua_subscriptions::{Revised, Settings};
 use ua_types::Status;
@@ -21,8 +21,8 @@ fn answer_body(
     setting: &Setting,
     caller: &Caller,
     answer: Result<Revised, Status>,
-) -> Result<Vec<u8>, AllocError>
-    ensures { IfOk result (λ body. body.items ≡ modify_subscription_body setting.now caller.now answer) }
+) -> Result<MessageBody, AllocError>
+    ensures { IfOk result (λ body. body ≡ modify_subscription_body setting.now caller.now answer) }
 {
     match answer {
         Ok(revised) => {

@@ -1,12 +1,13 @@
 //! What the services with continuation points share.
 
-ghost use Rattle.std.specs.Prelude.{◌≡◌, ◌<◌, ◌^◌, ℕ, length, IfOk};
-ghost use Rattle.std.specs.Result.{result_map_both};
+ghost use Rattle.std.specs.Prelude.{◌≡◌, ◌<◌, ◌^◌, ◌++◌, ℕ, List, length, IfOk};
+ghost use Rattle.std.specs.List.{flat_map};
 ghost use Rattle.ua_history.specs.Histories.{HistoryState};
+ghost use Rattle.ua_messages.specs.Diagnostics.{diagnostic_infos_encoding};
 ghost use Rattle.ua_session.specs.Points.{PointsState};
 ghost use Rattle.ua_session.specs.Sessions.{points_of};
 ghost use Rattle.ua_space.specs.Nodes.{SpaceState};
-ghost use Rattle.ua_services.specs.Paging.{Done, DoesOne, DoesAll, Rises, all_done, results_body_of, paged};
+ghost use Rattle.ua_services.specs.Paging.{Done, DoesOne, DoesAll, Rises, all_done, results_head_of, results_body_of, paged};
 ghost use Rattle.ua_services.specs.Serving.{Judges, replied, reply_of};
 
 use crate::caller::Caller;
@@ -17,19 +18,20 @@ use server_messages::{Halt, Served, Setting};
 use std::alloc::{AllocError, Global};
 use ua_binary::Wire;
 use ua_history::History;
-use ua_messages::{ResponseHeader, results_body};
+use ua_messages::{DiagnosticInfos, MessageBody, ResponseHeader};
 use ua_session::Points;
 use ua_space::Space;
-use ua_types::Status;
+use ua_types::{NodeId, Status};
 
 /// How a service answers each thing that it is asked for, page by page.
 ///
-/// Implementors give one result at a time. [`serve_pages`] asks for all, with the continuation points of the session.
+/// Implementors write one result at a time, straight into the response. [`serve_pages`] asks for all, with the
+/// continuation points of the session.
 pub(crate) trait Pages {
     /// One thing that is asked for.
     type Asked: Drop;
 
-    /// Its result.
+    /// Its result, by its encoding.
     type Answer: Wire;
 
     /// The type id of the response.
@@ -40,7 +42,8 @@ pub(crate) trait Pages {
     /// What one comes to, with the points that are held.
     ghost meaning: { Self → SpaceState → HistoryState → PointsState → Self.Asked → Done Self.Answer };
 
-    /// The result of one. `Exhausted` where a point's serial is the last.
+    /// Writes the result of one. `Exhausted` where a point's serial is the last. At an `Err` nothing is known of what is
+    /// written.
     fn page(
         &self,
         alloc: Global,
@@ -48,14 +51,15 @@ pub(crate) trait Pages {
         history: &History,
         points: &mut Points,
         asked: Self::Asked,
-    ) -> Result<Self::Answer, Halt>
-        ensures { DoesOne result points.old points.new (meaning self.now space.now history.now points.old asked) };
+        body: &mut MessageBody,
+    ) -> Result<(), Halt>
+        ensures { DoesOne Self.Answer.encoding result body.old body.new points.old points.new (meaning self.now space.now history.now points.old asked) };
 
     /// No serial is given twice.
     ghost rises: { (wanted : Self) (space : SpaceState) (history : HistoryState) → Rises (meaning wanted space history) };
 }
 
-// The result of each, one after the other.
+// Writes the result of each, one behind the other.
 fn all_pages<P: Pages>(
     alloc: Global,
     space: &Space,
@@ -63,32 +67,41 @@ fn all_pages<P: Pages>(
     points: &mut Points,
     wanted: &P,
     list: Vec<P::Asked>,
-) -> Result<Vec<P::Answer>, Halt>
-    ensures all { DoesAll (result_map_both (λ rs. rs.items) (λ halt. halt) result) points.old points.new (all_done (P.meaning wanted.now space.now history.now) points.old list.items) }
-    ensures count { IfOk result (λ rs. length rs.items ≡ length list.items) }
+    body: &mut MessageBody,
+) -> Result<(), Halt>
+    ensures { DoesAll P.Answer.encoding result body.old body.new points.old points.new (all_done (P.meaning wanted.now space.now history.now) points.old list.items) }
 {
-    let mut results = Vec::with_capacity(alloc, list.len())?;
     for asked in list {
-        match wanted.page(alloc, space, history, points, asked) {
-            Ok(result) => results.push(result)?,
+        match wanted.page(alloc, space, history, points, asked, body) {
+            Ok(()) => {}
             Err(halt) => return Err(halt),
         }
     }
-    Ok(results)
+    Ok(())
 }
 
-// Answers with the results.
-fn answer<P: Pages>(
+// What stands before the results of so many things.
+fn head(
     alloc: Global,
     setting: &Setting,
     caller: &Caller,
-    results: &[P::Answer],
-) -> Result<Served, AllocError>
-    requires { length results.now < 2 ^ 31 }
-    ensures { IfOk result (λ served. served ≡ replied (reply_of caller.now (results_body_of P.Answer.encoding setting.now caller.now P.RESPONSE results.now))) }
+    type_id: u32,
+    count: u32,
+) -> Result<MessageBody, AllocError>
+    ensures { IfOk result (λ body. body ≡ results_head_of setting.now caller.now type_id count) }
 {
-    let header = ResponseHeader::new(caller.handle, Status(0), setting.clock);
-    let body = results_body(alloc, P::RESPONSE, &header, results)?;
+    let mut body = MessageBody::new(alloc)?;
+    body.write(&NodeId::numeric(0, type_id))?;
+    body.write(&ResponseHeader::new(caller.handle, Status(0), setting.clock))?;
+    body.write(&count)?;
+    Ok(body)
+}
+
+// Answers with the results that are written behind their head.
+fn answer(alloc: Global, caller: &Caller, mut body: MessageBody) -> Result<Served, AllocError>
+    ensures { IfOk result (λ served. served ≡ replied (reply_of caller.now (body ++ diagnostic_infos_encoding (record {})))) }
+{
+    body.write(&DiagnosticInfos)?;
     reply(alloc, caller, body)
 }
 
@@ -111,8 +124,9 @@ pub(crate) fn serve_pages<P: Pages>(
     let Some(points) = services.sessions.points_mut(session) else {
         unreachable!();
     };
-    match all_pages(alloc, space, history, points, wanted, list) {
-        Ok(results) => Ok(answer::<P>(alloc, setting, caller, &results)?),
+    let mut body = head(alloc, setting, caller, P::RESPONSE, list.len() as u32)?;
+    match all_pages(alloc, space, history, points, wanted, list, &mut body) {
+        Ok(()) => Ok(answer(alloc, caller, body)?),
         Err(halt) => Err(Unserved::Halted(halt)),
     }
 }

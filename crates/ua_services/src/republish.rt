@@ -11,7 +11,7 @@ use crate::unserved::Unserved;
 use bytes::Bytes;
 use server_messages::{Served, Setting};
 use std::alloc::{AllocError, Global};
-use ua_messages::{ResponseHeader, fault};
+use ua_messages::{MessageBody, ResponseHeader, fault};
 use ua_subscription_messages::{RepublishRequest, republish_body};
 use ua_types::Status;
 
@@ -21,8 +21,8 @@ fn answer_body(
     setting: &Setting,
     caller: &Caller,
     answer: Result<Bytes, Status>,
-) -> Result<Vec<u8>, AllocError>
-    ensures { IfOk result (λ body. body.items ≡ republish_answer setting.now caller.now answer) }
+) -> Result<MessageBody, AllocError>
+    ensures { IfOk result (λ body. body ≡ republish_answer setting.now caller.now answer) }
 {
     match answer {
         Ok(message) => {

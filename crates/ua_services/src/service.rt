@@ -11,19 +11,17 @@ ghost use Rattle.ua_services.specs.declared.caller.Caller.{Caller};
 use crate::caller::Caller;
 use crate::services::Services;
 use crate::unserved::Unserved;
-use bytes::Bytes;
 use server_messages::{Halt, Reply, Served, Setting};
 use std::alloc::{AllocError, Global};
 use ua_binary::TakeFault;
-use ua_messages::{fault, received};
+use ua_messages::{MessageBody, fault, received};
 use ua_types::{Listed, Moment, Refusal, Status};
 use ua_walks::Walk;
 
 /// The reply to a call, with this body.
-pub(crate) fn reply(alloc: Global, caller: &Caller, body: Vec<u8>) -> Result<Served, AllocError>
-    ensures { IfOk result (λ served. served ≡ replied (reply_of caller.now body.items)) }
+pub(crate) fn reply(alloc: Global, caller: &Caller, body: MessageBody) -> Result<Served, AllocError>
+    ensures { IfOk result (λ served. served ≡ replied (reply_of caller.now body)) }
 {
-    let body = Bytes::from_vec(body)?;
     let mut replies = Listed::new(alloc);
     replies.push(Reply {
         conn: caller.conn,

@@ -10,7 +10,7 @@ use crate::status_results::statuses_body;
 use crate::unserved::Unserved;
 use server_messages::Setting;
 use std::alloc::Global;
-use ua_messages::type_ids;
+use ua_messages::{MessageBody, type_ids};
 use ua_monitored_items::Mode;
 use ua_subscription_messages::SetMonitoringModeRequest;
 use ua_types::Status;
@@ -40,7 +40,7 @@ impl ItemService for SetMonitoringMode {
         caller: &Caller,
         request: SetMonitoringModeRequest,
         services: &mut Services,
-    ) -> Result<Vec<u8>, Unserved> {
+    ) -> Result<MessageBody, Unserved> {
         let numbers = match operations(&setting.config, &request.monitored_item_ids) {
             Ok(numbers) => numbers,
             Err(status) => return Err(Unserved::Fault(status)),

@@ -6,7 +6,7 @@ ghost use Rattle.ua_services.specs.StatusResults.{statuses_body as statuses_body
 use crate::caller::Caller;
 use server_messages::Setting;
 use std::alloc::{AllocError, Global};
-use ua_messages::{ResponseHeader, results_body};
+use ua_messages::{MessageBody, ResponseHeader, results_body};
 use ua_types::Status;
 
 /// The response with what became of each thing, in the order of the request.
@@ -16,9 +16,9 @@ pub(crate) fn statuses_body(
     setting: &Setting,
     caller: &Caller,
     statuses: &[Status],
-) -> Result<Vec<u8>, AllocError>
+) -> Result<MessageBody, AllocError>
     requires { length statuses.now < 2 ^ 31 }
-    ensures { IfOk result (λ body. body.items ≡ statuses_body_spec type_id setting.now caller.now statuses.now) }
+    ensures { IfOk result (λ body. body ≡ statuses_body_spec type_id setting.now caller.now statuses.now) }
 {
     let header = ResponseHeader::new(caller.handle, Status(0), setting.clock);
     results_body(alloc, type_id, &header, statuses)

@@ -11,6 +11,7 @@ use crate::service::reply;
 use crate::services::Services;
 use server_messages::{Halt, Served, Setting};
 use std::alloc::{AllocError, Global};
+use ua_messages::MessageBody;
 use ua_subscriptions::Answered;
 use ua_types::Listed;
 
@@ -40,10 +41,10 @@ pub(crate) fn served_alone(answered: Answered<()>) -> Served
 pub(crate) fn reply_first(
     alloc: Global,
     caller: &Caller,
-    body: Vec<u8>,
+    body: MessageBody,
     others: Served,
 ) -> Result<Served, AllocError>
-    ensures { IfOk result (λ served. served ≡ record { replies = reply_of caller.now body.items ∷ others.replies; rows = others.rows }) }
+    ensures { IfOk result (λ served. served ≡ record { replies = reply_of caller.now body ∷ others.replies; rows = others.rows }) }
 {
     joined(reply(alloc, caller, body)?, others)
 }

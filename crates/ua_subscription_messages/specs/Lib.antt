@@ -4,4 +4,5 @@ pub mod MonitoredItems
 pub mod Subscriptions
 pub mod Publishing
 pub mod KeptMessages
+pub mod NotificationMessages
 pub mod Triggering

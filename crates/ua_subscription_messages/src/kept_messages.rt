@@ -8,8 +8,7 @@ ghost use Rattle.ua_subscription_messages.specs.Publishing.{notification_message
 ghost use Rattle.ua_subscription_messages.specs.KeptMessages.{publish_body_around, publish_response_of, republish_body_around, republish_response_of};
 
 use std::alloc::{AllocError, Global};
-use ua_binary::{Wire, write_list};
-use ua_messages::{DiagnosticInfos, ResponseHeader, type_ids};
+use ua_messages::{DiagnosticInfos, MessageBody, ResponseHeader, type_ids};
 use ua_types::{NodeId, Status};
 
 /// The whole body of a [`crate::PublishResponse`], whose message is given as its bytes: those that
@@ -23,23 +22,23 @@ pub fn publish_body(
     more_notifications: bool,
     message: &[u8],
     results: &[Status],
-) -> Result<Vec<u8>, AllocError>
+) -> Result<MessageBody, AllocError>
     requires numbers { length available_sequence_numbers.now < 2 ^ 31 }
     requires results { length results.now < 2 ^ 31 }
-    ensures bytes { IfOk result (λ body. body.items ≡ publish_body_around response_header.now subscription_id available_sequence_numbers.now more_notifications message.now results.now) }
+    ensures bytes { IfOk result (λ body. body ≡ publish_body_around response_header.now subscription_id available_sequence_numbers.now more_notifications message.now results.now) }
     ensures response { IfOk result (λ body. (m : NotificationMessage) → message.now ≡ notification_message_encoding m →
-        body.items ≡ body_encoding publish_response_encoding PUBLISH_RESPONSE (publish_response_of response_header.now subscription_id available_sequence_numbers.now more_notifications m results.now)) }
+        body ≡ body_encoding publish_response_encoding PUBLISH_RESPONSE (publish_response_of response_header.now subscription_id available_sequence_numbers.now more_notifications m results.now)) }
 {
-    let mut out = Vec::new(alloc);
-    NodeId::numeric(0, type_ids::PUBLISH_RESPONSE).encode(&mut out)?;
-    response_header.encode(&mut out)?;
-    subscription_id.encode(&mut out)?;
-    write_list(available_sequence_numbers, &mut out)?;
-    more_notifications.encode(&mut out)?;
-    out.extend_from_slice(message)?;
-    write_list(results, &mut out)?;
-    DiagnosticInfos.encode(&mut out)?;
-    Ok(out)
+    let mut body = MessageBody::new(alloc)?;
+    body.write(&NodeId::numeric(0, type_ids::PUBLISH_RESPONSE))?;
+    body.write(response_header)?;
+    body.write(&subscription_id)?;
+    body.write_list(available_sequence_numbers)?;
+    body.write(&more_notifications)?;
+    body.write_bytes(message)?;
+    body.write_list(results)?;
+    body.write(&DiagnosticInfos)?;
+    Ok(body)
 }
 
 /// The whole body of a [`crate::RepublishResponse`], whose message is given as its bytes, as for
@@ -49,14 +48,14 @@ pub fn republish_body(
     alloc: Global,
     response_header: &ResponseHeader,
     message: &[u8],
-) -> Result<Vec<u8>, AllocError>
-    ensures bytes { IfOk result (λ body. body.items ≡ republish_body_around response_header.now message.now) }
+) -> Result<MessageBody, AllocError>
+    ensures bytes { IfOk result (λ body. body ≡ republish_body_around response_header.now message.now) }
     ensures response { IfOk result (λ body. (m : NotificationMessage) → message.now ≡ notification_message_encoding m →
-        body.items ≡ body_encoding republish_response_encoding REPUBLISH_RESPONSE (republish_response_of response_header.now m)) }
+        body ≡ body_encoding republish_response_encoding REPUBLISH_RESPONSE (republish_response_of response_header.now m)) }
 {
-    let mut out = Vec::new(alloc);
-    NodeId::numeric(0, type_ids::REPUBLISH_RESPONSE).encode(&mut out)?;
-    response_header.encode(&mut out)?;
-    out.extend_from_slice(message)?;
-    Ok(out)
+    let mut body = MessageBody::new(alloc)?;
+    body.write(&NodeId::numeric(0, type_ids::REPUBLISH_RESPONSE))?;
+    body.write(response_header)?;
+    body.write_bytes(message)?;
+    Ok(body)
 }

@@ -3,7 +3,8 @@
 //!
 //! Each structure is the standard's fields in the standard's order and is [`ua_binary::Wire`], as in
 //! `ua_messages`, whose `message` and `body` read and write all of these too. A filter and a
-//! notification travel inside an ExtensionObject, whose body is such a structure.
+//! notification travel inside an ExtensionObject, whose body is such a structure: [`notification_message`]
+//! writes one where it stands, and [`publish_body`] a response round a message that was written before.
 //!
 //! Nothing here decides anything: no number is revised, no item is looked up, and no queue is kept.
 //!
@@ -15,6 +16,7 @@ mod kept_messages;
 pub mod laws;
 mod monitored_items;
 mod monitoring_parameters;
+mod notification_messages;
 mod publishing;
 mod subscriptions;
 mod triggering;
@@ -28,6 +30,7 @@ pub use monitored_items::{
     MonitoredItemModifyResult, SetMonitoringModeRequest, SetMonitoringModeResponse,
 };
 pub use monitoring_parameters::{DataChangeFilter, MonitoringParameters};
+pub use notification_messages::notification_message;
 pub use publishing::{
     DataChangeNotification, MonitoredItemNotification, NotificationMessage, PublishRequest,
     PublishResponse, RepublishRequest, RepublishResponse, StatusChangeNotification,

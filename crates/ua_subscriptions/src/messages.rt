@@ -1,17 +1,17 @@
 //! Messages of subscriptions, as their bytes.
 
 ghost use Rattle.std.specs.Prelude.{◌≡◌, IfOk};
-ghost use Rattle.ua_subscriptions.specs.Messages.{message_of, data_message, keep_alive_message, timeout_message};
+ghost use Rattle.ua_subscriptions.specs.Messages.{data_message, keep_alive_message, timeout_message};
 
 use bytes::Bytes;
 use std::alloc::{AllocError, Global};
 use ua_binary::Wire;
-use ua_messages::{DiagnosticInfo, DiagnosticInfos, extension_object, type_ids};
+use ua_messages::{DiagnosticInfo, DiagnosticInfos, type_ids};
 use ua_subscription_messages::{
     DataChangeNotification, MonitoredItemNotification, NotificationMessage,
-    StatusChangeNotification,
+    StatusChangeNotification, notification_message,
 };
-use ua_types::{Array, ExtensionObject, Moment, Status};
+use ua_types::{Array, Moment, Status};
 
 /// A message that is kept until its client acknowledges it, or too many are kept.
 #[derive(Debug, Drop)]
@@ -20,28 +20,6 @@ pub struct KeptMessage {
     pub number: u32,
     /// The NotificationMessage, as it was first sent.
     pub bytes: Bytes,
-}
-
-/// The bytes of a message with this number (NotificationMessage, IEC 62541-4, section 7).
-fn message(
-    alloc: Global,
-    number: u32,
-    clock: Moment,
-    objects: Vec<ExtensionObject>,
-) -> Result<Bytes, AllocError>
-    ensures { IfOk result (λ bytes. bytes ≡ message_of number clock objects.items) }
-{
-    if objects.len() >= 1 << 31 {
-        return Err(AllocError);
-    }
-    let message = NotificationMessage {
-        sequence_number: number,
-        publish_time: clock,
-        notification_data: Array::new(objects),
-    };
-    let mut bytes = Vec::new(alloc);
-    message.encode(&mut bytes)?;
-    Ok(Bytes::from_vec(bytes)?)
 }
 
 /// The bytes of a message with these values.
@@ -61,9 +39,11 @@ pub(crate) fn data_message(
         monitored_items: Array::new(notes),
         diagnostic_infos: DiagnosticInfos,
     };
-    let mut objects = Vec::new(alloc);
-    objects.push(extension_object(alloc, type_ids::DATA_CHANGE_NOTIFICATION, &changes)?)?;
-    message(alloc, number, clock, objects)
+    let type_id = type_ids::DATA_CHANGE_NOTIFICATION;
+    let mut bytes = notification_message(alloc, number, clock, type_id, &changes)?;
+    // A message that is kept has no room to spare.
+    bytes.shrink_to_fit();
+    Ok(Bytes::from_vec(bytes)?)
 }
 
 /// The bytes of a message with nothing to tell.
@@ -75,7 +55,14 @@ pub(crate) fn keep_alive_message(
 ) -> Result<Bytes, AllocError>
     ensures { IfOk result (λ bytes. bytes ≡ keep_alive_message number clock) }
 {
-    message(alloc, number, clock, Vec::new(alloc))
+    let message = NotificationMessage {
+        sequence_number: number,
+        publish_time: clock,
+        notification_data: Array::new(Vec::new(alloc)),
+    };
+    let mut bytes = Vec::new(alloc);
+    message.encode(&mut bytes)?;
+    Ok(Bytes::from_vec(bytes)?)
 }
 
 /// The bytes of the message that the subscription has timed out.
@@ -91,7 +78,7 @@ pub(crate) fn timeout_message(
         status: Status::BAD_TIMEOUT,
         diagnostic_info: DiagnosticInfo,
     };
-    let mut objects = Vec::new(alloc);
-    objects.push(extension_object(alloc, type_ids::STATUS_CHANGE_NOTIFICATION, &change)?)?;
-    message(alloc, number, clock, objects)
+    let type_id = type_ids::STATUS_CHANGE_NOTIFICATION;
+    let bytes = notification_message(alloc, number, clock, type_id, &change)?;
+    Ok(Bytes::from_vec(bytes)?)
 }

@@ -4,7 +4,6 @@ ghost use Rattle.std.specs.Prelude.{◌≡◌, IfOk, map};
 ghost use Rattle.ua_subscriptions.specs.Answers.{published_of, refused_of, number_of};
 
 use crate::kept::Kept;
-use bytes::Bytes;
 use server_messages::Reply;
 use std::alloc::{AllocError, Global};
 use ua_messages::{ResponseHeader, fault};
@@ -58,7 +57,7 @@ impl PublishCall {
             conn: self.conn,
             id: self.id,
             handle: self.handle,
-            body: Bytes::from_vec(body)?,
+            body,
         })
     }
 
@@ -76,7 +75,7 @@ impl PublishCall {
             conn: self.conn,
             id: self.id,
             handle: self.handle,
-            body: Bytes::from_vec(body)?,
+            body,
         })
     }
 }

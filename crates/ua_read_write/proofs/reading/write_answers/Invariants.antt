@@ -6,4 +6,4 @@ use Rattle.ua_read_write.proofs.reading.write_answers.Given as goal
 
 -- the answers so far are written
 abbrev pub invariant-loop-request : goal.invariant-loop-request
-invariant-loop-request l = l.out.items ≡ l.initial.out.items ++ flat_map data_value_encoding (all_read l.space.nodes l.clock l.timestamps (take l.request-index l.requests))
+invariant-loop-request l = l.body ≡ l.initial.body ++ flat_map data_value_encoding (all_read l.space.nodes l.clock l.timestamps (take l.request-index l.requests))

@@ -25,5 +25,5 @@ returns c =
     let request = c.args.request in
     subst (λ r. given (with_subs state c.delete.new.self c.delete.new.items) c.in_ok-reply_first.field-0 ≡ given_of (delete_subscriptions_listed setting caller c.args.session state r)) c.in-Ok.ensures.entries
     (called_first state caller (statuses_body DELETE_SUBSCRIPTIONS_RESPONSE setting caller) (said state.subs (deleted c.args.session (world_at setting state) c.in-Ok.numbers.now))
-    c.in_ok-answered.answered c.delete.new.self c.delete.new.items c.apart-statuses.result.1 c.in_ok-body.body.items c.in_ok-reply_first.field-0
+    c.in_ok-answered.answered c.delete.new.self c.delete.new.items c.apart-statuses.result.1 c.in_ok-body.body c.in_ok-reply_first.field-0
     c.in_ok-answered.ensures c.apart-statuses.ensures.others (c.in_ok-body.ensures ∙ ap (statuses_body DELETE_SUBSCRIPTIONS_RESPONSE setting caller) (c.as_slice.ensures ∙ c.apart-statuses.ensures.answer)) c.in_ok-reply_first.ensures)

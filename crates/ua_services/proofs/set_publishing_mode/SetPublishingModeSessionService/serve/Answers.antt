@@ -26,5 +26,5 @@ returns c =
     let request = c.args.request in
     subst (λ r. given (with_subs state c.set_mode.new.self c.set_mode.new.items) c.in_ok-reply_first.field-0 ≡ given_of (set_publishing_listed setting caller c.args.session request.publishing_enabled state r)) c.in-Ok.ensures.entries
     (called_first state caller (statuses_body SET_PUBLISHING_MODE_RESPONSE setting caller) (said state.subs (named_all c.args.session (SetMode request.publishing_enabled) (world_at setting state) c.in-Ok.numbers.now))
-    c.in_ok-answered.answered c.set_mode.new.self c.set_mode.new.items c.apart-statuses.result.1 c.in_ok-body.body.items c.in_ok-reply_first.field-0
+    c.in_ok-answered.answered c.set_mode.new.self c.set_mode.new.items c.apart-statuses.result.1 c.in_ok-body.body c.in_ok-reply_first.field-0
     c.in_ok-answered.ensures c.apart-statuses.ensures.others (c.in_ok-body.ensures ∙ ap (statuses_body SET_PUBLISHING_MODE_RESPONSE setting caller) (c.as_slice.ensures ∙ c.apart-statuses.ensures.answer)) c.in_ok-reply_first.ensures)
