@@ -45,6 +45,11 @@ node_judged w (Some node) = attribute_judged w (attribute_at node w.attribute_id
 unfoldable pub judged : Nodes → WriteValue → Result (Unit {0}) Status
 judged nodes w = node_judged w (node_at w.node_id nodes)
 
+-- the value as it is stored, with its variable, where it is accepted
+abbrev pub accepted_of : Moment → WriteValue → Result (Unit {0}) Status → Result Change Status
+accepted_of clock w (Ok done) = Ok (record { node_id = w.node_id; value = stored_of clock w.value })
+accepted_of clock w (Err code) = Err code
+
 abbrev pub status_of : Result (Unit {0}) Status → Status
 status_of (Ok done) = status.GOOD
 status_of (Err code) = code

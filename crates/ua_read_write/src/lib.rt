@@ -5,7 +5,7 @@
 //! [`read`] answers one read by an [`Answer`], which borrows what it shows and takes no memory; it is
 //! written straight into the response ([`read_body`]), or copied ([`Answer::copy`], [`sample`]).
 //! [`write`] gives variables new values in the order of the request, and tells what became of each
-//! ([`Written`]).
+//! ([`Written`]); [`accepted`] judges one value alone, for a caller that stores it by itself.
 //!
 //! What a contract sees: the nodes of the space. `specs/Attributes` says which attributes a node has and
 //! what they are, `Reading` what is answered, and `Writing` what is stored; each as one definition,
@@ -25,4 +25,4 @@ pub use answer::Answer;
 pub use attributes::AttributeId;
 pub use reading::{read, read_body, refusal, sample};
 pub use timestamps::Timestamps;
-pub use writing::{Change, Written, write};
+pub use writing::{Change, Written, accepted, write};

@@ -2,7 +2,7 @@
 
 ghost use Rattle.std.specs.Prelude.{◌≡◌, ◌⊎◌, ◌++◌, true, length, Ok, IfErr, IfOk, OnOk, OnErr};
 ghost use Rattle.ua_space.specs.Values.{takes_at};
-ghost use Rattle.ua_read_write.specs.Writing.{stored_of, is_writable, judged, status_of, nodes_after, changes_of, write_of, WroteSome};
+ghost use Rattle.ua_read_write.specs.Writing.{stored_of, is_writable, judged, accepted_of, status_of, nodes_after, changes_of, write_of, WroteSome};
 
 use crate::attributes::{Attribute, attribute_at};
 use std::alloc::{AllocError, Global};
@@ -77,6 +77,21 @@ fn stored(value: DataValue, clock: Moment) -> DataValue
         source_time: Some(source_time),
         server_time: Some(clock),
     }
+}
+
+/// A value of a Write as it is stored at this clock, with the variable that gets it: for who stores the values by
+/// himself ([`Space::set_value`]), and looks at each before. It is moved, and not copied.
+///
+/// It is refused as [`write`] says, and then nothing was done. Takes no memory.
+pub fn accepted(space: &Space, clock: Moment, write: WriteValue) -> Result<Change, Status>
+    ensures answer { result ≡ accepted_of clock write (judged space.now.nodes write) }
+    ensures taken { IfOk result (λ change. takes_at change.node_id change.value space.now.nodes ≡ true) }
+{
+    judged(space, &write)?;
+    Ok(Change {
+        node_id: write.node_id,
+        value: stored(write.value, clock),
+    })
 }
 
 // Writes one value where it is accepted, and answers its outcome.

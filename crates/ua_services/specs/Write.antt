@@ -1,12 +1,12 @@
 -- The service Write.
-use Rattle.std.specs.Prelude.{ℕ, Bool, false, List, Option, Some, None, Result, Ok, Err, if◌then◌else◌}
+use Rattle.std.specs.Prelude.{ℕ, Bool, false, List, [], ◌∷◌, Option, Some, None, Result, Ok, Err, if◌then◌else◌}
 use Rattle.std.specs.List.{fold}
 use Rattle.ua_types.specs.declared.status.Status.{Status}
 use Rattle.ua_messages.specs.declared.type_ids.TheConstants.{WRITE_RESPONSE}
 use Rattle.ua_service_messages.specs.declared.writing.WriteRequest.{WriteRequest}
 use Rattle.ua_service_messages.specs.declared.writing.WriteValue.{WriteValue}
 use Rattle.ua_space.specs.Nodes.{Nodes}
-use Rattle.ua_space.specs.Values.{variable_at}
+use Rattle.ua_space.specs.Values.{variable_at, with_value}
 use Rattle.ua_space.specs.Variables.{VariableAttributes}
 use Rattle.ua_monitored_items.specs.Items.{ItemsState, all_visits, sampled_items}
 use Rattle.ua_history.specs.Histories.{HistoryState, kept}
@@ -54,3 +54,17 @@ write_listed setting caller state (Err code) = faulted state caller code setting
 -- historizing
 abbrev pub write_meaning : Setting → Caller → ℕ → WriteRequest → Services → Serving
 write_meaning setting caller session request state = write_listed setting caller state (operations_of setting.config request.nodes_to_write)
+
+-- ---- words of the contracts
+
+-- one more value that was accepted is shown, kept where its variable is historizing, and stored
+abbrev pub with_accepted : Services → Change → Services
+with_accepted state change = record state {
+  space = record state.space { nodes = with_value change.node_id change.value state.space.nodes };
+  history = with_change state.space.nodes state.history change;
+  items = sampled state.items (change ∷ []);
+}
+
+abbrev pub with_judged : Services → Result Change Status → Services
+with_judged state (Ok change) = with_accepted state change
+with_judged state (Err code) = state

@@ -1,8 +1,9 @@
 //! The service Write (IEC 62541-4, "Write").
 
-ghost use Rattle.std.specs.Prelude.{◌≡◌, OnOk};
-ghost use Rattle.ua_space.specs.Values.{variable_at};
-ghost use Rattle.ua_services.specs.Write.{is_historizing as is_historizing_spec, all_kept, write_meaning};
+ghost use Rattle.std.specs.Prelude.{◌≡◌, true, length, OnOk, IfOk};
+ghost use Rattle.ua_space.specs.Values.{takes_at, variable_at};
+ghost use Rattle.ua_read_write.specs.Writing.{judged, accepted_of, status_of, write_of};
+ghost use Rattle.ua_services.specs.Write.{is_historizing as is_historizing_spec, with_change, with_accepted, with_judged, with_written, write_meaning};
 
 use crate::caller::Caller;
 use crate::operations::into_operations;
@@ -13,12 +14,13 @@ use crate::status_results::statuses_body;
 use crate::unserved::Unserved;
 use server_messages::{Served, Setting};
 use std::alloc::{AllocError, Global};
+use std::slice;
 use ua_history::History;
 use ua_messages::type_ids;
-use ua_read_write::{Change, Written, write};
-use ua_service_messages::WriteRequest;
+use ua_read_write::{Change, accepted};
+use ua_service_messages::{WriteRequest, WriteValue};
 use ua_space::Space;
-use ua_types::{Listed, NodeId};
+use ua_types::{Copyable, Moment, NodeId, Status};
 
 // Whether the values of this node are kept.
 fn is_historizing(space: &Space, node: &NodeId) -> bool
@@ -30,22 +32,70 @@ fn is_historizing(space: &Space, node: &NodeId) -> bool
     }
 }
 
-// Keeps the values that were accepted, where their variables are historizing.
-fn keep_all(
+// Keeps a copy of a value that was accepted, where its variable is historizing.
+fn keep(
     alloc: Global,
     space: &Space,
     history: &mut History,
-    changes: Listed<Change>,
+    change: &Change,
 ) -> Result<(), AllocError>
-    ensures { OnOk result (history.new ≡ all_kept space.now.nodes history.old changes) }
+    ensures { OnOk result (history.new ≡ with_change space.now.nodes history.old change.now) }
 {
-    for change in changes.into_vec() {
-        let Change { node_id, value } = change;
-        if is_historizing(space, &node_id) {
-            history.keep(alloc, &node_id, value)?;
-        }
+    if is_historizing(space, &change.node_id) {
+        history.keep(alloc, &change.node_id, change.value.copy(alloc)?)?;
     }
     Ok(())
+}
+
+// Shows a value that was accepted to the items that watch its variable, keeps it, and stores it. So it is copied for those
+// who queue or keep it, and moved into the variable.
+fn put(alloc: Global, services: &mut Services, change: Change) -> Result<(), AllocError>
+    requires { takes_at change.node_id change.value services.old.space.nodes ≡ true }
+    ensures { OnOk result (services.new ≡ with_accepted services.old change) }
+{
+    services.items.sample(alloc, slice::from_ref(&change))?;
+    keep(alloc, &services.space, &mut services.history, &change)?;
+    let Change { node_id, value } = change;
+    services.space.set_value(&node_id, value);
+    Ok(())
+}
+
+// Does with one value what the service does, and answers its outcome.
+fn write_one(
+    alloc: Global,
+    services: &mut Services,
+    clock: Moment,
+    value: WriteValue,
+) -> Result<Status, AllocError>
+    ensures services { OnOk result (services.new ≡ with_judged services.old (accepted_of clock value (judged services.old.space.nodes value))) }
+    ensures status { IfOk result (λ status. status ≡ status_of (judged services.old.space.nodes value)) }
+{
+    match accepted(&services.space, clock, value) {
+        Ok(change) => {
+            put(alloc, services, change)?;
+            Ok(Status::GOOD)
+        }
+        Err(status) => Ok(status),
+    }
+}
+
+// Does with all values what the service does, one after the other, and answers their outcomes.
+fn write_all(
+    alloc: Global,
+    services: &mut Services,
+    clock: Moment,
+    values: Vec<WriteValue>,
+) -> Result<Vec<Status>, AllocError>
+    ensures services { OnOk result (services.new ≡ with_written services.old (write_of clock services.old.space.nodes values.items)) }
+    ensures statuses { IfOk result (λ statuses. statuses.items ≡ (write_of clock services.old.space.nodes values.items).statuses) }
+    ensures count { IfOk result (λ statuses. length statuses.items ≡ length values.items) }
+{
+    let mut statuses = Vec::with_capacity(alloc, values.len())?;
+    for value in values {
+        let status = write_one(alloc, services, clock, value)?;
+        statuses.push(status)?;
+    }
+    Ok(statuses)
 }
 
 /// Gives variables new values, one after the other, shows them to the items that watch them, and keeps those of variables
@@ -53,8 +103,8 @@ fn keep_all(
 ///
 /// The faults, in this order: `BAD_NOTHING_TO_DO` for a list that is null or empty,
 /// `BAD_TOO_MANY_OPERATIONS` for one with more entries than the configuration's `operations`; then nothing is written. What is
-/// wrong with one value is told in its result ([`ua_read_write::write`]). Where memory runs out, some of the
-/// values were written, from the first on, and the server halts.
+/// wrong with one value is told in its result ([`ua_read_write::accepted`]). Where memory runs out, some of the
+/// values were written, shown and kept, from the first on, and the server halts.
 pub struct Write;
 
 impl SessionService for Write {
@@ -74,16 +124,9 @@ impl SessionService for Write {
             Ok(values) => values,
             Err(status) => return Err(Unserved::Fault(status)),
         };
-        let Written { statuses, changed } = write(
-            alloc,
-            &mut services.space,
-            setting.clock,
-            values,
-        )?;
-        services.items.sample(alloc, changed.as_slice())?;
-        keep_all(alloc, &services.space, &mut services.history, changed)?;
+        let statuses = write_all(alloc, services, setting.clock, values)?;
         let type_id = type_ids::WRITE_RESPONSE;
-        let body = statuses_body(alloc, type_id, setting, caller, statuses.as_slice())?;
+        let body = statuses_body(alloc, type_id, setting, caller, &statuses)?;
         Ok(reply(alloc, caller, body)?)
     }
 }

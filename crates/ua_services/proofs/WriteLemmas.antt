@@ -1,0 +1,139 @@
+-- Values that are written, shown and kept one by one, and what all of them come to.
+use Rattle.std.proofs.Common.{◌≡◌, ℕ, Bool, true, false, cond, List, [], ◌∷◌, ◌++◌, map, Option, Some, None, Result, Ok, Err, refl, sym, ap, ◌∙◌}
+use Rattle.std.proofs.lemmas.Grind.{flat_map-append}
+use Rattle.std.proofs.lemmas.List.{append-nil}
+use Rattle.std.proofs.lemmas.List.Sums.{fold-append}
+use Rattle.std.specs.BTreeMap.{is_at}
+use Rattle.std.specs.Map.{lookup, set_value}
+use Rattle.std.specs.Ordering.{nat_cmp}
+use Rattle.ua_types.specs.NodeIdOrder.{id_cmp}
+use Rattle.ua_types.specs.declared.moment.Moment.{Moment}
+use Rattle.ua_types.specs.declared.node_id.NodeId.{NodeId}
+use Rattle.ua_types.specs.declared.status.Status.{Status}
+use Rattle.ua_values.specs.declared.data_value.DataValue.{DataValue}
+use Rattle.ua_service_messages.specs.declared.writing.WriteValue.{WriteValue}
+use Rattle.ua_space.specs.Nodes.{Nodes, node_at}
+use Rattle.ua_space.specs.Values.{variable_of, variable_in, variable_at, holding, put, with_value}
+use Rattle.ua_space.specs.declared.node.Node.{Node}
+use Rattle.ua_space.specs.declared.node.NodeDetails.{NodeDetails}
+use Rattle.ua_space.specs.declared.node.NodeDetails.TheVariants as details
+use Rattle.ua_history.specs.Histories.{HistoryState, kept}
+use Rattle.ua_monitored_items.specs.Item.{takes, queued, seen}
+use Rattle.ua_monitored_items.specs.ItemTables.{NumberedItems, item_at, is_on, numbers_on, with_found}
+use Rattle.ua_monitored_items.specs.Items.{ItemsState, Visit, visited, sampled_items, visits_of, all_visits}
+use Rattle.ua_monitored_items.specs.declared.item.Item.{Item}
+use Rattle.ua_monitored_items.proofs.Tables.{where_set}
+use Rattle.ua_read_write.specs.Writing.{Writing, stored_of, judged, accepted_of, status_of, nodes_after, changes_of, with_one, nothing_written, write_of}
+use Rattle.ua_read_write.specs.declared.writing.Change.{Change}
+use Rattle.ua_services.specs.ServicesState.{Services}
+use Rattle.ua_services.specs.Write.{is_historizing, with_change, all_kept, sampled, with_written, with_accepted, with_judged}
+
+-- ---- a value makes no variable historizing, and none that was so another
+
+same_details : (v : DataValue) (d : NodeDetails) → is_historizing (variable_in (holding v d)) ≡ is_historizing (variable_in d)
+same_details v details.Object = refl
+same_details v (details.Variable a) = refl
+same_details v (details.ObjectType a) = refl
+same_details v (details.VariableType t r a) = refl
+same_details v (details.ReferenceType a s i) = refl
+same_details v (details.DataType a) = refl
+
+same_set : (test q : NodeId → Bool) (old new : Node) → is_historizing (variable_in new.details) ≡ is_historizing (variable_in old.details) → (es : Nodes) → lookup test es ≡ Some old
+    → is_historizing (variable_of (lookup q (set_value test es new))) ≡ is_historizing (variable_of (lookup q es))
+same_set test q old new same [] found = refl
+same_set test q old new same (e ∷ es) found = by (test e.0) found (same_set test q old new same es)
+  where
+    here : (b : Bool) → e.1 ≡ old → is_historizing (variable_of (cond b (Some new) (lookup q es))) ≡ is_historizing (variable_of (cond b (Some e.1) (lookup q es)))
+    here true is = same ∙ sym (ap (λ (n : Node). is_historizing (variable_in n.details)) is)
+    here false is = refl
+
+    behind : (b : Bool) → is_historizing (variable_of (lookup q (set_value test es new))) ≡ is_historizing (variable_of (lookup q es))
+        → is_historizing (variable_of (cond b (Some e.1) (lookup q (set_value test es new)))) ≡ is_historizing (variable_of (cond b (Some e.1) (lookup q es)))
+    behind true rest = refl
+    behind false rest = rest
+
+    by : (b : Bool) → cond b (Some e.1) (lookup test es) ≡ Some old
+        → (lookup test es ≡ Some old → is_historizing (variable_of (lookup q (set_value test es new))) ≡ is_historizing (variable_of (lookup q es)))
+        → is_historizing (variable_of (lookup q (cond b ((e.0, new) ∷ es) (e ∷ set_value test es new)))) ≡ is_historizing (variable_of (lookup q (e ∷ es)))
+    by true f rest = let is : e.1 ≡ old = cc in here (q e.0) is
+    by false f rest = behind (q e.0) (rest f)
+
+same_put : (id q : NodeId) (v : DataValue) (nodes : Nodes) (found : Option Node) → node_at id nodes ≡ found
+    → is_historizing (variable_at q (put id v nodes found)) ≡ is_historizing (variable_at q nodes)
+same_put id q v nodes None at = refl
+same_put id q v nodes (Some node) at = same_set (is_at (id_cmp id)) (is_at (id_cmp q)) node (record node { details = holding v node.details }) (same_details v node.details) nodes at
+
+same_historizing : (id q : NodeId) (v : DataValue) (nodes : Nodes) → is_historizing (variable_at q (with_value id v nodes)) ≡ is_historizing (variable_at q nodes)
+same_historizing id q v nodes = same_put id q v nodes (node_at id nodes) refl
+
+same_kept : (a b : Nodes) → ((q : NodeId) → is_historizing (variable_at q a) ≡ is_historizing (variable_at q b)) → (h : HistoryState) (changes : List Change) → all_kept a h changes ≡ all_kept b h changes
+same_kept a b same h [] = refl
+same_kept a b same h (c ∷ cs) =
+    let one : with_change a h c ≡ with_change b h c = ap (λ (is : Bool). cond is (kept h c.node_id c.value) h) (same c.node_id) in
+    ap (λ (g : HistoryState). all_kept a g cs) one ∙ same_kept a b same (with_change b h c) cs
+
+-- ---- an item that sees a value stays on its node
+
+same_seen : (id : NodeId) (v : DataValue) (item : Item) (b : Bool) → is_on id (cond b (queued v item) item) ≡ is_on id item
+same_seen id v item true = refl
+same_seen id v item false = refl
+
+same_visited : (id : NodeId) (v : Visit) (items : NumberedItems) → numbers_on id (visited items v) ≡ numbers_on id items
+same_visited id v items = by (item_at v.number items) refl
+  where
+    by : (found : Option Item) → item_at v.number items ≡ found → numbers_on id (with_found v.number (seen v.value) items found) ≡ numbers_on id items
+    by None e = refl
+    by (Some item) e = where_set (is_on id) v.number item (seen v.value item) (same_seen id v.value item (takes item v.value)) items e
+
+same_sampled : (id : NodeId) (visits : List Visit) (items : NumberedItems) → numbers_on id (sampled_items items visits) ≡ numbers_on id items
+same_sampled id [] items = refl
+same_sampled id (v ∷ vs) items = same_sampled id vs (visited items v) ∙ same_visited id v items
+
+sampled_more : (items : ItemsState) (changes : List Change) (c : Change) → sampled items (changes ++ c ∷ []) ≡ sampled (sampled items changes) (c ∷ [])
+sampled_more items changes c =
+    let visits = all_visits items.items changes in
+    let last = all_visits items.items (c ∷ []) in
+    let now = sampled_items items.items visits in
+    let visit : ℕ → Visit = λ number. record { number = number; value = c.value } in
+    let same : all_visits now (c ∷ []) ≡ last =
+    ap (λ (ns : List ℕ). map visit ns ++ []) (same_sampled c.node_id visits items.items)
+    in
+    ap (λ (es : NumberedItems). record items { items = es })
+    (ap (sampled_items items.items) (flat_map-append (visits_of items.items) changes (c ∷ [])) ∙ fold-append visited items.items visits last ∙ sym (ap (sampled_items now) same))
+
+-- ---- one more value
+
+module _ (clock : Moment) (state : Services) (before : Writing) (w : WriteValue) where
+  kept_more : (nodes : Nodes) (c : Change) → ((q : NodeId) → is_historizing (variable_at q nodes) ≡ is_historizing (variable_at q before.nodes))
+      → with_change before.nodes (all_kept before.nodes state.history before.changed) c ≡ all_kept nodes state.history (before.changed ++ c ∷ [])
+  kept_more nodes c same =
+      sym (same_kept nodes before.nodes same state.history (before.changed ++ c ∷ []) ∙ fold-append (with_change before.nodes) state.history before.changed (c ∷ []))
+
+  abbrev after : Result (Unit {0}) Status → Writing
+  after verdict = record {
+    nodes = nodes_after clock w verdict before.nodes;
+    statuses = before.statuses ++ status_of verdict ∷ [];
+    changed = before.changed ++ changes_of clock w verdict;
+  }
+
+  judged_more : (verdict : Result (Unit {0}) Status) → with_judged (with_written state before) (accepted_of clock w verdict) ≡ with_written state (after verdict)
+  judged_more (Err code) = ap (λ (cs : List Change). with_written state (record (after (Err code)) { changed = cs })) (sym (append-nil before.changed))
+  judged_more (Ok done) =
+      let c : Change = record { node_id = w.node_id; value = stored_of clock w.value } in
+      let nodes = with_value c.node_id c.value before.nodes in
+      let kept = kept_more nodes c (λ q. same_historizing c.node_id q c.value before.nodes) in
+      let shown = sym (sampled_more state.items before.changed c) in
+      ap (λ (h : HistoryState). record (with_accepted (with_written state before) c) { history = h }) kept
+      ∙ ap (λ (items : ItemsState). record (with_written state (after (Ok done))) { items = items }) shown
+
+pub written_more : (clock : Moment) (state : Services) (values : List WriteValue) (w : WriteValue)
+    → with_judged (with_written state (write_of clock state.space.nodes values)) (accepted_of clock w (judged (write_of clock state.space.nodes values).nodes w))
+    ≡ with_written state (write_of clock state.space.nodes (values ++ w ∷ []))
+written_more clock state values w =
+    let before = write_of clock state.space.nodes values in
+    judged_more clock state before w (judged before.nodes w)
+    ∙ sym (ap (with_written state) (fold-append (with_one clock) (nothing_written state.space.nodes) values (w ∷ [])))
+
+pub statuses_more : (clock : Moment) (nodes : Nodes) (values : List WriteValue) (w : WriteValue)
+    → (write_of clock nodes values).statuses ++ status_of (judged (write_of clock nodes values).nodes w) ∷ [] ≡ (write_of clock nodes (values ++ w ∷ [])).statuses
+statuses_more clock nodes values w = sym (ap (λ (done : Writing). done.statuses) (fold-append (with_one clock) (nothing_written nodes) values (w ∷ [])))
