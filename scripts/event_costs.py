@@ -26,7 +26,7 @@ sessions = 1000
 subscriptions = 10000
 items = 1000
 publish_queue = 10
-kept = 1000
+kept = 10000
 connections = 1000
 history = 10
 publish_time = 10000000
@@ -87,14 +87,33 @@ def ten_with(count):
     return [*SESSION, *subscriptions(10), *(line for s in range(1, 11) for line in items(s, 12, count, 1))]
 
 
+def spread(count):
+    """As many subscriptions, of which one is due at each tick from then on."""
+    return [*SESSION, *(line for i in range(count) for line in ("sub 1 1 10000 1000 0 0 on", f"tick {(i + 1) * 10000000 // count}"))]
+
+
+def one_due(count):
+    return lambda i: f"tick {10000000 + (i + 1) * 10000000 // count}"
+
+
+def taken_over(i):
+    """A connection that takes session 1 over, by which a request comes, and that is gone."""
+    conn = i + 2
+    lines = [f"open {conn} {conn:064x}", f'hel {conn} "opc.tcp://localhost:4840"', f"opn {conn} issue"]
+    return "\n".join([*lines, f"activate {conn} 1", f"publish {conn} 1", f"gone {conn}"])
+
+
 # what happens, beside how many of what, the lines before it, and the lines of one such event
 MEASURED = [
     *(("a tick at which nothing is due", f"{n} subscriptions", SESSION + subscriptions(n), lambda i: f"tick {i + 1}", 30000) for n in (10, 1000, 10000)),
+    *(("a tick at which one is due", f"{n} subscriptions", spread(n), one_due(n), 5000) for n in (10, 10000)),
     *(("a Publish request that is queued, of 10 subscriptions", f"{n} items each", ten_with(n), lambda i: "publish 1 1", 5000) for n in (0, 1000)),
     *(("a Publish request that acknowledges no kept message", f"{n} kept messages", kept(n), lambda i: "publish 1 1 1:4000000000", 5000) for n in (10, 1000)),
+    *(("a Publish request that acknowledges a kept message", f"{n} kept messages", kept(n), lambda i: f"publish 1 1 1:{i + 1}", 2000) for n in (2100, 8000)),
     *(("a Write of a value that no item watches", f"{n} items of another node", ten_with(n // 10), written, 5000) for n in (0, 10000)),
     *(("a Write of a value that items watch, whose queues are full", f"{n} such items", watched_by(n), written, 3000) for n in (1, 100)),
     *(("a connection that opens and is gone", f"{n} sessions with a request each", asking(n), lambda i: f"open {i + 2} {i + 2:064x}\ngone {i + 2}", 8000) for n in (10, 900)),
+    *(("a connection that takes a session over, queues a request and is gone", f"{n} sessions with a request each", asking(n), taken_over, 1500) for n in (10, 900)),
 ]
 
 
