@@ -1,7 +1,8 @@
 //! What has a number.
 
-ghost use Rattle.std.specs.Prelude.{◌≡◌, OnOk, IfNone, is_some};
+ghost use Rattle.std.specs.Prelude.{◌≡◌, OnOk, IfOk, IfNone, is_some};
 ghost use Rattle.std.specs.FinMap as map;
+ghost use Rattle.std.specs.Map.{keys_of};
 ghost use Rattle.std.specs.Option.{option_copied, option_copied_mut};
 ghost use Rattle.std.specs.Borrow.{sem};
 ghost use Rattle.ua_types.specs.Numbered.{lends_value};
@@ -46,6 +47,13 @@ impl<V> Numbered<V> {
         self.entries.len()
     }
 
+    /// The numbers, rising.
+    pub fn numbers(&self, alloc: Global) -> Result<Vec<u64>, AllocError>
+        ensures { IfOk result (λ numbers. numbers.items ≡ keys_of (map.entries self.now)) }
+    {
+        keys_of(alloc, self.entries.len(), &self.entries)
+    }
+
     /// Whether there is one with this number.
     pub fn contains(&self, number: u64) -> bool
         ensures { result ≡ is_some (map.get self.now number) }
@@ -76,6 +84,21 @@ impl<V> Numbered<V> {
     {
         self.entries.remove(&number)
     }
+}
+
+// The keys of a map, rising. There are about so many.
+fn keys_of<V>(
+    alloc: Global,
+    count: usize,
+    entries: &BTreeMap<u64, V>,
+) -> Result<Vec<u64>, AllocError>
+    ensures { IfOk result (λ keys. keys.items ≡ keys_of entries.now.entries) }
+{
+    let mut keys = Vec::with_capacity(alloc, count)?;
+    for (number, _) in entries {
+        keys.push(*number)?;
+    }
+    Ok(keys)
 }
 
 impl<V: Drop> Numbered<V> {
