@@ -1,8 +1,8 @@
 -- What sessions ask, word by word.
-use Rattle.std.specs.Prelude.{ℕ, ◌+◌, ◌-◌, ◌^◌, List, codes, Option, Some, None, option_map, Result, Ok, ◌==◌, if◌then◌else◌}
+use Rattle.std.specs.Prelude.{ℕ, ◌+◌, ◌-◌, ◌^◌, List, codes, Option, Some, None, option_map, Result, Ok, Err, ◌==◌, if◌then◌else◌}
 use Rattle.std.specs.List.{before_first, after_first}
 use Rattle.std.specs.Str.{bytes_eq}
-use Rattle.ua_types.specs.IdTexts.{number_of}
+use Rattle.ua_types.specs.IdTexts.{behind, or_else, number_of}
 use Rattle.ua_types.specs.declared.moment.Moment.{Moment}
 use Rattle.std.specs.Option.{ok_or}
 use Rattle.scenario_text.specs.Choices.{discard_reading}
@@ -12,11 +12,13 @@ use Rattle.scenario_text.specs.Readings.{Reading, ◌>>=◌, done, judged}
 use Rattle.scenario_text.specs.Values.{value_reading}
 use Rattle.scenario_text.specs.Words.{word}
 use Rattle.scenario_text.specs.declared.fault.Cause.{Cause}
-use Rattle.scenario_text.specs.declared.fault.Cause.TheVariants.{Number}
+use Rattle.scenario_text.specs.declared.fault.Cause.TheVariants.{Word, Number}
 use Rattle.scenario_text.specs.declared.requests.Acknowledgement.{Acknowledgement}
 use Rattle.scenario_text.specs.declared.requests.Attribute.{Attribute}
 use Rattle.scenario_text.specs.declared.requests.ChangedItem.{ChangedItem}
 use Rattle.scenario_text.specs.declared.requests.Counts.{Counts}
+use Rattle.scenario_text.specs.declared.requests.LinkChange.{LinkChange}
+use Rattle.scenario_text.specs.declared.requests.LinkChange.TheVariants.{Add, Remove}
 use Rattle.scenario_text.specs.declared.requests.Monitoring.{Monitoring}
 use Rattle.scenario_text.specs.declared.requests.NewItem.{NewItem}
 use Rattle.scenario_text.specs.declared.requests.NewValue.{NewValue}
@@ -122,6 +124,24 @@ changed_item_reading = do
   item ← number_reading
   monitoring ← monitoring_reading
   done (record { subscription = subscription; timestamps = timestamps; item = item; monitoring = monitoring })
+
+-- +ID or -ID
+abbrev pub added_link : Option ℕ → Result LinkChange Cause
+added_link number = ok_or (option_map Add number) Number
+
+abbrev pub removed_link : Option ℕ → Result LinkChange Cause
+removed_link number = ok_or (option_map Remove number) Number
+
+unfoldable pub link_change_of : List ℕ → Result LinkChange Cause
+link_change_of t =
+    or_else (behind (codes "+") t) (λ digits. added_link (number_of (0xffff_ffff + 1) digits))
+    (or_else (behind (codes "-") t) (λ digits. removed_link (number_of (0xffff_ffff + 1) digits))
+    (Err Word))
+
+unfoldable pub link_change_reading : Reading LinkChange
+link_change_reading = do
+  t ← word
+  judged (link_change_of t)
 
 -- SUB:NUMBER
 abbrev pub numbered : Option ℕ → Option ℕ → Option Acknowledgement

@@ -5,7 +5,7 @@ use Rattle.scenario_text.specs.Choices.{channel_request_reading, subscriptions_r
 use Rattle.scenario_text.specs.Entries.{entries_reading, while_more}
 use Rattle.scenario_text.specs.Numbers.{number_reading, long_number_reading, signed_number_reading, moment_reading}
 use Rattle.scenario_text.specs.Readings.{Reading, ◌>>=◌, done, judged}
-use Rattle.scenario_text.specs.Requests.{attribute_reading, new_value_reading, references_reading, raw_values_reading, counts_reading, new_item_reading, changed_item_reading, acknowledgement_reading}
+use Rattle.scenario_text.specs.Requests.{attribute_reading, new_value_reading, references_reading, raw_values_reading, counts_reading, new_item_reading, changed_item_reading, link_change_reading, acknowledgement_reading}
 use Rattle.scenario_text.specs.Values.{text_reading, key_reading, octets_reading}
 use Rattle.scenario_text.specs.Verbs.{verb_of}
 use Rattle.scenario_text.specs.Words.{word, end_of_line}
@@ -55,6 +55,7 @@ asker_reading known verbs.Open = do
   connection ← new_connection_reading known
   done tt
 asker_reading known verbs.Tick = done tt
+asker_reading known verbs.Shutdown = done tt
 asker_reading known verbs.Cut = done tt
 asker_reading known verbs.Chunk = done tt
 asker_reading known verbs.Abort = done tt
@@ -125,6 +126,11 @@ request_reading asked.SetItemMode = do
   mode ← signed_number_reading
   items ← entries_reading number_reading
   done (requests.SetItemMode subscription mode items)
+request_reading asked.SetTriggering = do
+  subscription ← number_reading
+  triggering ← number_reading
+  changes ← entries_reading link_change_reading
+  done (requests.SetTriggering subscription triggering changes)
 request_reading asked.DeleteItems = do
   subscription ← number_reading
   items ← entries_reading number_reading
@@ -162,6 +168,7 @@ statement_reading known verbs.Gone = do
 statement_reading known verbs.Tick = do
   now ← moment_reading
   done (statements.Tick now)
+statement_reading known verbs.Shutdown = done statements.Shutdown
 statement_reading known verbs.Raw = do
   connection ← connection_reading known
   bytes ← octets_reading
@@ -191,6 +198,7 @@ takes_no_memory verbs.Open = true
 takes_no_memory verbs.CloseChannel = true
 takes_no_memory verbs.Gone = true
 takes_no_memory verbs.Tick = true
+takes_no_memory verbs.Shutdown = true
 takes_no_memory verbs.Cut = true
 takes_no_memory verbs.Chunk = true
 takes_no_memory verbs.Abort = true

@@ -14,6 +14,7 @@ item_verb_of t =
     if bytes_eq t (codes "item") then Ok requests.CreateItem else
     if bytes_eq t (codes "moditem") then Ok requests.ModifyItem else
     if bytes_eq t (codes "itemmode") then Ok requests.SetItemMode else
+    if bytes_eq t (codes "trigger") then Ok requests.SetTriggering else
     if bytes_eq t (codes "delitem") then Ok requests.DeleteItems else
     Err Word
 
@@ -65,4 +66,5 @@ verb_of t =
     if bytes_eq t (codes "clo") then Ok verbs.CloseChannel else
     if bytes_eq t (codes "gone") then Ok verbs.Gone else
     if bytes_eq t (codes "tick") then Ok verbs.Tick else
+    if bytes_eq t (codes "shutdown") then Ok verbs.Shutdown else
     sent_verb_of t

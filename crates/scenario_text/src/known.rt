@@ -12,7 +12,8 @@ use crate::numbers::{long_number, moment};
 use crate::open_connections::OpenConnections;
 use crate::phrases::Phrase;
 use crate::requests::{
-    Acknowledgement, Attribute, ChangedItem, Counts, NewItem, NewValue, RawValues, References,
+    Acknowledgement, Attribute, ChangedItem, Counts, LinkChange, NewItem, NewValue, RawValues,
+    References,
 };
 use crate::statement::{Request, Statement};
 use crate::values::{key, octets};
@@ -84,6 +85,11 @@ fn request(alloc: Global, verb: RequestVerb, words: &mut Words<'_>) -> Result<Re
             subscription: u32::read(alloc, words)?,
             mode: i32::read(alloc, words)?,
             items: Listed::<u32>::read(alloc, words)?,
+        }),
+        RequestVerb::SetTriggering => Ok(Request::SetTriggering {
+            subscription: u32::read(alloc, words)?,
+            triggering: u32::read(alloc, words)?,
+            changes: Listed::<LinkChange>::read(alloc, words)?,
         }),
         RequestVerb::DeleteItems => Ok(Request::DeleteItems {
             subscription: u32::read(alloc, words)?,
@@ -196,6 +202,7 @@ impl Known {
             Verb::Tick => Ok(Statement::Tick {
                 now: moment(words)?,
             }),
+            Verb::Shutdown => Ok(Statement::Shutdown),
             Verb::Raw => Ok(Statement::Raw {
                 connection: self.connection(words)?,
                 bytes: Listed::from_vec(octets(alloc, words)?),

@@ -31,8 +31,8 @@ pub use fault::{AsmFault, Cause};
 pub use known::Known;
 pub use open_connections::OpenConnections;
 pub use requests::{
-    Acknowledgement, Attribute, ChangedItem, Counts, Monitoring, NewItem, NewValue, RawValues,
-    References,
+    Acknowledgement, Attribute, ChangedItem, Counts, LinkChange, Monitoring, NewItem, NewValue,
+    RawValues, References,
 };
 pub use scenario::{Line, Scenario, read, readable};
 pub use statement::{Request, Statement};

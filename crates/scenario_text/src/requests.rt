@@ -1,7 +1,7 @@
 //! What sessions ask.
 
 ghost use Rattle.std.specs.Prelude.{◌≡◌};
-ghost use Rattle.scenario_text.specs.Requests.{attribute_reading, source_time_reading, new_value_reading, references_reading, raw_values_reading, last_point_reading, counts_reading, monitoring_reading, new_item_reading, changed_item_reading, acknowledgement_of, acknowledgement_reading};
+ghost use Rattle.scenario_text.specs.Requests.{attribute_reading, source_time_reading, new_value_reading, references_reading, raw_values_reading, last_point_reading, counts_reading, monitoring_reading, new_item_reading, changed_item_reading, link_change_of, link_change_reading, acknowledgement_of, acknowledgement_reading};
 
 use crate::choices::Discard;
 use crate::fault::Cause;
@@ -9,7 +9,7 @@ use crate::numbers::signed;
 use crate::phrases::Phrase;
 use crate::words::Words;
 use std::alloc::Global;
-use ua_types::{Moment, NodeId, decimal_up_to};
+use ua_types::{Moment, NodeId, behind, decimal_up_to};
 use ua_values::Variant;
 
 /// An attribute of a node (ReadValueId, IEC 62541-4, section 7).
@@ -251,6 +251,44 @@ impl Phrase for ChangedItem {
             item: u32::read(alloc, words)?,
             monitoring: Monitoring::read(alloc, words)?,
         })
+    }
+}
+
+/// What becomes of a link from a triggering item to another one (SetTriggering, IEC 62541-4, section 5).
+#[derive(Clone, Copy, Debug, PartialEq, Eq)]
+pub enum LinkChange {
+    /// `+ID`: the item with this number is triggered from now on.
+    Add { item: u32 },
+    /// `-ID`: it is triggered no longer.
+    Remove { item: u32 },
+}
+
+// A sign, and the number of an item.
+#[tactic(auto, unfolding(crate::specs::Requests::link_change_of))]
+fn link_change_of(word: &str) -> Result<LinkChange, Cause>
+    ensures { result ≡ link_change_of word.now }
+{
+    match behind(word, "+") {
+        Some(digits) => match decimal_up_to(0xffff_ffff, digits) {
+            Some(item) => Ok(LinkChange::Add { item: item as u32 }),
+            None => Err(Cause::Number),
+        },
+        None => match behind(word, "-") {
+            Some(digits) => match decimal_up_to(0xffff_ffff, digits) {
+                Some(item) => Ok(LinkChange::Remove { item: item as u32 }),
+                None => Err(Cause::Number),
+            },
+            None => Err(Cause::Word),
+        },
+    }
+}
+
+impl Phrase for LinkChange {
+    ghost reading = { link_change_reading };
+
+    #[tactic(auto, unfolding(crate::specs::Requests::link_change_reading))]
+    fn read(_alloc: Global, words: &mut Words<'_>) -> Result<LinkChange, Cause> {
+        link_change_of(words.word()?)
     }
 }
 

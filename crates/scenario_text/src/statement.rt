@@ -2,7 +2,8 @@
 
 use crate::choices::{ChannelRequest, Publishing, Subscriptions};
 use crate::requests::{
-    Acknowledgement, Attribute, ChangedItem, Counts, NewItem, NewValue, RawValues, References,
+    Acknowledgement, Attribute, ChangedItem, Counts, LinkChange, NewItem, NewValue, RawValues,
+    References,
 };
 use ua_types::{Listed, Moment, Text};
 
@@ -71,6 +72,13 @@ pub enum Request {
         mode: i32,
         items: Listed<u32>,
     },
+    /// `trigger c s SUB ITEM +ID|-ID ..`
+    SetTriggering {
+        subscription: u32,
+        /// The item that triggers the others.
+        triggering: u32,
+        changes: Listed<LinkChange>,
+    },
     /// `delitem c s SUB ITEM..`
     DeleteItems {
         subscription: u32,
@@ -121,6 +129,8 @@ pub enum Statement {
     Tick {
         now: Moment,
     },
+    /// `shutdown`: the server is to end.
+    Shutdown,
     /// `raw c HEX`: bytes as they stand.
     Raw {
         connection: u64,

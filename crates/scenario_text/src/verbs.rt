@@ -22,6 +22,7 @@ pub(crate) enum RequestVerb {
     CreateItem,
     ModifyItem,
     SetItemMode,
+    SetTriggering,
     DeleteItems,
     Publish,
     Republish,
@@ -37,6 +38,7 @@ pub(crate) enum Verb {
     CloseChannel,
     Gone,
     Tick,
+    Shutdown,
     Raw,
     Cut,
     Chunk,
@@ -59,6 +61,9 @@ fn item_verb_of(word: &str) -> Result<RequestVerb, Cause>
     }
     if word == "itemmode" {
         return Ok(RequestVerb::SetItemMode);
+    }
+    if word == "trigger" {
+        return Ok(RequestVerb::SetTriggering);
     }
     if word == "delitem" {
         return Ok(RequestVerb::DeleteItems);
@@ -174,6 +179,9 @@ pub(crate) fn verb_of(word: &str) -> Result<Verb, Cause>
     }
     if word == "tick" {
         return Ok(Verb::Tick);
+    }
+    if word == "shutdown" {
+        return Ok(Verb::Shutdown);
     }
     sent_verb_of(word)
 }
