@@ -6,7 +6,7 @@ use Rattle.ua_state_table.specs.declared.state.State.{State}
 use Rattle.ua_state_table.specs.declared.state.State.TheVariants.{Closed, Normal, Late, KeepAlive}
 use Rattle.ua_state_table.specs.declared.vars.Vars.{Vars}
 use Rattle.ua_state_table.specs.declared.event.TableEvent.{TableEvent}
-use Rattle.ua_state_table.specs.declared.event.TableEvent.TheVariants.{Create, Publish, Timer, Modify, SetMode, Republish, Delete, Items, SessionEnd}
+use Rattle.ua_state_table.specs.declared.event.TableEvent.TheVariants.{Create, Publish, Timer, Modify, SetMode, Republish, Delete, Items, SessionEnd, Shutdown}
 use Rattle.ua_state_table.specs.declared.condition.Condition.{Condition}
 use Rattle.ua_state_table.specs.declared.condition.Condition.TheVariants.{Full, Room, EnabledMore, NotEnabledMore, EnabledAvailable, NotEnabledAvailable, Queued, NotQueued, Sent, NotSent, NotSentOrEnabledAvailable, KeepOne, KeepAboveOne, KeepOneOrEnabledAvailable, LifeOne, LifeAboveOne, Kept, NotKept, Deleting, Keeping}
 use Rattle.ua_state_table.specs.declared.row.Row.{Row}
@@ -154,6 +154,7 @@ live Normal (Republish true) a n h = record { only = refl; found = refl }
 live Normal (Republish false) a n h = record { only = refl; found = refl }
 live Normal (SessionEnd true) a n h = record { only = refl; found = refl }
 live Normal (SessionEnd false) a n h = record { only = refl; found = refl }
+live Normal Shutdown a n h = record { only = refl; found = refl }
 live Normal (Create full) a n h = cc
 live Late Timer a n h = timer_late a.enabled_available a.enabled_more a.queued a.sent a.last_keep a.last_life
 live Late Publish a n h = publish_late a.enabled_available a.enabled_more a.queued a.sent a.last_keep a.last_life
@@ -165,6 +166,7 @@ live Late (Republish true) a n h = record { only = refl; found = refl }
 live Late (Republish false) a n h = record { only = refl; found = refl }
 live Late (SessionEnd true) a n h = record { only = refl; found = refl }
 live Late (SessionEnd false) a n h = record { only = refl; found = refl }
+live Late Shutdown a n h = record { only = refl; found = refl }
 live Late (Create full) a n h = cc
 live KeepAlive Timer a n h = timer_keepalive a.enabled_available a.enabled_more a.queued a.sent a.last_keep a.last_life
 live KeepAlive Publish a n h = publish_keepalive a.enabled_available a.enabled_more a.queued a.sent a.last_keep a.last_life
@@ -176,6 +178,7 @@ live KeepAlive (Republish true) a n h = record { only = refl; found = refl }
 live KeepAlive (Republish false) a n h = record { only = refl; found = refl }
 live KeepAlive (SessionEnd true) a n h = record { only = refl; found = refl }
 live KeepAlive (SessionEnd false) a n h = record { only = refl; found = refl }
+live KeepAlive Shutdown a n h = record { only = refl; found = refl }
 live KeepAlive (Create full) a n h = cc
 live Closed e a n h = absurd (n refl)
 
@@ -191,6 +194,7 @@ closed v Delete h = cc
 closed v Items h = cc
 closed v (Republish kept) h = cc
 closed v (SessionEnd deleting) h = cc
+closed v Shutdown h = cc
 
 pub is_chosen : (v : Vars) (e : TableEvent) → IsSound v → fits v.state e ≡ true → IsChosen v.state e (holds v e) (chosen v e)
 is_chosen v e sound h = by v.state refl h

@@ -1,7 +1,7 @@
 -- What stands in the places of a row's conditions.
 use Rattle.std.specs.Prelude.{◌≡◌, refl}
 use Rattle.ua_state_table.specs.declared.row.RowId.{RowId}
-use Rattle.ua_state_table.specs.declared.row.RowId.TheVariants.{C1, C2, N1, N2, N3, N4, N5, N6, L1, L2, L3, K1, K2, K3, K4, K5, G1, G2, G3, G4, G5, G6, G7, G8, G9}
+use Rattle.ua_state_table.specs.declared.row.RowId.TheVariants.{C1, C2, N1, N2, N3, N4, N5, N6, L1, L2, L3, K1, K2, K3, K4, K5, G1, G2, G3, G4, G5, G6, G7, G8, G9, G10}
 use Rattle.ua_state_table.specs.StateTable.{conditions_of}
 use Rattle.ua_state_table.specs.Rows.{row_of, placed_in}
 
@@ -31,3 +31,4 @@ conditions_in_places G6 = refl
 conditions_in_places G7 = refl
 conditions_in_places G8 = refl
 conditions_in_places G9 = refl
+conditions_in_places G10 = refl

@@ -1,7 +1,7 @@
 -- Which rows queue a request.
 use Rattle.std.proofs.Common.{◌≡◌, ◌⊎◌, true, false, refl, inl, inr}
 use Rattle.ua_state_table.specs.declared.row.RowId.{RowId}
-use Rattle.ua_state_table.specs.declared.row.RowId.TheVariants.{C1, C2, N1, N2, N3, N4, N5, N6, L1, L2, L3, K1, K2, K3, K4, K5, G1, G2, G3, G4, G5, G6, G7, G8, G9}
+use Rattle.ua_state_table.specs.declared.row.RowId.TheVariants.{C1, C2, N1, N2, N3, N4, N5, N6, L1, L2, L3, K1, K2, K3, K4, K5, G1, G2, G3, G4, G5, G6, G7, G8, G9, G10}
 use Rattle.ua_state_table.specs.Doing.{Standing, Circumstances, after, enqueues, is_timer_row}
 
 pub two_rows : (r : RowId) → enqueues r ≡ true → (r ≡ N1) ⊎ (r ≡ K1)
@@ -30,6 +30,7 @@ two_rows G6 h = absurd (cc)
 two_rows G7 h = absurd (cc)
 two_rows G8 h = absurd (cc)
 two_rows G9 h = absurd (cc)
+two_rows G10 h = absurd (cc)
 
 pub no_timer_row : (r : RowId) → is_timer_row r ≡ true → enqueues r ≡ false
 no_timer_row C1 h = refl
@@ -57,6 +58,7 @@ no_timer_row G6 h = refl
 no_timer_row G7 h = refl
 no_timer_row G8 h = refl
 no_timer_row G9 h = refl
+no_timer_row G10 h = refl
 
 -- a row that queues none leaves an empty queue empty
 pub stays_empty : (c : Circumstances) (r : RowId) (s : Standing) → enqueues r ≡ false → s.vars.queued ≡ false → (after c r s).vars.queued ≡ false
@@ -85,3 +87,4 @@ stays_empty c G6 s h e = e
 stays_empty c G7 s h e = e
 stays_empty c G8 s h e = e
 stays_empty c G9 s h e = refl
+stays_empty c G10 s h e = e

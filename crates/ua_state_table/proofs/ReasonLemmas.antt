@@ -6,7 +6,7 @@ use Rattle.ua_state_table.specs.declared.vars.Vars.{Vars}
 use Rattle.ua_state_table.specs.declared.event.TableEvent.{TableEvent}
 use Rattle.ua_state_table.specs.declared.condition.Condition.{Condition}
 use Rattle.ua_state_table.specs.declared.row.RowId.{RowId}
-use Rattle.ua_state_table.specs.declared.row.RowId.TheVariants.{C1, C2, N1, N2, N3, N4, N5, N6, L1, L2, L3, K1, K2, K3, K4, K5, G1, G2, G3, G4, G5, G6, G7, G8, G9}
+use Rattle.ua_state_table.specs.declared.row.RowId.TheVariants.{C1, C2, N1, N2, N3, N4, N5, N6, L1, L2, L3, K1, K2, K3, K4, K5, G1, G2, G3, G4, G5, G6, G7, G8, G9, G10}
 use Rattle.ua_state_table.specs.StateTable.{printed, rows, concerns, conditions_of, fired, fires, first_false}
 use Rattle.ua_state_table.specs.Conditions.{holds}
 
@@ -73,6 +73,7 @@ each_among G6 = inr (inr (inr (inr (inr (inr (inr (inr (inr (inr (inr (inr (inr 
 each_among G7 = inr (inr (inr (inr (inr (inr (inr (inr (inr (inr (inr (inr (inr (inr (inr (inr (inr (inr (inr (inr (inr (inr (inl refl))))))))))))))))))))))
 each_among G8 = inr (inr (inr (inr (inr (inr (inr (inr (inr (inr (inr (inr (inr (inr (inr (inr (inr (inr (inr (inr (inr (inr (inr (inl refl)))))))))))))))))))))))
 each_among G9 = inr (inr (inr (inr (inr (inr (inr (inr (inr (inr (inr (inr (inr (inr (inr (inr (inr (inr (inr (inr (inr (inr (inr (inr (inl refl))))))))))))))))))))))))
+each_among G10 = inr (inr (inr (inr (inr (inr (inr (inr (inr (inr (inr (inr (inr (inr (inr (inr (inr (inr (inr (inr (inr (inr (inr (inr (inr (inl refl)))))))))))))))))))))))))
 
 pub others_have_a_reason : (v : Vars) (e : TableEvent) (x r : RowId) → fires v e ≡ x ∷ [] → concerns (printed r).scope (printed r).event v.state e ≡ true → r ≢ x → IsSome (first_false v e r)
 unfolding fired first_false

@@ -3,7 +3,7 @@ use Rattle.std.proofs.Common.{◌≡◌, ◌≢◌, ℕ, ◌+◌, ◌<◌, ◌�
 use Rattle.ua_state_table.specs.declared.state.State.{State}
 use Rattle.ua_state_table.specs.declared.state.State.TheVariants.{Closed, Normal, Late, KeepAlive}
 use Rattle.ua_state_table.specs.declared.event.TableEvent.{TableEvent}
-use Rattle.ua_state_table.specs.declared.event.TableEvent.TheVariants.{Create, Publish, Timer, Modify, SetMode, Republish, Delete, Items, SessionEnd}
+use Rattle.ua_state_table.specs.declared.event.TableEvent.TheVariants.{Create, Publish, Timer, Modify, SetMode, Republish, Delete, Items, SessionEnd, Shutdown}
 use Rattle.ua_state_table.specs.declared.row.RowId.{RowId}
 use Rattle.ua_state_table.specs.declared.row.RowId.TheVariants.{N1, N2, N3, N4, N5, N6, L1, L2, K2, K3, K4, K5, G6}
 use Rattle.ua_state_table.specs.Events.{fits}
@@ -79,6 +79,7 @@ leaves c s Delete f h = λ live. absurd (live refl)
 leaves c s Items f h = λ _. keeps_G7 c s f h
 leaves c s (SessionEnd true) f h = λ live. absurd (live refl)
 leaves c s (SessionEnd false) f h = λ _. keeps_G9 c s f h
+leaves c s Shutdown f h = λ live. absurd (live refl)
 leaves c s (Create true) f h = λ live. absurd (live refl)
 leaves c s (Create false) f h = λ _. begins c s f
 
@@ -228,6 +229,7 @@ ends s Delete h ok at = absurd (cc)
 ends s Items h ok at = absurd (cc)
 ends s (SessionEnd true) h ok at = absurd (cc)
 ends s (SessionEnd false) h ok at = absurd (cc)
+ends s Shutdown h ok at = absurd (cc)
 ends s (Create true) h ok at = absurd (cc)
 ends s (Create false) h ok at = absurd (cc)
 

@@ -4,9 +4,9 @@ use Rattle.ua_state_table.specs.declared.state.State.{State}
 use Rattle.ua_state_table.specs.declared.state.State.TheVariants.{Closed, Normal, Late, KeepAlive}
 use Rattle.ua_state_table.specs.declared.vars.Vars.{Vars}
 use Rattle.ua_state_table.specs.declared.event.TableEvent.{TableEvent}
-use Rattle.ua_state_table.specs.declared.event.TableEvent.TheVariants.{Create, Publish, Timer, Modify, SetMode, Republish, Delete, Items, SessionEnd}
+use Rattle.ua_state_table.specs.declared.event.TableEvent.TheVariants.{Create, Publish, Timer, Modify, SetMode, Republish, Delete, Items, SessionEnd, Shutdown}
 use Rattle.ua_state_table.specs.declared.row.RowId.{RowId}
-use Rattle.ua_state_table.specs.declared.row.RowId.TheVariants.{C1, C2, N1, N2, N3, N4, N5, N6, L1, L2, L3, K1, K2, K3, K4, K5, G1, G2, G3, G4, G5, G6, G7, G8, G9}
+use Rattle.ua_state_table.specs.declared.row.RowId.TheVariants.{C1, C2, N1, N2, N3, N4, N5, N6, L1, L2, L3, K1, K2, K3, K4, K5, G1, G2, G3, G4, G5, G6, G7, G8, G9, G10}
 
 -- what the choice asks of sound variables
 pub record Answers : Type 0 where
@@ -50,6 +50,7 @@ row_chosen s (Republish kept) a = if kept then G3 else G4
 row_chosen s Delete a = G5
 row_chosen s Items a = G7
 row_chosen s (SessionEnd deleting) a = if deleting then G8 else G9
+row_chosen s Shutdown a = G10
 
 abbrev pub chosen : Vars → TableEvent → RowId
 chosen v e = row_chosen v.state e (answers v)

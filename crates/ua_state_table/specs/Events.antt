@@ -3,7 +3,7 @@ use Rattle.std.specs.Prelude.{Bool, true, false, not}
 use Rattle.ua_state_table.specs.declared.state.State.{State}
 use Rattle.ua_state_table.specs.declared.state.State.TheVariants.{Closed, Normal, Late, KeepAlive}
 use Rattle.ua_state_table.specs.declared.event.TableEvent.{TableEvent}
-use Rattle.ua_state_table.specs.declared.event.TableEvent.TheVariants.{Create, Publish, Timer, Modify, SetMode, Republish, Delete, Items, SessionEnd}
+use Rattle.ua_state_table.specs.declared.event.TableEvent.TheVariants.{Create, Publish, Timer, Modify, SetMode, Republish, Delete, Items, SessionEnd, Shutdown}
 use Rattle.ua_state_table.specs.declared.event.EventKind.{EventKind}
 use Rattle.ua_state_table.specs.declared.event.EventKind.TheVariants as kind
 
@@ -17,6 +17,7 @@ kind_of (Republish kept) = kind.Republish
 kind_of Delete = kind.Delete
 kind_of Items = kind.Items
 kind_of (SessionEnd deleting) = kind.SessionEnd
+kind_of Shutdown = kind.Shutdown
 
 abbrev pub is_full : TableEvent → Bool
 is_full (Create full) = full
@@ -40,6 +41,7 @@ is_kind kind.Republish (Republish kept) = true
 is_kind kind.Delete Delete = true
 is_kind kind.Items Items = true
 is_kind kind.SessionEnd (SessionEnd deleting) = true
+is_kind kind.Shutdown Shutdown = true
 is_kind _ _ = false
 
 abbrev pub same_state : State → State → Bool

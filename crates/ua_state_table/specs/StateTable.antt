@@ -6,13 +6,13 @@ use Rattle.ua_state_table.specs.declared.state.State.TheVariants.{Closed, Normal
 use Rattle.ua_state_table.specs.declared.vars.Vars.{Vars}
 use Rattle.ua_state_table.specs.declared.event.TableEvent.{TableEvent}
 use Rattle.ua_state_table.specs.declared.event.EventKind.{EventKind}
-use Rattle.ua_state_table.specs.declared.event.EventKind.TheVariants.{Create, Publish, Timer, Modify, SetMode, Republish, Delete, Items, SessionEnd}
+use Rattle.ua_state_table.specs.declared.event.EventKind.TheVariants.{Create, Publish, Timer, Modify, SetMode, Republish, Delete, Items, SessionEnd, Shutdown}
 use Rattle.ua_state_table.specs.declared.condition.Condition.{Condition}
 use Rattle.ua_state_table.specs.declared.condition.Condition.TheVariants.{Full, Room, EnabledMore, NotEnabledMore, EnabledAvailable, NotEnabledAvailable, Queued, NotQueued, Sent, NotSent, NotSentOrEnabledAvailable, KeepOne, KeepAboveOne, KeepOneOrEnabledAvailable, LifeOne, LifeAboveOne, Kept, NotKept, Deleting, Keeping}
 use Rattle.ua_state_table.specs.declared.action.Action.{Action}
 use Rattle.ua_state_table.specs.declared.action.Action.TheVariants.{RefuseTooMany, Initialise, StartTimer, Answer, DeleteAcknowledged, Enqueue, Dequeue, ResetLife, ResetKeep, CountKeep, SendNotifications, SendKeepAlive, SetSent, DeleteItems, NoteTimeout, Update, LimitKeep, SetEnabled, ClearMore, AnswerKept, RefuseNotKept, CallItems, LimitMore, LeaveSession}
 use Rattle.ua_state_table.specs.declared.row.RowId.{RowId}
-use Rattle.ua_state_table.specs.declared.row.RowId.TheVariants.{C1, C2, N1, N2, N3, N4, N5, N6, L1, L2, L3, K1, K2, K3, K4, K5, G1, G2, G3, G4, G5, G6, G7, G8, G9}
+use Rattle.ua_state_table.specs.declared.row.RowId.TheVariants.{C1, C2, N1, N2, N3, N4, N5, N6, L1, L2, L3, K1, K2, K3, K4, K5, G1, G2, G3, G4, G5, G6, G7, G8, G9, G10}
 use Rattle.ua_state_table.specs.declared.row.Scope.{Scope}
 use Rattle.ua_state_table.specs.declared.row.Scope.TheVariants.{In, Live}
 use Rattle.ua_state_table.specs.declared.row.Next.{Next}
@@ -58,10 +58,11 @@ printed G6 = row Live Timer (LifeOne ∷ []) (DeleteItems ∷ NoteTimeout ∷ []
 printed G7 = row Live Items [] (ResetLife ∷ CallItems ∷ LimitMore ∷ []) Same
 printed G8 = row Live SessionEnd (Deleting ∷ []) (DeleteItems ∷ []) (To Closed)
 printed G9 = row Live SessionEnd (Keeping ∷ []) (LeaveSession ∷ []) Same
+printed G10 = row Live Shutdown [] (DeleteItems ∷ []) (To Closed)
 
 -- the rows, in the order of the table
 abbrev pub rows : List RowId
-rows = C1 ∷ C2 ∷ N1 ∷ N2 ∷ N3 ∷ N4 ∷ N5 ∷ N6 ∷ L1 ∷ L2 ∷ L3 ∷ K1 ∷ K2 ∷ K3 ∷ K4 ∷ K5 ∷ G1 ∷ G2 ∷ G3 ∷ G4 ∷ G5 ∷ G6 ∷ G7 ∷ G8 ∷ G9 ∷ []
+rows = C1 ∷ C2 ∷ N1 ∷ N2 ∷ N3 ∷ N4 ∷ N5 ∷ N6 ∷ L1 ∷ L2 ∷ L3 ∷ K1 ∷ K2 ∷ K3 ∷ K4 ∷ K5 ∷ G1 ∷ G2 ∷ G3 ∷ G4 ∷ G5 ∷ G6 ∷ G7 ∷ G8 ∷ G9 ∷ G10 ∷ []
 
 abbrev pub conditions_of : RowId → List Condition
 conditions_of r = (printed r).conditions

@@ -33,6 +33,7 @@ row_text row.G6 = codes "G6"
 row_text row.G7 = codes "G7"
 row_text row.G8 = codes "G8"
 row_text row.G9 = codes "G9"
+row_text row.G10 = codes "G10"
 
 abbrev pub state_text : State → List ℕ
 state_text state.Closed = codes "closed"

@@ -112,7 +112,7 @@ pub fn actions_of(row: RowId) -> &'static [Action]
         RowId::G2 => &[ResetLife, SetEnabled, ClearMore, Answer],
         RowId::G3 => &[ResetLife, AnswerKept],
         RowId::G4 => &[ResetLife, RefuseNotKept],
-        RowId::G5 | RowId::G8 => &[DeleteItems],
+        RowId::G5 | RowId::G8 | RowId::G10 => &[DeleteItems],
         RowId::G6 => &[DeleteItems, NoteTimeout],
         RowId::G7 => &[ResetLife, CallItems, LimitMore],
         RowId::G9 => &[LeaveSession],

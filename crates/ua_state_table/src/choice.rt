@@ -67,6 +67,7 @@ pub fn choose(vars: &Vars, event: TableEvent) -> RowId
         TableEvent::Items => RowId::G7,
         TableEvent::SessionEnd { deleting: true } => RowId::G8,
         TableEvent::SessionEnd { deleting: false } => RowId::G9,
+        TableEvent::Shutdown => RowId::G10,
     }
 }
 

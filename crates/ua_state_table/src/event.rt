@@ -33,6 +33,9 @@ pub enum TableEvent {
 
     /// Its session ends. `deleting`: its client closed the session and wants its subscriptions deleted.
     SessionEnd { deleting: bool },
+
+    /// Its server shuts down.
+    Shutdown,
 }
 
 impl TableEvent {
@@ -50,6 +53,7 @@ impl TableEvent {
             TableEvent::Delete => EventKind::Delete,
             TableEvent::Items => EventKind::Items,
             TableEvent::SessionEnd { .. } => EventKind::SessionEnd,
+            TableEvent::Shutdown => EventKind::Shutdown,
         }
     }
 
@@ -93,4 +97,5 @@ pub enum EventKind {
     Delete,
     Items,
     SessionEnd,
+    Shutdown,
 }

@@ -65,6 +65,8 @@ pub enum RowId {
     G8,
     /// The session ends and leaves its subscriptions behind, until they time out.
     G9,
+    /// The server shuts down, and nothing of the subscription is left.
+    G10,
 }
 
 impl RowId {
@@ -106,6 +108,7 @@ impl RowId {
             RowId::G7 => "G7",
             RowId::G8 => "G8",
             RowId::G9 => "G9",
+            RowId::G10 => "G10",
         }
     }
 }
