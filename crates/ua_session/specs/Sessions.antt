@@ -185,6 +185,12 @@ ticked s now = at_clock s (later s.clock now)
 abbrev pub ended_by : SessionsState → Moment → List ℕ
 ended_by s now = ended_at s (later s.clock now)
 
+-- ---- the end of all
+
+-- no session is left, nor a point of one
+abbrev pub all_ended : SessionsState → SessionsState
+all_ended s = record s { sessions = empty; points = empty }
+
 -- ---- continuation points
 
 -- the points of a session

@@ -6,7 +6,7 @@ ghost use Rattle.std.specs.FinMap as map;
 ghost use Rattle.std.specs.Option.{option_copied_mut};
 ghost use Rattle.ua_types.specs.Answers.{step};
 ghost use Rattle.ua_types.specs.declared.refusal.Refusal.TheVariants.{Memory};
-ghost use Rattle.ua_session.specs.Sessions.{TakesNonce, no_sessions, named as named_spec, with_session, with_new_session, with_nonce, next_nonce as next_nonce_spec, deadline_of, is_spent, create_of, find_of, activate_of, close_of, without, ticked, ended_by, points_of, with_points};
+ghost use Rattle.ua_session.specs.Sessions.{TakesNonce, no_sessions, named as named_spec, with_session, with_new_session, with_nonce, next_nonce as next_nonce_spec, deadline_of, is_spent, create_of, find_of, activate_of, close_of, without, ticked, ended_by, all_ended, points_of, with_points};
 ghost use Rattle.ua_session.specs.PointLends.{lends_points};
 
 use crate::nonces::nonce;
@@ -311,6 +311,15 @@ impl Sessions {
         self.earliest = self.table.earliest();
         self.clock = clock;
         Ok(ended)
+    }
+
+    /// Ends all sessions, with their continuation points, as the server shuts down. Takes no memory.
+    pub fn end_all(&mut self, alloc: Global)
+        ensures { self.new ≡ all_ended self.old }
+    {
+        self.table = SessionTable::new(alloc);
+        self.earliest = Moment(i64::MAX);
+        self.points = SessionPoints::new(alloc);
     }
 
     /// Gives a session a place for its continuation points, if it has none yet, which is all that takes memory here.
