@@ -12,8 +12,9 @@ use Rattle.server_connections.specs.declared.connection.Phase.{Phase}
 use Rattle.server_connections.specs.declared.connections.Connections.{Connections}
 use Rattle.server_connections.specs.declared.frame_outcome.FrameOutcome.{FrameOutcome}
 use Rattle.server_connections.specs.Reactions.{Reaction, Counted, reaction, reaction_after, counted, counted_after, reaction_of, fault_reaction}
-use Rattle.server_connections.specs.Connecting.{taking, taking_after, taking_by, taking_of, break_by, break_of, with_phase}
+use Rattle.server_connections.specs.Connecting.{taking, taking_after, taking_by, taking_of, break_by, break_of, with_phase, refusing}
 use Rattle.server_connections.specs.Delivering.{Said, said, said_after, said_by, sending, sending_after, delivered_on, delivered_to, delivered}
+use Rattle.server_connections.specs.Shutting.{shut_by, shut_at, shut_one, said_behind, refusing_after}
 
 module _ (old : Connections) (conn : ℕ) (connection : Connection) (known : FinMap nat_cmp Connection) (phase : Phase) (there : get old.known conn ≡ Some connection)
     (back : known ≡ insert old.known conn (record connection { phase = phase })) where
@@ -45,6 +46,14 @@ module _ (old : Connections) (conn : ℕ) (connection : Connection) (known : Fin
       ∙ ap (λ (x : Said). sending (with_phase old conn connection x.phase) x.outs) e
       ∙ ap (λ k. sending (with_phase old k connection (said_by setting reply connection.phase).phase) (before ++ (said_by setting reply connection.phase).outs)) (sym same)
       ∙ ap (λ o. sending_after before (delivered_to setting old reply o)) (sym (ap (get old.known) same ∙ there))
+
+  -- after the server shut down
+  pub shut_back : (before after : List Out) → said phase after ≡ said_behind before (shut_by conn connection.phase) → refusing (record old { known = known }) after ≡ refusing_after before (shut_one old conn)
+  unfolding shut_one
+  shut_back before after e =
+      ap (λ m. refusing (record old { known = m }) after) back
+      ∙ ap (λ (x : Said). refusing (with_phase old conn connection x.phase) x.outs) e
+      ∙ ap (λ o. refusing_after before (shut_at old conn o)) (sym there)
 
 -- what holds where it went well
 pub on_ok : {X E : Type 0} (A B : Type 0) (r : Result X E) → OnOk r A → (A → B) → OnOk r B

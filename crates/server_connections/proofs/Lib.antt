@@ -5,3 +5,4 @@ pub mod FittingLemmas
 pub mod NumberingLemmas
 pub mod AlikeLemmas
 pub mod LentLemmas
+pub mod ShuttingLemmas

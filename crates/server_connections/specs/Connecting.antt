@@ -1,7 +1,7 @@
 -- What frames and closings do to the connections.
 use Rattle.std.specs.Prelude.{ℕ, Bool, true, nat_lt, List, [], ◌++◌, Option, Some, None, is_some}
 use Rattle.std.specs.FinMap.{get, insert, remove, empty}
-use Rattle.ua_types.specs.declared.status.TheConstants.Status as status
+use Rattle.ua_types.specs.declared.status.Status.{Status}
 use Rattle.ua_tcp.specs.declared.frame.Frame.{Frame}
 use Rattle.ua_tcp.specs.declared.frame.FrameFault.{FrameFault}
 use Rattle.server_messages.specs.declared.setting.Setting.{Setting}
@@ -50,9 +50,9 @@ pub record Refusing : Type 0 where
 abbrev pub refusing : Connections → List Out → Refusing
 refusing connections outs = record { connections = connections; outs = outs }
 
-abbrev pub turned_away : Connections → ℕ → List ℕ → Refusing
-turned_away connections conn key =
-    refusing (known_as connections conn key Closed) (refusal conn status.BAD_TCP_NOT_ENOUGH_RESOURCES)
+-- a connection that may not go on is told why, and is closed from the beginning
+abbrev pub turned_away : Connections → ℕ → List ℕ → Status → Refusing
+turned_away connections conn key code = refusing (known_as connections conn key Closed) (refusal conn code)
 
 abbrev pub gone : Connections → ℕ → Connections
 gone connections conn = record connections { known = remove connections.known conn }

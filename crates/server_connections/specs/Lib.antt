@@ -3,3 +3,4 @@ pub mod Connecting
 pub mod Delivering
 pub mod Coherent
 pub mod Apart
+pub mod Shutting

@@ -1,14 +1,17 @@
 //! Who is connected.
 
-ghost use Rattle.std.specs.Prelude.{◌≡◌, ◌++◌, [], IfOk, OnOk, IsOk};
+ghost use Rattle.std.specs.Prelude.{◌≡◌, ◌++◌, ℕ, [], IfOk, OnOk, IsOk};
+ghost use Rattle.std.specs.FinMap.{get};
 ghost use Rattle.server_connections.specs.Connecting.{no_connections, is_known as is_known_spec, is_new as is_new_spec, welcomed, refusing, turned_away, gone, taking, taking_after, taking_of, break_of};
 ghost use Rattle.server_connections.specs.Connecting as connecting;
 ghost use Rattle.server_connections.specs.Delivering.{sending, sending_after, delivered, delivery_of};
+ghost use Rattle.server_connections.specs.Shutting.{shut_one, shut, ended, refusing_after};
 
 use crate::connection::{Connection, Phase};
 use crate::frame_outcome::FrameOutcome;
 use crate::reactions::{Sender, break_off, frame_reaction, put_refusal};
 use crate::sending::say;
+use crate::shutting::close_open;
 use server_messages::{Out, Reply, Setting};
 use std::alloc::{AllocError, Global};
 use std::mem;
@@ -73,19 +76,55 @@ impl Connections {
         self.know(conn, key, Phase::Greeting)
     }
 
-    /// Knows a connection that is closed at once, since there are too many.
+    /// Knows a connection that is closed at once, and tells it why.
     pub fn turn_away(
         &mut self,
         alloc: Global,
         conn: u64,
         key: &[u8; 32],
+        status: Status,
         outs: &mut Listed<Out>,
     ) -> Result<(), AllocError>
-        ensures connections { OnOk result (self.new ≡ (turned_away self.old conn key.now).connections) }
-        ensures outs { OnOk result (outs.new ≡ outs.old ++ (turned_away self.old conn key.now).outs) }
+        ensures connections { OnOk result (self.new ≡ (turned_away self.old conn key.now status).connections) }
+        ensures outs { OnOk result (outs.new ≡ outs.old ++ (turned_away self.old conn key.now status).outs) }
     {
-        put_refusal(alloc, conn, Status::BAD_TCP_NOT_ENOUGH_RESOURCES, outs)?;
+        put_refusal(alloc, conn, status, outs)?;
         self.know(conn, key, Phase::Closed)
+    }
+
+    // Closes a connection that is open, as the server shuts down.
+    #[tactic(auto, unfolding(crate::specs::Shutting::shut_one))]
+    fn shut_one(
+        &mut self,
+        alloc: Global,
+        conn: u64,
+        outs: &mut Listed<Out>,
+    ) -> Result<(), AllocError>
+        ensures { OnOk result (refusing self.new outs.new ≡ refusing_after outs.old (shut_one self.old conn)) }
+    {
+        let Some(connection) = self.known.get_mut(conn) else {
+            return Ok(());
+        };
+        close_open(alloc, conn, &mut connection.phase, outs)
+    }
+
+    // Closes all connections that are open, by rising number.
+    fn shut_each(&mut self, alloc: Global, outs: &mut Listed<Out>) -> Result<(), AllocError>
+        ensures { OnOk result (refusing self.new outs.new ≡ refusing_after outs.old (shut self.old)) }
+    {
+        for conn in self.known.numbers(alloc)? {
+            self.shut_one(alloc, conn, outs)?;
+        }
+        Ok(())
+    }
+
+    /// Closes all connections that are open, by rising number, as the server shuts down: each is told
+    /// `BAD_SHUTDOWN`. They stay known until they are gone.
+    pub fn shut(&mut self, alloc: Global, outs: &mut Listed<Out>) -> Result<(), AllocError>
+        ensures shut { OnOk result (refusing self.new outs.new ≡ refusing_after outs.old (shut self.old)) }
+        ensures ended { OnOk result ((conn : ℕ) → get self.new.known conn ≡ ended (get self.old.known conn)) }
+    {
+        self.shut_each(alloc, outs)
     }
 
     /// Forgets a connection that is no more. Takes no memory.

@@ -17,6 +17,7 @@ mod connections;
 mod frame_outcome;
 mod reactions;
 mod sending;
+mod shutting;
 
 pub use connection::{Connection, Phase};
 pub use connections::Connections;
