@@ -1,9 +1,9 @@
 -- A call of one subscription changes no item of another, and makes none.
-use Rattle.std.proofs.Common.{◌≡◌, ◌≢◌, ℕ, ◌+◌, ◌<◌, arith, Bool, true, false, cond, List, [], ◌∷◌, ◌++◌, Option, Some, None, Result, Ok, Err, refl, sym, ap, subst, ◌∙◌}
+use Rattle.std.proofs.Common.{◌≡◌, ◌≢◌, ℕ, ◌+◌, ◌<◌, arith, Bool, true, false, cond, List, [], ◌∷◌, ◌++◌, length, Option, Some, None, Result, Ok, Err, refl, sym, ap, subst, ◌∙◌}
 use Rattle.std.proofs.lemmas.Bool.{false≢true, eqb-true, eq-eqb}
 use Rattle.std.proofs.lemmas.List.Sums.{fold-append}
 use Rattle.std.specs.declared.cmp.Ordering.TheVariants.{Greater}
-use Rattle.std.specs.Prelude.{⊤, ◌==◌, fold, not}
+use Rattle.std.specs.Prelude.{⊤, ◌==◌, ◌&&◌, fold, map, nat_lt, not}
 use Rattle.std.specs.BTreeMap.{insert_entry, is_at}
 use Rattle.std.specs.Map.{set_value, remove_entry}
 use Rattle.std.specs.Ordering.{nat_cmp}
@@ -15,16 +15,22 @@ use Rattle.ua_read_write.specs.declared.timestamps.Timestamps.{Timestamps}
 use Rattle.ua_subscription_messages.specs.declared.monitored_items.MonitoredItemCreateRequest.{MonitoredItemCreateRequest}
 use Rattle.ua_subscription_messages.specs.declared.monitored_items.MonitoredItemModifyRequest.{MonitoredItemModifyRequest}
 use Rattle.ua_monitored_items.specs.Kinds.{trigger_of}
-use Rattle.ua_monitored_items.specs.Item.{is_enabled, queued, reading, with_mode, disabled, modified, moded, gave, waiting_in}
+use Rattle.ua_monitored_items.specs.Item.{is_enabled, queued, reading, with_mode, disabled, modified, moded, gave, waiting_in, is_sampling, released_in, with_links}
 use Rattle.ua_monitored_items.specs.ItemTables.{NumberedItems, item_at, numbers_of, is_of, with_found, with_item, AreWithin, AreAbove, AreRising}
-use Rattle.ua_monitored_items.specs.Items.{ItemsState, One, Served, with_one, nothing_served, create_one, create_judged, created_by, new_item, begun, own_if, modify_one, modified_by, mode_one, moded_by, delete_one, deleted_by, without_all, no_items, Taking, nat_least, taken_from, with_taken, nothing_taken}
+use Rattle.ua_monitored_items.specs.Items.{ItemsState, One, Served, with_one, nothing_served, all_served, create_one, create_judged, created_by, new_item, begun, own_if, own_item, modify_one, modified_by, mode_one, moded_by, delete_one, deleted_by, without_all, no_items, Taking, nat_least, taken_from, with_taken, nothing_taken}
+use Rattle.ua_monitored_items.specs.Links.{linked_by, link, after_link}
 use Rattle.ua_monitored_items.specs.Moves.{Move, Moved, moved, moved_on, run, OthersAreIn, OthersStay, IsOfSubscription, SubscriptionsStayApart}
-use Rattle.ua_monitored_items.specs.Moves.Move.{Create, Modify, SetMode, Delete, End, Show, TakeNotes}
+use Rattle.ua_monitored_items.specs.Moves.Move.{Create, Modify, SetMode, Link, Delete, End, Show, TakeNotes}
+use Rattle.ua_monitored_items.specs.Releases.{releases_of, with_release, all_released, mode_releases, modes_release}
 use Rattle.ua_monitored_items.specs.declared.item.Item.{Item}
 use Rattle.ua_monitored_items.specs.declared.kinds.Kind.{Kind}
 use Rattle.ua_monitored_items.specs.declared.kinds.Mode.{Mode}
 use Rattle.ua_monitored_items.specs.declared.kinds.Trigger.{Trigger}
+use Rattle.ua_monitored_items.specs.declared.releases.Release.{Release}
 use Rattle.ua_monitored_items.proofs.Following.{set_here, set_other, put_here, put_other, none_yet, gone_here, gone_other}
+use Rattle.ua_monitored_items.proofs.Edits.{set_same}
+use Rattle.ua_monitored_items.proofs.Releasing.{there_released, there_linked}
+use Rattle.std.proofs.lemmas.List.Concat.{flat_map-cons}
 use Rattle.ua_monitored_items.proofs.Runs.{IsSound, created_served, modified_served, moded_served, deleted_served, run_step}
 use Rattle.ua_monitored_items.proofs.Tables.{greater, at_itself, above_found, IsThere, same_of, there_modified, there_gave}
 
@@ -215,6 +221,77 @@ module _ {A R : Type 0} (subscription : ℕ) (serve : ItemsState → A → One R
       let next = with_one serve before x in
       stays_then subscription before.state.items next.state.items (fold (with_one serve) next xs).state.items (each before.state x h) (all_stay next xs (sound before.state x h))
 
+-- ---- links and releases
+
+linked_stays : (subscription triggering : ℕ) (add remove : List ℕ) (s : ItemsState) → OthersStay subscription s.items (after_link s (link s subscription triggering add remove)).items
+unfolding link
+linked_stays subscription triggering add remove s = by (own_item s subscription triggering) refl
+  where
+    by : (own : Option Item) → own_item s subscription triggering ≡ own → OthersStay subscription s.items (after_link s (linked_by s subscription triggering add remove own)).items
+    by None e = stays_none subscription s.items
+    by (Some item) e = stays_changed subscription s.items triggering (with_links _) item (there_linked _) e
+
+-- an item of another subscription isn't released
+release_stays : (subscription : ℕ) (items : NumberedItems) (number : ℕ) → OthersStay subscription items (with_item number (released_in subscription) items)
+release_stays subscription items number = by (item_at number items) refl
+  where
+    other : (item : Item) → is_of subscription item ≡ false → released_in subscription item ≡ item
+    other item e = ap (λ (b : Bool). cond ((b && is_sampling item.mode) && nat_lt 0 (length item.queue.entries)) (record item { released = true }) item) e
+
+    one : (item : Item) → item_at number items ≡ Some item → (b : Bool) → is_of subscription item ≡ b → OthersStay subscription items (with_item number (released_in subscription) items)
+    one item e true own =
+        let is : own_if subscription (item_at number items) ≡ Some item = ap (own_if subscription) e ∙ (rw own refl) in
+        stays_changed subscription items number (released_in subscription) item (there_released subscription) is
+    one item e false own =
+        let same : with_item number (released_in subscription) items ≡ items =
+        ap (with_found number (released_in subscription) items) e ∙ ap (set_value (is_at (nat_cmp number)) items) (other item own) ∙ set_same (is_at (nat_cmp number)) items item e in
+        subst (OthersStay subscription items) (sym same) (stays_none subscription items)
+
+    by : (found : Option Item) → item_at number items ≡ found → OthersStay subscription items (with_item number (released_in subscription) items)
+    by None e = subst (OthersStay subscription items) (sym (ap (with_found number (released_in subscription) items) e)) (stays_none subscription items)
+    by (Some item) e = one item e (is_of subscription item) refl
+
+abbrev AllBy : ℕ → List Release → Type 0
+AllBy subscription [] = ⊤
+AllBy subscription (r ∷ rs) = (r.subscription ≡ subscription) × AllBy subscription rs
+
+by-append : (subscription : ℕ) (rs qs : List Release) → AllBy subscription rs → AllBy subscription qs → AllBy subscription (rs ++ qs)
+by-append subscription [] qs h k = k
+by-append subscription (r ∷ rs) qs h k = (h.0, by-append subscription rs qs h.1 k)
+
+releases_stay : (subscription : ℕ) (items : NumberedItems) (rs : List Release) → AllBy subscription rs → OthersStay subscription items (all_released items rs)
+releases_stay subscription items [] h = stays_none subscription items
+releases_stay subscription items (r ∷ rs) h =
+    let next = with_release items r in
+    let one : OthersStay subscription items next = subst (λ (q : ℕ). OthersStay subscription items (with_item r.number (released_in q) items)) (sym h.0) (release_stays subscription items r.number) in
+    stays_then subscription items next (all_released next rs) one (releases_stay subscription next rs h.1)
+
+-- what a request enables releases items by its own subscription
+own_releases : (subscription : ℕ) (item : Item) → item.subscription ≡ subscription → AllBy subscription (releases_of item)
+own_releases subscription item own = by item.links
+  where
+    by : (numbers : List ℕ) → AllBy subscription (map (λ (n : ℕ). record { subscription = item.subscription; number = n }) numbers)
+    by [] = tt
+    by (n ∷ ns) = (own, by ns)
+
+modes_by : (s : ItemsState) (subscription : ℕ) (mode : Mode) (numbers : List ℕ) → AllBy subscription (modes_release s subscription mode numbers)
+modes_by s subscription mode [] = tt
+modes_by s subscription mode (n ∷ ns) =
+    subst (AllBy subscription) (sym (flat_map-cons (λ (number : ℕ). mode_releases mode (own_item s subscription number)) n ns))
+    (by-append subscription (mode_releases mode (own_item s subscription n)) (modes_release s subscription mode ns) (by (item_at n s.items)) (modes_by s subscription mode ns))
+  where
+    if_on : (item : Item) → item.subscription ≡ subscription → (b : Bool) → AllBy subscription (cond b (releases_of item) [])
+    if_on item own true = own_releases subscription item own
+    if_on item own false = tt
+
+    if_own : (item : Item) (b : Bool) → (item.subscription == subscription) ≡ b → AllBy subscription (mode_releases mode (cond b (Some item) None))
+    if_own item true e = if_on item (eqb-true item.subscription subscription e) (is_enabled mode && not (is_enabled item.mode))
+    if_own item false e = tt
+
+    by : (found : Option Item) → AllBy subscription (mode_releases mode (own_if subscription found))
+    by None = tt
+    by (Some item) = if_own item (item.subscription == subscription) refl
+
 -- ---- what a message takes
 
 abbrev AllOwn : ℕ → NumberedItems → List ℕ → Type 0
@@ -295,7 +372,12 @@ move_stays s (Modify own timestamps requests) subscription h is =
     (all_stay own (modify_one own timestamps) (λ t x g. (modified_served own timestamps t x g).sound) (λ t x g. modified_stays own timestamps t x) (nothing_served s) requests h)
 move_stays s (SetMode nodes clock own mode numbers) subscription h is =
     subst (λ (k : ℕ). OthersStay k s.items (moved s (SetMode nodes clock own mode numbers)).state.items) is
+    (let served = all_served (mode_one nodes clock own mode) s numbers in
+    stays_then own s.items served.state.items (all_released served.state.items (modes_release s own mode numbers))
     (all_stay own (mode_one nodes clock own mode) (λ t x g. (moded_served nodes clock own mode t x g).sound) (λ t x g. moded_stays nodes clock own mode t x) (nothing_served s) numbers h)
+    (releases_stay own served.state.items (modes_release s own mode numbers) (modes_by s own mode numbers)))
+move_stays s (Link own triggering add remove) subscription h is =
+    subst (λ (k : ℕ). OthersStay k s.items (moved s (Link own triggering add remove)).state.items) is (linked_stays own triggering add remove s)
 move_stays s (Delete own numbers) subscription h is =
     subst (λ (k : ℕ). OthersStay k s.items (moved s (Delete own numbers)).state.items) is
     (all_stay own (delete_one own) (λ t x g. (deleted_served own t x g).sound) (λ t x g. deleted_stays own t x g) (nothing_served s) numbers h)

@@ -7,6 +7,7 @@ use Rattle.ua_types.specs.declared.status.Status.{Status}
 use Rattle.ua_values.specs.declared.data_value.DataValue.{DataValue}
 use Rattle.ua_space.specs.Nodes.{Nodes}
 use Rattle.ua_read_write.specs.declared.timestamps.Timestamps.{Timestamps}
+use Rattle.ua_read_write.specs.declared.writing.Change.{Change}
 use Rattle.ua_subscription_messages.specs.declared.monitored_items.MonitoredItemCreateRequest.{MonitoredItemCreateRequest}
 use Rattle.ua_subscription_messages.specs.declared.monitored_items.MonitoredItemModifyRequest.{MonitoredItemModifyRequest}
 use Rattle.ua_item_queue.specs.Causes.{is_cleared, GetsOnly}
@@ -17,10 +18,11 @@ use Rattle.ua_item_queue.proofs.CauseLemmas.{AreWithin, queue_moves_get}
 use Rattle.ua_monitored_items.specs.Causes.{call_may_give, FatesHaveTheirCauses}
 use Rattle.ua_monitored_items.specs.Item.{is_enabled, takes, reading, waiting_in, sample_queue_move, seen_queue_moves, mode_queue_moves, modify_queue_moves}
 use Rattle.ua_monitored_items.specs.ItemTables.{NumberedItems, item_at, numbers_of}
-use Rattle.ua_monitored_items.specs.Items.{ItemsState, no_items, ItemQueueMove, queue_moves_on, One, Served, with_one, nothing_served, all_served, create_one, create_judged, created_by, new_item, begin_queue_moves, own_if, modify_one, modified_by, mode_one, moded_by, delete_one, deleted_by, Visit, visited, Taking, nat_least, with_taken, nothing_taken}
+use Rattle.ua_monitored_items.specs.Items.{ItemsState, no_items, ItemQueueMove, queue_moves_on, One, Served, with_one, nothing_served, all_served, create_one, create_judged, created_by, new_item, begin_queue_moves, own_if, modify_one, modified_by, mode_one, moded_by, delete_one, deleted_by, Visit, visits_of, visited, Taking, nat_least, with_taken, nothing_taken}
 use Rattle.ua_monitored_items.specs.Kinds.{trigger_of}
-use Rattle.ua_monitored_items.specs.Moves.{Move, Moved, visit_queue_moves, sample_queue_moves, give_queue_moves, take_queue_moves, moved, moved_on, run, queue_moves_of, account_of}
-use Rattle.ua_monitored_items.specs.Moves.Move.{Create, Modify, SetMode, Delete, End, Show, TakeNotes}
+use Rattle.ua_monitored_items.specs.Moves.{Move, Moved, visit_queue_moves, sample_queue_moves, show_queue_moves, give_queue_moves, take_queue_moves, moved, moved_on, run, queue_moves_of, account_of}
+use Rattle.ua_monitored_items.specs.Moves.Move.{Create, Modify, SetMode, Link, Delete, End, Show, TakeNotes}
+use Rattle.ua_monitored_items.specs.Releases.{shown_one}
 use Rattle.ua_monitored_items.specs.declared.item.Item.{Item}
 use Rattle.ua_monitored_items.specs.declared.kinds.Kind.{Kind}
 use Rattle.ua_monitored_items.specs.declared.kinds.Mode.{Mode}
@@ -83,6 +85,11 @@ module _ (may : Fate → Bool) where
     visits_within [] items = λ n. tt
     visits_within (v ∷ vs) items =
         within_then (visit_queue_moves v (item_at v.number items)) (sample_queue_moves (visited items v) vs) (visit_within v (item_at v.number items)) (visits_within vs (visited items v))
+
+    shows_within : (cs : List Change) (items : NumberedItems) → AllWithin (show_queue_moves items cs)
+    shows_within [] items = λ n. tt
+    shows_within (c ∷ cs) items =
+        within_then (sample_queue_moves items (visits_of items c)) (show_queue_moves (shown_one items c) cs) (visits_within (visits_of items c) items) (shows_within cs (shown_one items c))
 
   -- where values may be cleared
   module _ (cleared : (f : Fate) → is_cleared f ≡ true → may f ≡ true) where
@@ -149,11 +156,12 @@ move_within s (SetMode nodes clock subscription mode numbers) =
     let may = call_may_give (SetMode nodes clock subscription mode numbers) in
     served_within may (mode_one nodes clock subscription mode)
     (moded_within may mode (λ e f h. ap (λ b. cond b (is_lost f) (is_cleared f)) e ∙ h) (λ e f h. ap (λ b. cond b (is_lost f) (is_cleared f)) e ∙ h) nodes clock subscription) s numbers
+move_within s (Link subscription triggering add remove) = λ n. tt
 move_within s (Delete subscription numbers) =
     let may = call_may_give (Delete subscription numbers) in
     served_within may (delete_one subscription) (deleted_within may (λ f e. e) subscription) s numbers
 move_within s (End subscription) = ends_within (call_may_give (End subscription)) (λ f e. e) (numbers_of subscription s.items)
-move_within s (Show changed) = visits_within (call_may_give (Show changed)) (λ f e. e) _ s.items
+move_within s (Show changed) = shows_within (call_may_give (Show changed)) (λ f e. e) changed s.items
 move_within s (TakeNotes subscription n) = takes_within (call_may_give (TakeNotes subscription n)) (λ f e. e) (numbers_of subscription s.items) (nothing_taken s.items n)
 
 pub fates_have_their_causes : FatesHaveTheirCauses

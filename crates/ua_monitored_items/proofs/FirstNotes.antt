@@ -6,7 +6,7 @@ use Rattle.std.specs.Prelude.{⊤, fold}
 use Rattle.std.specs.Ordering.{nat_cmp}
 use Rattle.std.specs.declared.cmp.Ordering.TheVariants.{Greater}
 use Rattle.ua_subscription_messages.specs.declared.publishing.MonitoredItemNotification.{MonitoredItemNotification}
-use Rattle.ua_monitored_items.specs.Item.{is_reporting, gave, notes_of, note_of, waiting_in}
+use Rattle.ua_monitored_items.specs.Item.{tells, gave, notes_of, note_of, waiting_in}
 use Rattle.ua_monitored_items.specs.ItemTables.{NumberedItems, item_at, numbers_of, is_of, with_found, with_item, AreRising}
 use Rattle.ua_monitored_items.specs.Items.{Taking, nat_least, taken_from, with_taken, nothing_taken}
 use Rattle.ua_monitored_items.specs.Moves.{told_notes, all_notes, run, NotesAreTheFirst}
@@ -65,7 +65,7 @@ none_told left notes = by (leb left 0) refl
     by false e = record { first = sym (take_nothing left); rest = omega arith }
 
 given : (left : ℕ) (item : Item) → IsGiven left (nat_least left (waiting_in item)) (notes_of item) (told_notes item)
-given left item = by (is_reporting item.mode)
+given left item = by (tells item)
   where
     by : (b : Bool) → IsGiven left (nat_least left (cond b (length item.queue.entries) 0)) (notes_of item) (cond b (notes_of item) [])
     by true = all_told left (notes_of item) (length item.queue.entries) (sym (length-map item.queue.entries (note_of item.client_handle item.timestamps)))

@@ -2,7 +2,7 @@
 use Rattle.std.proofs.Common.{◌≡◌, ℕ, ◌+◌, suc, zero, List, [], ◌∷◌, ◌++◌, map, take, drop, refl, sym, ap, add-one}
 use Rattle.ua_item_queue.specs.declared.entry.Entry.{Entry}
 use Rattle.ua_values.specs.declared.data_value.DataValue.{DataValue}
-use Rattle.ua_monitored_items.specs.Item.{gave, notes_of, note_of}
+use Rattle.ua_monitored_items.specs.Item.{with_sent, notes_of, note_of}
 use Rattle.ua_monitored_items.specs.declared.item.Item.{Item}
 
 drop_more : {A : Type 0} (n : ℕ) (xs : List A) → drop 1 (drop n xs) ≡ drop (suc n) xs
@@ -20,11 +20,11 @@ take_more zero xs = refl
 take_more (suc n) [] = refl
 take_more (suc n) (x ∷ xs) = ap (λ ys. x ∷ ys) (take_more n xs)
 
-pub gave_more : (n : ℕ) (item : Item) → gave 1 (gave n item) ≡ gave (n + 1) item
-gave_more n item = rw (add-one n) (ap (λ (es : List (Entry DataValue)). record item { queue = record item.queue { entries = es } }) (drop_more n item.queue.entries))
+pub sent_more : (n : ℕ) (item : Item) → with_sent 1 (with_sent n item) ≡ with_sent (n + 1) item
+sent_more n item = rw (add-one n) (ap (λ (es : List (Entry DataValue)). record item { queue = record item.queue { entries = es } }) (drop_more n item.queue.entries))
 
-notes_gave : (n : ℕ) (item : Item) → notes_of (gave n item) ≡ drop n (notes_of item)
-notes_gave n item = map_drop (note_of item.client_handle item.timestamps) n item.queue.entries
+notes_sent : (n : ℕ) (item : Item) → notes_of (with_sent n item) ≡ drop n (notes_of item)
+notes_sent n item = map_drop (note_of item.client_handle item.timestamps) n item.queue.entries
 
-pub notes_more : (n : ℕ) (item : Item) → take n (notes_of item) ++ take 1 (notes_of (gave n item)) ≡ take (n + 1) (notes_of item)
-notes_more n item = rw (add-one n, notes_gave n item) (sym (take_more n (notes_of item)))
+pub notes_more : (n : ℕ) (item : Item) → take n (notes_of item) ++ take 1 (notes_of (with_sent n item)) ≡ take (n + 1) (notes_of item)
+notes_more n item = rw (add-one n, notes_sent n item) (sym (take_more n (notes_of item)))

@@ -2,6 +2,8 @@ pub mod Firsts
 pub mod Edits
 pub mod Tables
 pub mod Serving
+pub mod Releasing
+pub mod Linking
 pub mod Giving
 pub mod Ending
 pub mod Following

@@ -1,11 +1,11 @@
 -- How many values are wanted yet, while items give theirs.
 use Rattle.std.proofs.Common.{◌≡◌, ◌≢◌, ℕ, ◌+◌, ◌-◌, ◌≤◌, arith, Bool, true, false, cond, leb, List, [], ◌∷◌, drop, length, Option, Some, None, refl, sym, ap, subst, ◌∙◌, length-drop}
 use Rattle.std.proofs.lemmas.Bool.{false≢true, eqb-true, eq-eqb, leb-true, leb-false}
-use Rattle.std.specs.Prelude.{◌==◌}
+use Rattle.std.specs.Prelude.{◌==◌, ◌&&◌, ◌||◌, not}
 use Rattle.std.specs.BTreeMap.{is_at}
 use Rattle.std.specs.Map.{set_value}
 use Rattle.std.specs.Ordering.{nat_cmp}
-use Rattle.ua_monitored_items.specs.Item.{is_reporting, gave, waiting_in}
+use Rattle.ua_monitored_items.specs.Item.{is_reporting, takes_last, gave, waiting_in}
 use Rattle.ua_monitored_items.specs.ItemTables.{NumberedItems, item_at, with_found, with_item}
 use Rattle.ua_monitored_items.specs.Items.{Taking, nat_least, taken_from, with_taken}
 use Rattle.ua_monitored_items.specs.Taking.{waiting_at, left_after}
@@ -45,11 +45,16 @@ left_more old new less l (n ∷ ns) =
     omega (arith, one, two)
 
 gave_less : (j : ℕ) (item : Item) → waiting_in (gave j item) ≤ waiting_in item
-gave_less j item = by (is_reporting item.mode)
+gave_less j item = by (is_reporting item.mode) item.released (not (takes_last j item))
   where
-    by : (b : Bool) → cond b (length (drop j item.queue.entries)) 0 ≤ cond b (length item.queue.entries) 0
-    by true = let left = length-drop j item.queue.entries in omega (arith, left)
-    by false = omega arith
+    left : length (drop j item.queue.entries) ≤ length item.queue.entries
+    left = let is = length-drop j item.queue.entries in omega (arith, is)
+
+    by : (b c d : Bool) → cond (b || (c && d)) (length (drop j item.queue.entries)) 0 ≤ cond (b || c) (length item.queue.entries) 0
+    by true c d = left
+    by false true true = left
+    by false true false = omega arith
+    by false false d = omega arith
 
 set_less : (items : NumberedItems) (k j : ℕ) (item : Item) → item_at k items ≡ Some item → WaitsLess items (set_value (is_at (nat_cmp k)) items (gave j item))
 set_less items k j item found n = by (k == n) refl

@@ -8,6 +8,7 @@ use Rattle.ua_types.specs.declared.status.Status.{Status}
 use Rattle.ua_values.specs.declared.data_value.DataValue.{DataValue}
 use Rattle.ua_space.specs.Nodes.{Nodes}
 use Rattle.ua_read_write.specs.declared.timestamps.Timestamps.{Timestamps}
+use Rattle.ua_read_write.specs.declared.writing.Change.{Change}
 use Rattle.ua_subscription_messages.specs.declared.monitored_items.MonitoredItemCreateRequest.{MonitoredItemCreateRequest}
 use Rattle.ua_subscription_messages.specs.declared.monitored_items.MonitoredItemModifyRequest.{MonitoredItemModifyRequest}
 use Rattle.ua_item_queue.specs.Fates.{account, account_after, GoesOn}
@@ -17,16 +18,20 @@ use Rattle.ua_item_queue.proofs.QueueLemmas.{queue_is_what_waits}
 use Rattle.ua_item_queue.proofs.KeptLemmas.{queue_moves_go}
 use Rattle.ua_item_queue.proofs.AccountLemmas.{account_in_order, account_marks}
 use Rattle.ua_monitored_items.specs.Kinds.{trigger_of}
-use Rattle.ua_monitored_items.specs.Item.{is_enabled, takes, queued, seen, reading, moded, with_mode, disabled, modified, gave, waiting_in, sample_queue_move, seen_queue_moves, mode_queue_moves, modify_queue_moves}
+use Rattle.ua_monitored_items.specs.Item.{is_enabled, takes, queued, seen, reading, moded, with_mode, disabled, modified, gave, waiting_in, released_in, with_links, sample_queue_move, seen_queue_moves, mode_queue_moves, modify_queue_moves}
 use Rattle.ua_monitored_items.specs.ItemTables.{NumberedItems, item_at, with_found, with_item, AreWithin, AreRising}
-use Rattle.ua_monitored_items.specs.Items.{ItemsState, no_items, ItemQueueMove, queue_moves_on, One, Served, with_one, nothing_served, all_served, create_one, create_judged, created_by, new_item, begun, begin_queue_moves, own_if, modify_one, modified_by, mode_one, moded_by, delete_one, deleted_by, Visit, visited, sampled_items, Taking, nat_least, taken_from, with_taken}
-use Rattle.ua_monitored_items.specs.Moves.{Move, Moved, visit_queue_moves, sample_queue_moves, give_queue_moves, take_queue_moves, moved, moved_on, run, queue_moves_of, account_of, QueuesAreTheirMoves, QueuesAreWhatWaits, AccountsAreInOrder, AccountsMarkLosses, FatesAreFinal}
-use Rattle.ua_monitored_items.specs.Moves.Move.{Create, Modify, SetMode, Delete, End, Show, TakeNotes}
+use Rattle.ua_monitored_items.specs.Items.{ItemsState, no_items, ItemQueueMove, queue_moves_on, One, Served, with_one, nothing_served, all_served, create_one, create_judged, created_by, new_item, begun, begin_queue_moves, own_if, own_item, modify_one, modified_by, mode_one, moded_by, delete_one, deleted_by, Visit, visits_of, visited, sampled_items, Taking, nat_least, taken_from, with_taken}
+use Rattle.ua_monitored_items.specs.Links.{linked_by, link, after_link}
+use Rattle.ua_monitored_items.specs.Moves.{Move, Moved, visit_queue_moves, sample_queue_moves, show_queue_moves, give_queue_moves, take_queue_moves, moved, moved_on, run, queue_moves_of, account_of, QueuesAreTheirMoves, QueuesAreWhatWaits, AccountsAreInOrder, AccountsMarkLosses, FatesAreFinal}
+use Rattle.ua_monitored_items.specs.Moves.Move.{Create, Modify, SetMode, Link, Delete, End, Show, TakeNotes}
+use Rattle.ua_monitored_items.specs.Releases.{with_release, all_released, sample_releases, seen_by_all, modes_release, shown_one, shown}
 use Rattle.ua_monitored_items.specs.declared.item.Item.{Item}
 use Rattle.ua_monitored_items.specs.declared.kinds.Kind.{Kind}
 use Rattle.ua_monitored_items.specs.declared.kinds.Mode.{Mode}
 use Rattle.ua_monitored_items.specs.declared.kinds.Trigger.{Trigger}
+use Rattle.ua_monitored_items.specs.declared.releases.Release.{Release}
 use Rattle.ua_monitored_items.proofs.Tables.{within_put, within_set, within_removed, rising_put, rising_set, rising_removed}
+use Rattle.ua_monitored_items.proofs.Releasing.{released_queue}
 use Rattle.ua_monitored_items.proofs.Following.{Follows, follows_none, follows_then, follows_change, follows_new, follows_removed, queue_moves_join}
 use Rattle.ua_monitored_items.proofs.FollowingEnds.{follows_ended, within_filtered, rising_filtered}
 
@@ -171,6 +176,48 @@ visits_step made items (v ∷ vs) h =
       sound = rest.sound;
     }
 
+-- ---- releases and links move no value
+
+-- a step, and one whose moves are none
+pub and_quiet : (made : ℕ) (a b c : NumberedItems) (ds : List ItemQueueMove) → Follows a b ds → IsStep b made c [] → IsStep a made c ds
+and_quiet made a b c ds first next = record { follows = λ n. next.follows n ∙ first n; sound = next.sound }
+
+release_step : (made : ℕ) (items : NumberedItems) (r : Release) → IsSound made items → IsStep items made (with_release items r) []
+release_step made items r h = by (item_at r.number items) refl
+  where
+    by : (found : Option Item) → item_at r.number items ≡ found → IsStep items made (with_found r.number (released_in r.subscription) items found) []
+    by None e = nothing made items h
+    by (Some item) e =
+        subst (λ (es : NumberedItems). IsStep items made es []) (ap (with_found r.number (released_in r.subscription) items) e)
+        (one_changed made items r.number (released_in r.subscription) item [] e (released_queue r.subscription item) h)
+
+pub releases_step : (made : ℕ) (items : NumberedItems) (rs : List Release) → IsSound made items → IsStep items made (all_released items rs) []
+releases_step made items [] h = nothing made items h
+releases_step made items (r ∷ rs) h =
+    let one = release_step made items r h in
+    and_quiet made items (with_release items r) (all_released (with_release items r) rs) [] one.follows (releases_step made (with_release items r) rs one.sound)
+
+pub link_step : (s : ItemsState) (subscription triggering : ℕ) (add remove : List ℕ) → IsSound s.made s.items
+    → let after = after_link s (link s subscription triggering add remove) in IsStep s.items after.made after.items []
+unfolding link
+link_step s subscription triggering add remove h = by (own_item s subscription triggering) refl
+  where
+    by : (own : Option Item) → own_item s subscription triggering ≡ own → let after = after_link s (linked_by s subscription triggering add remove own) in IsStep s.items after.made after.items []
+    by None e = nothing s.made s.items h
+    by (Some item) e = one_changed s.made s.items triggering (with_links _) item [] (own_is subscription (item_at triggering s.items) item e) refl h
+
+shown_step : (made : ℕ) (items : NumberedItems) (cs : List Change) → IsSound made items → IsStep items made (shown items cs) (show_queue_moves items cs)
+shown_step made items [] h = nothing made items h
+shown_step made items (c ∷ cs) h =
+    let vs = visits_of items c in
+    let seen = visits_step made items vs h in
+    let one = and_quiet made items (sampled_items items vs) (seen_by_all items vs) (sample_queue_moves items vs) seen.follows (releases_step made (sampled_items items vs) (sample_releases items vs) seen.sound) in
+    let rest = shown_step made (shown_one items c) cs one.sound in
+    record {
+      follows = follows_then items (shown_one items c) (shown (shown_one items c) cs) (sample_queue_moves items vs) (show_queue_moves (shown_one items c) cs) one.follows rest.follows;
+      sound = rest.sound;
+    }
+
 pub take_step : (made : ℕ) (t : Taking) (n : ℕ) → IsSound made t.items → IsStep t.items made (with_taken t n).items (give_queue_moves t.left n (item_at n t.items))
 take_step made t n h = by (item_at n t.items) refl
   where
@@ -197,13 +244,17 @@ move_step s (Create nodes clock subscription timestamps requests) h =
     all_steps (create_one nodes clock subscription timestamps) (λ t x. created_served nodes clock subscription timestamps t x) s requests h
 move_step s (Modify subscription timestamps requests) h = all_steps (modify_one subscription timestamps) (λ t x. modified_served subscription timestamps t x) s requests h
 move_step s (SetMode nodes clock subscription mode numbers) h =
-    all_steps (mode_one nodes clock subscription mode) (λ t x. moded_served nodes clock subscription mode t x) s numbers h
+    let served = all_served (mode_one nodes clock subscription mode) s numbers in
+    let all = all_steps (mode_one nodes clock subscription mode) (λ t x. moded_served nodes clock subscription mode t x) s numbers h in
+    let rs = modes_release s subscription mode numbers in
+    and_quiet served.state.made s.items served.state.items (all_released served.state.items rs) served.queue_moves all.follows (releases_step served.state.made served.state.items rs all.sound)
+move_step s (Link subscription triggering add remove) h = link_step s subscription triggering add remove h
 move_step s (Delete subscription numbers) h = all_steps (delete_one subscription) (λ t x. deleted_served subscription t x) s numbers h
 move_step s (End subscription) h = record {
   follows = follows_ended subscription s.items h.rising;
   sound = record { within = within_filtered subscription s.made s.items h.within; rising = rising_filtered subscription s.items h.rising };
 }
-move_step s (Show changed) h = visits_step s.made s.items _ h
+move_step s (Show changed) h = shown_step s.made s.items changed h
 move_step s (TakeNotes subscription n) h = takes_step s.made _ _ h
 
 run_from : (start : NumberedItems) (before : Moved) (ms : List Move) → IsStep start before.state.made before.state.items before.queue_moves

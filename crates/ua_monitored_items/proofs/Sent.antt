@@ -8,6 +8,7 @@ use Rattle.ua_types.specs.declared.status.Status.{Status}
 use Rattle.ua_values.specs.declared.data_value.DataValue.{DataValue}
 use Rattle.ua_space.specs.Nodes.{Nodes}
 use Rattle.ua_read_write.specs.declared.timestamps.Timestamps.{Timestamps}
+use Rattle.ua_read_write.specs.declared.writing.Change.{Change}
 use Rattle.ua_subscription_messages.specs.declared.monitored_items.MonitoredItemCreateRequest.{MonitoredItemCreateRequest}
 use Rattle.ua_subscription_messages.specs.declared.monitored_items.MonitoredItemModifyRequest.{MonitoredItemModifyRequest}
 use Rattle.ua_subscription_messages.specs.declared.publishing.MonitoredItemNotification.{MonitoredItemNotification}
@@ -19,10 +20,11 @@ use Rattle.ua_item_queue.proofs.SentLemmas.{sent_are_given}
 use Rattle.ua_monitored_items.specs.Givings.{Giving, given_from, givings, notes_given, given, all_given, entries_of, NotesAreOfGivings, GivingsAreWhatWasSent}
 use Rattle.ua_monitored_items.specs.Item.{is_enabled, takes, reading, notes_of, note_of, waiting_in, sample_queue_move, seen_queue_moves, mode_queue_moves, modify_queue_moves}
 use Rattle.ua_monitored_items.specs.ItemTables.{NumberedItems, item_at, numbers_of}
-use Rattle.ua_monitored_items.specs.Items.{ItemsState, no_items, ItemQueueMove, queue_moves_on, One, Served, with_one, nothing_served, all_served, create_one, create_judged, created_by, new_item, begin_queue_moves, own_if, modify_one, modified_by, mode_one, moded_by, delete_one, deleted_by, end_queue_moves, Visit, visited, Taking, nat_least, taken_from, with_taken, nothing_taken}
+use Rattle.ua_monitored_items.specs.Items.{ItemsState, no_items, ItemQueueMove, queue_moves_on, One, Served, with_one, nothing_served, all_served, create_one, create_judged, created_by, new_item, begin_queue_moves, own_if, modify_one, modified_by, mode_one, moded_by, delete_one, deleted_by, end_queue_moves, Visit, visits_of, visited, Taking, nat_least, taken_from, with_taken, nothing_taken}
 use Rattle.ua_monitored_items.specs.Kinds.{trigger_of}
-use Rattle.ua_monitored_items.specs.Moves.{Move, Moved, visit_queue_moves, sample_queue_moves, give_queue_moves, take_queue_moves, moved, moved_on, run, queue_moves_of, queue_in, queue_at}
-use Rattle.ua_monitored_items.specs.Moves.Move.{Create, Modify, SetMode, Delete, End, Show, TakeNotes}
+use Rattle.ua_monitored_items.specs.Moves.{Move, Moved, visit_queue_moves, sample_queue_moves, show_queue_moves, give_queue_moves, take_queue_moves, moved, moved_on, run, queue_moves_of, queue_in, queue_at}
+use Rattle.ua_monitored_items.specs.Moves.Move.{Create, Modify, SetMode, Link, Delete, End, Show, TakeNotes}
+use Rattle.ua_monitored_items.specs.Releases.{shown_one}
 use Rattle.ua_monitored_items.specs.declared.item.Item.{Item}
 use Rattle.ua_monitored_items.specs.declared.kinds.Kind.{Kind}
 use Rattle.ua_monitored_items.specs.declared.kinds.Mode.{Mode}
@@ -179,6 +181,11 @@ visits_silent : (vs : List Visit) (items : NumberedItems) → AreSilent (sample_
 visits_silent [] items = λ n q. refl
 visits_silent (v ∷ vs) items = silent_then (visit_queue_moves v (item_at v.number items)) (sample_queue_moves (visited items v) vs) (visit_silent v (item_at v.number items)) (visits_silent vs (visited items v))
 
+shows_silent : (cs : List Change) (items : NumberedItems) → AreSilent (show_queue_moves items cs)
+shows_silent [] items = λ n q. refl
+shows_silent (c ∷ cs) items =
+    silent_then (sample_queue_moves items (visits_of items c)) (show_queue_moves (shown_one items c) cs) (visits_silent (visits_of items c) items) (shows_silent cs (shown_one items c))
+
 -- ---- what is taken
 
 one_given : (left k : ℕ) (items : NumberedItems) (found : Option Item) → item_at k items ≡ found → Gives items (give_queue_moves left k found) (given_from left k found)
@@ -210,9 +217,10 @@ move_gives s (Create nodes clock subscription timestamps requests) h =
 move_gives s (Modify subscription timestamps requests) h = λ n. served_silent (modify_one subscription timestamps) (modified_silent subscription timestamps) s requests n (queue_at n s.items)
 move_gives s (SetMode nodes clock subscription mode numbers) h =
     λ n. served_silent (mode_one nodes clock subscription mode) (moded_silent nodes clock subscription mode) s numbers n (queue_at n s.items)
+move_gives s (Link subscription triggering add remove) h = λ n. refl
 move_gives s (Delete subscription numbers) h = λ n. served_silent (delete_one subscription) (deleted_silent subscription) s numbers n (queue_at n s.items)
 move_gives s (End subscription) h = λ n. end_silent s subscription n (queue_at n s.items)
-move_gives s (Show changed) h = λ n. visits_silent _ s.items n (queue_at n s.items)
+move_gives s (Show changed) h = λ n. shows_silent changed s.items n (queue_at n s.items)
 move_gives s (TakeNotes subscription n) h = all_taken s.made (numbers_of subscription s.items) (nothing_taken s.items n) h
 
 queue_moves_from : (ms : List Move) (before : Moved) → (fold moved_on before ms).queue_moves ≡ before.queue_moves ++ (fold moved_on (record { state = before.state; queue_moves = [] }) ms).queue_moves

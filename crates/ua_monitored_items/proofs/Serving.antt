@@ -3,9 +3,9 @@ use Rattle.std.proofs.Common.{◌≡◌, List, [], ◌∷◌, ◌++◌, Result, 
 use Rattle.std.proofs.lemmas.Bool.{leb-false}
 use Rattle.std.proofs.lemmas.List.Sums.{fold-append}
 use Rattle.std.proofs.lemmas.List.Concat.{flat_map-cons}
-use Rattle.std.specs.Prelude.{flat_map, fold}
+use Rattle.std.specs.Prelude.{◌&&◌, flat_map, fold}
 use Rattle.ua_values.specs.declared.data_value.DataValue.{DataValue}
-use Rattle.ua_monitored_items.specs.Item.{seen, gave, notes_of, waiting_in}
+use Rattle.ua_monitored_items.specs.Item.{seen, with_sent, gave, notes_of, waiting_in}
 use Rattle.ua_monitored_items.specs.Sampling.{visits_by}
 use Rattle.std.specs.Result.{OnErr}
 use Rattle.ua_monitored_items.specs.ItemTables.{NumberedItems, item_at, with_item}
@@ -13,6 +13,7 @@ use Rattle.ua_monitored_items.specs.Items.{ItemsState, One, Served, nothing_serv
 use Rattle.ua_monitored_items.specs.declared.item.Item.{Item}
 use Rattle.ua_monitored_items.proofs.Edits.{set_same}
 use Rattle.std.specs.BTreeMap.{is_at}
+use Rattle.std.specs.Map.{set_value}
 use Rattle.std.specs.Ordering.{nat_cmp}
 
 pub on_any : {T E P : Type 0} (r : Result T E) → P → OnErr r P
@@ -85,7 +86,7 @@ taken_more items n front number = fold-append with_taken (nothing_taken items n)
 
 -- ---- entries of a slice
 
-split_at : {A : Type 0} (xs : List A) (i : ℕ) (x : A) → i < length xs → x ≡ get_or xs i x → take i xs ++ x ∷ drop (suc i) xs ≡ xs
+pub split_at : {A : Type 0} (xs : List A) (i : ℕ) (x : A) → i < length xs → x ≡ get_or xs i x → take i xs ++ x ∷ drop (suc i) xs ≡ xs
 split_at [] i x less is = absurd (omega (arith, less))
 split_at (y ∷ ys) zero x less is = ap (λ z. z ∷ ys) is
 split_at (y ∷ ys) (suc i) x less is = ap (λ zs. y ∷ zs) (split_at ys i x (omega (arith, less)) is)
@@ -115,9 +116,14 @@ gave_nothing : (t : Taking) (number k : ℕ) (item : Item) → item_at number t.
     → record { notes = t.notes ++ take k (notes_of item); items = with_item number (gave k) t.items; left = t.left - k } ≡ t
 gave_nothing t number k item found none =
     let notes : t.notes ++ take k (notes_of item) ≡ t.notes = rw none (append-nil t.notes) in
-    let items : with_item number (gave k) t.items ≡ t.items = rw (none, found) (set_same (is_at (nat_cmp number)) t.items item found) in
+    let same : gave 0 item ≡ item = by item.released in
+    let items : with_item number (gave k) t.items ≡ t.items = rw (none, found) (ap (set_value (is_at (nat_cmp number)) t.items) same ∙ set_same (is_at (nat_cmp number)) t.items item found) in
     let left : t.left - k ≡ t.left = omega (arith, none) in
     taking_is t _ notes items left
+  where
+    by : (b : Bool) → record (with_sent 0 item) { released = b && true } ≡ record item { released = b }
+    by true = refl
+    by false = refl
 
 one_full : (t : Taking) (number : ℕ) → t.left ≡ 0 → with_taken t number ≡ t
 one_full t number none = by (item_at number t.items) refl

@@ -10,7 +10,7 @@ use Rattle.ua_monitored_items.specs.Item.{note_of, waiting_in}
 use Rattle.ua_monitored_items.specs.ItemTables.{NumberedItems, item_at, numbers_of}
 use Rattle.ua_monitored_items.specs.Items.{ItemsState, no_items, Taking, nat_least, with_taken, nothing_taken, taken_of}
 use Rattle.ua_monitored_items.specs.Moves.{Move, moved, account_of}
-use Rattle.ua_monitored_items.specs.Moves.Move.{Create, Modify, SetMode, Delete, End, Show, TakeNotes}
+use Rattle.ua_monitored_items.specs.Moves.Move.{Create, Modify, SetMode, Link, Delete, End, Show, TakeNotes}
 use Rattle.ua_monitored_items.specs.declared.item.Item.{Item}
 
 -- what the item of a number gives: its oldest values; and how a client is told them
@@ -47,6 +47,7 @@ given s (TakeNotes subscription n) = given_to s subscription n
 given s (Create nodes clock subscription timestamps requests) = []
 given s (Modify subscription timestamps requests) = []
 given s (SetMode nodes clock subscription mode numbers) = []
+given s (Link subscription triggering add remove) = []
 given s (Delete subscription numbers) = []
 given s (End subscription) = []
 given s (Show changed) = []

@@ -1,5 +1,5 @@
 -- A monitored item (IEC 62541-4, "MonitoredItem model"), and what is done with one.
-use Rattle.std.specs.Prelude.{ℕ, ◌==◌, ◌&&◌, Bool, true, false, not, List, [], ◌∷◌, map, length, bit_or, nat_eq, nat_le, Option, Some, None, if◌then◌else◌}
+use Rattle.std.specs.Prelude.{ℕ, ◌==◌, ◌&&◌, ◌||◌, Bool, true, false, not, List, [], ◌∷◌, map, length, bit_or, nat_eq, nat_le, nat_lt, Option, Some, None, if◌then◌else◌}
 use Rattle.std.specs.Option.{option_eq}
 use Rattle.std.specs.Ordering.{int_eq}
 use Rattle.ua_types.specs.declared.moment.Moment.{Moment}
@@ -31,6 +31,11 @@ abbrev pub is_reporting : Mode → Bool
 is_reporting modes.Disabled = false
 is_reporting modes.Sampling = false
 is_reporting modes.Reporting = true
+
+abbrev pub is_sampling : Mode → Bool
+is_sampling modes.Disabled = false
+is_sampling modes.Sampling = true
+is_sampling modes.Reporting = false
 
 -- ---- which changes are taken
 
@@ -79,11 +84,12 @@ reading nodes clock item = attribute_read nodes clock choices.Both item.node_id 
 abbrev pub enabled : Nodes → Moment → Item → Item
 enabled nodes clock item = if is_enabled item.mode then item else queued (reading nodes clock item) item
 
+-- a mode that is set ends a release
 abbrev pub with_mode : Mode → Item → Item
-with_mode mode item = record item { mode = mode }
+with_mode mode item = record item { mode = mode; released = false }
 
 abbrev pub disabled : Item → Item
-disabled item = record item { queue = cleared item.queue; mode = modes.Disabled }
+disabled item = record item { queue = cleared item.queue; mode = modes.Disabled; released = false }
 
 -- an item gets a mode: it is disabled, which clears its queue, or it is enabled
 abbrev pub moded : Nodes → Moment → Mode → Item → Item
@@ -102,9 +108,16 @@ modified longest timestamps trigger parameters item = record item {
   queue = resized item.queue (revised_size longest parameters.queue_size) parameters.discard_oldest;
 }
 
--- its oldest values are sent
+abbrev pub with_sent : ℕ → Item → Item
+with_sent n item = record item { queue = sent item.queue n }
+
+-- so many values, if they are any, are all that an item holds
+abbrev pub takes_last : ℕ → Item → Bool
+takes_last n item = nat_lt 0 n && nat_le (length item.queue.entries) n
+
+-- its oldest values are sent; the last one ends a release
 abbrev pub gave : ℕ → Item → Item
-gave n item = record item { queue = sent item.queue n }
+gave n item = record (with_sent n item) { released = item.released && not (takes_last n item) }
 
 -- ---- what is told of its values
 
@@ -133,9 +146,24 @@ note_of handle timestamps e = record { client_handle = handle; value = shown tim
 abbrev pub notes_of : Item → List MonitoredItemNotification
 notes_of item = map (note_of item.client_handle item.timestamps) item.queue.entries
 
+-- whether its values are sent: it reports, or it is released
+abbrev pub tells : Item → Bool
+tells item = is_reporting item.mode || item.released
+
 -- how many of its values wait to be sent
 abbrev pub waiting_in : Item → ℕ
-waiting_in item = if is_reporting item.mode then length item.queue.entries else 0
+waiting_in item = if tells item then length item.queue.entries else 0
+
+-- ---- links to other items
+
+-- a linked item of its own subscription is released, if it samples and holds a value
+abbrev pub released_in : ℕ → Item → Item
+released_in subscription item =
+    if (item.subscription == subscription && is_sampling item.mode) && nat_lt 0 (length item.queue.entries) then record item { released = true } else item
+
+-- other links take the place of those that it had
+abbrev pub with_links : List ℕ → Item → Item
+with_links numbers item = record item { links = numbers }
 
 -- ---- the same, as moves on its queue
 

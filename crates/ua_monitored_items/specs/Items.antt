@@ -123,6 +123,8 @@ new_item s subscription timestamps request kind =
       trigger = kind.trigger;
       queue = record { entries = []; size = revised_size s.longest wanted.queue_size; discard_oldest = wanted.discard_oldest };
       last = None;
+      released = false;
+      links = [];
     }
 
 -- an item that is made enabled queues what stands
@@ -295,7 +297,7 @@ abbrev pub any_waits : NumberedItems → List ℕ → Bool
 any_waits items [] = false
 any_waits items (number ∷ numbers) = waits_in (item_at number items) || any_waits items numbers
 
--- whether a reporting item of a subscription has a value
+-- whether an item of a subscription that reports or is released has a value
 abbrev pub is_available : ItemsState → ℕ → Bool
 is_available s subscription = any_waits s.items (numbers_of subscription s.items)
 

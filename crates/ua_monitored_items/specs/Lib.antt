@@ -4,6 +4,8 @@ pub mod ItemTables
 pub mod Counts
 pub mod Items
 pub mod Sampling
+pub mod Releases
+pub mod Links
 pub mod Moves
 pub mod Givings
 pub mod Causes

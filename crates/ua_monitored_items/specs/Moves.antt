@@ -13,9 +13,11 @@ use Rattle.ua_item_queue.specs.Fates.{AccountEntry, account, waiting, LossesAreM
 use Rattle.ua_item_queue.specs.ItemQueue.{QueueMove, queue}
 use Rattle.ua_item_queue.specs.ItemQueue.QueueMove.{Send}
 use Rattle.ua_item_queue.specs.declared.entry.Entry.{Entry}
-use Rattle.ua_monitored_items.specs.Item.{is_reporting, notes_of, seen_queue_moves, waiting_in}
+use Rattle.ua_monitored_items.specs.Item.{tells, notes_of, seen_queue_moves, waiting_in}
 use Rattle.ua_monitored_items.specs.ItemTables.{NumberedItems, item_at, numbers_of, is_of}
-use Rattle.ua_monitored_items.specs.Items.{ItemsState, no_items, ItemQueueMove, queue_moves_on, Served, all_served, create_one, modify_one, mode_one, delete_one, ended, end_queue_moves, Visit, visited, sampled_items, all_visits, Taking, nat_least, with_taken, nothing_taken, taken_of}
+use Rattle.ua_monitored_items.specs.Items.{ItemsState, no_items, ItemQueueMove, queue_moves_on, Served, all_served, create_one, modify_one, delete_one, ended, end_queue_moves, Visit, visits_of, visited, Taking, nat_least, with_taken, nothing_taken, taken_of}
+use Rattle.ua_monitored_items.specs.Links.{link, after_link}
+use Rattle.ua_monitored_items.specs.Releases.{modes_set, shown_one, shown}
 use Rattle.ua_monitored_items.specs.declared.item.Item.{Item}
 use Rattle.ua_monitored_items.specs.declared.kinds.Mode.{Mode}
 
@@ -24,6 +26,7 @@ pub data Move : Type 0 where
   Create : Nodes → Moment → (subscription : ℕ) → Timestamps → List MonitoredItemCreateRequest → Move
   Modify : (subscription : ℕ) → Timestamps → List MonitoredItemModifyRequest → Move
   SetMode : Nodes → Moment → (subscription : ℕ) → Mode → List ℕ → Move
+  Link : (subscription triggering : ℕ) → (add remove : List ℕ) → Move
   Delete : (subscription : ℕ) → List ℕ → Move
   End : (subscription : ℕ) → Move
   Show : List Change → Move
@@ -46,6 +49,10 @@ abbrev pub sample_queue_moves : NumberedItems → List Visit → List ItemQueueM
 sample_queue_moves items [] = []
 sample_queue_moves items (v ∷ vs) = visit_queue_moves v (item_at v.number items) ++ sample_queue_moves (visited items v) vs
 
+abbrev pub show_queue_moves : NumberedItems → List Change → List ItemQueueMove
+show_queue_moves items [] = []
+show_queue_moves items (c ∷ cs) = sample_queue_moves items (visits_of items c) ++ show_queue_moves (shown_one items c) cs
+
 -- an item that gives values sends them
 abbrev pub give_queue_moves : ℕ → ℕ → Option Item → List ItemQueueMove
 give_queue_moves left number None = []
@@ -58,12 +65,11 @@ take_queue_moves before (n ∷ ns) = give_queue_moves before.left n (item_at n b
 abbrev pub moved : ItemsState → Move → Moved
 moved s (Create nodes clock subscription timestamps requests) = of_served (all_served (create_one nodes clock subscription timestamps) s requests)
 moved s (Modify subscription timestamps requests) = of_served (all_served (modify_one subscription timestamps) s requests)
-moved s (SetMode nodes clock subscription mode numbers) = of_served (all_served (mode_one nodes clock subscription mode) s numbers)
+moved s (SetMode nodes clock subscription mode numbers) = of_served (modes_set nodes clock subscription mode s numbers)
+moved s (Link subscription triggering add remove) = record { state = after_link s (link s subscription triggering add remove); queue_moves = [] }
 moved s (Delete subscription numbers) = of_served (all_served (delete_one subscription) s numbers)
 moved s (End subscription) = record { state = ended s subscription; queue_moves = end_queue_moves s subscription }
-moved s (Show changed) =
-    let visits = all_visits s.items changed in
-    record { state = record s { items = sampled_items s.items visits }; queue_moves = sample_queue_moves s.items visits }
+moved s (Show changed) = record { state = record s { items = shown s.items changed }; queue_moves = show_queue_moves s.items changed }
 moved s (TakeNotes subscription n) =
     let numbers = numbers_of subscription s.items in
     record { state = record s { items = (taken_of s.items n numbers).items }; queue_moves = take_queue_moves (nothing_taken s.items n) numbers }
@@ -130,6 +136,7 @@ abbrev pub IsOfSubscription : ℕ → Move → Type 0
 IsOfSubscription subscription (Create nodes clock own timestamps requests) = own ≡ subscription
 IsOfSubscription subscription (Modify own timestamps requests) = own ≡ subscription
 IsOfSubscription subscription (SetMode nodes clock own mode numbers) = own ≡ subscription
+IsOfSubscription subscription (Link own triggering add remove) = own ≡ subscription
 IsOfSubscription subscription (Delete own numbers) = own ≡ subscription
 IsOfSubscription subscription (End own) = own ≡ subscription
 IsOfSubscription subscription (Show changed) = ⊥
@@ -140,9 +147,9 @@ abbrev pub SubscriptionsStayApart : Type 0
 SubscriptionsStayApart = (config : Configuration) (moves : List Move) (move : Move) (subscription : ℕ) → IsOfSubscription subscription move →
     OthersStay subscription (run config moves).state.items (run config (moves ++ move ∷ [])).state.items
 
--- what an item has to tell: nothing unless it reports
+-- what an item has to tell: nothing unless it reports or is released
 abbrev pub told_notes : Item → List MonitoredItemNotification
-told_notes item = if is_reporting item.mode then notes_of item else []
+told_notes item = if tells item then notes_of item else []
 
 -- what a subscription's items have to tell: the items by rising number, the values of each oldest first
 abbrev pub all_notes : ℕ → NumberedItems → List MonitoredItemNotification

@@ -1,14 +1,17 @@
 //! A monitored item.
 
 ghost use Rattle.std.specs.Vec.{vec_len, vec_capacity};
-ghost use Rattle.std.specs.Prelude.{◌≡◌, ◌≤◌, ◌<◌, ◌+◌, ◌++◌, take, length, OnOk, OnErr, IfOk};
+ghost use Rattle.std.specs.Prelude.{◌≡◌, ◌≤◌, ◌<◌, ◌+◌, ◌++◌, [], take, map, length, OnOk, OnErr, IfOk, if◌then◌else◌};
 ghost use Rattle.std.specs.Option.{option_copied};
-ghost use Rattle.ua_monitored_items.specs.Item.{is_change_since as is_change_since_spec, takes as takes_spec, queued, seen, reading, revised_size as revised_size_spec, gave, notes_of, waiting_in, time_if, marked_status, shown, note_of};
+ghost use Rattle.ua_monitored_items.specs.Item.{is_change_since as is_change_since_spec, takes as takes_spec, queued, seen, reading, revised_size as revised_size_spec, takes_last as takes_last_spec, with_sent, gave, notes_of, tells as tells_spec, waiting_in, released_in, with_links, time_if, marked_status, shown, note_of};
 ghost use Rattle.ua_monitored_items.specs.Modifying.{modified_with};
 ghost use Rattle.ua_monitored_items.specs.Preparing.{IsTwice, IsFirstSample, Fits, moded_from};
+ghost use Rattle.ua_monitored_items.specs.Releases.{releases_of};
 
 use crate::kinds::{Mode, Trigger};
+use crate::links::Links;
 use crate::preparing::{FirstSample, Modification};
+use crate::releases::Release;
 use std::alloc::{AllocError, Global};
 use ua_item_queue::{Entry, ItemQueue};
 use ua_read_write::{Timestamps, sample};
@@ -21,7 +24,7 @@ use ua_values::DataValue;
 /// (IEC 62541-4, section 7, "StatusCode").
 const OVERFLOW: u32 = 0x480;
 
-/// A monitored item: whose it is, what it watches, how, and the values that wait.
+/// A monitored item: whose it is, what it watches, how, the values that wait, and the items that it triggers.
 pub struct Item {
     /// The number of its subscription.
     pub subscription: u32,
@@ -49,6 +52,13 @@ pub struct Item {
 
     /// The last value that was queued, without a mark. None until the item is enabled first.
     pub last: Option<DataValue>,
+
+    /// Its values are sent although it only samples, since an item to which it is linked queued a value. That
+    /// ends when its queue is empty, and when its mode is set.
+    pub released: bool,
+
+    /// The items that are linked to it.
+    pub links: Links,
 }
 
 // Written out, so that a proof sees a drop as one call and not as its cases.
@@ -64,6 +74,8 @@ impl Drop for Item {
             trigger: _,
             queue: _,
             last: _,
+            released: _,
+            links: _,
         } = self;
     }
 }
@@ -165,12 +177,32 @@ impl Item {
         self.queue_value(alloc, value)
     }
 
-    // Sees a value that was written. At an `Err` nothing changed.
-    pub(crate) fn see(&mut self, alloc: Global, value: &DataValue) -> Result<(), AllocError>
+    // What it releases where it queues a value, behind what is there. At an `Err` a part may be there.
+    pub(crate) fn add_releases(&self, releases: &mut Vec<Release>) -> Result<(), AllocError>
+        ensures { OnOk result (releases.new.items ≡ releases.old.items ++ releases_of self.now) }
+    {
+        for number in self.links.numbers() {
+            releases.push(Release {
+                subscription: self.subscription,
+                number: *number,
+            })?;
+        }
+        Ok(())
+    }
+
+    // Sees a value that was written, and adds what that releases. At an `Err` the item is what it was.
+    pub(crate) fn see(
+        &mut self,
+        alloc: Global,
+        value: &DataValue,
+        releases: &mut Vec<Release>,
+    ) -> Result<(), AllocError>
         ensures ok { OnOk result (self.new ≡ seen value.now self.old) }
+        ensures releases { OnOk result (releases.new.items ≡ releases.old.items ++ (if takes_spec self.old value.now then releases_of self.old else [])) }
         ensures err { OnErr result (self.new ≡ self.old) }
     {
         if self.takes(value) {
+            self.add_releases(releases)?;
             let value = value.copy(alloc)?;
             self.queue_value(alloc, value)?;
         }
@@ -219,11 +251,28 @@ impl Item {
         self.last = Some(last);
     }
 
+    // Is released by an item of a subscription that queued a value. Takes no memory.
+    pub(crate) fn release(&mut self, subscription: u32)
+        ensures { self.new ≡ released_in subscription self.old }
+    {
+        if self.subscription == subscription && self.mode.is_sampling() && self.queue.len() > 0 {
+            self.released = true;
+        }
+    }
+
+    // Gets other links. Takes no memory.
+    pub(crate) fn set_links(&mut self, links: Links)
+        ensures { self.new ≡ with_links links self.old }
+    {
+        self.links = links;
+    }
+
     // Gets a mode, and queues what was sampled for it where that enables it. Takes no memory.
     pub(crate) fn set_mode(&mut self, mode: Mode, first: Option<FirstSample>)
         requires { Fits mode self.old first }
         ensures { self.new ≡ moded_from mode first self.old }
     {
+        self.released = false;
         if !mode.is_enabled() {
             self.queue.clear();
             self.mode = Mode::Disabled;
@@ -237,22 +286,25 @@ impl Item {
         self.mode = mode;
     }
 
+    // Whether its values are sent.
+    fn tells(&self) -> bool
+        ensures { result ≡ tells_spec self.now }
+    {
+        self.mode.is_reporting() || self.released
+    }
+
     // How many of its values wait to be sent.
     pub(crate) fn waiting(&self) -> usize
         ensures { result ≡ waiting_in self.now }
     {
-        if self.mode.is_reporting() {
-            self.queue.len()
-        } else {
-            0
-        }
+        if self.tells() { self.queue.len() } else { 0 }
     }
 
     // Gives its oldest value, if there is one.
     #[tactic(auto, using(crate::proofs::Firsts::first_taken))]
     fn give_one(&mut self, notes: &mut Vec<MonitoredItemNotification>)
         requires { vec_len notes.old < vec_capacity notes.old }
-        ensures gave { self.new ≡ gave 1 self.old }
+        ensures gave { self.new ≡ with_sent 1 self.old }
         ensures notes { notes.new.items ≡ notes.old.items ++ take 1 (notes_of self.old) }
         ensures len { vec_len notes.new ≤ vec_len notes.old + 1 }
         ensures room { vec_capacity notes.new ≡ vec_capacity notes.old }
@@ -262,7 +314,28 @@ impl Item {
         }
     }
 
-    // Gives its oldest values, so many. Takes no memory, since there is room for them.
+    // Whether so many values, if they are any, are all that it holds.
+    fn takes_last(&self, count: usize) -> bool
+        ensures { result ≡ takes_last_spec count self.now }
+    {
+        count > 0 && self.queue.len() <= count
+    }
+
+    // Gives its oldest values, so many.
+    fn give_each(&mut self, count: usize, notes: &mut Vec<MonitoredItemNotification>)
+        requires { vec_len notes.old + count ≤ vec_capacity notes.old }
+        ensures gave { self.new ≡ with_sent count self.old }
+        ensures notes { notes.new.items ≡ notes.old.items ++ take count (notes_of self.old) }
+        ensures len { vec_len notes.new ≤ vec_len notes.old + count }
+        ensures room { vec_capacity notes.new ≡ vec_capacity notes.old }
+    {
+        for _ in 0..count {
+            self.give_one(notes);
+        }
+    }
+
+    // Gives its oldest values, so many; the last one ends a release. Takes no memory, since there is room for
+    // them.
     pub(crate) fn give(&mut self, count: usize, notes: &mut Vec<MonitoredItemNotification>)
         requires { vec_len notes.old + count ≤ vec_capacity notes.old }
         ensures gave { self.new ≡ gave count self.old }
@@ -270,8 +343,10 @@ impl Item {
         ensures len { vec_len notes.new ≤ vec_len notes.old + count }
         ensures room { vec_capacity notes.new ≡ vec_capacity notes.old }
     {
-        for _ in 0..count {
-            self.give_one(notes);
+        let last = self.takes_last(count);
+        self.give_each(count, notes);
+        if last {
+            self.released = false;
         }
     }
 }

@@ -6,17 +6,21 @@ ghost use Rattle.std.specs.Map.{remove_entry};
 ghost use Rattle.std.specs.Option.{option_copied, option_map};
 ghost use Rattle.std.specs.Ordering.{nat_cmp};
 ghost use Rattle.ua_types.specs.NodeIdOrder.{id_cmp};
+ghost use Rattle.ua_monitored_items.specs.Item.{with_links};
 ghost use Rattle.ua_monitored_items.specs.ItemTables.{TableState, item_at, numbers_of, is_of, is_on, with_item, IsPut, IsTakenOut, IsPutBack, IsKept, IsOwn};
-ghost use Rattle.ua_monitored_items.specs.Items.{without_all, all_visits, sampled_items, VisitedSome, any_waits, taken_of, first_number};
+ghost use Rattle.ua_monitored_items.specs.Items.{without_all, any_waits, taken_of, first_number};
 ghost use Rattle.ua_monitored_items.specs.Modifying.{modified_with};
 ghost use Rattle.ua_monitored_items.specs.Preparing.{FitsAt, moded_from};
+ghost use Rattle.ua_monitored_items.specs.Releases.{all_released, shown, ShownSome};
 
 use crate::index::{Index, put_in, take_out};
 use crate::item::Item;
 use crate::kinds::Mode;
+use crate::links::Links;
 use crate::numbered::Numbered;
 use crate::preparing::{FirstSample, Modification};
-use crate::sampling::sample_all;
+use crate::releases::Release;
+use crate::sampling::{release_all, sample_all};
 use crate::taking::take_all;
 use std::alloc::{AllocError, Global};
 use std::collections::BTreeMap;
@@ -252,24 +256,38 @@ impl ItemTable {
         self.items.set_mode(number, mode, first);
     }
 
-    /// The items of the nodes that were written see the values, in their order. At an `Err` some have
-    /// seen theirs, from the first on.
+    /// The item with this number gets other links. Takes no memory.
+    pub fn set_links(&mut self, number: u32, links: Links)
+        ensures { self.new ≡ record { made = self.old.made; items = with_item number (with_links links) self.old.items } }
+    {
+        self.items.set_links(number, links);
+    }
+
+    /// Items are released. Takes no memory.
+    pub fn release(&mut self, releases: &[Release])
+        ensures { self.new ≡ record { made = self.old.made; items = all_released self.old.items releases.now } }
+    {
+        release_all(&mut self.items, releases);
+    }
+
+    /// The items of the nodes that were written see the values, in their order, and release what is linked
+    /// to them. At an `Err` some have seen theirs, from the first on.
     pub fn sample(&mut self, alloc: Global, changed: &[Change]) -> Result<(), AllocError>
         ensures made { self.new.made ≡ self.old.made }
-        ensures ok { OnOk result (self.new.items ≡ sampled_items self.old.items (all_visits self.old.items changed.now)) }
-        ensures err { OnErr result (VisitedSome self.old.items self.new.items (all_visits self.old.items changed.now)) }
+        ensures ok { OnOk result (self.new.items ≡ shown self.old.items changed.now) }
+        ensures err { OnErr result (ShownSome self.old.items self.new.items changed.now) }
     {
         sample_all(alloc, &mut self.items, &self.on_node, changed)
     }
 
-    /// Whether a reporting item of a subscription has a value. Takes no memory, and looks at no item.
+    /// Whether an item of a subscription that reports or is released has a value. Takes no memory, and looks at no item.
     pub fn available(&self, subscription: u32) -> bool
         ensures { result ≡ any_waits self.now.items (numbers_of subscription self.now.items) }
     {
         self.items.has_value(subscription)
     }
 
-    /// The first values of a subscription's reporting items, at most so many. At an `Err` nothing changed.
+    /// The first values of a subscription's items that report or are released, at most so many. At an `Err` nothing changed.
     pub fn take(
         &mut self,
         alloc: Global,

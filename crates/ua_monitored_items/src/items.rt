@@ -1,18 +1,24 @@
 //! The monitored items of a server.
 
-ghost use Rattle.std.specs.Prelude.{◌≡◌, ◌++◌, ◌-◌, ◌^◌, ◌<◌, ◌≤◌, false, true, length, map, OnOk, OnErr, IfOk};
+ghost use Rattle.std.specs.Prelude.{◌≡◌, ◌++◌, ◌-◌, ◌^◌, ◌<◌, ◌≤◌, [], false, true, filter, fold, length, map, OnOk, OnErr, IfOk, if◌then◌else◌};
+ghost use Rattle.std.specs.BTreeSet.{insert_key};
 ghost use Rattle.std.specs.Option.{option_copied};
+ghost use Rattle.std.specs.Ordering.{nat_cmp};
 ghost use Rattle.ua_monitored_items.specs.Item.{moded, revised_size as revised_size_spec};
 ghost use Rattle.ua_monitored_items.specs.ItemTables.{numbers_of};
-ghost use Rattle.ua_monitored_items.specs.Items.{no_items, is_full as is_full_spec, null_object, zero_duration, create_judged, create_one, create_result, create_refused, new_item, begun, with_new_item, own_item, with_change, modify_one, modify_result, modify_refused, mode_one, delete_one, without, ended as ended_spec, all_served, all_visits, sampled_items, VisitedSome, is_available, taken_of};
+ghost use Rattle.ua_monitored_items.specs.Items.{no_items, is_full as is_full_spec, null_object, zero_duration, create_judged, create_one, create_result, create_refused, new_item, begun, with_new_item, own_item, with_change, modify_one, modify_result, modify_refused, mode_one, delete_one, without, ended as ended_spec, all_served, is_available, taken_of};
+ghost use Rattle.ua_monitored_items.specs.Links.{link_status, unlinked, is_own as is_own_spec, may_link as may_link_spec, linked, in_order, link as link_spec, after_link, IsAnswer};
 ghost use Rattle.ua_monitored_items.specs.Modifying.{modification_of};
 ghost use Rattle.ua_monitored_items.specs.Preparing.{FitsAt, IsReady, AreReady, mode_status, moded_own};
+ghost use Rattle.ua_monitored_items.specs.Releases.{mode_releases, modes_release, modes_set, shown, ShownSome};
 ghost use Rattle.ua_monitored_items.specs.Undoing.{last_undone, undone, CanBeUndone};
 
 use crate::item::{Item, revised_size};
 use crate::item_table::ItemTable;
 use crate::kinds::{Kind, Mode, trigger_of};
+use crate::links::{Linked, Links};
 use crate::preparing::{Modification, Prepared};
+use crate::releases::Release;
 use std::alloc::{AllocError, Global};
 use std::marker::Model;
 use ua_item_queue::{ItemQueue, Room};
@@ -32,6 +38,11 @@ use ua_types::{Config, Duration, ExtensionObject, ExtensionObjectBody, Moment, N
 /// enabled, and each value that is written there later and is a change by its filter, if it is the
 /// attribute Value. What is queued waits until a message takes it, or the client clears it. Contracts see
 /// the items under their numbers, with the values that wait.
+///
+/// Other items may be linked to an item (IEC 62541-4, "Triggering model"). When it queues a value, in mode
+/// sampling or reporting, those of them that are in mode sampling and hold a value are released: what they
+/// hold is sent as a reporting item's is, until their queue is empty or their mode is set. Items are released
+/// once all items of a write, or of a request, have sampled.
 ///
 /// At want of memory nothing changed, but for [`Items::sample`]: the calls that serve a request take what
 /// memory it wants before they change an item, or take back the items that they made.
@@ -86,6 +97,28 @@ fn modify_refused(status: Status) -> MonitoredItemModifyResult
         revised_sampling_interval: Duration([0; 8]),
         revised_queue_size: 0,
         filter_result: null_object(),
+    }
+}
+
+// Takes links away, one after the other.
+fn unlink_all(alloc: Global, links: &mut Links, remove: &[u32]) -> Result<Vec<Status>, AllocError>
+    ensures statuses { IfOk result (λ statuses. statuses.items ≡ (fold unlinked (record { statuses = []; numbers = links.old }) remove.now).statuses) }
+    ensures links { OnOk result (links.new ≡ (fold unlinked (record { statuses = []; numbers = links.old }) remove.now).numbers) }
+{
+    let mut statuses = Vec::with_capacity(alloc, remove.len())?;
+    for number in remove {
+        statuses.push(link_status(links.take(*number)))?;
+    }
+    Ok(statuses)
+}
+
+fn link_status(good: bool) -> Status
+    ensures { result ≡ link_status good }
+{
+    if good {
+        Status::GOOD
+    } else {
+        Status::BAD_MONITORED_ITEM_ID_INVALID
     }
 }
 
@@ -171,6 +204,8 @@ impl Items {
             trigger: kind.trigger,
             queue,
             last: None,
+            released: false,
+            links: Links::new(alloc),
         })
     }
 
@@ -398,7 +433,7 @@ impl Items {
         Ok(results)
     }
 
-    // An entry of SetMonitoringMode, with what the item queues if this enables it.
+    // An entry of SetMonitoringMode, with what the item queues if this enables it, and what that releases.
     fn prepared(
         &self,
         alloc: Global,
@@ -407,14 +442,17 @@ impl Items {
         subscription: u32,
         mode: Mode,
         number: u32,
+        releases: &mut Vec<Release>,
     ) -> Result<Prepared, AllocError>
         ensures number { IfOk result (λ prepared. prepared.number ≡ number) }
+        ensures releases { OnOk result (releases.new.items ≡ releases.old.items ++ mode_releases mode (own_item self.now subscription number)) }
         ensures ready { IfOk result (λ prepared. IsReady space.now.nodes clock mode (own_item self.now subscription number) prepared.first) }
     {
         let first = match self.own_item(subscription, number) {
             None => None,
             Some(item) => {
                 if mode.is_enabled() && !item.mode.is_enabled() {
+                    item.add_releases(releases)?;
                     Some(item.first_sample(alloc, space, clock)?)
                 } else {
                     None
@@ -424,7 +462,7 @@ impl Items {
         Ok(Prepared { number, first })
     }
 
-    // The entries of SetMonitoringMode, each with what its item wants.
+    // The entries of SetMonitoringMode, each with what its item wants, and what they release.
     fn prepare_all(
         &self,
         alloc: Global,
@@ -433,13 +471,23 @@ impl Items {
         subscription: u32,
         mode: Mode,
         numbers: &[u32],
+        releases: &mut Vec<Release>,
     ) -> Result<Vec<Prepared>, AllocError>
         ensures numbers { IfOk result (λ entries. map (λ e. e.number) entries.items ≡ numbers.now) }
+        ensures releases { OnOk result (releases.new.items ≡ releases.old.items ++ modes_release self.now subscription mode numbers.now) }
         ensures ready { IfOk result (λ entries. AreReady space.now.nodes clock subscription mode self.now entries.items) }
     {
         let mut entries = Vec::with_capacity(alloc, numbers.len())?;
         for number in numbers {
-            let prepared = self.prepared(alloc, space, clock, subscription, mode, *number)?;
+            let prepared = self.prepared(
+                alloc,
+                space,
+                clock,
+                subscription,
+                mode,
+                *number,
+                releases,
+            )?;
             entries.push(prepared)?;
         }
         Ok(entries)
@@ -459,9 +507,35 @@ impl Items {
         Status::GOOD
     }
 
+    // Gives items of a subscription a mode, one after the other, and adds what those that this enables release.
+    // At an `Err` the items are what they were.
+    fn mode_all(
+        &mut self,
+        alloc: Global,
+        space: &Space,
+        clock: Moment,
+        subscription: u32,
+        mode: Mode,
+        numbers: &[u32],
+        releases: &mut Vec<Release>,
+    ) -> Result<Vec<Status>, AllocError>
+        ensures results { IfOk result (λ results. results.items ≡ (all_served (mode_one space.now.nodes clock subscription mode) self.old numbers.now).results) }
+        ensures ok { OnOk result (self.new ≡ (all_served (mode_one space.now.nodes clock subscription mode) self.old numbers.now).state) }
+        ensures releases { OnOk result (releases.new.items ≡ releases.old.items ++ modes_release self.old subscription mode numbers.now) }
+        ensures err { OnErr result (self.new ≡ self.old) }
+    {
+        let entries = self.prepare_all(alloc, space, clock, subscription, mode, numbers, releases)?;
+        let mut results = Vec::with_capacity(alloc, numbers.len())?;
+        for prepared in entries {
+            results.push_reserved(self.mode_one(subscription, mode, prepared));
+        }
+        Ok(results)
+    }
+
     /// Gives items of a subscription a mode, one after the other, and answers what became of each
     /// (IEC 62541-4, "SetMonitoringMode"). An item that leaves the mode disabled queues what it reads at
-    /// this clock, whatever its filter; one that is disabled loses what waits.
+    /// this clock, whatever its filter; one that is disabled loses what waits. A release of an item that is
+    /// named ends; then those that queued release what is linked to them.
     ///
     /// `BAD_MONITORED_ITEM_ID_INVALID` where the subscription has no such item.
     pub fn set_mode(
@@ -473,16 +547,131 @@ impl Items {
         mode: Mode,
         numbers: &[u32],
     ) -> Result<Vec<Status>, AllocError>
-        ensures results { IfOk result (λ results. results.items ≡ (all_served (mode_one space.now.nodes clock subscription mode) self.old numbers.now).results) }
-        ensures ok { OnOk result (self.new ≡ (all_served (mode_one space.now.nodes clock subscription mode) self.old numbers.now).state) }
+        ensures results { IfOk result (λ results. results.items ≡ (modes_set space.now.nodes clock subscription mode self.old numbers.now).results) }
+        ensures ok { OnOk result (self.new ≡ (modes_set space.now.nodes clock subscription mode self.old numbers.now).state) }
         ensures err { OnErr result (self.new ≡ self.old) }
     {
-        let entries = self.prepare_all(alloc, space, clock, subscription, mode, numbers)?;
-        let mut results = Vec::with_capacity(alloc, numbers.len())?;
-        for prepared in entries {
-            results.push_reserved(self.mode_one(subscription, mode, prepared));
-        }
+        let mut releases = Vec::new(alloc);
+        let results = self.mode_all(
+            alloc,
+            space,
+            clock,
+            subscription,
+            mode,
+            numbers,
+            &mut releases,
+        )?;
+        self.table.release(&releases);
         Ok(results)
+    }
+
+    // Whether this is the number of an item of this subscription.
+    fn is_own(&self, subscription: u32, number: u32) -> bool
+        ensures { result ≡ is_own_spec self.now subscription number }
+    {
+        self.own_item(subscription, number).is_some()
+    }
+
+    // Keeps a number if it is that of an item of this subscription. At an `Err` nothing changed.
+    fn keep_own(&self, subscription: u32, links: &mut Links, number: u32) -> Result<(), AllocError>
+        ensures ok { OnOk result (links.new ≡ (if is_own_spec self.now subscription number then insert_key nat_cmp links.old number else links.old)) }
+        ensures err { OnErr result (links.new ≡ links.old) }
+    {
+        if !self.is_own(subscription, number) {
+            return Ok(());
+        }
+        links.put(number)
+    }
+
+    // Of the items that are linked to one of this subscription, those that are there yet.
+    fn linked_yet(
+        &self,
+        alloc: Global,
+        subscription: u32,
+        links: &Links,
+    ) -> Result<Links, AllocError>
+        ensures { IfOk result (λ yet. yet ≡ in_order (filter (is_own_spec self.now subscription) links.now)) }
+    {
+        let mut yet = Links::new(alloc);
+        for number in links.numbers() {
+            self.keep_own(subscription, &mut yet, *number)?;
+        }
+        Ok(yet)
+    }
+
+    // Whether an item may be linked to another of this subscription.
+    fn may_link(&self, subscription: u32, triggering: u32, number: u32) -> bool
+        ensures { result ≡ may_link_spec self.now subscription triggering number }
+    {
+        self.is_own(subscription, number) && number != triggering
+    }
+
+    // Links an item to the triggering one, if it may be. At an `Err` nothing changed.
+    fn link_one(
+        &self,
+        subscription: u32,
+        triggering: u32,
+        links: &mut Links,
+        number: u32,
+    ) -> Result<Status, AllocError>
+        ensures status { IfOk result (λ status. status ≡ link_status (may_link_spec self.now subscription triggering number)) }
+        ensures links { OnOk result (links.new ≡ (if may_link_spec self.now subscription triggering number then insert_key nat_cmp links.old number else links.old)) }
+    {
+        if !self.may_link(subscription, triggering, number) {
+            return Ok(Status::BAD_MONITORED_ITEM_ID_INVALID);
+        }
+        links.put(number)?;
+        Ok(Status::GOOD)
+    }
+
+    // Links items to the triggering one, one after the other.
+    fn link_all(
+        &self,
+        alloc: Global,
+        subscription: u32,
+        triggering: u32,
+        links: &mut Links,
+        add: &[u32],
+    ) -> Result<Vec<Status>, AllocError>
+        ensures statuses { IfOk result (λ statuses. statuses.items ≡ (fold (linked self.now subscription triggering) (record { statuses = []; numbers = links.old }) add.now).statuses) }
+        ensures links { OnOk result (links.new ≡ (fold (linked self.now subscription triggering) (record { statuses = []; numbers = links.old }) add.now).numbers) }
+    {
+        let mut statuses = Vec::with_capacity(alloc, add.len())?;
+        for number in add {
+            let status = self.link_one(subscription, triggering, links, *number)?;
+            statuses.push(status)?;
+        }
+        Ok(statuses)
+    }
+
+    /// Changes which items are linked to an item of a subscription (IEC 62541-4, "SetTriggering"): links are
+    /// taken away, one after the other, then others are added. Answers what became of each entry. A release
+    /// stays, also where its link is taken away.
+    ///
+    /// All is refused by `BAD_MONITORED_ITEM_ID_INVALID` where the subscription has no such triggering item. So is
+    /// an entry of `remove` that isn't linked, and one of `add` that is no item of the subscription, or the
+    /// triggering item itself; one that is linked already is good.
+    #[tactic(auto, unfolding(crate::specs::Links::link))]
+    pub fn link(
+        &mut self,
+        alloc: Global,
+        subscription: u32,
+        triggering: u32,
+        add: &[u32],
+        remove: &[u32],
+    ) -> Result<Result<Linked, Status>, AllocError>
+        ensures answer { IfOk result (λ answer. IsAnswer answer (link_spec self.old subscription triggering add.now remove.now)) }
+        ensures ok { OnOk result (self.new ≡ after_link self.old (link_spec self.old subscription triggering add.now remove.now)) }
+        ensures err { OnErr result (self.new ≡ self.old) }
+    {
+        let Some(item) = self.own_item(subscription, triggering) else {
+            return Ok(Err(Status::BAD_MONITORED_ITEM_ID_INVALID));
+        };
+        let mut links = self.linked_yet(alloc, subscription, &item.links)?;
+        let removed = unlink_all(alloc, &mut links, remove)?;
+        let added = self.link_all(alloc, subscription, triggering, &mut links, add)?;
+        self.table.set_links(triggering, links);
+        Ok(Ok(Linked { added, removed }))
     }
 
     // Deletes one item, if it is known.
@@ -526,28 +715,29 @@ impl Items {
         self.table.remove_all(subscription);
     }
 
-    /// Shows the items what was written, as [`ua_read_write::write`] tells it: each enabled item of a written
-    /// node's value queues the value where its filter sees a change since the last one that it queued. The
-    /// items of one node see a value by rising numbers.
+    /// Shows the items what was written, as a Write tells it, one value after the other: each enabled item of
+    /// a written node's value queues the value where its filter sees a change since the last one that it
+    /// queued. The items of one node see a value by rising numbers, and once all have, those that queued it
+    /// release what is linked to them.
     ///
     /// At want of memory some have seen theirs, from the first on, and nothing else was done.
     pub fn sample(&mut self, alloc: Global, changed: &[Change]) -> Result<(), AllocError>
-        ensures ok { OnOk result (self.new.items ≡ sampled_items self.old.items (all_visits self.old.items changed.now)) }
+        ensures ok { OnOk result (self.new.items ≡ shown self.old.items changed.now) }
         ensures others { self.new ≡ record self.old { items = self.new.items } }
-        ensures err { OnErr result (VisitedSome self.old.items self.new.items (all_visits self.old.items changed.now)) }
+        ensures err { OnErr result (ShownSome self.old.items self.new.items changed.now) }
     {
         self.table.sample(alloc, changed)
     }
 
-    /// Whether a reporting item of a subscription has a value. Takes no memory, and looks at no item.
+    /// Whether an item of a subscription that reports or is released has a value. Takes no memory, and looks at no item.
     pub fn available(&self, subscription: u32) -> bool
         ensures { result ≡ is_available self.now subscription }
     {
         self.table.available(subscription)
     }
 
-    /// Takes the first values of a subscription's reporting items, at most so many: the items by rising
-    /// number, and the values of each oldest first. Each goes with the client's number of the item, the
+    /// Takes the first values of a subscription's items that report or are released, at most so many: the items
+    /// by rising number, and the values of each oldest first. Each goes with the client's number of the item, the
     /// times that are wanted now, and the Overflow bit where it is marked.
     ///
     /// At want of memory nothing changed: there is room for all of them before the first is taken.

@@ -2,7 +2,7 @@
 
 ghost use Rattle.std.specs.Prelude.{◌≡◌};
 ghost use Rattle.ua_monitored_items.specs.Kinds.{mode_numbered, trigger_numbered, is_null_filter, trigger_of};
-ghost use Rattle.ua_monitored_items.specs.Item.{is_enabled, is_reporting, is_change, same_status, same_value, same_time};
+ghost use Rattle.ua_monitored_items.specs.Item.{is_enabled, is_reporting, is_sampling, is_change, same_status, same_value, same_time};
 
 use std::alloc::Global;
 use ua_messages::{received_structure, type_ids};
@@ -15,7 +15,7 @@ use ua_values::DataValue;
 pub enum Mode {
     /// It takes no values, and has none.
     Disabled,
-    /// It takes values into its queue, and none is sent.
+    /// It takes values into its queue, and none is sent, unless the item is released.
     Sampling,
     /// It takes values, and they are sent.
     Reporting,
@@ -47,6 +47,13 @@ impl Mode {
         ensures { result ≡ is_reporting self }
     {
         matches!(self, Mode::Reporting)
+    }
+
+    /// Whether it takes values that aren't sent.
+    pub fn is_sampling(self) -> bool
+        ensures { result ≡ is_sampling self }
+    {
+        matches!(self, Mode::Sampling)
     }
 }
 

@@ -47,8 +47,8 @@ pub fn subscriptions_stay_apart()
     ensures { SubscriptionsStayApart }
 {}
 
-/// What [`crate::Items::take_notes`] answers is the first of all that the subscription's reporting items have
-/// to tell: the items by rising number, the values of each oldest first.
+/// What [`crate::Items::take_notes`] answers is the first of all that the subscription's items that report or
+/// are released have to tell: the items by rising number, the values of each oldest first.
 #[tactic(auto, using(crate::proofs::FirstNotes::notes_are_the_first))]
 pub fn notes_are_the_first()
     ensures { NotesAreTheFirst }

@@ -1,7 +1,7 @@
 //! The monitored items of a server (IEC 62541-4, "MonitoredItem Service Set"): which values are taken of
 //! which nodes, what becomes of them in each item's queue, and what of them goes into a message.
 //!
-//! [`Items`] has all items of the server. Its calls `create`, `modify`, `set_mode` and `delete` serve
+//! [`Items`] has all items of the server. Its calls `create`, `modify`, `set_mode`, `link` and `delete` serve
 //! the whole list of a request, entry by entry, `sample` shows it what was written, and `available` and
 //! `take_notes` are for who makes the messages. It knows no session, no subscription but by its
 //! number, no clock and no message: whose request it is, and when a message is due, is the business of
@@ -18,7 +18,8 @@
 //!
 //! What a contract sees: the items under their numbers, each with its queue (`specs/Items`). Each call is
 //! one definition over them, which also lists the moves by which queues changed; the code keeps no such
-//! record. How many of a subscription's items have a value to send it does keep (`specs/Counts`). How a call
+//! record. Which items an item triggers, and when their values are told, is told by `specs/Links` and
+//! `specs/Releases`. How many of a subscription's items have a value to send it does keep (`specs/Counts`). How a call
 //! changes nothing at want of memory is told by `specs/Modifying`, `specs/Preparing`, `specs/Taking` and
 //! `specs/Undoing`. `specs/Moves`, `Causes` and `Givings` have what [`laws`] speak of: any calls, which of
 //! them gives a value which fate, and what items give to messages. docs/SUBSCRIPTIONS.md has the tables.
@@ -30,11 +31,14 @@ mod item_table;
 mod items;
 mod kinds;
 pub mod laws;
+mod links;
 mod numbered;
 mod preparing;
+mod releases;
 mod sampling;
 mod taking;
 
 pub use item::Item;
 pub use items::Items;
 pub use kinds::{Mode, Trigger};
+pub use links::{Linked, Links};

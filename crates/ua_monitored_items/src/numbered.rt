@@ -1,22 +1,25 @@
 //! Items under their numbers, and how many of each subscription's items have a value to send.
 
-ghost use Rattle.std.specs.Prelude.{◌≡◌, ◌≤◌, ◌+◌, [], None, OnOk, OnErr, IfOk, IfErr, IfNone};
+ghost use Rattle.std.specs.Prelude.{◌≡◌, ◌≤◌, ◌+◌, ◌++◌, [], None, OnOk, OnErr, IfOk, IfErr, IfNone};
 ghost use Rattle.std.specs.BTreeMap.{is_at, insert_entry};
 ghost use Rattle.std.specs.Map.{remove_entry};
 ghost use Rattle.std.specs.Option.{option_copied};
 ghost use Rattle.std.specs.Ordering.{nat_cmp};
 ghost use Rattle.std.specs.Vec.{vec_len, vec_capacity};
 ghost use Rattle.ua_monitored_items.specs.Counts.{recount_by, AreRecounted, CanCount, AreHeld, AreSame};
-ghost use Rattle.ua_monitored_items.specs.Item.{seen, gave};
+ghost use Rattle.ua_monitored_items.specs.Item.{seen, gave, released_in, with_links};
 ghost use Rattle.ua_monitored_items.specs.ItemTables.{item_at, numbers_of, with_item, AreRising};
 ghost use Rattle.ua_monitored_items.specs.Items.{any_waits, nat_least, Taking, with_taken};
 ghost use Rattle.ua_monitored_items.specs.Modifying.{modified_with};
 ghost use Rattle.ua_monitored_items.specs.Preparing.{FitsAt, moded_from};
+ghost use Rattle.ua_monitored_items.specs.Releases.{visit_releases, with_release};
 ghost use Rattle.ua_monitored_items.specs.Taking.{waiting_at};
 
 use crate::item::Item;
 use crate::kinds::Mode;
+use crate::links::Links;
 use crate::preparing::{FirstSample, Modification};
+use crate::releases::Release;
 use std::alloc::{AllocError, AllocFailed, Global};
 use std::collections::BTreeMap;
 use std::marker::Model;
@@ -107,23 +110,54 @@ fn set_mode_at(
     })
 }
 
-// The item with this number sees a value. At an `Err` nothing changed.
+fn release_at(items: &mut BTreeMap<u32, Item>, release: Release) -> Option<Recount>
+    ensures items { items.new.entries ≡ with_item release.number (released_in release.subscription) items.old.entries }
+    ensures recount { result ≡ recount_by (released_in release.subscription) (item_at release.number items.old.entries) }
+{
+    let item = items.get_mut(&release.number)?;
+    let had = item.waiting() > 0;
+    item.release(release.subscription);
+    Some(Recount {
+        subscription: item.subscription,
+        had,
+        has: item.waiting() > 0,
+    })
+}
+
+fn set_links_at(items: &mut BTreeMap<u32, Item>, number: u32, links: Links) -> Option<Recount>
+    ensures items { items.new.entries ≡ with_item number (with_links links) items.old.entries }
+    ensures recount { result ≡ recount_by (with_links links) (item_at number items.old.entries) }
+{
+    let item = items.get_mut(&number)?;
+    let had = item.waiting() > 0;
+    item.set_links(links);
+    Some(Recount {
+        subscription: item.subscription,
+        had,
+        has: item.waiting() > 0,
+    })
+}
+
+// The item with this number sees a value, and what that releases is added. At an `Err` the items are what
+// they were.
 #[tactic(auto, using(crate::proofs::Edits::set_same))]
 fn visit_at(
     alloc: Global,
     items: &mut BTreeMap<u32, Item>,
     number: u32,
     value: &DataValue,
+    releases: &mut Vec<Release>,
 ) -> Result<Option<Recount>, AllocError>
     ensures ok { OnOk result (items.new.entries ≡ with_item number (seen value.now) items.old.entries) }
     ensures recount { IfOk result (λ recount. recount ≡ recount_by (seen value.now) (item_at number items.old.entries)) }
+    ensures releases { OnOk result (releases.new.items ≡ releases.old.items ++ visit_releases (record { number = number; value = value.now }) (item_at number items.old.entries)) }
     ensures err { OnErr result (items.new.entries ≡ items.old.entries) }
 {
     let Some(item) = items.get_mut(&number) else {
         return Ok(None);
     };
     let had = item.waiting() > 0;
-    item.see(alloc, value)?;
+    item.see(alloc, value, releases)?;
     Ok(Some(Recount {
         subscription: item.subscription,
         had,
@@ -285,13 +319,41 @@ impl Numbered {
         }
     }
 
-    /// The item with this number sees a value. At an `Err` nothing changed.
-    pub fn visit(&mut self, alloc: Global, number: u32, value: &DataValue) -> Result<(), AllocError>
+    /// The item with this number is released by an item of a subscription that queued a value. Takes no memory.
+    pub fn release(&mut self, release: Release)
+        ensures { self.new ≡ with_release self.old release }
+    {
+        let most = self.items.len();
+        if let Some(recount) = release_at(&mut self.items, release) {
+            count(&mut self.counts, recount, most);
+        }
+    }
+
+    /// The item with this number gets other links. Takes no memory.
+    pub fn set_links(&mut self, number: u32, links: Links)
+        ensures { self.new ≡ with_item number (with_links links) self.old }
+    {
+        let most = self.items.len();
+        if let Some(recount) = set_links_at(&mut self.items, number, links) {
+            count(&mut self.counts, recount, most);
+        }
+    }
+
+    /// The item with this number sees a value, and what that releases is added. At an `Err` the items are
+    /// what they were.
+    pub fn visit(
+        &mut self,
+        alloc: Global,
+        number: u32,
+        value: &DataValue,
+        releases: &mut Vec<Release>,
+    ) -> Result<(), AllocError>
         ensures ok { OnOk result (self.new ≡ with_item number (seen value.now) self.old) }
+        ensures releases { OnOk result (releases.new.items ≡ releases.old.items ++ visit_releases (record { number = number; value = value.now }) (item_at number self.old)) }
         ensures err { OnErr result (self.new ≡ self.old) }
     {
         let most = self.items.len();
-        if let Some(recount) = visit_at(alloc, &mut self.items, number, value)? {
+        if let Some(recount) = visit_at(alloc, &mut self.items, number, value, releases)? {
             count(&mut self.counts, recount, most);
         }
         Ok(())

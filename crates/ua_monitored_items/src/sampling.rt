@@ -1,64 +1,93 @@
 //! Values that were written, as the items of their nodes see them.
 
-ghost use Rattle.std.specs.Prelude.{◌≡◌, OnOk, OnErr, map, flat_map};
+ghost use Rattle.std.specs.Prelude.{◌≡◌, fold, map, OnOk, OnErr, IfOk};
 ghost use Rattle.ua_types.specs.NodeIdOrder.{id_cmp};
 ghost use Rattle.ua_monitored_items.specs.ItemTables.{numbers_at};
 ghost use Rattle.ua_monitored_items.specs.Items.{sampled_items, VisitedSome};
-ghost use Rattle.ua_monitored_items.specs.Sampling.{visits_by, index_visits};
+ghost use Rattle.ua_monitored_items.specs.Releases.{all_released, sample_releases, seen_by_all};
+ghost use Rattle.ua_monitored_items.specs.Sampling.{visits_by, index_visits, index_shown, IndexShownSome};
 
 use crate::index::Index;
 use crate::numbered::Numbered;
+use crate::releases::Release;
 use std::alloc::{AllocError, Global};
 use std::collections::BTreeSet;
 use ua_read_write::Change;
 use ua_types::NodeId;
 use ua_values::DataValue;
 
-// The items with these numbers see a value, one after the other.
+// The items with these numbers see a value, one after the other. Answers what that releases.
 fn visit_all(
     alloc: Global,
     items: &mut Numbered,
     numbers: &BTreeSet<u32>,
     value: &DataValue,
-) -> Result<(), AllocError>
+) -> Result<Vec<Release>, AllocError>
+    ensures releases { IfOk result (λ releases. releases.items ≡ sample_releases items.old (visits_by value.now numbers.now.keys)) }
     ensures ok { OnOk result (items.new ≡ sampled_items items.old (visits_by value.now numbers.now.keys)) }
     ensures err { OnErr result (VisitedSome items.old items.new (visits_by value.now numbers.now.keys)) }
 {
+    let mut releases = Vec::new(alloc);
     for number in numbers {
-        items.visit(alloc, *number, value)?;
+        items.visit(alloc, *number, value, &mut releases)?;
     }
+    Ok(releases)
+}
+
+/// Items are released, one after the other. Takes no memory.
+pub(crate) fn release_all(items: &mut Numbered, releases: &[Release])
+    ensures { items.new ≡ all_released items.old releases.now }
+{
+    for release in releases {
+        items.release(*release);
+    }
+}
+
+// The items with these numbers see a value, and once all have, those that queued it release what is linked
+// to them.
+fn show_value(
+    alloc: Global,
+    items: &mut Numbered,
+    numbers: &BTreeSet<u32>,
+    value: &DataValue,
+) -> Result<(), AllocError>
+    ensures ok { OnOk result (items.new ≡ seen_by_all items.old (visits_by value.now numbers.now.keys)) }
+    ensures err { OnErr result (VisitedSome items.old items.new (visits_by value.now numbers.now.keys)) }
+{
+    let releases = visit_all(alloc, items, numbers, value)?;
+    release_all(items, &releases);
     Ok(())
 }
 
 // The items of a node, whose numbers the index has, see a value that was written there.
-fn visit_node(
+fn show_node(
     alloc: Global,
     items: &mut Numbered,
     on_node: &Index<NodeId>,
     change: &Change,
 ) -> Result<(), AllocError>
-    ensures ok { OnOk result (items.new ≡ sampled_items items.old (index_visits on_node.now change.now)) }
+    ensures ok { OnOk result (items.new ≡ index_shown on_node.now items.old change.now) }
     ensures err { OnErr result (VisitedSome items.old items.new (index_visits on_node.now change.now)) }
 {
     match on_node.get(&change.node_id) {
         None => Ok(()),
-        Some(numbers) => visit_all(alloc, items, numbers, &change.value),
+        Some(numbers) => show_value(alloc, items, numbers, &change.value),
     }
 }
 
-/// The items of all nodes that were written, whose numbers the index has, see the values, in their
-/// order. At an `Err` some have seen theirs, from the first on.
+/// The items of all nodes that were written, whose numbers the index has, see the values, in their order,
+/// and release what is linked to them. At an `Err` some have seen theirs, from the first on.
 pub(crate) fn sample_all(
     alloc: Global,
     items: &mut Numbered,
     on_node: &Index<NodeId>,
     changed: &[Change],
 ) -> Result<(), AllocError>
-    ensures ok { OnOk result (items.new ≡ sampled_items items.old (flat_map (index_visits on_node.now) changed.now)) }
-    ensures err { OnErr result (VisitedSome items.old items.new (flat_map (index_visits on_node.now) changed.now)) }
+    ensures ok { OnOk result (items.new ≡ fold (index_shown on_node.now) items.old changed.now) }
+    ensures err { OnErr result (IndexShownSome on_node.now items.old items.new changed.now) }
 {
     for change in changed {
-        visit_node(alloc, items, on_node, change)?;
+        show_node(alloc, items, on_node, change)?;
     }
     Ok(())
 }

@@ -1,14 +1,19 @@
-use Rattle.std.proofs.Common.{suc, take, drop}
-use Rattle.std.specs.Prelude.{flat_map}
+use Rattle.std.proofs.Common.{suc, take, drop, subst}
+use Rattle.ua_monitored_items.specs.ItemTables.{NumberedItems}
+use Rattle.ua_monitored_items.specs.Items.{VisitedSome}
 use Rattle.ua_monitored_items.specs.Sampling.{index_visits}
-use Rattle.ua_monitored_items.proofs.Serving.{on_any, visited_after, flat_at}
+use Rattle.ua_monitored_items.proofs.Serving.{on_any, split_at}
 use Rattle.ua_monitored_items.proofs.sampling.sample_all.Goals as goal
 
-pub returns-in_err-visit_node-clause-err : goal.returns-in_err-visit_node-clause-err
-returns-in_err-visit_node-clause-err c =
-    let visits = index_visits c.args.on_node.now in
+pub returns-in_err-show_node-clause-err : goal.returns-in_err-show_node-clause-err
+returns-in_err-show_node-clause-err c =
     let xs = c.args.changed.now in
     let i = c.loop-change.change-index in
-    on_any c.from_residual.result
-    (visited_after c.args.items.now c.loop-change.items c.visit_node.new.items (flat_map visits (take i xs)) (visits c.change-item.result) (flat_map visits xs)
-    (flat_map visits (drop (suc i) xs)) c.loop-change.invariant (flat_at visits xs i c.change-item.result c.loop-change-test.true c.change-item.is) c.in_err-visit_node.ensures.err)
+    let change = c.change-item.result in
+    on_any c.from_residual.result (
+      take i xs,
+      change,
+      drop (suc i) xs,
+      split_at xs i change c.loop-change-test.true c.change-item.is,
+      subst (λ (es : NumberedItems). VisitedSome es c.show_node.new.items (index_visits c.args.on_node.now change)) c.loop-change.invariant c.in_err-show_node.ensures.err,
+    )

@@ -1,18 +1,28 @@
-use Rattle.std.proofs.Common.{◌++◌, ◌∷◌, [], ap, sym, ◌∙◌, append_assoc}
+use Rattle.std.proofs.Common.{◌++◌, ◌∷◌, [], List, ap, sym, ◌∙◌, append_assoc}
 use Rattle.ua_monitored_items.specs.Item.{seen}
-use Rattle.ua_monitored_items.specs.ItemTables.{with_item}
+use Rattle.ua_monitored_items.specs.ItemTables.{NumberedItems, item_at, with_item}
+use Rattle.ua_monitored_items.specs.Releases.{visit_releases, sample_releases}
+use Rattle.ua_monitored_items.specs.Sampling.{visits_by}
+use Rattle.ua_monitored_items.specs.declared.releases.Release.{Release}
 use Rattle.ua_monitored_items.proofs.Serving.{on_any, visits_more, visits_before}
+use Rattle.ua_monitored_items.proofs.Releasing.{number_releases_more}
 use Rattle.ua_monitored_items.proofs.sampling.visit_all.Goals as goal
 
 pub loop-number-preserved : goal.loop-number-preserved
 loop-number-preserved c =
     let front = c.loop-number.invariant.2 in
-    let number = c.in-Some.number.now in (
+    let number = c.in-Some.number.now in
+    let value = c.args.value.now in
+    let visit_of = λ (es : NumberedItems). visit_releases (record { number = number; value = value }) (item_at number es) in (
       tt,
       tt,
       front ++ number ∷ [],
       append_assoc front (number ∷ []) c.next.new.self ∙ ap (λ xs. front ++ xs) (sym c.in-Some.ensures.steps) ∙ c.loop-number.invariant.3,
-      c.in_ok-visit.ensures.ok ∙ ap (with_item number (seen c.args.value.now)) c.loop-number.invariant.4 ∙ sym (visits_more c.args.items.now c.args.value.now front number),
+      c.in_ok-visit.ensures.ok ∙ ap (with_item number (seen value)) c.loop-number.invariant.4 ∙ sym (visits_more c.args.items.now value front number),
+      c.in_ok-visit.ensures.releases
+          ∙ ap (λ (rs : List Release). rs ++ visit_of c.loop-number.items) c.loop-number.invariant.5
+          ∙ ap (λ (es : NumberedItems). sample_releases c.args.items.now (visits_by value front) ++ visit_of es) c.loop-number.invariant.4
+          ∙ sym (number_releases_more c.args.items.now value front number),
     )
 
 pub returns-in_err-visit-clause-err : goal.returns-in_err-visit-clause-err

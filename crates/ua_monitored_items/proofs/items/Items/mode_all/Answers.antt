@@ -6,7 +6,7 @@ use Rattle.ua_monitored_items.specs.Preparing.{AreReady}
 use Rattle.ua_monitored_items.specs.declared.preparing.Prepared.{Prepared}
 use Rattle.ua_monitored_items.proofs.Readiness.{ready_fits, served_status, served_state, ready_kept}
 use Rattle.ua_monitored_items.proofs.Serving.{results_then, state_then}
-use Rattle.ua_monitored_items.proofs.items.Items.set_mode.Goals as goal
+use Rattle.ua_monitored_items.proofs.items.Items.mode_all.Goals as goal
 
 pub mode_one-requires : goal.mode_one-requires
 mode_one-requires c =

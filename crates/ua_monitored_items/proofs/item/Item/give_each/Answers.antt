@@ -1,11 +1,11 @@
 use Rattle.std.proofs.Common.{◌++◌, arith, take, ap, ◌∙◌, append_assoc}
-use Rattle.ua_monitored_items.specs.Item.{gave, notes_of}
-use Rattle.ua_monitored_items.proofs.Giving.{gave_more, notes_more}
-use Rattle.ua_monitored_items.proofs.item.Item.give.Goals as goal
+use Rattle.ua_monitored_items.specs.Item.{with_sent, notes_of}
+use Rattle.ua_monitored_items.proofs.Giving.{sent_more, notes_more}
+use Rattle.ua_monitored_items.proofs.item.Item.give_each.Goals as goal
 
 pub loop-preserved : goal.loop-preserved
 loop-preserved c = record {
-  item = c.give_one.ensures.gave ∙ ap (gave 1) c.loop.invariant.item ∙ gave_more c.loop.counter c.args.self.now;
+  item = c.give_one.ensures.gave ∙ ap (with_sent 1) c.loop.invariant.item ∙ sent_more c.loop.counter c.args.self.now;
   notes =
       c.give_one.ensures.notes
       ∙ ap (λ xs. xs ++ take 1 (notes_of c.loop.self)) c.loop.invariant.notes

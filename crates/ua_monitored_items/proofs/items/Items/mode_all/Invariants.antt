@@ -4,7 +4,7 @@ use Rattle.std.specs.Vec.Iter.{into_iter_items}
 use Rattle.ua_monitored_items.specs.Items.{mode_one, all_served}
 use Rattle.ua_monitored_items.specs.Preparing.{AreReady}
 use Rattle.ua_monitored_items.specs.declared.preparing.Prepared.{Prepared}
-use Rattle.ua_monitored_items.proofs.items.Items.set_mode.Given as goal
+use Rattle.ua_monitored_items.proofs.items.Items.mode_all.Given as goal
 
 -- what was taken so far is served, and the rest is ready and has room for its results
 abbrev pub invariant-loop-prepared : goal.invariant-loop-prepared

@@ -1,0 +1,43 @@
+-- Links, one after the other.
+use Rattle.std.proofs.Common.{◌≡◌, ℕ, Bool, true, false, cond, List, [], ◌∷◌, ◌++◌, refl, sym, ap, ◌∙◌, append-nil}
+use Rattle.std.proofs.lemmas.List.Sums.{fold-append}
+use Rattle.std.specs.Prelude.{filter, fold}
+use Rattle.std.specs.BTreeSet.{insert_key}
+use Rattle.std.specs.Ordering.{nat_cmp}
+use Rattle.ua_types.specs.declared.status.Status.{Status}
+use Rattle.ua_monitored_items.specs.Items.{ItemsState}
+use Rattle.ua_monitored_items.specs.Links.{Linking, link_status, may_link, linked, in_order}
+
+module _ (p : ℕ → Bool) where
+  filter_more : (front : List ℕ) (n : ℕ) (b : Bool) → p n ≡ b → filter p (front ++ n ∷ []) ≡ filter p front ++ cond b (n ∷ []) []
+  filter_more [] n true e = rw e refl
+  filter_more [] n false e = rw e refl
+  filter_more (k ∷ ks) n b e = by (p k) (filter_more ks n b e)
+    where
+      by : (c : Bool) → filter p (ks ++ n ∷ []) ≡ filter p ks ++ cond b (n ∷ []) [] → cond c (k ∷ filter p (ks ++ n ∷ [])) (filter p (ks ++ n ∷ [])) ≡ cond c (k ∷ filter p ks) (filter p ks) ++ cond b (n ∷ []) []
+      by true rest = ap (λ (ns : List ℕ). k ∷ ns) rest
+      by false rest = rest
+
+  -- a number that passes is put in, and another isn't
+  pub passing_more : (front : List ℕ) (n : ℕ) → in_order (filter p (front ++ n ∷ [])) ≡ cond (p n) (insert_key nat_cmp (in_order (filter p front)) n) (in_order (filter p front))
+  passing_more front n = ap in_order (filter_more front n (p n) refl) ∙ by (p n)
+    where
+      by : (b : Bool) → in_order (filter p front ++ cond b (n ∷ []) []) ≡ cond b (insert_key nat_cmp (in_order (filter p front)) n) (in_order (filter p front))
+      by true = fold-append (insert_key nat_cmp) [] (filter p front) (n ∷ [])
+      by false = ap in_order (append-nil (filter p front))
+
+-- one more item is linked, or refused
+module _ (s : ItemsState) (subscription triggering : ℕ) (start : Linking) (front : List ℕ) (number : ℕ) where
+  pub statuses_more : (statuses : List Status) (one : Status) → statuses ≡ (fold (linked s subscription triggering) start front).statuses → one ≡ link_status (may_link s subscription triggering number)
+      → statuses ++ one ∷ [] ≡ (fold (linked s subscription triggering) start (front ++ number ∷ [])).statuses
+  statuses_more statuses one are is =
+      ap (λ (xs : List Status). xs ++ one ∷ []) are
+      ∙ ap (λ (x : Status). (fold (linked s subscription triggering) start front).statuses ++ x ∷ []) is
+      ∙ ap (λ (l : Linking). l.statuses) (sym (fold-append (linked s subscription triggering) start front (number ∷ [])))
+
+  pub numbers_more : (numbers new : List ℕ) → numbers ≡ (fold (linked s subscription triggering) start front).numbers
+      → new ≡ cond (may_link s subscription triggering number) (insert_key nat_cmp numbers number) numbers → new ≡ (fold (linked s subscription triggering) start (front ++ number ∷ [])).numbers
+  numbers_more numbers new are is =
+      is
+      ∙ ap (λ (ns : List ℕ). cond (may_link s subscription triggering number) (insert_key nat_cmp ns number) ns) are
+      ∙ ap (λ (l : Linking). l.numbers) (sym (fold-append (linked s subscription triggering) start front (number ∷ [])))

@@ -1,0 +1,77 @@
+//! Links from an item to others of its subscription.
+
+ghost use Rattle.std.specs.Prelude.{◌≡◌, [], OnOk, OnErr};
+ghost use Rattle.std.specs.BTreeMap.{is_at};
+ghost use Rattle.std.specs.BTreeSet.{insert_key};
+ghost use Rattle.std.specs.List.{list_any};
+ghost use Rattle.std.specs.Ordering.{nat_cmp};
+ghost use Rattle.std.specs.Set.{remove_key};
+
+use std::alloc::{AllocError, Global};
+use std::collections::BTreeSet;
+use std::marker::Model;
+use ua_types::Status;
+
+/// The numbers of the items that are linked to one, rising, each once.
+///
+/// The number of an item that is deleted stays until the links of its triggering item are changed next. It
+/// leads to nothing, since no item gets it again.
+#[derive(Drop)]
+pub struct Links {
+    numbers: BTreeSet<u32>,
+}
+
+impl Model for Links {
+    ghost use Rattle.std.specs.Prelude.{ℕ, List};
+
+    ghost Value = { List ℕ };
+
+    ghost view = { λ l. l.numbers.keys };
+}
+
+impl Links {
+    /// No link. Takes no memory.
+    pub(crate) fn new(alloc: Global) -> Links
+        ensures { result ≡ [] }
+    {
+        Links {
+            numbers: BTreeSet::new(alloc),
+        }
+    }
+
+    /// The numbers, rising.
+    pub fn numbers(&self) -> &BTreeSet<u32>
+        ensures { result.now.keys ≡ self.now }
+    {
+        &self.numbers
+    }
+
+    /// One more number, also where it is there already. At an `Err` nothing changed.
+    pub(crate) fn put(&mut self, number: u32) -> Result<(), AllocError>
+        ensures ok { OnOk result (self.new ≡ insert_key nat_cmp self.old number) }
+        ensures err { OnErr result (self.new ≡ self.old) }
+    {
+        match self.numbers.insert(number) {
+            Ok(_) => Ok(()),
+            Err(_) => Err(AllocError),
+        }
+    }
+
+    /// Takes a number out, and answers whether it was there. Takes no memory.
+    pub(crate) fn take(&mut self, number: u32) -> bool
+        ensures there { result ≡ list_any (is_at (nat_cmp number)) self.old }
+        ensures left { self.new ≡ remove_key (is_at (nat_cmp number)) self.old }
+    {
+        self.numbers.remove(&number)
+    }
+}
+
+/// What became of each entry of a request that changes links, in the order of its lists.
+#[derive(Drop)]
+pub struct Linked {
+    /// Of each item that was to be linked.
+    pub added: Vec<Status>,
+
+    /// Of each whose link was to be taken away.
+    pub removed: Vec<Status>,
+}
