@@ -1,6 +1,6 @@
 //! The monitored items of a server.
 
-ghost use Rattle.std.specs.Prelude.{◌≡◌, ◌++◌, ◌-◌, ◌^◌, ◌<◌, ◌≤◌, [], false, true, filter, fold, length, map, OnOk, OnErr, IfOk, if◌then◌else◌};
+ghost use Rattle.std.specs.Prelude.{◌≡◌, ◌++◌, ◌-◌, ◌^◌, ◌<◌, ◌≤◌, [], false, true, filter, fold, length, map, IsOk, OnOk, OnErr, IfOk, if◌then◌else◌};
 ghost use Rattle.std.specs.BTreeSet.{insert_key};
 ghost use Rattle.std.specs.Option.{option_copied};
 ghost use Rattle.std.specs.Ordering.{nat_cmp};
@@ -650,7 +650,8 @@ impl Items {
     ///
     /// All is refused by `BAD_MONITORED_ITEM_ID_INVALID` where the subscription has no such triggering item. So is
     /// an entry of `remove` that isn't linked, and one of `add` that is no item of the subscription, or the
-    /// triggering item itself; one that is linked already is good.
+    /// triggering item itself; one that is linked already is good. Want of memory is answered where the triggering item
+    /// is known.
     #[tactic(auto, unfolding(crate::specs::Links::link))]
     pub fn link(
         &mut self,
@@ -663,6 +664,7 @@ impl Items {
         ensures answer { IfOk result (λ answer. IsAnswer answer (link_spec self.old subscription triggering add.now remove.now)) }
         ensures ok { OnOk result (self.new ≡ after_link self.old (link_spec self.old subscription triggering add.now remove.now)) }
         ensures err { OnErr result (self.new ≡ self.old) }
+        ensures good { OnErr result (IsOk (link_spec self.old subscription triggering add.now remove.now)) }
     {
         let Some(item) = self.own_item(subscription, triggering) else {
             return Ok(Err(Status::BAD_MONITORED_ITEM_ID_INVALID));
