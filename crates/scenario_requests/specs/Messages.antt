@@ -24,8 +24,9 @@ use Rattle.ua_subscription_messages.specs.declared.subscriptions.CreateSubscript
 use Rattle.ua_subscription_messages.specs.declared.subscriptions.DeleteSubscriptionsRequest.{DeleteSubscriptionsRequest}
 use Rattle.ua_subscription_messages.specs.declared.subscriptions.ModifySubscriptionRequest.{ModifySubscriptionRequest}
 use Rattle.ua_subscription_messages.specs.declared.subscriptions.SetPublishingModeRequest.{SetPublishingModeRequest}
+use Rattle.ua_subscription_messages.specs.declared.triggering.SetTriggeringRequest.{SetTriggeringRequest}
 use Rattle.ua_messages.specs.declared.headers.RequestHeader.{RequestHeader}
-use Rattle.ua_messages.specs.declared.type_ids.TheConstants.{ACTIVATE_SESSION_REQUEST, BROWSE_NEXT_REQUEST, BROWSE_REQUEST, CLOSE_SECURE_CHANNEL_REQUEST, CLOSE_SESSION_REQUEST, CREATE_MONITORED_ITEMS_REQUEST, CREATE_SESSION_REQUEST, CREATE_SUBSCRIPTION_REQUEST, DELETE_MONITORED_ITEMS_REQUEST, DELETE_SUBSCRIPTIONS_REQUEST, GET_ENDPOINTS_REQUEST, HISTORY_READ_REQUEST, MODIFY_MONITORED_ITEMS_REQUEST, MODIFY_SUBSCRIPTION_REQUEST, OPEN_SECURE_CHANNEL_REQUEST, PUBLISH_REQUEST, READ_RAW_MODIFIED_DETAILS, READ_REQUEST, REPUBLISH_REQUEST, SET_MONITORING_MODE_REQUEST, SET_PUBLISHING_MODE_REQUEST, WRITE_REQUEST}
+use Rattle.ua_messages.specs.declared.type_ids.TheConstants.{ACTIVATE_SESSION_REQUEST, BROWSE_NEXT_REQUEST, BROWSE_REQUEST, CLOSE_SECURE_CHANNEL_REQUEST, CLOSE_SESSION_REQUEST, CREATE_MONITORED_ITEMS_REQUEST, CREATE_SESSION_REQUEST, CREATE_SUBSCRIPTION_REQUEST, DELETE_MONITORED_ITEMS_REQUEST, DELETE_SUBSCRIPTIONS_REQUEST, GET_ENDPOINTS_REQUEST, HISTORY_READ_REQUEST, MODIFY_MONITORED_ITEMS_REQUEST, MODIFY_SUBSCRIPTION_REQUEST, OPEN_SECURE_CHANNEL_REQUEST, PUBLISH_REQUEST, READ_RAW_MODIFIED_DETAILS, READ_REQUEST, REPUBLISH_REQUEST, SET_MONITORING_MODE_REQUEST, SET_PUBLISHING_MODE_REQUEST, SET_TRIGGERING_REQUEST, WRITE_REQUEST}
 use Rattle.ua_service_messages.specs.Browsing.{browse_next_request_encoding, browse_next_request_reading, browse_request_encoding, browse_request_reading}
 use Rattle.ua_service_messages.specs.History.{history_read_request_encoding, history_read_request_reading, read_raw_modified_details_encoding}
 use Rattle.ua_service_messages.specs.Reading.{read_request_encoding, read_request_reading}
@@ -33,6 +34,7 @@ use Rattle.ua_service_messages.specs.Sessions.{activate_session_request_encoding
 use Rattle.ua_service_messages.specs.Writing.{write_request_encoding, write_request_reading}
 use Rattle.ua_subscription_messages.specs.MonitoredItems.{create_monitored_items_request_encoding, create_monitored_items_request_reading, delete_monitored_items_request_encoding, delete_monitored_items_request_reading, modify_monitored_items_request_encoding, modify_monitored_items_request_reading, set_monitoring_mode_request_encoding, set_monitoring_mode_request_reading}
 use Rattle.ua_subscription_messages.specs.Publishing.{publish_request_encoding, publish_request_reading, republish_request_encoding, republish_request_reading}
+use Rattle.ua_subscription_messages.specs.Triggering.{set_triggering_request_encoding, set_triggering_request_reading}
 use Rattle.ua_subscription_messages.specs.Subscriptions.{create_subscription_request_encoding, create_subscription_request_reading, delete_subscriptions_request_encoding, delete_subscriptions_request_reading, modify_subscription_request_encoding, modify_subscription_request_reading, set_publishing_mode_request_encoding, set_publishing_mode_request_reading}
 use Rattle.ua_messages.specs.GetEndpoints.{get_endpoints_request_encoding, get_endpoints_request_reading}
 use Rattle.ua_messages.specs.SecureChannels.{close_secure_channel_request_encoding, close_secure_channel_request_reading, open_secure_channel_request_encoding, open_secure_channel_request_reading}
@@ -43,6 +45,7 @@ use Rattle.scenario_text.specs.declared.requests.Acknowledgement.{Acknowledgemen
 use Rattle.scenario_text.specs.declared.requests.Attribute.{Attribute}
 use Rattle.scenario_text.specs.declared.requests.ChangedItem.{ChangedItem}
 use Rattle.scenario_text.specs.declared.requests.Counts.{Counts}
+use Rattle.scenario_text.specs.declared.requests.LinkChange.{LinkChange}
 use Rattle.scenario_text.specs.declared.requests.NewItem.{NewItem}
 use Rattle.scenario_text.specs.declared.requests.NewValue.{NewValue}
 use Rattle.scenario_text.specs.declared.requests.RawValues.{RawValues}
@@ -50,7 +53,7 @@ use Rattle.scenario_text.specs.declared.requests.References.{References}
 use Rattle.scenario_text.specs.declared.statement.Request.{Request}
 use Rattle.scenario_text.specs.declared.statement.Request.TheVariants as requests
 use Rattle.scenario_requests.specs.Bodies.{IsWholeBody}
-use Rattle.scenario_requests.specs.Structures.{no_duration, no_time, no_object, no_signature, no_application, is_delete, is_on, request_type, attribute_sent, value_sent, description_sent, point_sent, details_sent, history_node_sent, new_item_sent, changed_item_sent, acknowledgement_sent}
+use Rattle.scenario_requests.specs.Structures.{no_duration, no_time, no_object, no_signature, no_application, is_delete, is_on, request_type, attribute_sent, value_sent, description_sent, point_sent, details_sent, history_node_sent, new_item_sent, changed_item_sent, acknowledgement_sent, Links, links_of}
 
 -- ---- what sessions ask
 
@@ -202,6 +205,19 @@ set_item_mode_message header subscription mode items = record {
 unfoldable pub set_item_mode_body : RequestHeader → ℕ → ℤ → List ℕ → List ℕ
 set_item_mode_body header subscription mode items = body_encoding set_monitoring_mode_request_encoding SET_MONITORING_MODE_REQUEST (set_item_mode_message header subscription mode items)
 
+abbrev pub set_triggering_message : RequestHeader → ℕ → ℕ → Links → SetTriggeringRequest
+set_triggering_message header subscription triggering links = record {
+  request_header = header;
+  subscription_id = subscription;
+  triggering_item_id = triggering;
+  links_to_add = Some links.added;
+  links_to_remove = Some links.removed;
+}
+
+unfoldable pub set_triggering_body : RequestHeader → ℕ → ℕ → List LinkChange → List ℕ
+set_triggering_body header subscription triggering changes =
+    body_encoding set_triggering_request_encoding SET_TRIGGERING_REQUEST (set_triggering_message header subscription triggering (links_of changes))
+
 abbrev pub delete_items_message : RequestHeader → ℕ → List ℕ → DeleteMonitoredItemsRequest
 delete_items_message header subscription items = record {
   request_header = header;
@@ -256,6 +272,7 @@ request_body header (requests.SetPublishing publishing subscriptions) = set_publ
 request_body header (requests.CreateItem item) = create_item_body header item
 request_body header (requests.ModifyItem item) = modify_item_body header item
 request_body header (requests.SetItemMode subscription mode items) = set_item_mode_body header subscription mode items
+request_body header (requests.SetTriggering subscription triggering changes) = set_triggering_body header subscription triggering changes
 request_body header (requests.DeleteItems subscription items) = delete_items_body header subscription items
 request_body header (requests.Publish acknowledgements) = publish_body header acknowledgements
 request_body header (requests.Republish subscription sequence_number) = republish_body header subscription sequence_number
@@ -277,6 +294,7 @@ IsServiceBody header (requests.SetPublishing publishing subscriptions) body = Is
 IsServiceBody header (requests.CreateItem item) body = IsWholeBody create_monitored_items_request_reading CREATE_MONITORED_ITEMS_REQUEST (create_item_message header item) body
 IsServiceBody header (requests.ModifyItem item) body = IsWholeBody modify_monitored_items_request_reading MODIFY_MONITORED_ITEMS_REQUEST (modify_item_message header item) body
 IsServiceBody header (requests.SetItemMode subscription mode items) body = IsWholeBody set_monitoring_mode_request_reading SET_MONITORING_MODE_REQUEST (set_item_mode_message header subscription mode items) body
+IsServiceBody header (requests.SetTriggering subscription triggering changes) body = IsWholeBody set_triggering_request_reading SET_TRIGGERING_REQUEST (set_triggering_message header subscription triggering (links_of changes)) body
 IsServiceBody header (requests.DeleteItems subscription items) body = IsWholeBody delete_monitored_items_request_reading DELETE_MONITORED_ITEMS_REQUEST (delete_items_message header subscription items) body
 IsServiceBody header (requests.Publish acknowledgements) body = IsWholeBody publish_request_reading PUBLISH_REQUEST (publish_message header acknowledgements) body
 IsServiceBody header (requests.Republish subscription sequence_number) body = IsWholeBody republish_request_reading REPUBLISH_REQUEST (republish_message header subscription sequence_number) body

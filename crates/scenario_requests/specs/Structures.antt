@@ -1,5 +1,5 @@
 -- The structures of requests: what a word says stands in its field, and other fields are null or 0.
-use Rattle.std.specs.Prelude.{ℕ, ℤ, pos, Bool, true, false, List, replicate, Option, Some, None}
+use Rattle.std.specs.Prelude.{ℕ, ℤ, pos, Bool, true, false, List, [], ◌∷◌, ◌++◌, fold, replicate, Option, Some, None}
 use Rattle.std.specs.Int.{w64, to_le_bytes}
 use Rattle.ua_types.specs.NodeIds.{numeric_id}
 use Rattle.ua_types.specs.declared.duration.Duration.{Duration}
@@ -34,6 +34,8 @@ use Rattle.scenario_text.specs.declared.choices.Subscriptions.{Subscriptions}
 use Rattle.scenario_text.specs.declared.choices.Subscriptions.TheVariants.{Delete, Keep}
 use Rattle.scenario_text.specs.declared.requests.Acknowledgement.{Acknowledgement}
 use Rattle.scenario_text.specs.declared.requests.Attribute.{Attribute}
+use Rattle.scenario_text.specs.declared.requests.LinkChange.{LinkChange}
+use Rattle.scenario_text.specs.declared.requests.LinkChange.TheVariants.{Add, Remove}
 use Rattle.scenario_text.specs.declared.requests.ChangedItem.{ChangedItem}
 use Rattle.scenario_text.specs.declared.requests.Monitoring.{Monitoring}
 use Rattle.scenario_text.specs.declared.requests.NewItem.{NewItem}
@@ -165,6 +167,18 @@ new_item_sent i = record {
 
 abbrev pub changed_item_sent : ChangedItem → MonitoredItemModifyRequest
 changed_item_sent i = record { monitored_item_id = i.item; requested_parameters = parameters_sent i.monitoring }
+
+-- the items that are to be triggered from now on, and those that are to be no longer, each in the order of the line
+pub record Links : Type 0 where
+  pub added : List ℕ
+  pub removed : List ℕ
+
+abbrev pub with_link : Links → LinkChange → Links
+with_link links (Add item) = record links { added = links.added ++ item ∷ [] }
+with_link links (Remove item) = record links { removed = links.removed ++ item ∷ [] }
+
+abbrev pub links_of : List LinkChange → Links
+links_of changes = fold with_link (record { added = []; removed = [] }) changes
 
 abbrev pub acknowledgement_sent : Acknowledgement → SubscriptionAcknowledgement
 acknowledgement_sent a = record { subscription_id = a.subscription; sequence_number = a.sequence_number }

@@ -1,8 +1,9 @@
 //! The bodies of what sessions ask.
 
 ghost use Rattle.std.specs.Prelude.{◌≡◌, IfOk, false, true};
-ghost use Rattle.scenario_requests.specs.Messages.{read_body, write_body, browse_body, browse_next_body, history_body, activate_session_body, close_session_body, create_subscription_body, modify_subscription_body, set_publishing_body, create_item_body, modify_item_body, set_item_mode_body, delete_items_body, publish_body, republish_body, delete_subscriptions_body, request_body, read_message, write_message, browse_message, browse_next_message, history_message, activate_session_message, close_session_message, create_subscription_message, modify_subscription_message, set_publishing_message, create_item_message, modify_item_message, set_item_mode_message, delete_items_message, publish_message, republish_message, delete_subscriptions_message, IsServiceBody};
+ghost use Rattle.scenario_requests.specs.Messages.{read_body, write_body, browse_body, browse_next_body, history_body, activate_session_body, close_session_body, create_subscription_body, modify_subscription_body, set_publishing_body, create_item_body, modify_item_body, set_item_mode_body, set_triggering_body, delete_items_body, publish_body, republish_body, delete_subscriptions_body, request_body, read_message, write_message, browse_message, browse_next_message, history_message, activate_session_message, close_session_message, create_subscription_message, modify_subscription_message, set_publishing_message, create_item_message, modify_item_message, set_item_mode_message, set_triggering_message, delete_items_message, publish_message, republish_message, delete_subscriptions_message, IsServiceBody};
 ghost use Rattle.scenario_requests.specs.Bodies.{IsWholeBody};
+ghost use Rattle.scenario_requests.specs.Structures.{links_of};
 ghost use Rattle.ua_service_messages.specs.Browsing.{browse_next_request_reading, browse_request_reading};
 ghost use Rattle.ua_service_messages.specs.History.{history_read_request_reading};
 ghost use Rattle.ua_service_messages.specs.Reading.{read_request_reading};
@@ -11,7 +12,8 @@ ghost use Rattle.ua_service_messages.specs.Writing.{write_request_reading};
 ghost use Rattle.ua_subscription_messages.specs.MonitoredItems.{create_monitored_items_request_reading, delete_monitored_items_request_reading, modify_monitored_items_request_reading, set_monitoring_mode_request_reading};
 ghost use Rattle.ua_subscription_messages.specs.Publishing.{publish_request_reading, republish_request_reading};
 ghost use Rattle.ua_subscription_messages.specs.Subscriptions.{create_subscription_request_reading, delete_subscriptions_request_reading, modify_subscription_request_reading, set_publishing_mode_request_reading};
-ghost use Rattle.ua_messages.specs.declared.type_ids.TheConstants.{ACTIVATE_SESSION_REQUEST, BROWSE_NEXT_REQUEST, BROWSE_REQUEST, CLOSE_SESSION_REQUEST, CREATE_MONITORED_ITEMS_REQUEST, CREATE_SUBSCRIPTION_REQUEST, DELETE_MONITORED_ITEMS_REQUEST, DELETE_SUBSCRIPTIONS_REQUEST, HISTORY_READ_REQUEST, MODIFY_MONITORED_ITEMS_REQUEST, MODIFY_SUBSCRIPTION_REQUEST, PUBLISH_REQUEST, READ_REQUEST, REPUBLISH_REQUEST, SET_MONITORING_MODE_REQUEST, SET_PUBLISHING_MODE_REQUEST, WRITE_REQUEST};
+ghost use Rattle.ua_subscription_messages.specs.Triggering.{set_triggering_request_reading};
+ghost use Rattle.ua_messages.specs.declared.type_ids.TheConstants.{ACTIVATE_SESSION_REQUEST, BROWSE_NEXT_REQUEST, BROWSE_REQUEST, CLOSE_SESSION_REQUEST, CREATE_MONITORED_ITEMS_REQUEST, CREATE_SUBSCRIPTION_REQUEST, DELETE_MONITORED_ITEMS_REQUEST, DELETE_SUBSCRIPTIONS_REQUEST, HISTORY_READ_REQUEST, MODIFY_MONITORED_ITEMS_REQUEST, MODIFY_SUBSCRIPTION_REQUEST, PUBLISH_REQUEST, READ_REQUEST, REPUBLISH_REQUEST, SET_MONITORING_MODE_REQUEST, SET_PUBLISHING_MODE_REQUEST, SET_TRIGGERING_REQUEST, WRITE_REQUEST};
 
 use crate::bodies::whole_body;
 use crate::sent::{Sent, held, list, one};
@@ -20,8 +22,8 @@ use crate::structures::{
     parameters,
 };
 use scenario_text::{
-    Acknowledgement, Attribute, ChangedItem, Counts, NewItem, NewValue, Publishing, RawValues,
-    References, Request, Subscriptions,
+    Acknowledgement, Attribute, ChangedItem, Counts, LinkChange, NewItem, NewValue, Publishing,
+    RawValues, References, Request, Subscriptions,
 };
 use std::alloc::{AllocError, Global};
 use ua_messages::{RequestHeader, TimestampsToReturn, type_ids};
@@ -33,7 +35,7 @@ use ua_subscription_messages::{
     CreateMonitoredItemsRequest, CreateSubscriptionRequest, DeleteMonitoredItemsRequest,
     DeleteSubscriptionsRequest, ModifyMonitoredItemsRequest, ModifySubscriptionRequest,
     MonitoredItemCreateRequest, MonitoredItemModifyRequest, MonitoringMode, PublishRequest,
-    RepublishRequest, SetMonitoringModeRequest, SetPublishingModeRequest,
+    RepublishRequest, SetMonitoringModeRequest, SetPublishingModeRequest, SetTriggeringRequest,
 };
 use ua_types::{Array, Listed, Moment, NodeId, Text};
 
@@ -327,6 +329,43 @@ fn set_item_mode_body(
     whole_body(alloc, type_ids::SET_MONITORING_MODE_REQUEST, &message)
 }
 
+// The items that are to be triggered from now on, and those that are to be no longer.
+fn links_of(alloc: Global, changes: Vec<LinkChange>) -> Result<(Vec<u32>, Vec<u32>), AllocError>
+    ensures { IfOk result (λ links. record { added = links.0.items; removed = links.1.items } ≡ links_of changes.items) }
+{
+    let mut added = Vec::new(alloc);
+    let mut removed = Vec::new(alloc);
+    for change in changes {
+        match change {
+            LinkChange::Add { item } => added.push(item)?,
+            LinkChange::Remove { item } => removed.push(item)?,
+        }
+    }
+    Ok((added, removed))
+}
+
+#[tactic(auto, unfolding(crate::specs::Messages::set_triggering_body))]
+fn set_triggering_body(
+    alloc: Global,
+    header: RequestHeader,
+    subscription: u32,
+    triggering: u32,
+    changes: Listed<LinkChange>,
+) -> Result<Vec<u8>, AllocError>
+    ensures ok { IfOk result (λ bytes. bytes.items ≡ set_triggering_body header subscription triggering changes) }
+    ensures again { IfOk result (λ bytes. IsWholeBody set_triggering_request_reading SET_TRIGGERING_REQUEST (set_triggering_message header subscription triggering (links_of changes)) bytes.items) }
+{
+    let (added, removed) = links_of(alloc, changes.into_vec())?;
+    let message = SetTriggeringRequest {
+        request_header: header,
+        subscription_id: subscription,
+        triggering_item_id: triggering,
+        links_to_add: held(added)?,
+        links_to_remove: held(removed)?,
+    };
+    whole_body(alloc, type_ids::SET_TRIGGERING_REQUEST, &message)
+}
+
 #[tactic(auto, unfolding(crate::specs::Messages::delete_items_body))]
 fn delete_items_body(
     alloc: Global,
@@ -435,6 +474,11 @@ pub fn request_body(
             mode,
             items,
         } => set_item_mode_body(alloc, header, subscription, mode, items),
+        Request::SetTriggering {
+            subscription,
+            triggering,
+            changes,
+        } => set_triggering_body(alloc, header, subscription, triggering, changes),
         Request::DeleteItems {
             subscription,
             items,
