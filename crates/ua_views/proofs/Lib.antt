@@ -1,0 +1,2 @@
+mod Looking
+pub mod VariantBytes

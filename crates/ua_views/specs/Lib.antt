@@ -1,0 +1,4 @@
+pub mod Views
+pub mod Identifiers
+pub mod Bodies
+pub mod VariantBytes

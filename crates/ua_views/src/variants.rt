@@ -1,0 +1,97 @@
+//! Values of any type.
+
+ghost use Rattle.std.specs.Prelude.{◌≡◌, ◌%◌, IfOk};
+ghost use Rattle.ua_binary.specs.Variants.{variant_reading};
+ghost use Rattle.ua_values.specs.Shapes.{shape_of};
+ghost use Rattle.ua_values.specs.Variants.{type_number};
+ghost use Rattle.ua_views.specs.VariantBytes.{shape_announced};
+
+use crate::view::{Readable, View};
+use std::alloc::{AllocError, Global};
+use std::marker::Model;
+use ua_binary::{Cursor, TakeFault, Wire};
+use ua_values::{Shape, Variant};
+use ua_walks::Walk;
+
+/// A [`Variant`] in the bytes that it stands in.
+///
+/// It was walked over once, so that it can be read. Its type and its shape stand in its first byte; its content is read
+/// where a copy is made.
+#[derive(Debug, Drop)]
+pub struct VariantView<'a> {
+    // From its first byte on. What follows it may stand there too.
+    bytes: &'a [u8],
+}
+
+impl<'a> Model for VariantView<'a> {
+    ghost use Rattle.std.specs.Prelude.{IsOk};
+    ghost use Rattle.ua_binary.specs.Variants.{variant_reading};
+    ghost use Rattle.ua_values.specs.declared.variant.Variant.{Variant};
+    ghost use Rattle.ua_values.specs.declared.variant.Variant.TheVariants.{Null};
+    ghost use Rattle.ua_views.specs.Views.{value_or};
+
+    ghost Value = { Variant };
+
+    ghost view = { λ v. value_or Null (variant_reading v.bytes.now) };
+
+    ghost invariant = { λ v. IsOk (variant_reading v.bytes.now) };
+}
+
+impl<'a> VariantView<'a> {
+    // Its first byte, which has the number of its type and its flags.
+    #[tactic(auto, using(crate::proofs::VariantBytes::has_a_first_byte, crate::proofs::VariantBytes::type_is_announced))]
+    fn first(&self) -> u8
+        ensures type_number { type_number self.now ≡ result % 64 }
+        ensures shape { shape_of self.now ≡ shape_announced result }
+    {
+        match Cursor::new(self.bytes).byte() {
+            Ok(first) => first,
+            Err(_) => unreachable!(),
+        }
+    }
+
+    /// The number of its type (IEC 62541-6, 5.1.2), 1 to 22, and 0 for no value.
+    pub fn type_number(&self) -> u8
+        ensures { result ≡ type_number self.now }
+    {
+        self.first() % 64
+    }
+
+    /// Whether it is one value, a list, or a list with dimensions.
+    #[tactic(auto, unfolding(crate::specs::VariantBytes::shape_announced))]
+    pub fn shape(&self) -> Shape
+        ensures { result ≡ shape_of self.now }
+    {
+        let first = self.first();
+        if first % 64 == 0 {
+            return Shape::Null;
+        }
+        match first / 64 {
+            0 => Shape::Scalar,
+            2 => Shape::List,
+            _ => Shape::Matrix,
+        }
+    }
+
+    /// A copy to keep.
+    pub fn to_value(&self, alloc: Global) -> Result<Variant, AllocError>
+        ensures { IfOk result (λ value. value ≡ self.now) }
+    {
+        match Variant::decode(alloc, &mut Cursor::new(self.bytes)) {
+            Ok(value) => Ok(value),
+            Err(_) => Err(AllocError),
+        }
+    }
+}
+
+impl<'a> Readable for VariantView<'a> {
+    ghost reading = { variant_reading };
+}
+
+impl<'a> View<'a> for VariantView<'a> {
+    fn look(cursor: &mut Cursor<'a>) -> Result<VariantView<'a>, TakeFault> {
+        let bytes = cursor.rest();
+        Variant::skip(cursor)?;
+        Ok(VariantView { bytes })
+    }
+}
