@@ -1,0 +1,102 @@
+//! The service HistoryRead.
+
+ghost use Rattle.std.specs.Prelude.{◌≡◌, IfOk};
+ghost use Rattle.ua_service_messages.specs.History.{history_read_value_id_reading, history_read_request_reading};
+
+use crate::headers::RequestHeaderView;
+use std::alloc::{AllocError, Global};
+use std::marker::Model;
+use ua_binary::{Cursor, TakeFault};
+use ua_messages::TimestampsToReturn;
+use ua_service_messages::HistoryReadValueId;
+use ua_views::{
+    ArrayView, ByteStringView, ExtensionObjectView, NodeIdView, QualifiedNameView, Readable,
+    TextView, View, look_enumeration,
+};
+
+/// A [`HistoryReadValueId`] in the bytes that it stands in.
+#[derive(Debug, Drop)]
+pub struct HistoryReadValueIdView<'a> {
+    pub node_id: NodeIdView<'a>,
+    /// Which elements of a list are meant, all where it is null or empty.
+    pub index_range: TextView<'a>,
+    /// How a structure in the value is to be encoded, null for the usual way.
+    pub data_encoding: QualifiedNameView<'a>,
+    /// The point of the result before, or null at the beginning.
+    pub continuation_point: ByteStringView<'a>,
+}
+
+impl<'a> Model for HistoryReadValueIdView<'a> {
+    ghost use Rattle.ua_service_messages.specs.declared.history.HistoryReadValueId.{HistoryReadValueId};
+
+    ghost Value = { HistoryReadValueId };
+
+    ghost view = { λ v. record { node_id = v.node_id; index_range = v.index_range; data_encoding = v.data_encoding; continuation_point = v.continuation_point } };
+}
+
+impl<'a> HistoryReadValueIdView<'a> {
+    /// A copy to keep.
+    pub fn to_value(&self, alloc: Global) -> Result<HistoryReadValueId, AllocError>
+        ensures { IfOk result (λ value. value ≡ self.now) }
+    {
+        Ok(HistoryReadValueId {
+            node_id: self.node_id.to_value(alloc)?,
+            index_range: self.index_range.to_value(alloc)?,
+            data_encoding: self.data_encoding.to_value(alloc)?,
+            continuation_point: self.continuation_point.to_value(alloc)?,
+        })
+    }
+}
+
+impl<'a> Readable for HistoryReadValueIdView<'a> {
+    ghost reading = { history_read_value_id_reading };
+}
+
+#[tactic(auto, unfolding(ua_service_messages::specs::History::history_read_value_id_reading))]
+impl<'a> View<'a> for HistoryReadValueIdView<'a> {
+    fn look(cursor: &mut Cursor<'a>) -> Result<HistoryReadValueIdView<'a>, TakeFault> {
+        Ok(HistoryReadValueIdView {
+            node_id: NodeIdView::look(cursor)?,
+            index_range: TextView::look(cursor)?,
+            data_encoding: QualifiedNameView::look(cursor)?,
+            continuation_point: ByteStringView::look(cursor)?,
+        })
+    }
+}
+
+/// A [`ua_service_messages::HistoryReadRequest`] in the bytes that it stands in.
+#[derive(Debug, Drop)]
+pub struct HistoryReadRequestView<'a> {
+    pub request_header: RequestHeaderView<'a>,
+    /// What of the history is wanted: [`ua_service_messages::ReadRawModifiedDetails`] for raw values.
+    pub history_read_details: ExtensionObjectView<'a>,
+    pub timestamps_to_return: TimestampsToReturn,
+    /// Whether the points are only given up.
+    pub release_continuation_points: bool,
+    pub nodes_to_read: ArrayView<'a, HistoryReadValueIdView<'a>>,
+}
+
+impl<'a> Model for HistoryReadRequestView<'a> {
+    ghost use Rattle.ua_service_messages.specs.declared.history.HistoryReadRequest.{HistoryReadRequest};
+
+    ghost Value = { HistoryReadRequest };
+
+    ghost view = { λ v. record { request_header = v.request_header; history_read_details = v.history_read_details; timestamps_to_return = v.timestamps_to_return; release_continuation_points = v.release_continuation_points; nodes_to_read = v.nodes_to_read } };
+}
+
+impl<'a> Readable for HistoryReadRequestView<'a> {
+    ghost reading = { history_read_request_reading };
+}
+
+#[tactic(auto, unfolding(ua_service_messages::specs::History::history_read_request_reading))]
+impl<'a> View<'a> for HistoryReadRequestView<'a> {
+    fn look(cursor: &mut Cursor<'a>) -> Result<HistoryReadRequestView<'a>, TakeFault> {
+        Ok(HistoryReadRequestView {
+            request_header: RequestHeaderView::look(cursor)?,
+            history_read_details: ExtensionObjectView::look(cursor)?,
+            timestamps_to_return: look_enumeration::<TimestampsToReturn>(cursor)?,
+            release_continuation_points: bool::look(cursor)?,
+            nodes_to_read: ArrayView::<HistoryReadValueIdView<'a>>::look(cursor)?,
+        })
+    }
+}

@@ -1,0 +1,25 @@
+//! Views of the requests of services (IEC 62541-4), which are looked at in the bodies in which they came.
+//!
+//! [`message_view`] gives the view of a body's message, as [`ua_messages::received`] gives the message. Each view has
+//! the fields of the structure of its name, and contracts see it as that structure, by the same *reading*; a list of it
+//! gives its elements one by one ([`ua_views::ArrayView`]). No view takes memory, and `to_value` makes a copy to keep.
+//!
+//! Nothing here decides anything, and nothing has a definition of its own: the readings are those of `ua_messages`
+//! and `ua_service_messages`.
+//!
+//! Read [`ReadRequestView`] first.
+#![tactic(auto)]
+
+mod browsing;
+mod headers;
+mod history;
+mod messages;
+mod reading;
+mod writing;
+
+pub use browsing::{BrowseDescriptionView, BrowseNextRequestView, BrowseRequestView};
+pub use headers::RequestHeaderView;
+pub use history::{HistoryReadRequestView, HistoryReadValueIdView};
+pub use messages::message_view;
+pub use reading::{ReadRequestView, ReadValueIdView};
+pub use writing::{WriteRequestView, WriteValueView};
