@@ -15,3 +15,4 @@ pub mod Askings
 pub mod OwingTables
 pub mod OwingCalls
 pub mod OwingSubs
+pub mod Shutdowns

@@ -3,7 +3,7 @@ use Rattle.std.proofs.Common.{ℕ, Bool, true, false, List, [], ◌∷◌, Optio
 use Rattle.std.specs.Prelude.{map}
 use Rattle.std.specs.Option.{is_some}
 use Rattle.std.specs.BTreeMap.{is_at}
-use Rattle.std.specs.Map.{remove_entry}
+use Rattle.std.specs.Map.{keys_of, values_of, remove_entry}
 use Rattle.std.specs.Ordering.{nat_cmp}
 use Rattle.server_messages.specs.declared.reply.Reply.{Reply}
 use Rattle.ua_types.specs.declared.moment.Moment.{Moment}
@@ -11,7 +11,7 @@ use Rattle.ua_types.specs.declared.status.Status.{Status}
 use Rattle.ua_types.specs.declared.status.TheConstants.Status as status
 use Rattle.ua_subscription_messages.specs.declared.publishing.SubscriptionAcknowledgement.{SubscriptionAcknowledgement}
 use Rattle.ua_subscriptions.specs.declared.call.Call.{Call}
-use Rattle.ua_subscriptions.specs.declared.call.Call.TheVariants.{Create, Delete, Modify, Publish, Republish, SessionEnd, Timer}
+use Rattle.ua_subscriptions.specs.declared.call.Call.TheVariants.{Create, Delete, Modify, Publish, Republish, SessionEnd, Shutdown, Timer}
 use Rattle.ua_subscriptions.specs.declared.making.Revised.{Revised}
 use Rattle.ua_subscriptions.specs.declared.publish_call.PublishCall.{PublishCall}
 use Rattle.ua_subscriptions.specs.declared.ranks.Rank.{Rank}
@@ -19,11 +19,11 @@ use Rattle.ua_subscriptions.specs.declared.session_part.SessionSubscriptions.{Se
 use Rattle.ua_subscriptions.specs.declared.session_part.TimeoutNote.{TimeoutNote}
 use Rattle.ua_subscriptions.specs.declared.settings.Settings.{Settings}
 use Rattle.ua_subscriptions.specs.Answers.{refused_of}
-use Rattle.ua_subscriptions.specs.Ending.{without_session, session_ended}
+use Rattle.ua_subscriptions.specs.Ending.{without_session, session_ended, all_requests, all_left, shut_down}
 use Rattle.ua_subscriptions.specs.Firing.{fired}
 use Rattle.ua_subscriptions.specs.Making.{refused_one, added, with_number, modified, republished, timed, kept_at}
 use Rattle.ua_subscriptions.specs.Named.{Outcome, outcome, is_own, own_met, named_one, named_all, all_refused, without_requests, has_none, deleted}
-use Rattle.ua_subscriptions.specs.Owing.{AllBy, RepliedTo, OwesOnly}
+use Rattle.ua_subscriptions.specs.Owing.{AllBy, QueuedBy, RepliedTo, OwesOnly}
 use Rattle.ua_subscriptions.specs.Publishing.{acknowledged_all, note_of, part_without_note, with_results, asked_by, met_by_best, answered_to, answered_by, published}
 use Rattle.ua_subscriptions.specs.Queues.{first_of}
 use Rattle.ua_subscriptions.specs.Ranks.{due_numbers, waiting_of}
@@ -31,7 +31,7 @@ use Rattle.ua_subscriptions.specs.Scenes.{scene}
 use Rattle.ua_subscriptions.specs.Subscriptions.{unborn, no_part}
 use Rattle.ua_subscriptions.specs.Tables.{World, with_call, all_met, part_at}
 use Rattle.ua_subscriptions.proofs.Choosing.{either}
-use Rattle.ua_subscriptions.proofs.OwingRows.{all_append, fired_only, one_more}
+use Rattle.ua_subscriptions.proofs.OwingRows.{all_append, calls_append, fired_only, one_more}
 use Rattle.ua_subscriptions.proofs.OwingTables.{set_only, removed_only, inserted_only, part_only, met_only, all_met_only}
 
 module _ (Such : ℕ → Type 0) where
@@ -142,3 +142,26 @@ module _ (Such : ℕ → Type 0) where
       let numbers = (part_at session w.table.sessions).numbers in
       let met = all_met (SessionEnd deleting) w numbers in
       without_session_only session (all_refused session status.BAD_SESSION_CLOSED met) (all_refused_only session status.BAD_SESSION_CLOSED met (all_met_only Such (SessionEnd deleting) numbers w h))
+
+  -- ---- a server's shutdown
+
+  all_requests_by : (sessions : List (ℕ × SessionSubscriptions)) → QueuedBy Such sessions → AllBy Such (all_requests (values_of sessions))
+  all_requests_by [] h = tt
+  all_requests_by (e ∷ es) h = calls_append Such e.1.requests (all_requests (values_of es)) h.0 (all_requests_by es h.1)
+
+  all_left_only : (code : Status) (w : World) → OwesOnly Such w → OwesOnly Such (all_left code w)
+  all_left_only code w h =
+      let calls = all_requests (values_of w.table.sessions) in
+      record {
+        round = record {
+          replies = all_append (λ (reply : Reply). Such reply.conn) w.round.replies (map (refused_of w.round.clock code) calls) h.round.replies (all_refused_to w.round.clock code calls (all_requests_by w.table.sessions h.queued));
+          asked = h.round.asked;
+        };
+        queued = tt;
+      }
+
+  pub shut_down_only : (w : World) → OwesOnly Such w → OwesOnly Such (shut_down w)
+  unfolding shut_down
+  shut_down_only w h =
+      let numbers = keys_of w.table.subscriptions in
+      all_left_only status.BAD_SHUTDOWN (all_met Shutdown w numbers) (all_met_only Such Shutdown numbers w h)

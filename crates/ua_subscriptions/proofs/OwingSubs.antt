@@ -11,7 +11,7 @@ use Rattle.ua_subscriptions.specs.declared.call.Call.TheVariants.{Items, SetMode
 use Rattle.ua_subscriptions.specs.declared.publish_call.PublishCall.{PublishCall}
 use Rattle.ua_subscriptions.specs.declared.session_part.SessionSubscriptions.{SessionSubscriptions}
 use Rattle.ua_subscriptions.specs.declared.settings.Settings.{Settings}
-use Rattle.ua_subscriptions.specs.Ending.{came_by_other, entry_without_conn, without_conn, session_ended}
+use Rattle.ua_subscriptions.specs.Ending.{came_by_other, entry_without_conn, without_conn, session_ended, shut_down}
 use Rattle.ua_subscriptions.specs.Making.{modified, republished, timed}
 use Rattle.ua_subscriptions.specs.Named.{Outcome, named_all, deleted}
 use Rattle.ua_subscriptions.specs.Owing.{AllBy, QueuedBy, OwesOnly, SaysOnly}
@@ -19,7 +19,7 @@ use Rattle.ua_subscriptions.specs.Publishing.{published}
 use Rattle.ua_subscriptions.specs.SubscriptionCalls.{SubscriptionsState, no_subscriptions, world_of, said, told, is_full, refused, created_one, created}
 use Rattle.ua_subscriptions.specs.Tables.{TableState, World, met}
 use Rattle.ua_subscriptions.proofs.Choosing.{either}
-use Rattle.ua_subscriptions.proofs.OwingCalls.{named_only, deleted_only, refused_one_only, added_only, modified_only, republished_only, timed_only, published_only, session_ended_only}
+use Rattle.ua_subscriptions.proofs.OwingCalls.{named_only, deleted_only, refused_one_only, added_only, modified_only, republished_only, timed_only, published_only, session_ended_only, shut_down_only}
 use Rattle.ua_subscriptions.proofs.OwingTables.{met_only}
 
 module _ (Such : ℕ → Type 0) where
@@ -68,7 +68,7 @@ module _ (Such : ℕ → Type 0) where
   pub items_owes_only : (s : SubscriptionsState) (items : ItemsState) (clock : Moment) (number : ℕ) (before : Vars) → QueuedBy Such s.table.sessions → SaysOnly Such (told s (met (world_of s items clock) number (Items before)))
   items_owes_only s items clock number before h = told_only s _ (met_only Such (world_of s items clock) number (Items before) (world_of_only s items clock h))
 
-  -- ---- Publish, the timers, and the end of a session
+  -- ---- Publish, the timers, the end of a session, and the server's shutdown
 
   pub publish_owes_only : (s : SubscriptionsState) (items : ItemsState) (clock : Moment) (session : ℕ) (call : PublishCall) (acks : List SubscriptionAcknowledgement) → Such call.conn → QueuedBy Such s.table.sessions →
       SaysOnly Such (told s (published session call acks (world_of s items clock)))
@@ -79,6 +79,14 @@ module _ (Such : ℕ → Type 0) where
 
   pub session_end_owes_only : (s : SubscriptionsState) (items : ItemsState) (clock : Moment) (session : ℕ) (deleting : Bool) → QueuedBy Such s.table.sessions → SaysOnly Such (told s (session_ended session deleting (world_of s items clock)))
   session_end_owes_only s items clock session deleting h = told_only s _ (session_ended_only Such session deleting (world_of s items clock) (world_of_only s items clock h))
+
+  pub shut_down_owes_only : (s : SubscriptionsState) (items : ItemsState) (clock : Moment) → QueuedBy Such s.table.sessions → SaysOnly Such (told s (shut_down (world_of s items clock)))
+  shut_down_owes_only s items clock h = told_only s _ (shut_down_only Such (world_of s items clock) (world_of_only s items clock h))
+
+  -- whoever asked, nothing waits after a shutdown
+  pub shut_down_queued : (s : SubscriptionsState) (items : ItemsState) (clock : Moment) → QueuedBy Such (told s (shut_down (world_of s items clock))).state.table.sessions
+  unfolding shut_down
+  shut_down_queued s items clock = tt
 
   -- ---- the beginning
 

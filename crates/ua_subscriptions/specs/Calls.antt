@@ -3,7 +3,7 @@ use Rattle.std.specs.Prelude.{Bool, false}
 use Rattle.ua_state_table.specs.declared.event.TableEvent.{TableEvent}
 use Rattle.ua_state_table.specs.declared.event.TableEvent.TheVariants as event
 use Rattle.ua_subscriptions.specs.declared.call.Call.{Call}
-use Rattle.ua_subscriptions.specs.declared.call.Call.TheVariants.{Create, Publish, Timer, Modify, SetMode, Republish, Delete, Items, SessionEnd}
+use Rattle.ua_subscriptions.specs.declared.call.Call.TheVariants.{Create, Publish, Timer, Modify, SetMode, Republish, Delete, Items, SessionEnd, Shutdown}
 use Rattle.ua_subscriptions.specs.declared.settings.Settings.{Settings}
 use Rattle.ua_subscriptions.specs.Settings.{no_settings}
 
@@ -17,6 +17,7 @@ event_of (Republish kept) = event.Republish kept
 event_of Delete = event.Delete
 event_of (Items before) = event.Items
 event_of (SessionEnd deleting) = event.SessionEnd deleting
+event_of Shutdown = event.Shutdown
 
 -- the settings that are asked for
 abbrev pub settings_of : Call → Settings

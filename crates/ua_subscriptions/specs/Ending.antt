@@ -1,13 +1,15 @@
--- The end of sessions (IEC 62541-4, "CloseSession").
-use Rattle.std.specs.Prelude.{ℕ, ◌==◌, Bool, not, map, filter}
+-- The end of sessions (IEC 62541-4, "CloseSession"), of connections, and of the server.
+use Rattle.std.specs.Prelude.{ℕ, ◌==◌, Bool, not, List, [], ◌∷◌, ◌++◌, map, filter}
 use Rattle.std.specs.BTreeMap.{is_at}
-use Rattle.std.specs.Map.{remove_entry}
+use Rattle.std.specs.Map.{keys_of, values_of, remove_entry}
 use Rattle.std.specs.Ordering.{nat_cmp}
+use Rattle.ua_types.specs.declared.status.Status.{Status}
 use Rattle.ua_types.specs.declared.status.TheConstants.Status as status
-use Rattle.ua_subscriptions.specs.declared.call.Call.TheVariants.{SessionEnd}
+use Rattle.ua_subscriptions.specs.declared.call.Call.TheVariants.{SessionEnd, Shutdown}
 use Rattle.ua_subscriptions.specs.declared.publish_call.PublishCall.{PublishCall}
 use Rattle.ua_subscriptions.specs.declared.session_part.SessionSubscriptions.{SessionSubscriptions}
-use Rattle.ua_subscriptions.specs.Named.{all_refused}
+use Rattle.ua_subscriptions.specs.Answers.{refused_of}
+use Rattle.ua_subscriptions.specs.Named.{all_refused, with_replies}
 use Rattle.ua_subscriptions.specs.Tables.{TableState, World, all_met, part_at}
 
 abbrev pub without_session : ℕ → World → World
@@ -34,3 +36,24 @@ entry_without_conn conn e = (e.0, part_without_conn conn e.1)
 
 abbrev pub without_conn : ℕ → TableState → TableState
 without_conn conn table = record table { sessions = map (entry_without_conn conn) table.sessions }
+
+-- ---- the server shuts down
+
+-- the requests of sessions that wait, those of each in turn, the oldest first
+abbrev pub all_requests : List SessionSubscriptions → List PublishCall
+all_requests [] = []
+all_requests (part ∷ parts) = part.requests ++ all_requests parts
+
+-- all requests that wait are answered with a fault, by the rising number of their sessions; and nothing is left of any session
+abbrev pub all_left : Status → World → World
+all_left code w =
+    let table : TableState = w.table in
+    record w {
+      round = with_replies w.round (map (refused_of w.round.clock code) (all_requests (values_of table.sessions)));
+      table = record table { sessions = [] };
+    }
+
+-- every live subscription sees the shutdown, by rising number, be it of a session or of none; then the requests that wait
+-- are answered, and nothing of the sessions is left
+unfoldable pub shut_down : World → World
+shut_down w = all_left status.BAD_SHUTDOWN (all_met Shutdown w (keys_of w.table.subscriptions))

@@ -49,6 +49,9 @@ pub enum Call {
     SessionEnd {
         deleting: bool,
     },
+
+    /// The server shuts down.
+    Shutdown,
 }
 
 impl Call {
@@ -66,6 +69,7 @@ impl Call {
             Call::Delete => TableEvent::Delete,
             Call::Items { .. } => TableEvent::Items,
             Call::SessionEnd { deleting } => TableEvent::SessionEnd { deleting },
+            Call::Shutdown => TableEvent::Shutdown,
         }
     }
 

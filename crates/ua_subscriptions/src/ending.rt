@@ -1,23 +1,31 @@
-//! The end of sessions and connections.
+//! The end of sessions, of connections, and of the server.
 
-ghost use Rattle.std.specs.Prelude.{◌≡◌, map, filter};
+ghost use Rattle.std.specs.Prelude.{◌≡◌, [], map, filter, OnOk};
 ghost use Rattle.std.specs.BTreeMap.{is_at};
-ghost use Rattle.std.specs.Map.{set_value};
+ghost use Rattle.std.specs.Map.{keys_of, values_of, set_value};
 ghost use Rattle.std.specs.Ordering.{nat_cmp};
 ghost use Rattle.ua_subscriptions.specs.Askers.{AreAsked};
-ghost use Rattle.ua_subscriptions.specs.Ending.{session_ended, came_by_other, part_without_conn, entry_without_conn, without_conn};
-ghost use Rattle.ua_subscriptions.specs.Tables.{world, Meets, part_at};
+ghost use Rattle.ua_monitored_items.specs.Items.{ItemsState};
+ghost use Rattle.ua_subscriptions.specs.Answers.{refused_of};
+ghost use Rattle.ua_subscriptions.specs.Ending.{session_ended, came_by_other, part_without_conn, entry_without_conn, without_conn, all_requests, all_left, shut_down};
+ghost use Rattle.ua_subscriptions.specs.Named.{with_replies};
+ghost use Rattle.ua_subscriptions.specs.Queues.{first_of};
+ghost use Rattle.ua_subscriptions.specs.Tables.{no_table, world, all_met, Meets, part_at};
+ghost use Rattle.ua_subscriptions.specs.declared.call.Call.TheVariants.{Shutdown};
 
 use crate::askers::AskerList;
 use crate::call::Call;
+use crate::named::refuse_requests;
 use crate::publish_call::PublishCall;
 use crate::queue::Queue;
 use crate::round::Round;
 use crate::session_part::SessionSubscriptions;
+use crate::subscription::Subscription;
 use crate::table::LiveSubscriptions;
 use server_messages::Halt;
-use std::alloc::Global;
+use std::alloc::{AllocError, Global};
 use std::collections::BTreeMap;
+use std::mem::replace;
 use ua_monitored_items::Items;
 use ua_types::Status;
 
@@ -54,6 +62,82 @@ impl LiveSubscriptions {
     {
         forget_conn(&mut self.sessions, &mut self.askers, conn);
     }
+
+    // The shutdown comes to each subscription, the one with the least number first. At an `Err` nothing is known of what is
+    // left.
+    fn close_all(&mut self, alloc: Global, round: &mut Round, items: &mut Items) -> Result<(), Halt>
+        ensures met { Meets result (world round.new self.new items.new) (all_met Shutdown (world round.old self.old items.old) (keys_of self.old.subscriptions)) }
+        ensures none { OnOk result (self.new.subscriptions ≡ []) }
+    {
+        while let Some(number) = first_number(&self.subscriptions) {
+            match self.fire_one(alloc, round, items, number, Call::Shutdown) {
+                Ok(()) => {}
+                Err(halt) => return Err(halt),
+            }
+        }
+        Ok(())
+    }
+
+    // All requests that wait are answered with this fault, and nothing of any session is left. At an `Err` nothing is known
+    // of what was answered.
+    fn leave_all(
+        &mut self,
+        alloc: Global,
+        round: &mut Round,
+        status: Status,
+    ) -> Result<(), AllocError>
+        ensures { OnOk result ((items : ItemsState) → world round.new self.new items ≡ all_left status (world round.old self.old items)) }
+    {
+        let sessions = replace(&mut self.sessions, BTreeMap::new(alloc));
+        self.askers = AskerList::new(alloc);
+        refuse_sessions(round, alloc, sessions, status)
+    }
+
+    /// The server shuts down: all subscriptions are deleted; then the requests that wait are answered, and nothing of any
+    /// session is left. At an `Err` nothing is known of what is left.
+    #[tactic(auto, unfolding(crate::specs::Ending::shut_down))]
+    pub(crate) fn shut_down(
+        &mut self,
+        alloc: Global,
+        round: &mut Round,
+        items: &mut Items,
+    ) -> Result<(), Halt>
+        ensures meets { Meets result (world round.new self.new items.new) (shut_down (world round.old self.old items.old)) }
+        ensures empty { OnOk result (self.new ≡ no_table) }
+    {
+        match self.close_all(alloc, round, items) {
+            Ok(()) => {}
+            Err(halt) => return Err(halt),
+        }
+        self.leave_all(alloc, round, Status::BAD_SHUTDOWN)?;
+        Ok(())
+    }
+}
+
+// The least number.
+fn first_number(subscriptions: &BTreeMap<u32, Subscription>) -> Option<u32>
+    ensures { result ≡ first_of (keys_of subscriptions.now.entries) }
+{
+    match subscriptions.first_key_value() {
+        None => None,
+        Some((number, _)) => Some(*number),
+    }
+}
+
+// Answers the requests that wait in sessions with a fault.
+fn refuse_sessions(
+    round: &mut Round,
+    alloc: Global,
+    sessions: BTreeMap<u32, SessionSubscriptions>,
+    status: Status,
+) -> Result<(), AllocError>
+    ensures { OnOk result (round.new ≡ with_replies round.old (map (refused_of round.old.clock status) (all_requests (values_of sessions.entries)))) }
+{
+    for part in sessions.into_values() {
+        let mut requests = part.requests;
+        refuse_requests(round, alloc, &mut requests, status)?;
+    }
+    Ok(())
 }
 
 // The requests that came by a connection go.

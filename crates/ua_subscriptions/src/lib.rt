@@ -1,8 +1,8 @@
 //! Subscriptions: what is sent of monitored items, to whom, and when (IEC 62541-4, 5.13).
 //!
 //! [`Subscriptions`] holds the subscriptions of a server, the Publish requests that wait for them, and the notes of those that
-//! timed out. A client's requests about subscriptions are its calls, and so are the timers and the ends of sessions and
-//! connections. Each call fires rows of the state table ([`ua_state_table`]), and what it does is what the rows' actions say:
+//! timed out. A client's requests about subscriptions are its calls, and so are the timers, the ends of sessions and
+//! connections, and the server's shutdown. Each call fires rows of the state table ([`ua_state_table`]), and what it does is what the rows' actions say:
 //! it answers Publish requests ([`server_messages::Reply`]), and says which rows fired. It is lent the monitored items, whose
 //! values the messages take. Nothing here knows the wire but for the messages' bytes, which are made once and kept.
 //!

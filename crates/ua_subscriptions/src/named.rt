@@ -22,8 +22,8 @@ use std::mem::replace;
 use ua_monitored_items::Items;
 use ua_types::{Listed, Status};
 
-// Answers requests with a fault, the oldest first.
-fn refuse_requests(
+/// Answers requests with a fault, the oldest first.
+pub(crate) fn refuse_requests(
     round: &mut Round,
     alloc: Global,
     requests: &mut Queue<PublishCall>,

@@ -1,14 +1,14 @@
 //! The subscriptions of a server.
 
-ghost use Rattle.std.specs.Prelude.{◌≡◌, ◌<◌, ◌-◌, ◌^◌, false, option_map, IfOk, IsOk, None};
-ghost use Rattle.ua_subscriptions.specs.Ending.{session_ended, without_conn};
+ghost use Rattle.std.specs.Prelude.{◌≡◌, ◌<◌, ◌-◌, ◌^◌, false, option_map, IfOk, OnOk, IsOk, None};
+ghost use Rattle.ua_subscriptions.specs.Ending.{session_ended, shut_down, without_conn};
 ghost use Rattle.ua_subscriptions.specs.Making.{kept_at, modified, republished, timed};
 ghost use Rattle.ua_subscriptions.specs.Named.{is_own as is_own_spec, named_all, deleted};
 ghost use Rattle.ua_subscriptions.specs.Publishing.{published};
 ghost use Rattle.ua_subscriptions.specs.Ranks.{is_any_due};
 ghost use Rattle.ua_subscriptions.specs.Scenes.{is_overspent};
 ghost use Rattle.ua_subscriptions.specs.SubscriptionCalls.{no_subscriptions, round_of, world_of, settled as settled_spec, Serves, said, told, is_full as is_full_spec, refused, created_one, created};
-ghost use Rattle.ua_subscriptions.specs.Tables.{met, vars_found, kept_found};
+ghost use Rattle.ua_subscriptions.specs.Tables.{no_table, met, vars_found, kept_found};
 ghost use Rattle.ua_subscriptions.specs.declared.call.Call.TheVariants.{Items as ItemsCall, SetMode};
 
 use crate::answered::Answered;
@@ -369,6 +369,26 @@ impl Subscriptions {
         let answer = self
             .table
             .end_session(alloc, &mut round, items, session, deleting);
+        self.settle(round, answer)
+    }
+
+    /// The server shuts down. Each subscription is deleted, whether it has a session or none, the least number first; then
+    /// the Publish requests that wait are answered `BAD_SHUTDOWN`, by the rising number of their sessions, the oldest of each
+    /// first. Nothing is left: no subscription, and no session with a request or a note.
+    pub fn shut_down(
+        &mut self,
+        alloc: Global,
+        items: &mut Items,
+        clock: Moment,
+    ) -> Result<Answered<()>, Halt>
+        ensures serves { Serves result self.old self.new items.new (told self.old (shut_down (world_of self.old items.old clock))) }
+        ensures empty { OnOk result (self.new.table ≡ no_table) }
+    {
+        if let Some(halt) = self.halted {
+            return Err(halt);
+        }
+        let mut round = self.round(alloc, clock);
+        let answer = self.table.shut_down(alloc, &mut round, items);
         self.settle(round, answer)
     }
 
