@@ -5,7 +5,7 @@ use Rattle.std.proofs.lemmas.List.Sums.{fold-append}
 use Rattle.std.specs.BTreeMap.{is_at}
 use Rattle.std.specs.Map.{set_value}
 use Rattle.std.specs.Ordering.{nat_cmp, is_eq}
-use Rattle.std.specs.Prelude.{◌==◌, fold, nat_lt}
+use Rattle.std.specs.Prelude.{◌==◌, ◌&&◌, fold, nat_lt}
 use Rattle.ua_types.proofs.NumberMaps.{same_number}
 use Rattle.ua_types.specs.Configuration.{Configuration}
 use Rattle.ua_values.specs.declared.data_value.DataValue.{DataValue}
@@ -14,12 +14,14 @@ use Rattle.ua_item_queue.specs.ItemQueue.{changed, queue_after, marked_front}
 use Rattle.ua_item_queue.specs.ItemQueue.QueueChange.{Queued, FrontDropped, NewestReplaced, OnlyReplaced}
 use Rattle.ua_item_queue.specs.ItemQueue.QueueMove.{Sample}
 use Rattle.ua_item_queue.specs.declared.entry.Entry.{Entry}
-use Rattle.ua_monitored_items.specs.Item.{is_reporting, takes, queued, seen}
-use Rattle.ua_monitored_items.specs.ItemTables.{NumberedItems, item_at, is_of, numbers_of, with_found, AreAbove, AreRising}
-use Rattle.ua_monitored_items.specs.Items.{ItemsState, no_items, is_available, any_waits, waits_in, Visit, visited, sampled_items, all_visits}
+use Rattle.ua_monitored_items.specs.Item.{is_reporting, is_sampling, tells, takes, queued, seen, released_in}
+use Rattle.ua_monitored_items.specs.ItemTables.{NumberedItems, item_at, is_of, numbers_of, with_found, with_item, AreAbove, AreRising}
+use Rattle.ua_monitored_items.specs.Items.{ItemsState, no_items, is_available, any_waits, waits_in, Visit, visits_of, visited, sampled_items}
 use Rattle.ua_monitored_items.specs.Moves.{Move, Moved, moved, moved_on, run, OthersStay, IsOfSubscription}
 use Rattle.ua_monitored_items.specs.Moves.Move.{Show}
+use Rattle.ua_monitored_items.specs.Releases.{with_release, all_released, sample_releases, shown_one, shown}
 use Rattle.ua_monitored_items.specs.declared.item.Item.{Item}
+use Rattle.ua_monitored_items.specs.declared.releases.Release.{Release}
 use Rattle.ua_monitored_items.proofs.Apart.{subscriptions_stay_apart}
 use Rattle.ua_monitored_items.proofs.Runs.{run_step}
 use Rattle.ua_monitored_items.proofs.Tables.{greater}
@@ -162,7 +164,7 @@ sample_fills (e ∷ es) size oldest v h = by (nat_lt (length (e ∷ es)) size) (
     by false false c = refl
 
 queued_waits : (v : DataValue) (item : Item) → waits_in (Some item) ≡ true → waits_in (Some (queued v item)) ≡ true
-queued_waits v item h = by (is_reporting item.mode) h
+queued_waits v item h = by (tells item) h
   where
     by : (b : Bool) → nat_lt 0 (cond b (length item.queue.entries) 0) ≡ true → nat_lt 0 (cond b (length (queue_after item.queue.entries (Sample item.queue.size item.queue.discard_oldest v))) 0) ≡ true
     by true k = sample_fills item.queue.entries item.queue.size item.queue.discard_oldest v k
@@ -182,37 +184,71 @@ seen_own v item = by (takes item v)
     by true = refl
     by false = refl
 
-visit_waits : (items : NumberedItems) (subscription : ℕ) (visit : Visit) → Waiting items subscription → Waiting (visited items visit) subscription
-visit_waits items subscription visit w = by (item_at visit.number items) refl
+-- a release makes no value wait less
+released_waits : (own : ℕ) (item : Item) → waits_in (Some item) ≡ true → waits_in (Some (released_in own item)) ≡ true
+released_waits own item h = by ((item.subscription == own && is_sampling item.mode) && nat_lt 0 (length item.queue.entries))
   where
-    there : (old : Item) → item_at visit.number items ≡ Some old → (visit.number ≡ w.number) ⊎ (visit.number ≢ w.number) → Waiting (set_value (is_at (nat_cmp visit.number)) items (seen visit.value old)) subscription
-    there old found (inl same) =
-        let again : Some old ≡ Some w.item = sym found ∙ ap (λ (n : ℕ). item_at n items) same ∙ w.found in
-        let it : old ≡ w.item = cc in
-        record {
-          number = visit.number;
-          item = seen visit.value old;
-          found = set_here visit.number old (seen visit.value old) items found;
-          own = ap (λ (s : ℕ). s == subscription) (seen_own visit.value old ∙ ap (λ (i : Item). i.subscription) it) ∙ w.own;
-          waits = seen_waits visit.value old (ap (λ (i : Item). waits_in (Some i)) it ∙ w.waits);
-        }
-    there old found (inr other) = record {
-      number = w.number;
-      item = w.item;
-      found = set_other visit.number w.number (seen visit.value old) (λ same. other (sym same)) items ∙ w.found;
-      own = w.own;
-      waits = w.waits;
-    }
+    told : (a b : Bool) → nat_lt 0 (cond (a || b) (length item.queue.entries) 0) ≡ true → nat_lt 0 (cond (a || true) (length item.queue.entries) 0) ≡ true
+    told true b k = k
+    told false true k = k
+    told false false k = absurd (cc)
 
-    by : (o : Option Item) → item_at visit.number items ≡ o → Waiting (with_found visit.number (seen visit.value) items o) subscription
-    by None found = w
-    by (Some old) found = there old found (same_or_not visit.number w.number)
+    by : (b : Bool) → waits_in (Some (cond b (record item { released = true }) item)) ≡ true
+    by true = told (is_reporting item.mode) item.released h
+    by false = h
+
+released_own : (own : ℕ) (item : Item) → (released_in own item).subscription ≡ item.subscription
+released_own own item = by ((item.subscription == own && is_sampling item.mode) && nat_lt 0 (length item.queue.entries))
+  where
+    by : (b : Bool) → (cond b (record item { released = true }) item).subscription ≡ item.subscription
+    by true = refl
+    by false = refl
+
+-- something is done with one item that takes no value away
+module _ (at : ℕ) (change : Item → Item) (waits : (item : Item) → waits_in (Some item) ≡ true → waits_in (Some (change item)) ≡ true) (stays : (item : Item) → (change item).subscription ≡ item.subscription) where
+  change_waits : (items : NumberedItems) (subscription : ℕ) → Waiting items subscription → Waiting (with_item at change items) subscription
+  change_waits items subscription w = by (item_at at items) refl
+    where
+      there : (old : Item) → item_at at items ≡ Some old → (at ≡ w.number) ⊎ (at ≢ w.number) → Waiting (set_value (is_at (nat_cmp at)) items (change old)) subscription
+      there old found (inl same) =
+          let again : Some old ≡ Some w.item = sym found ∙ ap (λ (n : ℕ). item_at n items) same ∙ w.found in
+          let it : old ≡ w.item = cc in
+          record {
+            number = at;
+            item = change old;
+            found = set_here at old (change old) items found;
+            own = ap (λ (s : ℕ). s == subscription) (stays old ∙ ap (λ (i : Item). i.subscription) it) ∙ w.own;
+            waits = waits old (ap (λ (i : Item). waits_in (Some i)) it ∙ w.waits);
+          }
+      there old found (inr other) = record {
+        number = w.number;
+        item = w.item;
+        found = set_other at w.number (change old) (λ same. other (sym same)) items ∙ w.found;
+        own = w.own;
+        waits = w.waits;
+      }
+
+      by : (o : Option Item) → item_at at items ≡ o → Waiting (with_found at change items o) subscription
+      by None found = w
+      by (Some old) found = there old found (same_or_not at w.number)
 
 all_visits_wait : (items : NumberedItems) (subscription : ℕ) (visits : List Visit) → Waiting items subscription → Waiting (sampled_items items visits) subscription
 all_visits_wait items subscription [] w = w
-all_visits_wait items subscription (v ∷ vs) w = all_visits_wait (visited items v) subscription vs (visit_waits items subscription v w)
+all_visits_wait items subscription (v ∷ vs) w = all_visits_wait (visited items v) subscription vs (change_waits v.number (seen v.value) (seen_waits v.value) (seen_own v.value) items subscription w)
+
+all_releases_wait : (items : NumberedItems) (subscription : ℕ) (releases : List Release) → Waiting items subscription → Waiting (all_released items releases) subscription
+all_releases_wait items subscription [] w = w
+all_releases_wait items subscription (r ∷ rs) w =
+    all_releases_wait (with_release items r) subscription rs (change_waits r.number (released_in r.subscription) (released_waits r.subscription) (released_own r.subscription) items subscription w)
+
+all_shown_wait : (items : NumberedItems) (subscription : ℕ) (changed : List Change) → Waiting items subscription → Waiting (shown items changed) subscription
+all_shown_wait items subscription [] w = w
+all_shown_wait items subscription (c ∷ cs) w =
+    let visits = visits_of items c in
+    all_shown_wait (shown_one items c) subscription cs
+    (all_releases_wait (sampled_items items visits) subscription (sample_releases items visits) (all_visits_wait items subscription visits w))
 
 -- values that are shown take none away
 pub shown_available : (items : ItemsState) (changed : List Change) (subscription : ℕ) → AreRising items.items → is_available items subscription ≡ true → is_available (moved items (Show changed)).state subscription ≡ true
 shown_available items changed subscription rising h =
-    is_there (moved items (Show changed)).state subscription (all_visits_wait items.items subscription (all_visits items.items changed) (waiting items subscription rising h))
+    is_there (moved items (Show changed)).state subscription (all_shown_wait items.items subscription changed (waiting items subscription rising h))

@@ -20,7 +20,7 @@ use Rattle.subscription_laws.specs.Calm.{ListsItsOwn, AreLists, IsCalm}
 use Rattle.ua_subscriptions.specs.Firing.{fired}
 use Rattle.subscription_laws.specs.Histories.{counts_at, life_at}
 use Rattle.subscription_laws.specs.Runs.{ItemsCall, on_items}
-use Rattle.subscription_laws.specs.Runs.ItemsCall.{Create, Modify, SetMode, Delete}
+use Rattle.subscription_laws.specs.Runs.ItemsCall.{Create, Modify, SetMode, Link, Delete}
 use Rattle.ua_subscriptions.specs.Scenes.{Scene, row_done}
 use Rattle.subscription_laws.specs.Standings.{Counts, standing, standing_in, circumstances, counts_of}
 use Rattle.ua_subscriptions.specs.Subscriptions.{vars_of}
@@ -53,6 +53,7 @@ its_own : (number : ℕ) (asked : ItemsCall) → IsOfSubscription number (on_ite
 its_own number (Create nodes clock timestamps requests) = refl
 its_own number (Modify timestamps requests) = refl
 its_own number (SetMode nodes clock mode numbers) = refl
+its_own number (Link triggering add remove) = refl
 its_own number (Delete numbers) = refl
 
 pub served_apart : (number : ℕ) (asked : ItemsCall) (items : ItemsState) → AreApart number items (item_moves.moved items (on_items number asked)).state

@@ -189,6 +189,7 @@ served_none r number asked None = refl
 served_none r number (ItemsCall.Create nodes clock timestamps requests) (Some vars) = refl
 served_none r number (ItemsCall.Modify timestamps requests) (Some vars) = refl
 served_none r number (ItemsCall.SetMode nodes clock mode numbers) (Some vars) = refl
+served_none r number (ItemsCall.Link triggering add remove) (Some vars) = refl
 served_none r number (ItemsCall.Delete numbers) (Some vars) = refl
 
 one_told : (r : Ran) (m : Move) → AreMadeOf (moved_made r m) (taken_from r.items (calls_of r m))
@@ -218,6 +219,7 @@ entries_are number (item_moves.Move.TakeNotes subscription n ∷ xs) s =
 entries_are number (item_moves.Move.Create nodes clock subscription timestamps requests ∷ xs) s = entries_are number xs (after_call s (item_moves.Move.Create nodes clock subscription timestamps requests))
 entries_are number (item_moves.Move.Modify subscription timestamps requests ∷ xs) s = entries_are number xs (after_call s (item_moves.Move.Modify subscription timestamps requests))
 entries_are number (item_moves.Move.SetMode nodes clock subscription mode numbers ∷ xs) s = entries_are number xs (after_call s (item_moves.Move.SetMode nodes clock subscription mode numbers))
+entries_are number (item_moves.Move.Link subscription triggering add remove ∷ xs) s = entries_are number xs (after_call s (item_moves.Move.Link subscription triggering add remove))
 entries_are number (item_moves.Move.Delete subscription numbers ∷ xs) s = entries_are number xs (after_call s (item_moves.Move.Delete subscription numbers))
 entries_are number (item_moves.Move.End subscription ∷ xs) s = entries_are number xs (after_call s (item_moves.Move.End subscription))
 entries_are number (item_moves.Move.Show changed ∷ xs) s = entries_are number xs (after_call s (item_moves.Move.Show changed))

@@ -2,7 +2,7 @@
 use Rattle.std.proofs.Common.{◌≡◌, ◌≤◌, ℕ, ◌+◌, ◌-◌, arith, Bool, true, false, ◌||◌, cond, List, [], ◌∷◌, ◌++◌, length, take, drop, fold, Option, Some, None, Result, Ok, Err, refl, sym, ◌∙◌, subst, length-append, length-drop}
 use Rattle.std.proofs.lemmas.Bool.{eqb-true, eq-eqb}
 use Rattle.std.proofs.lemmas.List.{length-take}
-use Rattle.std.specs.Prelude.{◌==◌, ◌^◌, filter, nat_lt, nat_le}
+use Rattle.std.specs.Prelude.{◌==◌, ◌^◌, ◌&&◌, filter, nat_lt, nat_le}
 use Rattle.std.specs.BTreeMap.{insert_entry, is_at}
 use Rattle.std.specs.List.{AllByRecursion}
 use Rattle.std.specs.Map.{remove_entry}
@@ -15,6 +15,7 @@ use Rattle.ua_types.specs.declared.status.Status.{Status}
 use Rattle.ua_values.specs.declared.data_value.DataValue.{DataValue}
 use Rattle.ua_space.specs.Nodes.{Nodes}
 use Rattle.ua_read_write.specs.declared.timestamps.Timestamps.{Timestamps}
+use Rattle.ua_read_write.specs.declared.writing.Change.{Change}
 use Rattle.ua_subscription_messages.specs.declared.monitored_items.MonitoredItemCreateRequest.{MonitoredItemCreateRequest}
 use Rattle.ua_subscription_messages.specs.declared.monitored_items.MonitoredItemModifyRequest.{MonitoredItemModifyRequest}
 use Rattle.ua_subscription_messages.specs.declared.monitoring_parameters.MonitoringParameters.{MonitoringParameters}
@@ -22,17 +23,20 @@ use Rattle.ua_item_queue.specs.ItemQueue.{entry, marked_front, changed, queue_af
 use Rattle.ua_item_queue.specs.ItemQueue.QueueChange.{Queued, FrontDropped, NewestReplaced, OnlyReplaced, FrontCleared, BackCleared}
 use Rattle.ua_item_queue.specs.ItemQueue.QueueMove.{Sample, Send, Resize}
 use Rattle.ua_item_queue.specs.declared.entry.Entry.{Entry}
-use Rattle.ua_monitored_items.specs.Item.{is_enabled, takes, queued, seen, reading, enabled, with_mode, disabled, moded, revised_size, modified, gave, waiting_in}
+use Rattle.ua_monitored_items.specs.Item.{is_enabled, takes, queued, seen, reading, enabled, with_mode, disabled, moded, revised_size, modified, gave, is_sampling, released_in, with_links, waiting_in}
 use Rattle.ua_monitored_items.specs.ItemTables.{NumberedItems, item_at, numbers_where, numbers_of, is_of, with_found, with_item}
-use Rattle.ua_monitored_items.specs.Items.{ItemsState, no_items, One, Served, with_one, nothing_served, is_full, create_one, create_judged, created_by, filter_judged, mode_judged, reading_judged, new_item, begun, with_new_item, own_item, modify_one, modified_by, mode_one, moded_by, delete_one, deleted_by, is_of_other, Visit, visited, sampled_items, all_visits, Taking, nat_least, taken_from, with_taken, nothing_taken}
+use Rattle.ua_monitored_items.specs.Items.{ItemsState, no_items, One, Served, with_one, nothing_served, is_full, create_one, create_judged, created_by, filter_judged, mode_judged, reading_judged, new_item, begun, with_new_item, own_item, modify_one, modified_by, mode_one, moded_by, delete_one, deleted_by, is_of_other, all_served, Visit, visits_of, visited, sampled_items, Taking, nat_least, taken_from, with_taken, nothing_taken}
 use Rattle.ua_monitored_items.specs.Kinds.{mode_numbered, trigger_of}
+use Rattle.ua_monitored_items.specs.Links.{linked_by, link, after_link}
 use Rattle.ua_monitored_items.specs.Moves as item_moves
 use Rattle.ua_monitored_items.specs.Moves.{Move, moved, moved_on}
-use Rattle.ua_monitored_items.specs.Moves.Move.{Create, Modify, SetMode, Delete, End, Show, TakeNotes}
+use Rattle.ua_monitored_items.specs.Moves.Move.{Create, Modify, SetMode, Link, Delete, End, Show, TakeNotes}
+use Rattle.ua_monitored_items.specs.Releases.{with_release, all_released, sample_releases, modes_release, shown_one, shown}
 use Rattle.ua_monitored_items.specs.declared.item.Item.{Item}
 use Rattle.ua_monitored_items.specs.declared.kinds.Kind.{Kind}
 use Rattle.ua_monitored_items.specs.declared.kinds.Mode.{Mode}
 use Rattle.ua_monitored_items.specs.declared.kinds.Trigger.{Trigger}
+use Rattle.ua_monitored_items.specs.declared.releases.Release.{Release}
 use Rattle.ua_monitored_items.proofs.Tables.{where_set}
 use Rattle.ua_read_write.specs.Attributes.{Attributed}
 use Rattle.ua_read_write.specs.Reading.{readable}
@@ -96,6 +100,13 @@ module _ (longest : ℕ) where
   moded_keeps nodes clock mode item k =
       let on : Keeps (enabled nodes clock item) = either Keeps (is_enabled item.mode) item (queued (reading nodes clock item) item) k (queued_keeps (reading nodes clock item) item k) in
       either Keeps (is_enabled mode) (with_mode mode (enabled nodes clock item)) (disabled item) (record { waiting = on.waiting; least = on.least; most = on.most }) (disabled_keeps item k)
+
+  released_keeps : (own : ℕ) (item : Item) → Keeps item → Keeps (released_in own item)
+  released_keeps own item k =
+      either Keeps ((item.subscription == own && is_sampling item.mode) && nat_lt 0 (length item.queue.entries)) (record item { released = true }) item (record { waiting = k.waiting; least = k.least; most = k.most }) k
+
+  linked_keeps : (numbers : List ℕ) (item : Item) → Keeps item → Keeps (with_links numbers item)
+  linked_keeps numbers item k = record { waiting = k.waiting; least = k.least; most = k.most }
 
   module _ (some : 1 ≤ longest) where
     revised_least : (asked : ℕ) → 1 ≤ revised_size longest asked
@@ -220,6 +231,23 @@ module _ (most longest : ℕ) (some : 1 ≤ longest) where
   visits_bounded (v ∷ vs) s h =
       visits_bounded vs (with_items s (visited s.items v)) (changed_bounded v.number (seen v.value) (seen_keeps longest v.value) (seen_same v.value) s h)
 
+  released_same : (own q : ℕ) (item : Item) → is_of q (released_in own item) ≡ is_of q item
+  released_same own q item =
+      either (λ (x : Item). is_of q x ≡ is_of q item) ((item.subscription == own && is_sampling item.mode) && nat_lt 0 (length item.queue.entries)) (record item { released = true }) item refl refl
+
+  releases_bounded : (releases : List Release) (s : ItemsState) → Bounded s → Bounded (with_items s (all_released s.items releases))
+  releases_bounded [] s h = record { most_is = h.most_is; longest_is = h.longest_is; keep = h.keep; few = h.few }
+  releases_bounded (r ∷ rs) s h =
+      releases_bounded rs (with_items s (with_release s.items r))
+      (changed_bounded r.number (released_in r.subscription) (released_keeps longest r.subscription) (released_same r.subscription) s h)
+
+  shown_bounded : (changes : List Change) (s : ItemsState) → Bounded s → Bounded (with_items s (shown s.items changes))
+  shown_bounded [] s h = record { most_is = h.most_is; longest_is = h.longest_is; keep = h.keep; few = h.few }
+  shown_bounded (c ∷ cs) s h =
+      let visits = visits_of s.items c in
+      shown_bounded cs (with_items s (shown_one s.items c))
+      (releases_bounded (sample_releases s.items visits) (with_items s (sampled_items s.items visits)) (visits_bounded visits s h))
+
   taken_bounded : (numbers : List ℕ) (t : Taking) (s : ItemsState) → Bounded (with_items s t.items) → Bounded (with_items s (fold with_taken t numbers).items)
   taken_bounded [] t s h = h
   taken_bounded (n ∷ ns) t s h = taken_bounded ns (with_taken t n) s (by (item_at n t.items))
@@ -331,6 +359,14 @@ module _ (most longest : ℕ) (some : 1 ≤ longest) where
       by None = h
       by (Some item) = changed_bounded number (moded nodes clock mode) (moded_keeps longest nodes clock mode) (moded_same nodes clock mode) s h
 
+  linked_bounded : (subscription triggering : ℕ) (add remove : List ℕ) (s : ItemsState) → Bounded s → Bounded (after_link s (link s subscription triggering add remove))
+  unfolding link
+  linked_bounded subscription triggering add remove s h = by (own_item s subscription triggering)
+    where
+      by : (o : Option Item) → Bounded (after_link s (linked_by s subscription triggering add remove o))
+      by None = h
+      by (Some item) = changed_bounded triggering (with_links _) (linked_keeps longest _) (λ q x. refl) s h
+
   deleted_bounded : (subscription : ℕ) (s : ItemsState) (number : ℕ) → Bounded s → OneBounded (delete_one subscription s number)
   unfolding delete_one
   deleted_bounded subscription s number h = by (own_item s subscription number)
@@ -355,7 +391,9 @@ module _ (most longest : ℕ) (some : 1 ≤ longest) where
       served_bounded (create_one nodes clock subscription timestamps) (λ t x k. created_bounded nodes clock subscription timestamps t x k) requests (nothing_served s) h
   move_bounded s (Modify subscription timestamps requests) h = served_bounded (modify_one subscription timestamps) (λ t x k. modified_bounded subscription timestamps t x k) requests (nothing_served s) h
   move_bounded s (SetMode nodes clock subscription mode numbers) h =
-      served_bounded (mode_one nodes clock subscription mode) (λ t x k. moded_bounded nodes clock subscription mode t x k) numbers (nothing_served s) h
+      releases_bounded (modes_release s subscription mode numbers) (all_served (mode_one nodes clock subscription mode) s numbers).state
+      (served_bounded (mode_one nodes clock subscription mode) (λ t x k. moded_bounded nodes clock subscription mode t x k) numbers (nothing_served s) h)
+  move_bounded s (Link subscription triggering add remove) h = linked_bounded subscription triggering add remove s h
   move_bounded s (Delete subscription numbers) h = served_bounded (delete_one subscription) (λ t x k. deleted_bounded subscription t x k) numbers (nothing_served s) h
   move_bounded s (End subscription) h = record {
     most_is = h.most_is;
@@ -363,7 +401,7 @@ module _ (most longest : ℕ) (some : 1 ≤ longest) where
     keep = filtered_keep longest (is_of_other subscription) s.items h.keep;
     few = λ q. let less = filtered_count (is_of q) (is_of_other subscription) s.items in let before = h.few q in omega (arith, less, before);
   }
-  move_bounded s (Show changes) h = visits_bounded (all_visits s.items changes) s h
+  move_bounded s (Show changes) h = shown_bounded changes s h
   move_bounded s (TakeNotes subscription n) h =
       taken_bounded (numbers_of subscription s.items) (nothing_taken s.items n) s (record { most_is = h.most_is; longest_is = h.longest_is; keep = h.keep; few = h.few })
 

@@ -29,12 +29,14 @@ pub data ItemsCall : Type 0 where
   Create : Nodes → Moment → Timestamps → List MonitoredItemCreateRequest → ItemsCall
   Modify : Timestamps → List MonitoredItemModifyRequest → ItemsCall
   SetMode : Nodes → Moment → Mode → List ℕ → ItemsCall
+  Link : (triggering : ℕ) → (add remove : List ℕ) → ItemsCall
   Delete : List ℕ → ItemsCall
 
 abbrev pub on_items : ℕ → ItemsCall → item_moves.Move
 on_items number (ItemsCall.Create nodes clock timestamps requests) = item_moves.Move.Create nodes clock number timestamps requests
 on_items number (ItemsCall.Modify timestamps requests) = item_moves.Move.Modify number timestamps requests
 on_items number (ItemsCall.SetMode nodes clock mode numbers) = item_moves.Move.SetMode nodes clock number mode numbers
+on_items number (ItemsCall.Link triggering add remove) = item_moves.Move.Link number triggering add remove
 on_items number (ItemsCall.Delete numbers) = item_moves.Move.Delete number numbers
 
 -- a call: of `Subscriptions`; of the items of a subscription, of which `Subscriptions` is told then; or the items are shown what was written
