@@ -13,7 +13,7 @@ use Rattle.server_messages.specs.declared.setting.Setting.{Setting}
 use Rattle.ua_services.specs.ServicesState.{Services}
 use Rattle.ua_messages.specs.declared.type_ids.TheConstants.{SET_PUBLISHING_MODE_RESPONSE, DELETE_SUBSCRIPTIONS_RESPONSE}
 use Rattle.ua_services.specs.Serving.{Occurrence, Serving, reply_of, answered, faulted, served_by}
-use Rattle.ua_services.specs.Services.{call_of, picked_of_subscriptions, picked_of_items, picked, serving_by, serving_of, ticking_of, forgotten}
+use Rattle.ua_services.specs.Services.{call_of, picked_of_subscriptions, picked_of_items, picked, serving_by, serving_of, ticking_of, shutting_of, forgotten}
 use Rattle.ua_service_messages.specs.Sessions.{create_session_request_reading, activate_session_request_reading, close_session_request_reading}
 use Rattle.ua_service_messages.specs.Browsing.{browse_request_reading, browse_next_request_reading}
 use Rattle.ua_service_messages.specs.declared.browsing.BrowseDescription.{BrowseDescription}
@@ -53,6 +53,7 @@ use Rattle.ua_services.specs.GetEndpoints.{get_endpoints_meaning}
 use Rattle.ua_services.specs.SessionServing.{spent_by, taken, with_sessions}
 use Rattle.server_messages.specs.declared.reply.Reply.{Reply}
 use Rattle.ua_state_table.specs.declared.vars.Vars.{Vars}
+use Rattle.ua_subscription_messages.specs.Triggering.{set_triggering_request_reading}
 use Rattle.ua_subscription_messages.specs.MonitoredItems.{create_monitored_items_request_reading, modify_monitored_items_request_reading, set_monitoring_mode_request_reading, delete_monitored_items_request_reading}
 use Rattle.ua_subscription_messages.specs.Publishing.{publish_request_reading, republish_request_reading}
 use Rattle.ua_subscription_messages.specs.Subscriptions.{create_subscription_request_reading, modify_subscription_request_reading, set_publishing_mode_request_reading, delete_subscriptions_request_reading}
@@ -70,7 +71,8 @@ use Rattle.ua_subscriptions.specs.declared.call.Call.TheVariants.{SetMode, Items
 use Rattle.ua_subscriptions.specs.SubscriptionCalls.{SubscriptionsState, Said, said, told, world_of, is_full, created, refused, created_one}
 use Rattle.ua_subscriptions.specs.declared.settings.Settings.{Settings}
 use Rattle.ua_subscriptions.specs.Tables.{World, met}
-use Rattle.ua_subscriptions.proofs.OwingSubs.{create_owes_only, modify_owes_only, set_mode_owes_only, delete_owes_only, republish_owes_only, items_owes_only, publish_owes_only, timers_owe_only, session_end_owes_only, without_conn_queued, queued_more}
+use Rattle.ua_subscriptions.specs.Ending.{shut_down}
+use Rattle.ua_subscriptions.proofs.OwingSubs.{create_owes_only, modify_owes_only, set_mode_owes_only, delete_owes_only, republish_owes_only, items_owes_only, publish_owes_only, timers_owe_only, session_end_owes_only, shut_down_owes_only, shut_down_queued, without_conn_queued, queued_more}
 use Rattle.ua_session.specs.Sessions.{ticked, ended_by}
 use Rattle.ua_services.specs.CloseSession.{closed_by}
 use Rattle.ua_services.specs.CreateMonitoredItems.{items_created, create_monitored_items_meaning}
@@ -83,6 +85,7 @@ use Rattle.ua_services.specs.ModifySubscription.{settings_wanted, modify_subscri
 use Rattle.ua_services.specs.Publish.{acknowledged_in, publish_call, publish_meaning}
 use Rattle.ua_services.specs.Republish.{republish_answer, republish_meaning}
 use Rattle.ua_services.specs.SetMonitoringMode.{items_moded, set_monitoring_mode_meaning}
+use Rattle.ua_services.specs.SetTriggering.{items_linked, set_triggering_meaning}
 use Rattle.ua_services.specs.SetPublishingMode.{set_publishing_listed, set_publishing_mode_meaning}
 use Rattle.ua_services.specs.StatusResults.{statuses_body}
 use Rattle.ua_services.specs.SubServing.{world_at, called, no_reply, told_alone, nothing_done, and_then, session_over, timed_out, all_timed_out, timers_met}
@@ -289,8 +292,9 @@ module _ (Such : ℕ → Type 0) where
       either _ _ _ (by_session create_monitored_items_meaning setting caller token state p q (λ session request after owes. items_called_only setting caller request.subscription_id after (items_created setting caller request after) owes q (own_vars session request.subscription_id after)) (message_of create_monitored_items_request_reading body))
       (either _ _ _ (by_session modify_monitored_items_meaning setting caller token state p q (λ session request after owes. items_called_only setting caller request.subscription_id after (items_modified setting caller request after) owes q (own_vars session request.subscription_id after)) (message_of modify_monitored_items_request_reading body))
       (either _ _ _ (by_session set_monitoring_mode_meaning setting caller token state p q (λ session request after owes. items_called_only setting caller request.subscription_id after (items_moded setting caller request after) owes q (own_vars session request.subscription_id after)) (message_of set_monitoring_mode_request_reading body))
+      (either _ _ _ (by_session set_triggering_meaning setting caller token state p q (λ session request after owes. items_called_only setting caller request.subscription_id after (items_linked setting caller request after) owes q (own_vars session request.subscription_id after)) (message_of set_triggering_request_reading body))
       (either _ _ _ (by_session delete_monitored_items_meaning setting caller token state p q (λ session request after owes. items_called_only setting caller request.subscription_id after (items_deleted setting caller request after) owes q (own_vars session request.subscription_id after)) (message_of delete_monitored_items_request_reading body))
-      (subscriptions_only setting caller token body state id p q))))
+      (subscriptions_only setting caller token body state id p q)))))
 
   picked_only : (setting : Setting) (caller : Caller) (token : NodeId) (body : List ℕ) (state : Services) (id : ℕ) → OwesOnly Such state → Such caller.conn → ServesOnly Such (picked setting caller token body state id)
   picked_only setting caller token body state id p q =
@@ -322,9 +326,21 @@ module _ (Such : ℕ → Type 0) where
       then_only (all_timed_out setting after ended) (timers_met setting) (all_timed_out_only setting ended (nothing_done after) (record { state = p; replies = tt }))
       (λ mid owes. told_only mid _ (timers_owe_only Such mid.subs mid.items setting.clock owes.0) owes.1)
 
+  -- what the server's end answers, and nobody waits then
+  pub shutting_only : (setting : Setting) (state : Services) → OwesOnly Such state → ServesOnly Such (shutting_of setting state)
+  unfolding shutting_of
+  shutting_only setting state p =
+      let s = told_only state (shut_down (world_at setting state)) (shut_down_owes_only Such state.subs state.items setting.clock p.0) p.1 in
+      record { state = s.state; replies = s.replies }
+
   -- a connection that is forgotten waits for nothing
   pub forgotten_only : (state : Services) (conn : ℕ) → OwesOnly Such state → OwesOnly (λ (other : ℕ). Such other × (other ≢ conn)) (forgotten state conn)
   forgotten_only state conn p = (without_conn_queued Such conn state.subs.table p.0, p.1)
+
+-- whoever asked, nothing waits once the server has ended
+pub shutting_owes_none : (Asked Such : ℕ → Type 0) (setting : Setting) (state : Services) → OwesOnly Asked (shutting_of setting state).state → OwesOnly Such (shutting_of setting state).state
+unfolding shutting_of told_alone
+shutting_owes_none Asked Such setting state p = (shut_down_queued Such state.subs state.items setting.clock, p.1)
 
 -- what is true of more connections
 module _ (Such More : ℕ → Type 0) (f : (conn : ℕ) → Such conn → More conn) where

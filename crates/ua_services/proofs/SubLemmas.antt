@@ -6,6 +6,7 @@ use Rattle.std.specs.Prelude.{◌&&◌, not}
 use Rattle.std.proofs.lemmas.Bool.{false≢true}
 use Rattle.ua_types.specs.declared.status.Status.{Status}
 use Rattle.ua_monitored_items.specs.Items.{ItemsState, One, Served as ItemsServed, nothing_served, with_one, all_served}
+use Rattle.ua_subscriptions.specs.Ending.{shut_down}
 use Rattle.ua_subscriptions.specs.Named.{Outcome, outcome, own_met, named_one, named_all, deleted, is_none}
 use Rattle.ua_subscriptions.specs.SubscriptionCalls as subs
 use Rattle.ua_subscriptions.specs.SubscriptionCalls.{SubscriptionsState, Said, told, Halts}
@@ -14,7 +15,7 @@ use Rattle.ua_subscriptions.specs.Scenes.{is_overspent}
 use Rattle.ua_subscriptions.specs.Tables.{World, all_met}
 use Rattle.ua_subscriptions.proofs.Dues.{none_due}
 use Rattle.ua_session.specs.Sessions.{ticked, ended_by}
-use Rattle.ua_services.specs.Services.{is_idle, ticking_of}
+use Rattle.ua_services.specs.Services.{is_idle, ticking_of, shutting_of}
 use Rattle.ua_services.specs.SessionServing.{with_sessions}
 use Rattle.ua_subscriptions.specs.declared.answered.Answered.{Answered}
 use Rattle.ua_subscriptions.specs.declared.call.Call.{Call as SubCall}
@@ -120,6 +121,12 @@ module _ (state : Services) (w : World) where
   told_judged setting caller Memory new items h = refl
   told_judged setting caller Exhausted new items h = called_halts state no_reply (told state.subs w) Exhausted new items h
 
+-- a shutdown that halts does so for its subscriptions
+pub shutting_halts : (setting : Setting) (state : Services) (halt : Halt) (new : SubscriptionsState) (items : ItemsState) → subs.Serves (Err halt) state.subs new items (told state.subs (shut_down (world_at setting state))) → Serves (Err halt) (with_subs state new items) (shutting_of setting state)
+unfolding shutting_of
+shutting_halts setting state Memory new items h = tt
+shutting_halts setting state Exhausted new items h = told_halts state (shut_down (world_at setting state)) Exhausted new items h
+
 -- a call whose answer is told first, and then what else is served
 pub called_first : {A : Type 0} (state : Services) (caller : Caller) (body : A → List ℕ) (said : Said A) (x : Answered A) (new : SubscriptionsState) (items : ItemsState) (others : Served) (bytes : List ℕ) (served : Served) → subs.Serves (Ok x) state.subs new items said →
     others ≡ record { replies = x.replies; rows = x.rows } → bytes ≡ body x.answer → served ≡ record { replies = reply_of caller bytes ∷ others.replies; rows = others.rows } →
@@ -200,7 +207,7 @@ module _ (setting : Setting) where
 
 -- ---- as many answers as were asked for
 
-pushed_length : {A : Type 0} (xs : List A) (x : A) → length (xs ++ x ∷ []) ≡ suc (length xs)
+pub pushed_length : {A : Type 0} (xs : List A) (x : A) → length (xs ++ x ∷ []) ≡ suc (length xs)
 pushed_length [] x = refl
 pushed_length (y ∷ ys) x = ap suc (pushed_length ys x)
 

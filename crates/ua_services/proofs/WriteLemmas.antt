@@ -1,11 +1,9 @@
 -- Values that are written, shown and kept one by one, and what all of them come to.
-use Rattle.std.proofs.Common.{◌≡◌, ℕ, Bool, true, false, cond, List, [], ◌∷◌, ◌++◌, map, Option, Some, None, Result, Ok, Err, refl, sym, ap, ◌∙◌}
-use Rattle.std.proofs.lemmas.Grind.{flat_map-append}
+use Rattle.std.proofs.Common.{◌≡◌, Bool, true, false, cond, List, [], ◌∷◌, ◌++◌, Option, Some, None, Result, Ok, Err, refl, sym, ap, ◌∙◌}
 use Rattle.std.proofs.lemmas.List.{append-nil}
 use Rattle.std.proofs.lemmas.List.Sums.{fold-append}
 use Rattle.std.specs.BTreeMap.{is_at}
 use Rattle.std.specs.Map.{lookup, set_value}
-use Rattle.std.specs.Ordering.{nat_cmp}
 use Rattle.ua_types.specs.NodeIdOrder.{id_cmp}
 use Rattle.ua_types.specs.declared.moment.Moment.{Moment}
 use Rattle.ua_types.specs.declared.node_id.NodeId.{NodeId}
@@ -18,11 +16,9 @@ use Rattle.ua_space.specs.declared.node.Node.{Node}
 use Rattle.ua_space.specs.declared.node.NodeDetails.{NodeDetails}
 use Rattle.ua_space.specs.declared.node.NodeDetails.TheVariants as details
 use Rattle.ua_history.specs.Histories.{HistoryState, kept}
-use Rattle.ua_monitored_items.specs.Item.{takes, queued, seen}
-use Rattle.ua_monitored_items.specs.ItemTables.{NumberedItems, item_at, is_on, numbers_on, with_found}
-use Rattle.ua_monitored_items.specs.Items.{ItemsState, Visit, visited, sampled_items, visits_of, all_visits}
-use Rattle.ua_monitored_items.specs.declared.item.Item.{Item}
-use Rattle.ua_monitored_items.proofs.Tables.{where_set}
+use Rattle.ua_monitored_items.specs.ItemTables.{NumberedItems}
+use Rattle.ua_monitored_items.specs.Items.{ItemsState}
+use Rattle.ua_monitored_items.specs.Releases.{shown_one}
 use Rattle.ua_read_write.specs.Writing.{Writing, stored_of, judged, accepted_of, status_of, nodes_after, changes_of, with_one, nothing_written, write_of}
 use Rattle.ua_read_write.specs.declared.writing.Change.{Change}
 use Rattle.ua_services.specs.ServicesState.{Services}
@@ -72,34 +68,10 @@ same_kept a b same h (c ∷ cs) =
     let one : with_change a h c ≡ with_change b h c = ap (λ (is : Bool). cond is (kept h c.node_id c.value) h) (same c.node_id) in
     ap (λ (g : HistoryState). all_kept a g cs) one ∙ same_kept a b same (with_change b h c) cs
 
--- ---- an item that sees a value stays on its node
-
-same_seen : (id : NodeId) (v : DataValue) (item : Item) (b : Bool) → is_on id (cond b (queued v item) item) ≡ is_on id item
-same_seen id v item true = refl
-same_seen id v item false = refl
-
-same_visited : (id : NodeId) (v : Visit) (items : NumberedItems) → numbers_on id (visited items v) ≡ numbers_on id items
-same_visited id v items = by (item_at v.number items) refl
-  where
-    by : (found : Option Item) → item_at v.number items ≡ found → numbers_on id (with_found v.number (seen v.value) items found) ≡ numbers_on id items
-    by None e = refl
-    by (Some item) e = where_set (is_on id) v.number item (seen v.value item) (same_seen id v.value item (takes item v.value)) items e
-
-same_sampled : (id : NodeId) (visits : List Visit) (items : NumberedItems) → numbers_on id (sampled_items items visits) ≡ numbers_on id items
-same_sampled id [] items = refl
-same_sampled id (v ∷ vs) items = same_sampled id vs (visited items v) ∙ same_visited id v items
+-- ---- the items see one value after the other
 
 sampled_more : (items : ItemsState) (changes : List Change) (c : Change) → sampled items (changes ++ c ∷ []) ≡ sampled (sampled items changes) (c ∷ [])
-sampled_more items changes c =
-    let visits = all_visits items.items changes in
-    let last = all_visits items.items (c ∷ []) in
-    let now = sampled_items items.items visits in
-    let visit : ℕ → Visit = λ number. record { number = number; value = c.value } in
-    let same : all_visits now (c ∷ []) ≡ last =
-    ap (λ (ns : List ℕ). map visit ns ++ []) (same_sampled c.node_id visits items.items)
-    in
-    ap (λ (es : NumberedItems). record items { items = es })
-    (ap (sampled_items items.items) (flat_map-append (visits_of items.items) changes (c ∷ [])) ∙ fold-append visited items.items visits last ∙ sym (ap (sampled_items now) same))
+sampled_more items changes c = ap (λ (es : NumberedItems). record items { items = es }) (fold-append shown_one items.items changes (c ∷ []))
 
 -- ---- one more value
 
@@ -122,9 +94,9 @@ module _ (clock : Moment) (state : Services) (before : Writing) (w : WriteValue)
       let c : Change = record { node_id = w.node_id; value = stored_of clock w.value } in
       let nodes = with_value c.node_id c.value before.nodes in
       let kept = kept_more nodes c (λ q. same_historizing c.node_id q c.value before.nodes) in
-      let shown = sym (sampled_more state.items before.changed c) in
+      let seen = sym (sampled_more state.items before.changed c) in
       ap (λ (h : HistoryState). record (with_accepted (with_written state before) c) { history = h }) kept
-      ∙ ap (λ (items : ItemsState). record (with_written state (after (Ok done))) { items = items }) shown
+      ∙ ap (λ (items : ItemsState). record (with_written state (after (Ok done))) { items = items }) seen
 
 pub written_more : (clock : Moment) (state : Services) (values : List WriteValue) (w : WriteValue)
     → with_judged (with_written state (write_of clock state.space.nodes values)) (accepted_of clock w (judged (write_of clock state.space.nodes values).nodes w))

@@ -27,6 +27,7 @@ pub mod DeleteMonitoredItems
 pub mod CreateSubscription
 pub mod ModifySubscription
 pub mod SetPublishingMode
+pub mod SetTriggering
 pub mod DeleteSubscriptions
 pub mod Publish
 pub mod Republish

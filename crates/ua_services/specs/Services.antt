@@ -8,7 +8,7 @@ use Rattle.ua_messages.specs.Bodies.{message_id_of, message_of}
 use Rattle.ua_messages.specs.GetEndpoints.{get_endpoints_request_reading}
 use Rattle.ua_messages.specs.Headers.{request_header_reading}
 use Rattle.ua_messages.specs.declared.headers.RequestHeader.{RequestHeader}
-use Rattle.ua_messages.specs.declared.type_ids.TheConstants.{GET_ENDPOINTS_REQUEST, CREATE_SESSION_REQUEST, ACTIVATE_SESSION_REQUEST, CLOSE_SESSION_REQUEST, READ_REQUEST, WRITE_REQUEST, BROWSE_REQUEST, BROWSE_NEXT_REQUEST, HISTORY_READ_REQUEST, CREATE_MONITORED_ITEMS_REQUEST, MODIFY_MONITORED_ITEMS_REQUEST, SET_MONITORING_MODE_REQUEST, DELETE_MONITORED_ITEMS_REQUEST, CREATE_SUBSCRIPTION_REQUEST, MODIFY_SUBSCRIPTION_REQUEST, SET_PUBLISHING_MODE_REQUEST, DELETE_SUBSCRIPTIONS_REQUEST, PUBLISH_REQUEST, REPUBLISH_REQUEST}
+use Rattle.ua_messages.specs.declared.type_ids.TheConstants.{GET_ENDPOINTS_REQUEST, CREATE_SESSION_REQUEST, ACTIVATE_SESSION_REQUEST, CLOSE_SESSION_REQUEST, READ_REQUEST, WRITE_REQUEST, BROWSE_REQUEST, BROWSE_NEXT_REQUEST, HISTORY_READ_REQUEST, CREATE_MONITORED_ITEMS_REQUEST, MODIFY_MONITORED_ITEMS_REQUEST, SET_MONITORING_MODE_REQUEST, SET_TRIGGERING_REQUEST, DELETE_MONITORED_ITEMS_REQUEST, CREATE_SUBSCRIPTION_REQUEST, MODIFY_SUBSCRIPTION_REQUEST, SET_PUBLISHING_MODE_REQUEST, DELETE_SUBSCRIPTIONS_REQUEST, PUBLISH_REQUEST, REPUBLISH_REQUEST}
 use Rattle.server_messages.specs.declared.request.Request.{Request}
 use Rattle.server_messages.specs.declared.setting.Setting.{Setting}
 use Rattle.ua_service_messages.specs.Browsing.{browse_request_reading, browse_next_request_reading}
@@ -18,12 +18,13 @@ use Rattle.ua_service_messages.specs.Writing.{write_request_reading}
 use Rattle.ua_service_messages.specs.Sessions.{create_session_request_reading, activate_session_request_reading, close_session_request_reading}
 use Rattle.ua_subscription_messages.specs.MonitoredItems.{create_monitored_items_request_reading, modify_monitored_items_request_reading, set_monitoring_mode_request_reading, delete_monitored_items_request_reading}
 use Rattle.ua_subscription_messages.specs.Publishing.{publish_request_reading, republish_request_reading}
+use Rattle.ua_subscription_messages.specs.Triggering.{set_triggering_request_reading}
 use Rattle.ua_subscription_messages.specs.Subscriptions.{create_subscription_request_reading, modify_subscription_request_reading, set_publishing_mode_request_reading, delete_subscriptions_request_reading}
-use Rattle.ua_subscriptions.specs.Ending.{without_conn}
+use Rattle.ua_subscriptions.specs.Ending.{without_conn, shut_down}
 use Rattle.ua_subscriptions.specs.Named.{is_none}
 use Rattle.ua_subscriptions.specs.Ranks.{is_any_due}
 use Rattle.ua_subscriptions.specs.SubscriptionCalls.{SubscriptionsState}
-use Rattle.ua_session.specs.Sessions.{ticked, ended_by}
+use Rattle.ua_session.specs.Sessions.{ticked, ended_by, all_ended}
 use Rattle.ua_services.specs.ActivateSession.{activate_session_meaning}
 use Rattle.ua_services.specs.Browse.{browse_meaning}
 use Rattle.ua_services.specs.BrowseNext.{browse_next_meaning}
@@ -44,7 +45,8 @@ use Rattle.ua_services.specs.Republish.{republish_meaning}
 use Rattle.ua_services.specs.SessionServing.{with_sessions}
 use Rattle.ua_services.specs.SetMonitoringMode.{set_monitoring_mode_meaning}
 use Rattle.ua_services.specs.SetPublishingMode.{set_publishing_mode_meaning}
-use Rattle.ua_services.specs.SubServing.{and_then, all_timed_out, timers_met}
+use Rattle.ua_services.specs.SetTriggering.{set_triggering_meaning}
+use Rattle.ua_services.specs.SubServing.{world_at, told_alone, and_then, all_timed_out, timers_met}
 use Rattle.ua_services.specs.Write.{write_meaning}
 use Rattle.ua_services.specs.ServicesState.{Services}
 use Rattle.ua_services.specs.Serving.{Serving, faulted, served_by}
@@ -69,6 +71,7 @@ picked_of_items setting caller token body state id =
     if id == CREATE_MONITORED_ITEMS_REQUEST then served_in_session create_monitored_items_meaning setting caller token state (message_of create_monitored_items_request_reading body)
     else if id == MODIFY_MONITORED_ITEMS_REQUEST then served_in_session modify_monitored_items_meaning setting caller token state (message_of modify_monitored_items_request_reading body)
     else if id == SET_MONITORING_MODE_REQUEST then served_in_session set_monitoring_mode_meaning setting caller token state (message_of set_monitoring_mode_request_reading body)
+    else if id == SET_TRIGGERING_REQUEST then served_in_session set_triggering_meaning setting caller token state (message_of set_triggering_request_reading body)
     else if id == DELETE_MONITORED_ITEMS_REQUEST then served_in_session delete_monitored_items_meaning setting caller token state (message_of delete_monitored_items_request_reading body)
     else picked_of_subscriptions setting caller token body state id
 
@@ -105,6 +108,12 @@ ticking_of setting state =
 abbrev pub is_idle : Setting → Services → Bool
 is_idle setting state =
     is_none (ended_by state.sessions setting.clock) && not (is_any_due setting.clock state.subs.table.subscriptions) && not (is_some state.subs.halted)
+
+-- the server ends: all subscriptions do, the Publish requests that wait are answered, and no session is left
+unfoldable pub shutting_of : Setting → Services → Serving
+shutting_of setting state =
+    let s = told_alone state (shut_down (world_at setting state)) in
+    record s { state = with_sessions s.state (all_ended s.state.sessions) }
 
 -- what is kept once a connection is closed or gone: the Publish requests that came by it wait no more
 abbrev pub forgotten : Services → ℕ → Services

@@ -5,8 +5,8 @@ use Rattle.ua_types.specs.declared.status.TheConstants.Status as status
 use Rattle.ua_binary.specs.Scalars.{status_encoding}
 use Rattle.ua_messages.specs.declared.type_ids.TheConstants.{SET_MONITORING_MODE_RESPONSE}
 use Rattle.server_messages.specs.declared.setting.Setting.{Setting}
-use Rattle.ua_monitored_items.specs.Items.{all_served, mode_one}
 use Rattle.ua_monitored_items.specs.Kinds.{mode_numbered}
+use Rattle.ua_monitored_items.specs.Releases.{modes_set}
 use Rattle.ua_monitored_items.specs.declared.kinds.Mode.{Mode}
 use Rattle.ua_subscription_messages.specs.declared.monitored_items.SetMonitoringModeRequest.{SetMonitoringModeRequest}
 use Rattle.ua_services.specs.ItemServing.{Itemed, items_refused, items_answered, items_called}
@@ -19,7 +19,7 @@ abbrev pub moded_all : Setting → Caller → ℕ → Services → List ℕ → 
 moded_all setting caller number state numbers None = items_refused setting caller state status.BAD_MONITORING_MODE_INVALID
 moded_all setting caller number state numbers (Some mode) =
     items_answered status_encoding SET_MONITORING_MODE_RESPONSE setting caller
-    (all_served (mode_one state.space.nodes setting.clock number mode) state.items numbers)
+    (modes_set state.space.nodes setting.clock number mode state.items numbers)
 
 abbrev pub moded_listed : Setting → Caller → ℕ → Services → Option Mode → Result (List ℕ) Status → Itemed
 moded_listed setting caller number state mode (Ok numbers) = moded_all setting caller number state numbers mode

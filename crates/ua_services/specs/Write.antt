@@ -8,7 +8,8 @@ use Rattle.ua_service_messages.specs.declared.writing.WriteValue.{WriteValue}
 use Rattle.ua_space.specs.Nodes.{Nodes}
 use Rattle.ua_space.specs.Values.{variable_at, with_value}
 use Rattle.ua_space.specs.Variables.{VariableAttributes}
-use Rattle.ua_monitored_items.specs.Items.{ItemsState, all_visits, sampled_items}
+use Rattle.ua_monitored_items.specs.Items.{ItemsState}
+use Rattle.ua_monitored_items.specs.Releases.{shown}
 use Rattle.ua_history.specs.Histories.{HistoryState, kept}
 use Rattle.ua_read_write.specs.Writing.{Writing, write_of}
 use Rattle.ua_read_write.specs.declared.writing.Change.{Change}
@@ -34,7 +35,7 @@ all_kept nodes h changes = fold (with_change nodes) h changes
 
 -- the items see the values that were accepted, one after the other
 abbrev pub sampled : ItemsState → List Change → ItemsState
-sampled items changes = record items { items = sampled_items items.items (all_visits items.items changes) }
+sampled items changes = record items { items = shown items.items changes }
 
 -- the nodes with their new values, the histories with those that are kept, and the items that saw them
 abbrev pub with_written : Services → Writing → Services

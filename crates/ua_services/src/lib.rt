@@ -43,6 +43,7 @@ mod services;
 mod session_service;
 mod set_monitoring_mode;
 mod set_publishing_mode;
+mod set_triggering;
 mod status_results;
 mod sub_serving;
 mod unserved;

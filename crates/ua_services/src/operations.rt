@@ -6,8 +6,9 @@ ghost use Rattle.ua_services.specs.Operations.{count_judged, operations_of};
 
 use ua_types::{Array, Config, Status};
 
-// Whether a request may ask for so many things.
-fn judge(config: &Config, count: usize) -> Result<(), Status>
+/// Whether a request may ask for so many things: `BAD_NOTHING_TO_DO` for none, `BAD_TOO_MANY_OPERATIONS` for more than
+/// the configuration's `operations`.
+pub(crate) fn judge(config: &Config, count: usize) -> Result<(), Status>
     ensures { result ≡ count_judged config.now count }
 {
     if count == 0 {

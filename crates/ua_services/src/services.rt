@@ -3,7 +3,7 @@
 ghost use Rattle.std.specs.Prelude.{◌≡◌, true, IsOk};
 ghost use Rattle.ua_services.specs.Serving.{Answers, Serves};
 ghost use Rattle.ua_services.specs.ServicesState.{no_services_used};
-ghost use Rattle.ua_services.specs.Services.{serving_of, picked, ticking_of, is_idle, forgotten};
+ghost use Rattle.ua_services.specs.Services.{serving_of, picked, ticking_of, is_idle, shutting_of, forgotten};
 
 use crate::activate_session::ActivateSession;
 use crate::browse::Browse;
@@ -26,7 +26,8 @@ use crate::service::{Service, refuse};
 use crate::session_service::SessionService;
 use crate::set_monitoring_mode::SetMonitoringMode;
 use crate::set_publishing_mode::SetPublishingMode;
-use crate::sub_serving::{end_sessions, fire_timers, joined};
+use crate::set_triggering::SetTriggering;
+use crate::sub_serving::{end_sessions, fire_timers, joined, served_alone};
 use crate::unserved::Unserved;
 use crate::write::Write;
 use server_messages::{Halt, Request, Served, Setting};
@@ -157,6 +158,9 @@ impl Services {
             type_ids::SET_MONITORING_MODE_REQUEST => {
                 SetMonitoringMode::take(alloc, setting, caller, token, body, self)
             }
+            type_ids::SET_TRIGGERING_REQUEST => {
+                SetTriggering::take(alloc, setting, caller, token, body, self)
+            }
             type_ids::DELETE_MONITORED_ITEMS_REQUEST => {
                 DeleteMonitoredItems::take(alloc, setting, caller, token, body, self)
             }
@@ -194,6 +198,18 @@ impl Services {
         let served = end_sessions(alloc, setting, ended.as_slice(), self)?;
         let more = fire_timers(alloc, setting, self)?;
         Ok(joined(served, more)?)
+    }
+
+    /// Ends all that is served: the subscriptions end, by rising number, the Publish requests that wait are answered
+    /// `BAD_SHUTDOWN`, and no session is left.
+    #[tactic(auto, unfolding(crate::specs::Services::shutting_of))]
+    pub fn shut_down(&mut self, alloc: Global, setting: &Setting) -> Result<Served, Halt>
+        ensures { Serves result self.new (shutting_of setting.now self.old) }
+    {
+        let items = &mut self.items;
+        let answered = self.subs.shut_down(alloc, items, setting.clock)?;
+        self.sessions.end_all(alloc);
+        Ok(served_alone(answered))
     }
 
     /// Drops what a connection that is closed or gone still waited for: its Publish requests. Takes no memory.

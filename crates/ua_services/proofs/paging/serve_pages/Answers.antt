@@ -1,4 +1,4 @@
-use Rattle.std.proofs.Common.{◌≡◌, ◌∙◌, ◌++◌, Ok, Err, length, arith, ap, refl, sym, subst}
+use Rattle.std.proofs.Common.{◌≡◌, ◌∙◌, ◌++◌, Ok, length, arith, ap, refl, subst}
 use Rattle.std.specs.List.{flat_map}
 use Rattle.ua_types.proofs.NumberMaps.{lent_found, given_back}
 use Rattle.ua_messages.specs.Diagnostics.{diagnostic_infos_encoding}
