@@ -18,7 +18,7 @@ returns c =
     let world = shut_down (world_at c.args.setting.now state) in
     ap (λ sessions. given (with_sessions (with_subs state subs items) sessions) c.served_alone.result) c.end_all.ensures
     ∙ ap (λ (g : Given). let ended : Given = record g { state = with_sessions g.state (all_ended state.sessions) } in ended)
-      (told_gives state world c.in_ok-answered.answered subs items c.served_alone.result c.in_ok-answered.ensures.serves c.served_alone.ensures)
+    (told_gives state world c.in_ok-answered.answered subs items c.served_alone.result c.in_ok-answered.ensures.serves c.served_alone.ensures)
 
 pub returns-in_err-answered : goal.returns-in_err-answered
 returns-in_err-answered c =
