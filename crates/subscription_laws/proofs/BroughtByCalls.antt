@@ -10,7 +10,7 @@ use Rattle.ua_subscriptions.specs.declared.call.Call.TheVariants as call
 use Rattle.ua_subscriptions.specs.declared.publish_call.PublishCall.{PublishCall}
 use Rattle.ua_subscriptions.specs.declared.ranks.Rank.{Rank}
 use Rattle.ua_subscriptions.specs.declared.session_part.TimeoutNote.{TimeoutNote}
-use Rattle.ua_subscriptions.specs.Ending.{session_ended}
+use Rattle.ua_subscriptions.specs.Ending.{session_ended, shut_down}
 use Rattle.ua_subscriptions.specs.Making.{modified, republished, timed}
 use Rattle.ua_subscriptions.specs.Named.{named_all, deleted}
 use Rattle.ua_subscriptions.specs.Publishing.{acknowledged_all, note_of, asked_by, met_by_best, answered_to, answered_by, with_results, published}
@@ -84,6 +84,7 @@ one_answers r (Move.SetMode clock session numbers enabled) k = ran_none r (said 
 one_answers r (Move.Delete clock session numbers) k = ran_none r (said r.subs (deleted session (world_of r.subs r.items clock) numbers))
 one_answers r (Move.Republish clock session number wanted) k = ran_none r (said r.subs (republished session number wanted (world_of r.subs r.items clock)))
 one_answers r (Move.EndSession clock session deleting) k = ran_none r (told r.subs (session_ended session deleting (world_of r.subs r.items clock)))
+one_answers r (Move.Shutdown clock) k = ran_none r (told r.subs (shut_down (world_of r.subs r.items clock)))
 one_answers r (Move.Gone conn) k = none_answered r.replies
 one_answers r (Move.Items clock number asked) k = by (vars_found number r.items r.subs.table)
   where

@@ -10,7 +10,7 @@ use Rattle.ua_state_table.specs.declared.state.State.{State}
 use Rattle.ua_state_table.specs.declared.state.State.TheVariants.{Closed, Normal, Late, KeepAlive}
 use Rattle.ua_state_table.specs.declared.vars.Vars.{Vars}
 use Rattle.ua_subscriptions.specs.declared.call.Call.{Call}
-use Rattle.ua_subscriptions.specs.declared.call.Call.TheVariants.{Create, Publish, Timer, Modify, SetMode, Republish, Delete, Items, SessionEnd}
+use Rattle.ua_subscriptions.specs.declared.call.Call.TheVariants.{Create, Publish, Timer, Modify, SetMode, Republish, Delete, Items, SessionEnd, Shutdown}
 use Rattle.ua_subscriptions.specs.Calls.{event_of}
 use Rattle.ua_subscriptions.specs.Ranks.{waits_in}
 use Rattle.subscription_laws.proofs.Remains.{leaves}
@@ -97,6 +97,7 @@ plain_none v (Republish false) e = refl
 plain_none v Delete e = refl
 plain_none v (SessionEnd true) e = refl
 plain_none v (SessionEnd false) e = refl
+plain_none v Shutdown e = refl
 
 -- no other call but the end of its session makes it leave that
 pub plain_stays : (v : Vars) (call : Call) → is_plain call ≡ true → is_end call ≡ false → leaves (chosen v (event_of call)) ≡ false
@@ -114,6 +115,7 @@ plain_stays v (Republish true) e f = refl
 plain_stays v (Republish false) e f = refl
 plain_stays v Delete e f = refl
 plain_stays v (SessionEnd deleting) e f = absurd (cc)
+plain_stays v Shutdown e f = refl
 
 pub publish_stays : (s : State) (a : Answers) → s ≢ Closed → leaves (publish_row s a) ≡ false
 publish_stays Normal a live = by a.enabled_more

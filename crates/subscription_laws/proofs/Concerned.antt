@@ -1,6 +1,7 @@
 -- One row fires for each subscription that a call concerns.
 use Rattle.std.proofs.Common.{◌≡◌, ℕ, ◌+◌, Bool, true, false, cond, List, [], ◌∷◌, ◌++◌, map, append_assoc, append-nil, fold, Option, Some, None, Ok, Err, refl, sym, ap, ◌∙◌}
 use Rattle.std.proofs.lemmas.List.{map-append}
+use Rattle.std.specs.Map.{keys_of}
 use Rattle.std.specs.Option.{is_some, ok_or}
 use Rattle.ua_types.specs.Configuration.{Configuration}
 use Rattle.ua_types.specs.declared.moment.Moment.{Moment}
@@ -18,7 +19,7 @@ use Rattle.ua_subscriptions.specs.declared.session_part.TimeoutNote.{TimeoutNote
 use Rattle.ua_subscriptions.specs.declared.settings.Settings.{Settings}
 use Rattle.ua_subscriptions.specs.declared.subscription.Subscription.{Subscription}
 use Rattle.ua_subscriptions.specs.Calls.{event_of}
-use Rattle.ua_subscriptions.specs.Ending.{session_ended}
+use Rattle.ua_subscriptions.specs.Ending.{session_ended, shut_down}
 use Rattle.ua_subscriptions.specs.Firing.{before_by, before_of, vars_in, fired}
 use Rattle.ua_subscriptions.specs.Making.{revised_of, kept_at, modified, republished, refused_one, added}
 use Rattle.ua_subscriptions.specs.Named.{Outcome, outcome, is_own, own_met, named_one, named_all, all_refused, has_none, deleted}
@@ -172,6 +173,10 @@ ended_told session deleting w =
     let ns = (part_at session w.table.sessions).numbers in
     none_refused session status.BAD_SESSION_CLOSED (all_met (call.SessionEnd deleting) w ns) ∙ all_told (call.SessionEnd deleting) (λ c. refl) ns w
 
+shut_told : (w : World) → told (shut_down w) ≡ told w ++ each_concerned call.Shutdown w (keys_of w.table.subscriptions)
+unfolding shut_down
+shut_told w = all_told call.Shutdown (λ c. refl) (keys_of w.table.subscriptions) w
+
 -- ---- any calls
 
 -- a subscription whose items were asked for something is met at the variables that it had before
@@ -204,6 +209,7 @@ one_told r (Move.Republish clock session number wanted) = behind r (said r.subs 
 one_told r (Move.Timers clock) = behind r (told_of r.subs (all_met call.Timer (world_of r.subs r.items clock) (due_numbers clock r.subs.table.subscriptions))) _
     (all_told call.Timer (λ c. refl) (due_numbers clock r.subs.table.subscriptions) (world_of r.subs r.items clock))
 one_told r (Move.EndSession clock session deleting) = behind r (told_of r.subs (session_ended session deleting (world_of r.subs r.items clock))) _ (ended_told session deleting (world_of r.subs r.items clock))
+one_told r (Move.Shutdown clock) = behind r (told_of r.subs (shut_down (world_of r.subs r.items clock))) _ (shut_told (world_of r.subs r.items clock))
 one_told r (Move.Gone conn) = sym (append-nil (map concern_of r.rows))
 one_told r (Move.Items clock number asked) = served_told r clock number asked (subscription_at number r.subs.table.subscriptions) refl
 one_told r (Move.Show changed) = sym (append-nil (map concern_of r.rows))

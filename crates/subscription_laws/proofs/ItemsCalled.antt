@@ -1,6 +1,7 @@
 -- The items come by their calls.
 use Rattle.std.proofs.Common.{◌≡◌, ℕ, ◌+◌, Bool, true, false, cond, List, [], ◌∷◌, ◌++◌, append_assoc, fold, Option, Some, None, Result, Ok, Err, refl, sym, ap, ◌∙◌}
 use Rattle.std.proofs.lemmas.List.Sums.{fold-append}
+use Rattle.std.specs.Map.{keys_of}
 use Rattle.std.specs.Option.{is_some, ok_or}
 use Rattle.ua_types.specs.Configuration.{Configuration}
 use Rattle.ua_types.specs.declared.moment.Moment.{Moment}
@@ -25,7 +26,7 @@ use Rattle.ua_subscriptions.specs.declared.settings.Settings.{Settings}
 use Rattle.ua_subscriptions.specs.declared.subscriptions.Created.{Created}
 use Rattle.ua_subscriptions.specs.declared.subscription.Subscription.{Subscription}
 use Rattle.ua_subscriptions.specs.Calls.{event_of}
-use Rattle.ua_subscriptions.specs.Ending.{session_ended}
+use Rattle.ua_subscriptions.specs.Ending.{session_ended, shut_down}
 use Rattle.ua_subscriptions.specs.Firing.{before_of, row_of, fired}
 use Rattle.ua_subscriptions.specs.Making.{revised_of, kept_at, modified, republished, refused_one, added}
 use Rattle.ua_subscriptions.specs.Named.{Outcome, outcome, is_own, own_met, named_one, named_all, all_refused, has_none, deleted}
@@ -248,6 +249,10 @@ ended_is session deleting w =
     let ns = (part_at session w.table.sessions).numbers in
     none_refused session status.BAD_SESSION_CLOSED (all_met (call.SessionEnd deleting) w ns) ∙ all_are (call.SessionEnd deleting) ns w
 
+shut_is : (w : World) → (shut_down w).items ≡ after_calls w.items (all_calls call.Shutdown w (keys_of w.table.subscriptions))
+unfolding shut_down
+shut_is w = all_are call.Shutdown (keys_of w.table.subscriptions) w
+
 -- ---- any calls
 
 served_is : (r : Ran) (clock : Moment) (number : ℕ) (asked : ItemsCall) (o : Option Vars) → (items_ran clock number asked r o).items ≡ after_calls r.items (served_calls number asked o)
@@ -263,6 +268,7 @@ one_is r (Move.Publish clock session asked acks) = published_is session asked ac
 one_is r (Move.Republish clock session number wanted) = republished_is session number wanted (world_of r.subs r.items clock)
 one_is r (Move.Timers clock) = all_are call.Timer (due_numbers clock r.subs.table.subscriptions) (world_of r.subs r.items clock)
 one_is r (Move.EndSession clock session deleting) = ended_is session deleting (world_of r.subs r.items clock)
+one_is r (Move.Shutdown clock) = shut_is (world_of r.subs r.items clock)
 one_is r (Move.Gone conn) = refl
 one_is r (Move.Items clock number asked) = served_is r clock number asked (vars_found number r.items r.subs.table)
 one_is r (Move.Show changed) = refl

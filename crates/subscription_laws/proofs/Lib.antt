@@ -37,3 +37,4 @@ pub mod WithinBounds
 pub mod TellingRows
 pub mod TellingRuns
 pub mod DueFirst
+pub mod ShutdownLemmas

@@ -1,7 +1,7 @@
 -- Messages are numbered without a gap, and what is kept is what was made.
 use Rattle.std.proofs.Common.{◌≡◌, Bool, true, false, List, [], ◌∷◌, drop, refl, cond, ap, ◌∙◌, subst}
 use Rattle.ua_state_table.specs.declared.row.RowId.{RowId}
-use Rattle.ua_state_table.specs.declared.row.RowId.TheVariants.{C1, C2, N1, N2, N3, N4, N5, N6, L1, L2, L3, K1, K2, K3, K4, K5, G1, G2, G3, G4, G5, G6, G7, G8, G9}
+use Rattle.ua_state_table.specs.declared.row.RowId.TheVariants.{C1, C2, N1, N2, N3, N4, N5, N6, L1, L2, L3, K1, K2, K3, K4, K5, G1, G2, G3, G4, G5, G6, G7, G8, G9, G10}
 use Rattle.ua_subscriptions.specs.declared.publish_call.PublishCall.{PublishCall}
 use Rattle.subscription_laws.specs.Numbering.{note_made, rest_made, notes_made, AreNumbered, last_number, all_kept, IsMade, messages_of, begins_or_ends}
 use Rattle.ua_subscriptions.specs.Scenes.{Scene, Noting, sending, noting, note_sent, rest_sent, notes_sent, with_asked, kept_with, dequeued, started, life_reset, row_done}
@@ -93,3 +93,4 @@ row_makes G3 c h = record { numbered = tt; number = refl; kept = refl }
 row_makes G4 c h = record { numbered = tt; number = refl; kept = refl }
 row_makes G7 c h = record { numbered = tt; number = refl; kept = refl }
 row_makes G9 c h = record { numbered = tt; number = refl; kept = refl }
+row_makes G10 c h = absurd (cc)

@@ -1,5 +1,6 @@
 -- Each value that was sent stands in one message that a row made.
 use Rattle.std.proofs.Common.{◌≡◌, ℕ, Bool, true, false, cond, List, [], ◌∷◌, ◌++◌, append_assoc, append-nil, drop, Option, Some, None, refl, sym, ap, ◌∙◌, subst}
+use Rattle.std.specs.Map.{keys_of}
 use Rattle.ua_types.specs.Configuration.{Configuration}
 use Rattle.ua_values.specs.declared.data_value.DataValue.{DataValue}
 use Rattle.ua_subscription_messages.specs.declared.publishing.SubscriptionAcknowledgement.{SubscriptionAcknowledgement}
@@ -142,12 +143,14 @@ published_told session asked acks w =
 abbrev is_ending : Call → Bool
 is_ending call.Delete = true
 is_ending (call.SessionEnd deleting) = true
+is_ending call.Shutdown = true
 is_ending asked = false
 
 ending_row : (v : Vars) (asked : Call) (c : Scene) → is_ending asked ≡ true → taken_from c.items (row_calls (chosen v (event_of asked)) c) ≡ []
 ending_row v call.Delete c e = refl
 ending_row v (call.SessionEnd true) c e = refl
 ending_row v (call.SessionEnd false) c e = refl
+ending_row v call.Shutdown c e = refl
 ending_row v asked c e = absurd (cc)
 
 ending_met : (asked : Call) → is_ending asked ≡ true → (w : World) (n : ℕ) → taken_from w.items (met_calls w n asked) ≡ []
@@ -198,6 +201,7 @@ one_told r (Move.Timers clock) = all_told call.Timer (due_numbers clock r.subs.t
 one_told r (Move.Delete clock session numbers) = none_told _ (ending_named session call.Delete refl numbers (world_of r.subs r.items clock))
 one_told r (Move.EndSession clock session deleting) =
     none_told _ (ending_all (call.SessionEnd deleting) refl (part_at session r.subs.table.sessions).numbers (world_of r.subs r.items clock))
+one_told r (Move.Shutdown clock) = none_told _ (ending_all call.Shutdown refl (keys_of r.subs.table.subscriptions) (world_of r.subs r.items clock))
 one_told r (Move.Items clock number asked) = none_told _ (served_none r number asked (vars_found number r.items r.subs.table))
 one_told r move = tt
 

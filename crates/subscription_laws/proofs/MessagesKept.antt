@@ -3,12 +3,12 @@ use Rattle.std.proofs.Common.{◌≡◌, ◌≢◌, ◌⊎◌, inl, inr, ℕ, �
 use Rattle.std.proofs.lemmas.Bool.{false≢true}
 use Rattle.ua_state_table.specs.Chosen.{Answers, answers, timer_row, publish_row, chosen}
 use Rattle.ua_state_table.specs.declared.row.RowId.{RowId}
-use Rattle.ua_state_table.specs.declared.row.RowId.TheVariants.{C2, N1, N2, L1, L2, G5, G6, G8}
+use Rattle.ua_state_table.specs.declared.row.RowId.TheVariants.{C2, N1, N2, L1, L2, G5, G6, G8, G10}
 use Rattle.ua_state_table.specs.declared.state.State.{State}
 use Rattle.ua_state_table.specs.declared.state.State.TheVariants.{Closed, Normal, Late, KeepAlive}
 use Rattle.ua_state_table.specs.declared.vars.Vars.{Vars}
 use Rattle.ua_subscriptions.specs.declared.call.Call.{Call}
-use Rattle.ua_subscriptions.specs.declared.call.Call.TheVariants.{Create, Publish, Timer, Modify, SetMode, Republish, Delete, Items, SessionEnd}
+use Rattle.ua_subscriptions.specs.declared.call.Call.TheVariants.{Create, Publish, Timer, Modify, SetMode, Republish, Delete, Items, SessionEnd, Shutdown}
 use Rattle.ua_subscriptions.specs.declared.messages.KeptMessage.{KeptMessage}
 use Rattle.ua_subscriptions.specs.declared.subscription.Subscription.{Subscription}
 use Rattle.ua_subscriptions.specs.Calls.{event_of}
@@ -74,6 +74,7 @@ begins_none v Delete e = refl
 begins_none v (Items before) e = refl
 begins_none v (SessionEnd true) e = refl
 begins_none v (SessionEnd false) e = refl
+begins_none v Shutdown e = refl
 
 -- a row that ends its subscription makes no message
 record Ends (r : RowId) (c : Scene) : Type 0 where
@@ -86,6 +87,7 @@ ends C2 c h e = absurd (cc)
 ends G5 c h e = record { closed = refl; none = refl }
 ends G6 c h e = record { closed = refl; none = refl }
 ends G8 c h e = record { closed = refl; none = refl }
+ends G10 c h e = record { closed = refl; none = refl }
 ends r c h e = absurd (cc)
 
 -- ---- one more row

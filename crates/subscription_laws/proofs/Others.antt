@@ -529,6 +529,7 @@ request_stays r (Move.EndSession clock own deleting) session k given is =
     stays_as session own r (moved r (Move.EndSession clock own deleting)) is (ended_apart own r.subs.table r.items deleting (world_of r.subs r.items clock) (lists_its r own k) (begins_apart r clock own k))
 request_stays r (Move.Items clock number asked) session k given is = served_stays r clock session number asked k is (vars_found number r.items r.subs.table)
 request_stays r (Move.Timers clock) session k given is = absurd is
+request_stays r (Move.Shutdown clock) session k given is = absurd is
 request_stays r (Move.Gone conn) session k given is = absurd is
 request_stays r (Move.Show changed) session k given is = absurd is
 

@@ -1,7 +1,7 @@
 -- No Publish request is answered that didn't come, and none twice.
-use Rattle.std.proofs.Common.{◌≡◌, ℕ, ◌+◌, ◌≤◌, arith, Bool, true, false, cond, List, [], ◌∷◌, ◌++◌, map, filter, drop, fold, nat_le, length, Option, Some, None, Result, Ok, Err, unwrap_or, refl, ap}
+use Rattle.std.proofs.Common.{◌≡◌, ℕ, ◌+◌, ◌≤◌, arith, Bool, true, false, cond, List, [], ◌∷◌, ◌++◌, map, filter, drop, fold, nat_le, length, Option, Some, None, Result, Ok, Err, unwrap_or, refl, ap, ◌∙◌}
 use Rattle.std.specs.BTreeMap.{insert_entry, is_at}
-use Rattle.std.specs.Map.{lookup, set_value, remove_entry}
+use Rattle.std.specs.Map.{keys_of, values_of, lookup, set_value, remove_entry}
 use Rattle.std.specs.Option.{is_some, ok_or}
 use Rattle.std.specs.Ordering.{nat_cmp, match_ordering}
 use Rattle.std.specs.declared.cmp.Ordering.{Ordering}
@@ -29,7 +29,7 @@ use Rattle.ua_subscriptions.specs.declared.subscriptions.Created.{Created}
 use Rattle.ua_subscriptions.specs.declared.subscription.Subscription.{Subscription}
 use Rattle.ua_subscriptions.specs.declared.round.Round.{Round}
 use Rattle.ua_subscriptions.specs.Answers.{refused_of}
-use Rattle.ua_subscriptions.specs.Ending.{came_by_other, session_ended, entry_without_conn}
+use Rattle.ua_subscriptions.specs.Ending.{came_by_other, session_ended, all_requests, shut_down, entry_without_conn}
 use Rattle.ua_subscriptions.specs.Firing.{row_of, fired}
 use Rattle.ua_subscriptions.specs.Making.{revised_of, kept_at, modified, republished, timed, refused_one, refused_scene, added, added_scene, with_number}
 use Rattle.ua_subscriptions.specs.Named.{Outcome, outcome, is_own, own_met, named_one, named_all, all_refused, has_none, deleted, without_requests}
@@ -287,6 +287,22 @@ module _ (such : Name → Bool) where
       let g : such_waiting such (remove_entry (is_at (nat_cmp session)) u.table.sessions) + such_calls such (part_at session u.table.sessions).requests ≤ such_waiting such u.table.sessions = removed_less session u.table.sessions in
       omega (arith, h, k, g)
 
+  -- all that wait are answered
+  all_waiting : (sessions : List (ℕ × SessionSubscriptions)) → such_calls such (all_requests (values_of sessions)) ≡ such_waiting such sessions
+  all_waiting [] = refl
+  all_waiting (e ∷ sessions) = calls-append e.1.requests (all_requests (values_of sessions)) ∙ ap (λ (n : ℕ). such_calls such e.1.requests + n) (all_waiting sessions)
+
+  shut_less : (w : World) → of_world (shut_down w) ≤ of_world w
+  unfolding shut_down
+  shut_less w =
+      let v = all_met call.Shutdown w (keys_of w.table.subscriptions) in
+      let calls = all_requests (values_of v.table.sessions) in
+      let h : of_world v ≤ of_world w = all_met_less call.Shutdown (keys_of w.table.subscriptions) w in
+      let sum : such_answers such (v.round.replies ++ map (refused_of v.round.clock status.BAD_SHUTDOWN) calls) ≡ such_answers such v.round.replies + such_answers such (map (refused_of v.round.clock status.BAD_SHUTDOWN) calls) =
+      answers-append v.round.replies (map (refused_of v.round.clock status.BAD_SHUTDOWN) calls) in
+      let same : such_answers such (map (refused_of v.round.clock status.BAD_SHUTDOWN) calls) ≡ such_waiting such v.table.sessions = all_same v.round.clock status.BAD_SHUTDOWN calls ∙ all_waiting v.table.sessions in
+      omega (arith, h, sum, same)
+
   fewer_calls : (conn : ℕ) (calls : List PublishCall) → such_calls such (filter (came_by_other conn) calls) ≤ such_calls such calls
   fewer_calls conn [] = omega arith
   fewer_calls conn (x ∷ xs) = by (came_by_other conn x) (fewer_calls conn xs)
@@ -431,6 +447,9 @@ module _ (such : Name → Bool) where
   one_less r (Move.EndSession clock session deleting) =
       told_less r clock (session_ended session deleting (world_of r.subs r.items clock)) 0
       (let h : of_world (session_ended session deleting (world_of r.subs r.items clock)) ≤ of_world (world_of r.subs r.items clock) = ended_less session deleting (world_of r.subs r.items clock) in omega (arith, h))
+  one_less r (Move.Shutdown clock) =
+      told_less r clock (shut_down (world_of r.subs r.items clock)) 0
+      (let h : of_world (shut_down (world_of r.subs r.items clock)) ≤ of_world (world_of r.subs r.items clock) = shut_less (world_of r.subs r.items clock) in omega (arith, h))
   one_less r (Move.Gone conn) = let h : such_waiting such (map (entry_without_conn conn) r.subs.table.sessions) ≤ such_waiting such r.subs.table.sessions = gone_less conn r.subs.table.sessions in omega (arith, h)
   one_less r (Move.Items clock number asked) = items_less r clock number asked (vars_found number r.items r.subs.table)
   one_less r (Move.Show changed) = omega arith

@@ -10,7 +10,7 @@ use Rattle.ua_state_table.specs.StateTable.{actions_of}
 use Rattle.ua_state_table.specs.declared.action.Action.{Action}
 use Rattle.ua_state_table.specs.declared.action.Action.TheVariants.{Initialise}
 use Rattle.ua_state_table.specs.declared.row.RowId.{RowId}
-use Rattle.ua_state_table.specs.declared.row.RowId.TheVariants.{C1, C2, N1, N2, N3, N4, N5, N6, L1, L2, L3, K1, K2, K3, K4, K5, G1, G2, G3, G4, G5, G6, G7, G8, G9}
+use Rattle.ua_state_table.specs.declared.row.RowId.TheVariants.{C1, C2, N1, N2, N3, N4, N5, N6, L1, L2, L3, K1, K2, K3, K4, K5, G1, G2, G3, G4, G5, G6, G7, G8, G9, G10}
 use Rattle.ua_subscriptions.specs.Firing.{vars_in}
 use Rattle.subscription_laws.specs.Histories.{started_by, counts_after, no_counts, counted_for, counts_at, sets_life, life_after, life_for, life_at}
 use Rattle.ua_subscriptions.specs.Scenes.{Scene, row_done}
@@ -103,6 +103,7 @@ same_count G5 c e = refl
 same_count G6 c e = refl
 same_count G8 c e = refl
 same_count G9 c e = refl
+same_count G10 c e = refl
 same_count r c e = absurd (cc)
 
 pub life_of_row : (c : Scene) (f : Fired) (counts : Counts) (lifetime : ℕ) → f.after.lifetime ≡ (row_done f.row c).subscription.lifetime → (sets_life f.row ≡ false → lifetime ≡ c.subscription.lifetime_count) →

@@ -3,7 +3,7 @@ use Rattle.std.proofs.Common.{◌≡◌, ℕ, ◌&&◌, Bool, true, false, List,
 use Rattle.std.specs.Option.{is_some}
 use Rattle.ua_state_table.specs.Steady.{AreFair, AreRevised}
 use Rattle.ua_state_table.specs.declared.row.RowId.{RowId}
-use Rattle.ua_state_table.specs.declared.row.RowId.TheVariants.{C1, C2, N1, N2, N3, N4, N5, N6, L1, L2, L3, K1, K2, K3, K4, K5, G1, G2, G3, G4, G5, G6, G7, G8, G9}
+use Rattle.ua_state_table.specs.declared.row.RowId.TheVariants.{C1, C2, N1, N2, N3, N4, N5, N6, L1, L2, L3, K1, K2, K3, K4, K5, G1, G2, G3, G4, G5, G6, G7, G8, G9, G10}
 use Rattle.ua_monitored_items.specs.Items.{is_available}
 use Rattle.ua_subscriptions.specs.declared.publish_call.PublishCall.{PublishCall}
 use Rattle.ua_subscriptions.specs.Scenes.{Scene, Noting, sending, noting, note_sent, rest_sent, notes_sent, with_asked, dequeued, started, life_reset, row_done}
@@ -150,3 +150,4 @@ fair G6 c = silent G6 c refl
 fair G7 c = silent G7 c refl
 fair G8 c = silent G8 c refl
 fair G9 c = silent G9 c refl
+fair G10 c = silent G10 c refl

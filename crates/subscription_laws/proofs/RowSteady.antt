@@ -7,7 +7,7 @@ use Rattle.ua_state_table.specs.StateTable.{fires, next_of}
 use Rattle.ua_state_table.specs.Steady.{IsSteady}
 use Rattle.ua_state_table.specs.declared.event.TableEvent.{TableEvent}
 use Rattle.ua_state_table.specs.declared.row.RowId.{RowId}
-use Rattle.ua_state_table.specs.declared.row.RowId.TheVariants.{C1, C2, N1, N2, N3, N4, N5, N6, L1, L2, L3, K1, K2, K3, K4, K5, G1, G2, G3, G4, G5, G6, G7, G8, G9}
+use Rattle.ua_state_table.specs.declared.row.RowId.TheVariants.{C1, C2, N1, N2, N3, N4, N5, N6, L1, L2, L3, K1, K2, K3, K4, K5, G1, G2, G3, G4, G5, G6, G7, G8, G9, G10}
 use Rattle.ua_state_table.specs.declared.state.State.{State}
 use Rattle.ua_state_table.specs.declared.state.State.TheVariants.{Closed, Normal, Late, KeepAlive}
 use Rattle.ua_state_table.proofs.OneRow.{one_row}
@@ -46,6 +46,7 @@ row_link G6 c live asked = absurd (live refl)
 row_link G7 c live asked = link_G7 c
 row_link G8 c live asked = absurd (live refl)
 row_link G9 c live asked = link_G9 c
+row_link G10 c live asked = absurd (live refl)
 
 pub row_stays_steady : (c : Scene) (counts : Counts) (e : TableEvent) (r : RowId) → IsSteady (standing_in c.round.own c counts) → fits c.subscription.state e ≡ true → fires (standing_in c.round.own c counts).vars e ≡ r ∷ [] →
     next_of r c.subscription.state ≢ Closed → (enqueues r ≡ true → IsAsked c) → IsSteady (standing_in c.round.own (row_done r c) (row_counts r c counts))

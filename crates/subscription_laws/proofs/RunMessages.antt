@@ -3,7 +3,7 @@ use Rattle.std.proofs.Common.{◌≡◌, ◌≢◌, ◌⊎◌, inl, inr, ℕ, �
 use Rattle.std.proofs.lemmas.Bool.{eqb-true}
 use Rattle.std.specs.Prelude.{find}
 use Rattle.std.specs.BTreeMap.{insert_entry, is_at}
-use Rattle.std.specs.Map.{set_value, remove_entry}
+use Rattle.std.specs.Map.{keys_of, set_value, remove_entry}
 use Rattle.std.specs.Option.{is_some, ok_or}
 use Rattle.std.specs.Ordering.{nat_cmp}
 use Rattle.ua_types.specs.Configuration.{Configuration}
@@ -26,7 +26,7 @@ use Rattle.ua_subscriptions.specs.declared.settings.Settings.{Settings}
 use Rattle.ua_subscriptions.specs.declared.subscriptions.Created.{Created}
 use Rattle.ua_subscriptions.specs.declared.subscription.Subscription.{Subscription}
 use Rattle.ua_subscriptions.specs.Calls.{event_of}
-use Rattle.ua_subscriptions.specs.Ending.{session_ended, without_session, without_conn}
+use Rattle.ua_subscriptions.specs.Ending.{session_ended, without_session, shut_down, without_conn}
 use Rattle.ua_subscriptions.specs.Firing.{before_of, row_of, fired}
 use Rattle.ua_subscriptions.specs.Messages.{has_number}
 use Rattle.ua_subscriptions.specs.Making.{revised_of, kept_at, modified, republished, refused_one, added, bytes_of, kept_by, with_number}
@@ -73,6 +73,7 @@ silent_row v call.Delete c e = refl
 silent_row v (call.Items before) c e = refl
 silent_row v (call.SessionEnd true) c e = refl
 silent_row v (call.SessionEnd false) c e = refl
+silent_row v call.Shutdown c e = refl
 
 silent_none : (w : World) (n : ℕ) (asked : Call) → is_silent asked ≡ true → met_made w n asked ≡ []
 silent_none w n asked e = by (subscription_at n w.table.subscriptions)
@@ -170,6 +171,11 @@ ended_numbered made ms session deleting w h =
     let ns = (part_at session w.table.sessions).numbers in
     without_numbered made ms session (all_refused session status.BAD_SESSION_CLOSED (all_met (call.SessionEnd deleting) w ns))
     (refused_numbered made ms session status.BAD_SESSION_CLOSED (all_met (call.SessionEnd deleting) w ns) (all_silent made ms (call.SessionEnd deleting) refl ns w h))
+
+-- nothing of any session is left
+shut_down_numbered : (made : ℕ) (ms : List Made) (w : World) → IsMessaged made ms w.table → IsMessaged made ms (shut_down w).table
+unfolding shut_down
+shut_down_numbered made ms w h = record { rising = tt; numbered = (all_silent made ms call.Shutdown refl (keys_of w.table.subscriptions) w h).numbered; notes = λ k. tt }
 
 -- ---- one that is made
 
@@ -398,6 +404,7 @@ one_run ms r (Move.SetMode clock session numbers enabled) h =
 one_run ms r (Move.Delete clock session numbers) h = none_more _ ms _ (deleted_numbered r.subs.made ms session numbers (world_of r.subs r.items clock) h)
 one_run ms r (Move.Republish clock session number wanted) h = none_more _ ms _ (republished_numbered r.subs.made ms session number wanted (world_of r.subs r.items clock) h)
 one_run ms r (Move.EndSession clock session deleting) h = none_more _ ms _ (ended_numbered r.subs.made ms session deleting (world_of r.subs r.items clock) h)
+one_run ms r (Move.Shutdown clock) h = none_more _ ms _ (shut_down_numbered r.subs.made ms (world_of r.subs r.items clock) h)
 one_run ms r (Move.Gone conn) h = none_more r.subs.made ms (without_conn conn r.subs.table) (gone_run ms r conn h)
 one_run ms r (Move.Items clock number asked) h = none_more _ ms _ (items_run ms r clock number asked (vars_found number r.items r.subs.table) h)
 one_run ms r (Move.Show changed) h = none_more r.subs.made ms r.subs.table h

@@ -1,25 +1,29 @@
 -- Any calls keep what every call keeps.
-use Rattle.std.proofs.Common.{◌≡◌, ℕ, ◌+◌, arith, Bool, true, false, cond, List, [], ◌∷◌, append-nil, fold, Option, Some, None, Result, refl, sym, subst}
+use Rattle.std.proofs.Common.{◌≡◌, ℕ, ◌+◌, arith, Bool, true, false, cond, List, [], ◌∷◌, ◌++◌, append-nil, fold, Option, Some, None, Result, refl, sym, subst}
+use Rattle.std.specs.Map.{keys_of}
 use Rattle.ua_types.specs.Configuration.{Configuration}
 use Rattle.ua_types.specs.declared.moment.Moment.{Moment}
 use Rattle.ua_types.specs.declared.status.Status.{Status}
 use Rattle.server_messages.specs.declared.fired.Fired.{Fired}
 use Rattle.ua_state_table.specs.declared.vars.Vars.{Vars}
+use Rattle.ua_monitored_items.specs.Items.{ItemsState}
 use Rattle.ua_monitored_items.specs.Moves as item_moves
 use Rattle.ua_subscriptions.specs.declared.call.Call.TheVariants as call
 use Rattle.ua_subscriptions.specs.declared.settings.Settings.{Settings}
 use Rattle.ua_subscriptions.specs.declared.subscriptions.Created.{Created}
 use Rattle.ua_subscriptions.specs.declared.subscription.Subscription.{Subscription}
-use Rattle.subscription_laws.specs.Calm.{ListsItsOwn, AreLists, IsCalm}
-use Rattle.ua_subscriptions.specs.Ending.{session_ended}
+use Rattle.subscription_laws.specs.Calm.{ListsItsOwn, AreLists, AreReached, IsCalm}
+use Rattle.ua_subscriptions.specs.Ending.{session_ended, shut_down}
 use Rattle.ua_subscriptions.specs.Making.{modified, republished, timed}
 use Rattle.ua_subscriptions.specs.Named.{Outcome, named_all, deleted}
 use Rattle.ua_subscriptions.specs.Publishing.{published}
 use Rattle.ua_subscriptions.specs.Ranks.{due_numbers}
 use Rattle.subscription_laws.specs.Runs.{ItemsCall, on_items, Move, Ran, start, ran_by, items_ran, moved, run}
 use Rattle.ua_subscriptions.specs.SubscriptionCalls.{world_of, Said, said, told, is_full, refused, created_one, created}
-use Rattle.ua_subscriptions.specs.Tables.{World, vars_by, part_of, subscription_at}
+use Rattle.ua_subscriptions.specs.Tables.{TableState, no_table, World, all_met, vars_by, part_of, subscription_at}
 use Rattle.ua_subscriptions.specs.Subscriptions.{vars_of}
+use Rattle.ua_subscriptions.proofs.Shutdowns.{nothing_left}
+use Rattle.subscription_laws.specs.Histories.{AreLawful}
 use Rattle.subscription_laws.proofs.Keeping.{IsKept, all_plain}
 use Rattle.subscription_laws.proofs.KeepingItems.{shown_calm, served_apart, served_kept}
 use Rattle.subscription_laws.proofs.KeepingMade.{refused_one_kept, added_kept}
@@ -27,6 +31,12 @@ use Rattle.subscription_laws.proofs.KeepingNamed.{all_named_kept, modified_kept,
 use Rattle.subscription_laws.proofs.KeepingParts.{parts_calm, parts_own, parts_within, conn_fewer}
 use Rattle.subscription_laws.proofs.KeepingPublish.{published_kept}
 use Rattle.subscription_laws.proofs.Settling.{none_behind}
+
+-- what holds of a table, where so many were made
+record IsTableKept (made : ℕ) (rows : List Fired) (items : ItemsState) (t : TableState) : Type 0 where
+  calm : IsCalm rows t items
+  own : (session : ℕ) → ListsItsOwn t session
+  within : AreLists made t
 
 -- what holds after any calls
 pub record IsRunKept (r : Ran) : Type 0 where
@@ -100,6 +110,35 @@ gone_run r conn k =
       within = parts_within r.rows r.subs.table r.items _ f r.subs.made k.within;
     }
 
+-- where nothing is left, there is nothing to keep but what was done
+no_table_kept : (made : ℕ) (rows : List Fired) (items : ItemsState) → AreLawful rows → AreReached items → IsTableKept made rows items no_table
+no_table_kept made rows items lawful reached = record {
+  calm = record {
+    listed = record { subscriptions = tt; sessions = tt; listed = λ n s k found own. absurd (cc) };
+    steady = λ n s found. absurd (cc);
+    lives = λ n s found. absurd (cc);
+    lawful = lawful;
+    reached = reached;
+  };
+  own = λ k n listed. absurd (cc);
+  within = record { within = λ n k listed. absurd (cc); rising = λ k. tt };
+}
+
+-- the server shuts down
+shut_down_done : (made : ℕ) (past : List Fired) (w : World) → IsKept None made past (all_met call.Shutdown w (keys_of w.table.subscriptions)) → IsTableKept made (past ++ (shut_down w).round.rows) (shut_down w).items no_table
+unfolding shut_down
+shut_down_done made past w v = no_table_kept made _ _ v.calm.lawful v.calm.reached
+
+shut_down_kept : (made : ℕ) (past : List Fired) (w : World) → IsKept None made past w → IsTableKept made (past ++ (shut_down w).round.rows) (shut_down w).items (shut_down w).table
+shut_down_kept made past w k =
+    subst (IsTableKept made (past ++ (shut_down w).round.rows) (shut_down w).items) (sym (nothing_left w))
+    (shut_down_done made past w (all_plain None made past call.Shutdown refl refl (keys_of w.table.subscriptions) w k))
+
+shut_down_run : (r : Ran) (clock : Moment) → IsRunKept r → IsRunKept (moved r (Move.Shutdown clock))
+shut_down_run r clock k =
+    let after = shut_down_kept r.subs.made r.rows (world_of r.subs r.items clock) (enter r clock k) in
+    record { calm = after.calm; own = after.own; within = after.within }
+
 pub one_run : (r : Ran) (m : Move) → IsRunKept r → IsRunKept (moved r m)
 one_run r (Move.Create clock session settings enabled) k = created_run r clock session settings enabled k
 one_run r (Move.Modify clock session number settings) k =
@@ -118,6 +157,7 @@ one_run r (Move.Timers clock) k =
     (all_plain None r.subs.made r.rows call.Timer refl refl (due_numbers clock r.subs.table.subscriptions) (world_of r.subs r.items clock) (enter r clock k))
 one_run r (Move.EndSession clock session deleting) k =
     leave_told r (session_ended session deleting (world_of r.subs r.items clock)) (ended_kept session r.subs.made r.rows deleting (world_of r.subs r.items clock) (enter r clock k))
+one_run r (Move.Shutdown clock) k = shut_down_run r clock k
 one_run r (Move.Gone conn) k = gone_run r conn k
 one_run r (Move.Items clock number asked) k = items_found r clock number asked k (subscription_at number r.subs.table.subscriptions) refl
 one_run r (Move.Show changed) k = record { calm = shown_calm r.rows r.subs.table r.items changed k.calm; own = k.own; within = k.within }

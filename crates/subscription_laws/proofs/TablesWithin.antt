@@ -5,7 +5,7 @@ use Rattle.std.specs.Prelude.{◌^◌, filter, map, nat_lt, nat_le}
 use Rattle.std.specs.BTreeMap.{is_at}
 use Rattle.std.specs.BTreeSet.{insert_key}
 use Rattle.std.specs.List.{AllByRecursion, position}
-use Rattle.std.specs.Map.{set_value, remove_entry}
+use Rattle.std.specs.Map.{keys_of, set_value, remove_entry}
 use Rattle.std.specs.Option.{is_some, ok_or}
 use Rattle.std.specs.Ordering.{nat_cmp, match_ordering}
 use Rattle.std.specs.Set.{remove_key}
@@ -35,7 +35,7 @@ use Rattle.ua_subscriptions.specs.declared.session_part.TimeoutNote.{TimeoutNote
 use Rattle.ua_subscriptions.specs.declared.settings.Bounds.{Bounds}
 use Rattle.ua_subscriptions.specs.declared.settings.Settings.{Settings}
 use Rattle.ua_subscriptions.specs.declared.subscription.Subscription.{Subscription}
-use Rattle.ua_subscriptions.specs.Ending.{came_by_other, entry_without_conn, session_ended}
+use Rattle.ua_subscriptions.specs.Ending.{came_by_other, entry_without_conn, session_ended, shut_down}
 use Rattle.ua_subscriptions.specs.Firing.{is_closed, row_of, fired}
 use Rattle.ua_subscriptions.specs.Making.{revised_of, refused_one, added, with_number, kept_at, modified, republished, timed}
 use Rattle.ua_subscriptions.specs.Messages.{number_after, has_number}
@@ -407,7 +407,7 @@ module _ (b : Bounds) (some : 1 ≤ b.publish_queue) where
         };
       })
 
-  -- ---- the end of a session, and of a connection
+  -- ---- the end of a session, of the server, and of a connection
 
   session_ended_bounded : (session : ℕ) (deleting : Bool) (w : World) → WorldBounded w → WorldBounded (session_ended session deleting w)
   unfolding session_ended
@@ -416,6 +416,12 @@ module _ (b : Bounds) (some : 1 ≤ b.publish_queue) where
       let v = all_met (call.SessionEnd deleting) w ns in
       let after = all_refused_bounded session status.BAD_SESSION_CLOSED v (all_met_bounded (call.SessionEnd deleting) ns w h) in
       record { bounds = after.bounds; table = record { sessions = entries_removed EachPart (is_at (nat_cmp session)) _ after.table.sessions; subscriptions = after.table.subscriptions } }
+
+  shut_down_bounded : (w : World) → WorldBounded w → WorldBounded (shut_down w)
+  unfolding shut_down
+  shut_down_bounded w h =
+      let after = all_met_bounded call.Shutdown (keys_of w.table.subscriptions) w h in
+      record { bounds = after.bounds; table = record { sessions = tt; subscriptions = after.table.subscriptions } }
 
   without_conn_bounded : (conn : ℕ) (sessions : List (ℕ × SessionSubscriptions)) → AllByRecursion EachPart sessions → AllByRecursion EachPart (map (entry_without_conn conn) sessions)
   without_conn_bounded conn [] h = tt
@@ -488,6 +494,8 @@ module _ (b : Bounds) (some : 1 ≤ b.publish_queue) where
       leave_told r (timed (world_of r.subs r.items clock)) h (all_met_bounded call.Timer (due_numbers clock r.subs.table.subscriptions) (world_of r.subs r.items clock) (enter r r.items clock h))
   one_bounded r (Move.EndSession clock session deleting) h =
       leave_told r (session_ended session deleting (world_of r.subs r.items clock)) h (session_ended_bounded session deleting (world_of r.subs r.items clock) (enter r r.items clock h))
+  one_bounded r (Move.Shutdown clock) h =
+      leave_told r (shut_down (world_of r.subs r.items clock)) h (shut_down_bounded (world_of r.subs r.items clock) (enter r r.items clock h))
   one_bounded r (Move.Gone conn) h = record {
     bounds = h.bounds;
     table = record { sessions = without_conn_bounded conn r.subs.table.sessions h.table.sessions; subscriptions = h.table.subscriptions };

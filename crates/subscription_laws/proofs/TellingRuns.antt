@@ -1,7 +1,7 @@
 -- Whatever is called, what is answered is told.
 use Rattle.std.proofs.Common.{◌≡◌, ℕ, Bool, true, false, ◌||◌, cond, List, [], ◌∷◌, ◌++◌, map, drop, fold, Option, Some, None, Ok, Err, refl, sym, ap, ◌∙◌, subst, unwrap_or, ◌+◌}
 use Rattle.std.specs.BTreeMap.{is_at}
-use Rattle.std.specs.Map.{lookup}
+use Rattle.std.specs.Map.{keys_of, values_of, lookup}
 use Rattle.std.specs.Option.{is_some, ok_or}
 use Rattle.std.specs.Ordering.{nat_cmp}
 use Rattle.ua_types.specs.Configuration.{Configuration}
@@ -24,7 +24,7 @@ use Rattle.ua_subscriptions.specs.declared.settings.Settings.{Settings}
 use Rattle.ua_subscriptions.specs.declared.subscription.Subscription.{Subscription}
 use Rattle.ua_subscriptions.specs.Answers.{refused_of, published_of}
 use Rattle.ua_subscriptions.specs.Calls.{event_of}
-use Rattle.ua_subscriptions.specs.Ending.{session_ended}
+use Rattle.ua_subscriptions.specs.Ending.{session_ended, all_requests, shut_down}
 use Rattle.ua_subscriptions.specs.Firing.{before_of, fired}
 use Rattle.ua_subscriptions.specs.Making.{revised_of, kept_at, modified, republished, refused_one, added}
 use Rattle.ua_subscriptions.specs.Messages.{timeout_message}
@@ -40,7 +40,7 @@ use Rattle.subscription_laws.specs.Calm.{is_listed}
 use Rattle.subscription_laws.specs.Messaging.{Made, met_made, all_made, best_made, asked_made, unless_noted, published_made, moved_made, run_made}
 use Rattle.subscription_laws.specs.Runs.{on_items, Move, Ran, start, ran_by, items_ran, moved, run}
 use Rattle.subscription_laws.specs.Tellings as tellings
-use Rattle.subscription_laws.specs.Tellings.{Telling, answer_of, messages_in, refused_told, row_told, told_by, met_told, all_told, best_told, asked_told, published_told, waiting_told, if_none_left, moved_told, run_told, AreInSequence}
+use Rattle.subscription_laws.specs.Tellings.{Telling, answer_of, messages_in, refused_told, row_told, told_by, met_told, all_told, best_told, asked_told, published_told, waiting_told, all_waiting_told, if_none_left, moved_told, run_told, AreInSequence}
 use Rattle.subscription_laws.proofs.BroughtMessages.{timer_gives, asked_given, calm_given}
 use Rattle.subscription_laws.proofs.Entries.{at_itself, set_here}
 use Rattle.subscription_laws.proofs.Keeping.{IsKept, scene_at}
@@ -119,6 +119,7 @@ silent_told v call.Delete c e = refl
 silent_told v (call.Items before) c e = refl
 silent_told v (call.SessionEnd true) c e = refl
 silent_told v (call.SessionEnd false) c e = refl
+silent_told v call.Shutdown c e = refl
 
 silent_replies : (v : Vars) (asked : Call) (c : Scene) → is_silent asked ≡ true → (row_done (chosen v (event_of asked)) c).round.replies ≡ c.round.replies
 unfolding row_done
@@ -133,6 +134,7 @@ silent_replies v call.Delete c e = refl
 silent_replies v (call.Items before) c e = refl
 silent_replies v (call.SessionEnd true) c e = refl
 silent_replies v (call.SessionEnd false) c e = refl
+silent_replies v call.Shutdown c e = refl
 
 silent_fired : (asked : Call) (c : Scene) → c.round.call ≡ asked → is_silent asked ≡ true → (fired c).round.replies ≡ c.round.replies
 unfolding fired
@@ -227,6 +229,19 @@ ended_tells ms session deleting w =
     let v = all_met (call.SessionEnd deleting) w ns in
     from_same ms w.round.replies v.round.replies _ _ (silent_all (call.SessionEnd deleting) refl ns w) (waiting_tells ms session status.BAD_SESSION_CLOSED v)
 
+all_waiting_tells : (ms : List Made) (w : World) → Tells ms w.round.replies (shut_down w).round.replies [] (all_waiting_told status.BAD_SHUTDOWN (all_met call.Shutdown w (keys_of w.table.subscriptions)))
+unfolding shut_down
+all_waiting_tells ms w =
+    let ns = keys_of w.table.subscriptions in
+    let v = all_met call.Shutdown w ns in
+    let calls = all_requests (values_of v.table.sessions) in
+    from_same ms w.round.replies v.round.replies _ _ (silent_all call.Shutdown refl ns w)
+    (record {
+      so = ap (λ (rs : List Reply). v.round.replies ++ rs) (refused_answers v.round.clock status.BAD_SHUTDOWN calls);
+      brings = refused_brings v.round.clock status.BAD_SHUTDOWN calls;
+      sequence = refused_sequence v.round.clock status.BAD_SHUTDOWN calls ms;
+    })
+
 -- ---- any calls
 
 -- a call's answers come behind those of earlier calls
@@ -270,6 +285,9 @@ one_tells ms r (Move.Republish clock session number wanted) k h =
 one_tells ms r (Move.EndSession clock session deleting) k h =
     let w = world_of r.subs r.items clock in
     ran_tells r (told r.subs (session_ended session deleting w)) ms _ _ (ended_tells ms session deleting w)
+one_tells ms r (Move.Shutdown clock) k h =
+    let w = world_of r.subs r.items clock in
+    ran_tells r (told r.subs (shut_down w)) ms _ _ (all_waiting_tells ms w)
 one_tells ms r (Move.Gone conn) k h = tells_none ms r.replies
 one_tells ms r (Move.Items clock number asked) k h = by (vars_found number r.items r.subs.table)
   where

@@ -19,6 +19,7 @@ IsRequestOf session t (Move.Republish clock own number wanted) = own ≡ session
 IsRequestOf session t (Move.EndSession clock own deleting) = own ≡ session
 IsRequestOf session t (Move.Items clock number asked) = is_own t session number ≡ true
 IsRequestOf session t (Move.Timers clock) = ⊥
+IsRequestOf session t (Move.Shutdown clock) = ⊥
 IsRequestOf session t (Move.Gone conn) = ⊥
 IsRequestOf session t (Move.Show changed) = ⊥
 

@@ -1,5 +1,6 @@
 -- Which subscriptions a call concerns, and what comes to each (IEC 62541-4, 5.13: the events of the state table).
 use Rattle.std.specs.Prelude.{◌≡◌, ℕ, ◌+◌, if◌then◌else◌, Bool, true, false, List, [], ◌∷◌, ◌++◌, map, Option, Some, None}
+use Rattle.std.specs.Map.{keys_of}
 use Rattle.std.specs.Option.{is_some}
 use Rattle.ua_types.specs.Configuration.{Configuration}
 use Rattle.server_messages.specs.declared.fired.Fired.{Fired}
@@ -105,6 +106,7 @@ concerned r (Move.Publish clock session asked acks) = published_concerned sessio
 concerned r (Move.Republish clock session number wanted) = own_concerned session (call.Republish (is_some (kept_at number wanted r.subs.table))) (world_of r.subs r.items clock) number
 concerned r (Move.Timers clock) = each_concerned call.Timer (world_of r.subs r.items clock) (due_numbers clock r.subs.table.subscriptions)
 concerned r (Move.EndSession clock session deleting) = each_concerned (call.SessionEnd deleting) (world_of r.subs r.items clock) (part_at session r.subs.table.sessions).numbers
+concerned r (Move.Shutdown clock) = each_concerned call.Shutdown (world_of r.subs r.items clock) (keys_of r.subs.table.subscriptions)
 concerned r (Move.Gone conn) = []
 concerned r (Move.Items clock number asked) = if_live number event.Items (vars_found number r.items r.subs.table)
 concerned r (Move.Show changed) = []

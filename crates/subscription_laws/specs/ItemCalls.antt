@@ -1,6 +1,7 @@
 -- The calls of the items that any calls come to: what clients ask of the items of a subscription, what the rows of
 -- subscriptions take of their items and end of them, and the values that are shown.
 use Rattle.std.specs.Prelude.{◌≡◌, ℕ, List, [], ◌∷◌, ◌++◌, Option, Some, None, if◌then◌else◌}
+use Rattle.std.specs.Map.{keys_of}
 use Rattle.ua_types.specs.Configuration.{Configuration}
 use Rattle.ua_subscription_messages.specs.declared.publishing.SubscriptionAcknowledgement.{SubscriptionAcknowledgement}
 use Rattle.ua_state_table.specs.StateTable.{actions_of}
@@ -110,6 +111,7 @@ calls_of r (Move.Publish clock session asked acks) = published_calls session ask
 calls_of r (Move.Timers clock) = all_calls call.Timer (world_of r.subs r.items clock) (due_numbers clock r.subs.table.subscriptions)
 calls_of r (Move.Delete clock session numbers) = named_calls session call.Delete (world_of r.subs r.items clock) numbers
 calls_of r (Move.EndSession clock session deleting) = all_calls (call.SessionEnd deleting) (world_of r.subs r.items clock) (part_at session r.subs.table.sessions).numbers
+calls_of r (Move.Shutdown clock) = all_calls call.Shutdown (world_of r.subs r.items clock) (keys_of r.subs.table.subscriptions)
 calls_of r (Move.Items clock number asked) = served_calls number asked (vars_found number r.items r.subs.table)
 calls_of r (Move.Show changed) = item_moves.Move.Show changed ∷ []
 calls_of r move = []

@@ -1,7 +1,7 @@
 -- The messages that a row makes, and their numbers (IEC 62541-4, 5.13: SequenceNumber and the retransmission queue).
 use Rattle.std.specs.Prelude.{◌≡◌, ⊤, ℕ, Bool, true, false, List, [], ◌∷◌, drop, fold, if◌then◌else◌}
 use Rattle.ua_state_table.specs.declared.row.RowId.{RowId}
-use Rattle.ua_state_table.specs.declared.row.RowId.TheVariants.{C2, N2, N3, L1, K2, G5, G6, G8}
+use Rattle.ua_state_table.specs.declared.row.RowId.TheVariants.{C2, N2, N3, L1, K2, G5, G6, G8, G10}
 use Rattle.ua_subscriptions.specs.declared.messages.KeptMessage.{KeptMessage}
 use Rattle.ua_subscriptions.specs.declared.publish_call.PublishCall.{PublishCall}
 use Rattle.ua_subscriptions.specs.declared.subscription.Subscription.{Subscription}
@@ -53,4 +53,5 @@ begins_or_ends C2 = true
 begins_or_ends G5 = true
 begins_or_ends G6 = true
 begins_or_ends G8 = true
+begins_or_ends G10 = true
 begins_or_ends r = false

@@ -17,7 +17,7 @@ use Rattle.ua_monitored_items.specs.declared.kinds.Mode.{Mode}
 use Rattle.ua_subscriptions.specs.declared.call.Call.TheVariants as call
 use Rattle.ua_subscriptions.specs.declared.publish_call.PublishCall.{PublishCall}
 use Rattle.ua_subscriptions.specs.declared.settings.Settings.{Settings}
-use Rattle.ua_subscriptions.specs.Ending.{session_ended, without_conn}
+use Rattle.ua_subscriptions.specs.Ending.{session_ended, shut_down, without_conn}
 use Rattle.ua_subscriptions.specs.Making.{modified, republished, timed}
 use Rattle.ua_subscriptions.specs.Named.{named_all, deleted}
 use Rattle.ua_subscriptions.specs.Publishing.{published}
@@ -49,6 +49,7 @@ pub data Move : Type 0 where
   Republish : (clock : Moment) → (session number wanted : ℕ) → Move
   Timers : (clock : Moment) → Move
   EndSession : (clock : Moment) → (session : ℕ) → (deleting : Bool) → Move
+  Shutdown : (clock : Moment) → Move
   Gone : (conn : ℕ) → Move
   Items : (clock : Moment) → (number : ℕ) → ItemsCall → Move
   Show : List Change → Move
@@ -87,6 +88,7 @@ moved r (Move.Publish clock session asked acks) = ran_by r (told r.subs (publish
 moved r (Move.Republish clock session number wanted) = ran_by r (said r.subs (republished session number wanted (world_of r.subs r.items clock)))
 moved r (Move.Timers clock) = ran_by r (told r.subs (timed (world_of r.subs r.items clock)))
 moved r (Move.EndSession clock session deleting) = ran_by r (told r.subs (session_ended session deleting (world_of r.subs r.items clock)))
+moved r (Move.Shutdown clock) = ran_by r (told r.subs (shut_down (world_of r.subs r.items clock)))
 moved r (Move.Gone conn) = let subs : SubscriptionsState = r.subs in record r { subs = record subs { table = without_conn conn subs.table } }
 moved r (Move.Items clock number asked) = items_ran clock number asked r (vars_found number r.items r.subs.table)
 moved r (Move.Show changed) = record r { items = (item_moves.moved r.items (item_moves.Move.Show changed)).state }

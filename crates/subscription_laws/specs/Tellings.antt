@@ -1,6 +1,7 @@
 -- What the answers to Publish requests tell, one after the other (IEC 62541-4, "Publish"): messages with notifications, keep-alives,
 -- notes of time-outs, and faults.
 use Rattle.std.specs.Prelude.{◌≡◌, ⊤, ℕ, Bool, false, nat_le, length, List, [], ◌∷◌, ◌++◌, map, drop, Option, Some, None, if◌then◌else◌}
+use Rattle.std.specs.Map.{keys_of, values_of}
 use Rattle.ua_types.specs.declared.moment.Moment.{Moment}
 use Rattle.ua_types.specs.declared.status.Status.{Status}
 use Rattle.ua_types.specs.declared.status.TheConstants.Status as status
@@ -9,6 +10,7 @@ use Rattle.ua_subscription_messages.specs.declared.publishing.SubscriptionAcknow
 use Rattle.ua_state_table.specs.declared.row.RowId.{RowId}
 use Rattle.ua_state_table.specs.declared.row.RowId.TheVariants.{N1, N2, N3, N4, L1, L2, K1, K2, K3}
 use Rattle.ua_subscriptions.specs.Answers.{number_of, published_of, refused_of}
+use Rattle.ua_subscriptions.specs.Ending.{all_requests}
 use Rattle.ua_subscriptions.specs.Firing.{row_of}
 use Rattle.ua_subscriptions.specs.Messages.{number_after, keep_alive_message, timeout_message}
 use Rattle.ua_subscriptions.specs.Named.{named_all, has_none}
@@ -154,6 +156,10 @@ published_told session asked acks w =
 abbrev pub waiting_told : ℕ → Status → World → List Telling
 waiting_told session code w = map (refused_told w.round.clock code) (part_at session w.table.sessions).requests
 
+-- all requests of all sessions that wait are refused
+abbrev pub all_waiting_told : Status → World → List Telling
+all_waiting_told code w = map (refused_told w.round.clock code) (all_requests (values_of w.table.sessions))
+
 abbrev pub if_none_left : ℕ → World → List Telling
 if_none_left session w = if has_none session w.table then waiting_told session status.BAD_NO_SUBSCRIPTION w else []
 
@@ -164,6 +170,7 @@ moved_told r (Move.Delete clock session numbers) = if_none_left session (named_a
 moved_told r (Move.EndSession clock session deleting) =
     let w = world_of r.subs r.items clock in
     waiting_told session status.BAD_SESSION_CLOSED (all_met (call.SessionEnd deleting) w (part_at session w.table.sessions).numbers)
+moved_told r (Move.Shutdown clock) = all_waiting_told status.BAD_SHUTDOWN (all_met call.Shutdown (world_of r.subs r.items clock) (keys_of r.subs.table.subscriptions))
 moved_told r move = []
 
 -- by any calls

@@ -6,11 +6,13 @@
 //! made, `Answering` the answers that bring them, `Requests` the requests that are answered, `Calm` what always holds, and
 //! `Apartness` what is of other sessions; `ItemCalls` the calls of items that come of any calls, `Fates` and `MessageContents` what
 //! becomes of values and which messages tell them; `Tellings` what the answers tell, and `Bounds` how many there are of each thing.
+//! The module [`shutdowns`] says what is left of all that when the server shuts down: nothing.
 //!
 //! Read docs/SUBSCRIPTIONS.md first, then `specs/Runs`.
 #![tactic(auto)]
 
 pub mod bounds;
+pub mod shutdowns;
 pub mod tellings;
 
 ghost use Rattle.std.specs.Prelude.{◌≡◌, ◌<◌, ◌≤◌, ◌+◌, ℕ, Bool, true, false, List, [], ◌∷◌, ◌++◌, map, is_some, Some, Ok};

@@ -1,0 +1,104 @@
+-- A server's shutdown: what it answers, and what it leaves.
+use Rattle.std.proofs.Common.{◌≡◌, ℕ, Bool, true, false, cond, List, [], ◌∷◌, ◌++◌, map, Option, Some, None, unwrap_or, refl, ap, ◌∙◌}
+use Rattle.std.specs.BTreeMap.{is_at}
+use Rattle.std.specs.Map.{keys_of, values_of, lookup, set_value}
+use Rattle.std.specs.Ordering.{nat_cmp}
+use Rattle.ua_types.specs.Configuration.{Configuration}
+use Rattle.ua_types.specs.declared.moment.Moment.{Moment}
+use Rattle.ua_types.specs.declared.status.TheConstants.Status as status
+use Rattle.server_messages.specs.declared.reply.Reply.{Reply}
+use Rattle.ua_monitored_items.specs.Items.{ItemsState}
+use Rattle.ua_subscriptions.specs.declared.call.Call.TheVariants as call
+use Rattle.ua_subscriptions.specs.declared.publish_call.PublishCall.{PublishCall}
+use Rattle.ua_subscriptions.specs.declared.session_part.SessionSubscriptions.{SessionSubscriptions}
+use Rattle.ua_subscriptions.specs.declared.subscription.Subscription.{Subscription}
+use Rattle.ua_subscriptions.specs.Answers.{refused_of}
+use Rattle.ua_subscriptions.specs.Ending.{all_requests, shut_down}
+use Rattle.ua_subscriptions.specs.Firing.{fired}
+use Rattle.ua_subscriptions.specs.Scenes.{Scene, row_done}
+use Rattle.ua_subscriptions.specs.SubscriptionCalls.{world_of}
+use Rattle.ua_subscriptions.specs.Subscriptions.{no_part}
+use Rattle.ua_subscriptions.specs.Tables.{World, no_table, with_call, without_closed, met_found, met, all_met, part_at, part_of, set_part, subscription_at}
+use Rattle.ua_subscriptions.proofs.Shutdowns.{nothing_left}
+use Rattle.subscription_laws.specs.Runs.{Move, moved, run}
+use Rattle.subscription_laws.proofs.Keeping.{scene_at}
+
+-- ---- its row answers nothing, and takes no request
+
+-- what a round has answered, at which clock, and the requests that wait
+pub record Waiting : Type 0 where
+  pub replies : List Reply
+  pub clock : Moment
+  pub calls : List PublishCall
+
+abbrev those : List Reply → Moment → List PublishCall → Waiting
+those replies clock calls = record { replies = replies; clock = clock; calls = calls }
+
+abbrev waiting : World → Waiting
+waiting w = those w.round.replies w.round.clock (all_requests (values_of w.table.sessions))
+
+-- a session's part with the requests that it had
+same_requests : (k : ℕ) (part : SessionSubscriptions) (sessions : List (ℕ × SessionSubscriptions)) → part.requests ≡ (part_at k sessions).requests →
+    all_requests (values_of (set_value (is_at (nat_cmp k)) sessions part)) ≡ all_requests (values_of sessions)
+same_requests k part [] same = refl
+same_requests k part (e ∷ sessions) same = by (is_at (nat_cmp k) e.0) same (same_requests k part sessions)
+  where
+    rest : List (ℕ × SessionSubscriptions)
+    rest = set_value (is_at (nat_cmp k)) sessions part
+
+    by : (b : Bool) → part.requests ≡ (unwrap_or (cond b (Some e.1) (lookup (is_at (nat_cmp k)) sessions)) no_part).requests →
+        (part.requests ≡ (part_at k sessions).requests → all_requests (values_of rest) ≡ all_requests (values_of sessions)) →
+        all_requests (values_of (cond b ((e.0, part) ∷ sessions) (e ∷ rest))) ≡ e.1.requests ++ all_requests (values_of sessions)
+    by true here more = ap (λ (calls : List PublishCall). calls ++ all_requests (values_of sessions)) here
+    by false here more = ap (λ (calls : List PublishCall). e.1.requests ++ calls) (more here)
+
+same_set : (session : Option ℕ) (part : SessionSubscriptions) (sessions : List (ℕ × SessionSubscriptions)) → part.requests ≡ (part_of session sessions).requests →
+    all_requests (values_of (set_part session sessions part)) ≡ all_requests (values_of sessions)
+same_set None part sessions same = refl
+same_set (Some session) part sessions same = same_requests session part sessions same
+
+-- what a row of a shutdown leaves as it was
+pub record StaysWaiting (before after : Scene) : Type 0 where
+  pub replies : after.round.replies ≡ before.round.replies
+  pub clock : after.round.clock ≡ before.round.clock
+  pub requests : after.part.requests ≡ before.part.requests
+
+row_waits : (w : World) (n : ℕ) (s : Subscription) → StaysWaiting (scene_at w n call.Shutdown s) (fired (scene_at w n call.Shutdown s))
+unfolding fired row_done
+row_waits w n s = record { replies = refl; clock = refl; requests = refl }
+
+same_waiting : (a b : Waiting) → a.replies ≡ b.replies → a.clock ≡ b.clock → a.calls ≡ b.calls → a ≡ b
+same_waiting a b p q r =
+    ap (λ (replies : List Reply). those replies a.clock a.calls) p ∙ ap (λ (clock : Moment). those b.replies clock a.calls) q ∙ ap (λ (calls : List PublishCall). those b.replies b.clock calls) r
+
+one_waits : (w : World) (n : ℕ) → waiting (met w n call.Shutdown) ≡ waiting w
+unfolding met
+one_waits w n = by (subscription_at n w.table.subscriptions)
+  where
+    by : (o : Option Subscription) → waiting (without_closed n (met_found (with_call w.round n call.Shutdown) w.table.subscriptions w.table.sessions w.items o)) ≡ waiting w
+    by None = refl
+    by (Some s) =
+        let stays = row_waits w n s in
+        same_waiting _ _ stays.replies stays.clock (same_set s.session (fired (scene_at w n call.Shutdown s)).part w.table.sessions stays.requests)
+
+all_wait : (ns : List ℕ) (w : World) → waiting (all_met call.Shutdown w ns) ≡ waiting w
+all_wait [] w = refl
+all_wait (n ∷ ns) w = all_wait ns (met w n call.Shutdown) ∙ one_waits w n
+
+-- ---- so all that wait are answered
+
+refused_by : Waiting → List Reply
+refused_by x = x.replies ++ map (refused_of x.clock status.BAD_SHUTDOWN) x.calls
+
+all_refused : (w : World) → (shut_down w).round.replies ≡ w.round.replies ++ map (refused_of w.round.clock status.BAD_SHUTDOWN) (all_requests (values_of w.table.sessions))
+unfolding shut_down refused_by
+all_refused w = ap refused_by (all_wait (keys_of w.table.subscriptions) w)
+
+pub all_are_answered : (config : Configuration) (moves : List Move) (clock : Moment) → let r = run config moves in
+    (moved r (Move.Shutdown clock)).replies ≡ r.replies ++ map (refused_of clock status.BAD_SHUTDOWN) (all_requests (values_of r.subs.table.sessions))
+all_are_answered config moves clock = let r = run config moves in ap (λ (rs : List Reply). r.replies ++ rs) (all_refused (world_of r.subs r.items clock))
+
+-- ---- and nothing is left
+
+pub none_is_left : (config : Configuration) (moves : List Move) (clock : Moment) → (moved (run config moves) (Move.Shutdown clock)).subs.table ≡ no_table
+none_is_left config moves clock = let r = run config moves in nothing_left (world_of r.subs r.items clock)
