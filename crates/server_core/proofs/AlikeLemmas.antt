@@ -32,8 +32,8 @@ record DoesAlike (conn : ℕ) (d e : Done Core Effect) : Type 0 where
   effects : heard conn d.outs ≡ heard conn e.outs
   goes_on : d.goes_on ≡ e.goes_on
 
-abbrev core_of : Setting → Services → Connections → Core
-core_of setting services connections = record { setting = setting; connections = connections; services = services }
+abbrev core_of : Setting → Services → Bool → Connections → Core
+core_of setting services is_shut connections = record { setting = setting; connections = connections; services = services; is_shut = is_shut }
 
 -- ---- effects
 
@@ -55,9 +55,10 @@ heard_lost conn (reply ∷ replies) = by (is_for conn reply) (heard_lost conn re
 
 -- ---- frames
 
-module _ (conn : ℕ) (setting : Setting) (services : Services) where
+-- either may be shut
+module _ (conn : ℕ) (setting : Setting) (services : Services) (first second : Bool) where
   asked_alike : (a b : Connections) (outs : List Out) (found : FrameOutcome) → SeesAlike conn a b →
-      DoesAlike conn (asked_for conn (core_of setting services a) outs found) (asked_for conn (core_of setting services b) outs found)
+      DoesAlike conn (asked_for conn (core_of setting services first a) outs found) (asked_for conn (core_of setting services second b) outs found)
   asked_alike a b outs outcome.Nothing p = record { state = record { setting = refl; sees = p; services = refl }; effects = refl; goes_on = refl }
   asked_alike a b outs outcome.Closed p = record { state = record { setting = refl; sees = p; services = refl }; effects = refl; goes_on = refl }
   asked_alike a b outs (outcome.Request request) p =
@@ -76,33 +77,33 @@ module _ (conn : ℕ) (setting : Setting) (services : Services) where
       }
 
   taken_alike : (a b : Connections) (s t : Taking) → TakesAlike conn s t →
-      DoesAlike conn (handled_by conn (core_of setting services a) s) (handled_by conn (core_of setting services b) t)
+      DoesAlike conn (handled_by conn (core_of setting services first a) s) (handled_by conn (core_of setting services second b) t)
   taken_alike a b s t p =
-      subst (λ (os : List Out). DoesAlike conn (asked_for conn (core_of setting services s.connections) s.outs s.asked) (asked_for conn (core_of setting services t.connections) os t.asked)) p.outs
-      (subst (λ (f : FrameOutcome). DoesAlike conn (asked_for conn (core_of setting services s.connections) s.outs s.asked) (asked_for conn (core_of setting services t.connections) s.outs f)) p.asked
+      subst (λ (os : List Out). DoesAlike conn (asked_for conn (core_of setting services first s.connections) s.outs s.asked) (asked_for conn (core_of setting services second t.connections) os t.asked)) p.outs
+      (subst (λ (f : FrameOutcome). DoesAlike conn (asked_for conn (core_of setting services first s.connections) s.outs s.asked) (asked_for conn (core_of setting services second t.connections) s.outs f)) p.asked
       (asked_alike s.connections t.connections s.outs s.asked p.sees))
 
-  handled_same : (a b : Connections) (frame : Frame) → SeesAlike conn a b → DoesAlike conn (handled conn (core_of setting services a) frame) (handled conn (core_of setting services b) frame)
+  handled_same : (a b : Connections) (frame : Frame) → SeesAlike conn a b → DoesAlike conn (handled conn (core_of setting services first a) frame) (handled conn (core_of setting services second b) frame)
   unfolding handled
   handled_same a b frame p = taken_alike a b (taking_of setting conn a frame) (taking_of setting conn b frame) (taking_alike setting conn a b frame p)
 
-  broken_same : (a b : Connections) (fault : FrameFault) → SeesAlike conn a b → DoesAlike conn (broken conn (core_of setting services a) fault) (broken conn (core_of setting services b) fault)
+  broken_same : (a b : Connections) (fault : FrameFault) → SeesAlike conn a b → DoesAlike conn (broken conn (core_of setting services first a) fault) (broken conn (core_of setting services second b) fault)
   unfolding broken
   broken_same a b fault p =
       let k = break_alike conn a b fault p in
       record { state = record { setting = refl; sees = k.sees; services = refl }; effects = ap (λ (outs : List Out). heard conn (doing outs)) k.outs; goes_on = refl }
 
 -- cores that are alike differ in their connections alone
-same_core : (conn : ℕ) (a b : Core) → IsAlike conn a b → core_of a.setting a.services b.connections ≡ b
-same_core conn a b p = ap (λ (s : Setting). core_of s a.services b.connections) p.setting ∙ ap (λ (k : Services). core_of b.setting k b.connections) p.services
+same_core : (conn : ℕ) (a b : Core) → IsAlike conn a b → core_of a.setting a.services b.is_shut b.connections ≡ b
+same_core conn a b p = ap (λ (s : Setting). core_of s a.services b.is_shut b.connections) p.setting ∙ ap (λ (k : Services). core_of b.setting k b.is_shut b.connections) p.services
 
 handled_alike : (conn : ℕ) (a b : Core) (frame : Frame) → IsAlike conn a b → DoesAlike conn (handled conn a frame) (handled conn b frame)
 handled_alike conn a b frame p =
-    subst (λ (c : Core). DoesAlike conn (handled conn a frame) (handled conn c frame)) (same_core conn a b p) (handled_same conn a.setting a.services a.connections b.connections frame p.sees)
+    subst (λ (c : Core). DoesAlike conn (handled conn a frame) (handled conn c frame)) (same_core conn a b p) (handled_same conn a.setting a.services a.is_shut b.is_shut a.connections b.connections frame p.sees)
 
 broken_alike : (conn : ℕ) (a b : Core) (fault : FrameFault) → IsAlike conn a b → DoesAlike conn (broken conn a fault) (broken conn b fault)
 broken_alike conn a b fault p =
-    subst (λ (c : Core). DoesAlike conn (broken conn a fault) (broken conn c fault)) (same_core conn a b p) (broken_same conn a.setting a.services a.connections b.connections fault p.sees)
+    subst (λ (c : Core). DoesAlike conn (broken conn a fault) (broken conn c fault)) (same_core conn a b p) (broken_same conn a.setting a.services a.is_shut b.is_shut a.connections b.connections fault p.sees)
 
 -- ---- one after the other
 

@@ -9,6 +9,8 @@ use Rattle.std.specs.Ordering.{nat_cmp, eq_by_cmp}
 use Rattle.std.specs.Cmp.{nat_cmp_total}
 use Rattle.ua_types.specs.Configuration.{Configuration, IsConfigured}
 use Rattle.ua_types.specs.declared.moment.Moment.{Moment}
+use Rattle.ua_types.specs.declared.status.Status.{Status}
+use Rattle.ua_types.specs.declared.status.TheConstants.Status as status
 use Rattle.ua_tcp.specs.Agreements.{AreInRange, limits_of}
 use Rattle.ua_tcp.specs.Feeding.{Framing, unfed, framed_of}
 use Rattle.ua_tcp.specs.Pieces.{all_handled, at_end}
@@ -19,6 +21,7 @@ use Rattle.server_messages.specs.declared.setting.Setting.{Setting}
 use Rattle.server_connections.specs.Coherent.{IsAgreedIn, IsAgreedAt, AreAgreed, Talks, IsFresh, AreNumbered, number_in, number_at, is_open_at, is_open}
 use Rattle.server_connections.specs.Connecting.{is_known, is_new, known_as, turned_away, taking_of, break_of, gone}
 use Rattle.server_connections.specs.Delivering.{Delivery, delivery_of}
+use Rattle.server_connections.specs.Shutting.{shut}
 use Rattle.server_connections.specs.declared.frame_outcome.FrameOutcome.{FrameOutcome}
 use Rattle.server_connections.specs.declared.frame_outcome.FrameOutcome.TheVariants as outcome
 use Rattle.server_connections.specs.declared.connection.Connection.{Connection}
@@ -32,24 +35,26 @@ use Rattle.ua_services.specs.declared.services.Services.{Services}
 use Rattle.ua_space.specs.Nodes.{SpaceState}
 use Rattle.ua_services.specs.Owing.{OwesOnly, ServesOnly}
 use Rattle.ua_services.specs.Serving.{Occurrence, Serving}
-use Rattle.ua_services.specs.Services.{serving_of, ticking_of, forgotten}
-use Rattle.ua_services.proofs.OwingLemmas.{serving_only, ticking_only, forgotten_only, owes_more}
+use Rattle.ua_services.specs.Services.{serving_of, ticking_of, shutting_of, forgotten}
+use Rattle.ua_services.proofs.OwingLemmas.{serving_only, ticking_only, shutting_only, shutting_owes_none, forgotten_only, owes_more}
 use Rattle.server_connections.proofs.ApartLemmas.{delivery_apart}
 use Rattle.server_connections.proofs.FittingLemmas.{fits_at}
+use Rattle.server_connections.proofs.ShuttingLemmas.{shut_agreed, shut_closed, shut_fresh, shut_numbered}
 use Rattle.server_connections.proofs.NumberingLemmas.{taking_numbers, break_numbers, sent_numbers, opened_numbers, gone_numbers}
 use Rattle.server_core.specs.Coherent.{IsSound, IsCoherent, AnswersFit, lost_of, LosesNone, reached, IfRuns}
 use Rattle.server_core.specs.Effects.{Effect, Do, Occurred, Lost, doing, occurring, losing, effects_of}
 use Rattle.server_core.specs.Handling.{answered, asked_for, handled, broken, ticked_core}
 use Rattle.server_core.specs.Stepping as stepping
-use Rattle.server_core.specs.Stepping.{Served, served, with_held, fed_to, fed, step_of}
+use Rattle.server_core.specs.Stepping.{Served, served, with_held, fed_to, fed, refusal_of, opened_by, step_of}
 use Rattle.ua_types.specs.Moments.{later}
 use Rattle.server_core.specs.World.{World, Core, opening}
 use Rattle.server_core.specs.declared.event.Event.{Event}
-use Rattle.server_core.specs.declared.event.Event.TheVariants.{Opened, Bytes, Gone, Tick}
+use Rattle.server_core.specs.declared.event.Event.TheVariants.{Opened, Bytes, Gone, Tick, Shutdown}
 use Rattle.server_core.specs.declared.out.StepFault.{StepFault}
 use Rattle.server_core.specs.declared.out.StepFault.TheVariants.{KnownConnection, UnknownConnection}
+use Rattle.server_core.proofs.ApartLemmas.{fed_apart}
 use Rattle.server_core.proofs.Keeping.{frames_keep, end_keeps, Kept, lift}
-use Rattle.server_core.proofs.RoomLemmas.{fed_room, greeted_room, forgotten_room, opening_room}
+use Rattle.server_core.proofs.RoomLemmas.{fed_room, greeted_room, forgotten_room, opening_room, none_within}
 
 -- ---- no reply is lost
 
@@ -204,9 +209,10 @@ everywhere conn here framers opened e f q = by (eq_by_cmp nat_cmp q conn) refl
 
 fed_right_by : (world : World) (conn : ℕ) (piece : List ℕ) (found : Option Framing) → get world.framers conn ≡ found → IsCoherent world →
     len (fed_to world conn piece found).world.framers ≤ (fed_to world conn piece found).world.core.setting.config.connections →
+    (fed_to world conn piece found).world.core.is_shut ≡ world.core.is_shut →
     (let s = fed_to world conn piece found in IsCoherent s.world × LosesNone s.effects)
-fed_right_by world conn piece None e p room = (p, refl)
-fed_right_by world conn piece (Some framing) e p room =
+fed_right_by world conn piece None e p room same = (p, refl)
+fed_right_by world conn piece (Some framing) e p room same =
     let start = world.core.connections in
     let P : Bool → Core → Type 0 = IsLeft conn start in
     let framed = framed_of framing.limit framing.held piece in
@@ -221,13 +227,15 @@ fed_right_by world conn piece (Some framing) e p room =
             ∙ everywhere conn (is_some step.stream.held) (λ (n : ℕ). is_some (get world.framers n)) (is_open step.stream.state.connections) l.0.here
             (λ n apart. p.framers n ∙ sym (l.0.others n apart)) q;
         room = room;
+        shut = λ is. absurd (false≢true (sym (p.shut (sym same ∙ is) conn) ∙ sym (p.framers conn) ∙ ap is_some e));
       },
       l.1,
     )
 
 fed_right : (world : World) (conn : ℕ) (piece : List ℕ) → IsCoherent world → (let s = fed world conn piece in IsCoherent s.world × LosesNone s.effects)
 unfolding fed
-fed_right world conn piece p = fed_right_by world conn piece (get world.framers conn) refl p (fed_room world conn piece p.room)
+fed_right world conn piece p =
+    fed_right_by world conn piece (get world.framers conn) refl p (fed_room world conn piece p.room) (ap (λ (w : World). w.core.is_shut) (fed_apart world conn piece).rest)
 
 -- ---- openings and ends
 
@@ -260,31 +268,47 @@ away_at config connections conn key fresh new q = by (eq_by_cmp nat_cmp q conn) 
 abbrev Right : Result Served StepFault → Type 0
 Right r = Kept IsCoherent LosesNone r
 
-opened_by : (world : World) (conn : ℕ) (key : List ℕ) (b : Bool) → stepping.has_room world ≡ b → is_new world.core.connections conn ≡ true → IsCoherent world →
-    Right (cond b (Ok (served (stepping.greeted world conn key) [])) (Ok (stepping.refused world conn key)))
-opened_by world conn key true e new p = (
+-- a connection is welcome only where the server wasn't shut down, and there is room
+welcome : (world : World) → refusal_of world ≡ None → (world.core.is_shut ≡ false) × (stepping.has_room world ≡ true)
+welcome world = by world.core.is_shut (stepping.has_room world)
+  where
+    by : (b c : Bool) → cond b (Some status.BAD_SHUTDOWN) (cond c None (Some status.BAD_TCP_NOT_ENOUGH_RESOURCES)) ≡ None → (b ≡ false) × (c ≡ true)
+    by true c e = absurd (false≢true (sym (ap is_some e)))
+    by false true e = (refl, refl)
+    by false false e = absurd (false≢true (sym (ap is_some e)))
+
+opened_by_right : (world : World) (conn : ℕ) (key : List ℕ) (why : Option Status) → refusal_of world ≡ why → is_new world.core.connections conn ≡ true → IsCoherent world →
+    Right (Ok (opened_by world conn key why))
+opened_by_right world conn key None e new p = (
   record {
     sound = known_right world.core conn key Greeting tt refl new p.sound;
     framers = λ q. set_at world.framers conn (unfed world.core.setting.config.receive_size) q
         ∙ ap (λ (b : Bool). cond (eq_by_cmp nat_cmp q conn) true b) (p.framers q)
         ∙ sym (opened_open world.core.setting.config world.core.connections conn key Greeting q);
-    room = greeted_room world conn key e;
+    room = greeted_room world conn key (welcome world e).1;
+    shut = λ is. absurd (false≢true (sym (welcome world e).0 ∙ is));
   },
   refl,
 )
-opened_by world conn key false e new p = (
-  record {
-    sound = known_right world.core conn key Closed tt refl new p.sound;
-    framers = λ q. p.framers q ∙ away_at world.core.setting.config world.core.connections conn key p.sound.fresh new q;
-    room = p.room;
-  },
-  doing_loses_none (turned_away world.core.connections conn key).outs,
+opened_by_right world conn key (Some code) e new p = (
+  let away = away_at world.core.setting.config world.core.connections conn key p.sound.fresh new in
+      record {
+        sound = known_right world.core conn key Closed tt refl new p.sound;
+        framers = λ q. p.framers q ∙ away q;
+        room = p.room;
+        shut = λ is q. sym (away q) ∙ p.shut is q;
+      },
+  doing_loses_none (turned_away world.core.connections conn key code).outs,
 )
 
 opened_right : (world : World) (conn : ℕ) (key : List ℕ) (b : Bool) → is_new world.core.connections conn ≡ b → IsCoherent world →
-    Right (cond (not b) (Err KnownConnection) (cond (stepping.has_room world) (Ok (served (stepping.greeted world conn key) [])) (Ok (stepping.refused world conn key))))
-opened_right world conn key true new p = opened_by world conn key (stepping.has_room world) refl new p
+    Right (cond (not b) (Err KnownConnection) (Ok (opened_by world conn key (refusal_of world))))
+opened_right world conn key true new p = opened_by_right world conn key (refusal_of world) refl new p
 opened_right world conn key false new p = tt
+
+either_false : (b : Bool) → cond b false false ≡ false
+either_false true = refl
+either_false false = refl
 
 gone_right : (world : World) (conn : ℕ) → IsCoherent world → IsCoherent (stepping.forgotten world conn)
 gone_right world conn p =
@@ -300,6 +324,7 @@ gone_right world conn p =
       };
       framers = λ q. gone_at world.framers conn q ∙ ap (λ (b : Bool). cond (eq_by_cmp nat_cmp q conn) false b) (p.framers q) ∙ sym (gone_open config cs conn q);
       room = forgotten_room world conn p.room;
+      shut = λ is q. gone_open config cs conn q ∙ ap (cond (eq_by_cmp nat_cmp q conn) false) (p.shut is q) ∙ either_false (eq_by_cmp nat_cmp q conn);
     }
 
 ticked_right : (world : World) (clock : Moment) → IsCoherent world → (let d = ticked_core world.core clock in IsCoherent (record world { core = d.state }) × LosesNone d.outs)
@@ -308,9 +333,44 @@ ticked_right world clock p =
     let setting : Setting = record core.setting { clock = clock } in
     let at : Core = record core { setting = setting } in
     let k = answered_right at [] (ticking_of setting core.services) p.sound.ranges p.sound.agreed p.sound.fresh p.sound.numbered (ticking_only (Talks core.connections) setting core.services p.sound.owed) in (
-      record { sound = k.0; framers = λ q. p.framers q ∙ sym (k.1 q); room = p.room },
+      record { sound = k.0; framers = λ q. p.framers q ∙ sym (k.1 q); room = p.room; shut = λ is q. k.1 q ∙ p.shut is q },
       k.2,
     )
+
+-- ---- the server's end
+
+-- all that waits is answered, and no connection is open then
+ended_right : (world : World) → IsCoherent world → (let s = stepping.ended world in IsCoherent s.world × LosesNone s.effects)
+ended_right world p =
+    let core = world.core in
+    let config = core.setting.config in
+    let s = shutting_of core.setting core.services in
+    let d = delivery_of core.setting core.connections s.replies in
+    let after = (shut d.connections).connections in
+    let only = shutting_only (Talks core.connections) core.setting core.services p.sound.owed in
+    let k = answered_right core [] s p.sound.ranges p.sound.agreed p.sound.fresh p.sound.numbered only in (
+      record {
+        sound = record {
+          ranges = p.sound.ranges;
+          agreed = shut_agreed config d.connections;
+          owed = shutting_owes_none (Talks core.connections) (Talks after) core.setting core.services only.state;
+          fresh = shut_fresh d.connections k.0.fresh;
+          numbered = shut_numbered d.connections;
+        };
+        framers = λ q. ap is_some (get-empty {X = Framing} nat_cmp q) ∙ sym (shut_closed d.connections q);
+        room = none_within config.connections;
+        shut = λ is q. shut_closed d.connections q;
+      },
+      loses_none_both (effects_of s.occurrences d) (doing (shut d.connections).outs) k.2 (doing_loses_none (shut d.connections).outs),
+    )
+
+shut_right : (world : World) → IsCoherent world → (let s = stepping.shut_down world in IsCoherent s.world × LosesNone s.effects)
+unfolding stepping.shut_down
+shut_right world p = by world.core.is_shut
+  where
+    by : (b : Bool) → (let s : Served = cond b (served world []) (stepping.ended world) in IsCoherent s.world × LosesNone s.effects)
+    by true = (p, refl)
+    by false = ended_right world p
 
 if_known_right : (b : Bool) (s : Served) → IsCoherent s.world × LosesNone s.effects → Right (cond b (Ok s) (Err UnknownConnection))
 if_known_right true s p = p
@@ -324,6 +384,7 @@ step_right world (Opened conn key) p = opened_right world conn key (is_new world
 step_right world (Bytes conn bytes) p = if_known_right (is_known world.core.connections conn) (fed world conn bytes) (fed_right world conn bytes p)
 step_right world (Gone conn) p = if_known_right (is_known world.core.connections conn) (served (stepping.forgotten world conn) []) (gone_right world conn p, refl)
 step_right world (Tick now) p = ticked_right world (later world.core.setting.clock now) p
+step_right world Shutdown p = shut_right world p
 
 nobody : (conn : ℕ) → get {X = Connection} {R = nat_cmp} empty conn ≡ None
 nobody conn = get-empty nat_cmp conn
@@ -345,6 +406,7 @@ opening_right config space ranges = record {
   };
   framers = λ conn. ap is_some (get-empty {X = Framing} nat_cmp conn) ∙ sym (ap is_open_at (nobody conn));
   room = opening_room config space;
+  shut = λ is conn. ap is_open_at (nobody conn);
 }
 
 -- the limits of a configuration are in their ranges

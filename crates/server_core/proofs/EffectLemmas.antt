@@ -104,6 +104,13 @@ after_answered before outs occurrences d =
     ∙ ap (λ (s : Step). after_step s (effects_of occurrences d)) (after_doing before outs)
     ∙ two (ap (λ (os : List Out). before.outs ++ outs ++ os) (outs_of_effects occurrences d)) (ap (λ (fs : List Fired). before.rows ++ fs) (fired_of_effects occurrences d))
 
+-- what was served and sent, and then the connections that are closed
+pub shown_ending : (occurrences : List Occurrence) (d : Delivery) (outs : List Out) → shown (effects_of occurrences d ++ doing outs) ≡ step (d.outs ++ outs) (rows_of occurrences)
+shown_ending occurrences d outs =
+    after_both (step [] []) (effects_of occurrences d) (doing outs)
+    ∙ after_doing (shown (effects_of occurrences d)) outs
+    ∙ ap (λ (s : Step). step (s.outs ++ outs) s.rows) (shown_effects occurrences d)
+
 -- ---- spent serials
 
 or_true : (a b : Bool) → b ≡ true → (a || b) ≡ true
@@ -158,6 +165,9 @@ effects_spend_none occurrences d e =
 
 pub answered_spends_none : (outs : List Out) (occurrences : List Occurrence) (d : Delivery) → list_any is_spent occurrences ≡ false → are_spent (doing outs ++ effects_of occurrences d) ≡ false
 answered_spends_none outs occurrences d e = none_before (doing outs) (effects_of occurrences d) (doing_spends_none outs) ∙ effects_spend_none occurrences d e
+
+pub ending_spends_none : (occurrences : List Occurrence) (d : Delivery) (outs : List Out) → list_any is_spent occurrences ≡ false → are_spent (effects_of occurrences d ++ doing outs) ≡ false
+ending_spends_none occurrences d outs e = none_before (effects_of occurrences d) (doing outs) (effects_spend_none occurrences d e) ∙ doing_spends_none outs
 
 -- ---- one thing done after another, as the code has it
 

@@ -1,5 +1,6 @@
 pub mod EffectLemmas
 pub mod HandlingLemmas
+pub mod ShuttingLemmas
 pub mod RunLemmas
 pub mod CutLemmas
 pub mod Keeping

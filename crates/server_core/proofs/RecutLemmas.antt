@@ -3,7 +3,7 @@ use Rattle.std.proofs.Common.{◌≡◌, ℕ, ◌==◌, Bool, true, false, cond,
 use Rattle.std.proofs.lemmas.Bool.{eqb-true, false≢true}
 use Rattle.server_connections.specs.Connecting.{is_known}
 use Rattle.server_core.specs.declared.event.Event.{Event}
-use Rattle.server_core.specs.declared.event.Event.TheVariants.{Opened, Bytes, Gone, Tick}
+use Rattle.server_core.specs.declared.event.Event.TheVariants.{Opened, Bytes, Gone, Tick, Shutdown}
 use Rattle.server_core.specs.declared.out.StepFault.{StepFault}
 use Rattle.server_core.specs.declared.out.StepFault.TheVariants.{UnknownConnection}
 use Rattle.server_core.specs.Effects.{Effect}
@@ -64,9 +64,11 @@ front server (Bytes conn a) [] = refl
 front server (Bytes conn a) (Opened other key ∷ events) = refl
 front server (Bytes conn a) (Gone other ∷ events) = refl
 front server (Bytes conn a) (Tick now ∷ events) = refl
+front server (Bytes conn a) (Shutdown ∷ events) = refl
 front server (Opened conn key) events = refl
 front server (Gone conn) events = refl
 front server (Tick now) events = refl
+front server Shutdown events = refl
 
 pub uncut_same : (server : Option World) (events : List Event) → joined_run (run_of server events) ≡ joined_run (run_of server (uncut events))
 uncut_same server [] = refl

@@ -3,7 +3,7 @@ use Rattle.std.proofs.Common.{◌≡◌, ℕ, ◌+◌, ◌-◌, ◌≤◌, Bool,
 use Rattle.std.proofs.lemmas.Bool.Decides.{nat_tests}
 use Rattle.std.specs.Ordering.{nat_cmp}
 use Rattle.std.specs.Cmp.{nat_cmp_total}
-use Rattle.std.specs.FinMap.{FinMap, get, insert, remove, len, contains_key, len-empty, len-insert, len-remove}
+use Rattle.std.specs.FinMap.{FinMap, get, insert, remove, empty, len, contains_key, len-empty, len-insert, len-remove}
 use Rattle.ua_types.specs.Configuration.{Configuration}
 use Rattle.ua_space.specs.Nodes.{SpaceState}
 use Rattle.ua_tcp.specs.Feeding.{Framing, unfed}
@@ -63,3 +63,7 @@ forgotten_room world conn p = omega (arith, p, removed_len world.framers conn)
 
 pub opening_room : (config : Configuration) (space : SpaceState) → IsWithinRoom (opening config space)
 opening_room config space = omega (arith, len-empty nat_cmp Framing)
+
+-- none is open once all were closed
+pub none_within : (n : ℕ) → len {X = Framing} {R = nat_cmp} empty ≤ n
+none_within n = omega (arith, len-empty nat_cmp Framing)

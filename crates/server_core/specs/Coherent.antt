@@ -1,5 +1,5 @@
 -- What holds of every world that a server reaches.
-use Rattle.std.specs.Prelude.{◌≡◌, ◌≤◌, ⊤, ℕ, List, [], ◌∷◌, Option, Some, None, is_some}
+use Rattle.std.specs.Prelude.{◌≡◌, ◌≤◌, ⊤, ℕ, true, false, List, [], ◌∷◌, Option, Some, None, is_some}
 use Rattle.std.specs.FinMap.{get, len}
 use Rattle.ua_types.specs.Configuration.{Configuration}
 use Rattle.ua_tcp.specs.Agreements.{AreInRange, limits_of}
@@ -21,11 +21,13 @@ pub record IsSound (core : Core) : Type 0 where
   pub fresh : IsFresh core.connections
   pub numbered : AreNumbered core.connections
 
--- Beside that, there is a framer exactly where a connection is open, and no more are open at once than there may be
+-- Beside that, there is a framer exactly where a connection is open, no more are open at once than there may be, and none is once
+-- the server was shut down
 pub record IsCoherent (world : World) : Type 0 where
   pub sound : IsSound world.core
   pub framers : (conn : ℕ) → is_some (get world.framers conn) ≡ is_open world.core.connections conn
   pub room : len world.framers ≤ world.core.setting.config.connections
+  pub shut : world.core.is_shut ≡ true → (conn : ℕ) → is_open world.core.connections conn ≡ false
 
 -- the answers that a server may have to send in any case fit on every channel
 abbrev pub AnswersFit : World → Type 0

@@ -9,11 +9,12 @@ use Rattle.server_messages.specs.declared.halt.Halt.{Halt}
 use Rattle.server_messages.specs.declared.halt.Halt.TheVariants.{Memory, Exhausted}
 use Rattle.server_connections.specs.Connecting.{Taking, taking_of, break_of, gone}
 use Rattle.server_connections.specs.Delivering.{delivery_of}
+use Rattle.server_connections.specs.Shutting.{shut}
 use Rattle.server_connections.specs.declared.frame_outcome.FrameOutcome.{FrameOutcome}
 use Rattle.server_connections.specs.declared.frame_outcome.FrameOutcome.TheVariants as outcome
 use Rattle.server_messages.specs.declared.out.Out.{Out}
 use Rattle.ua_services.specs.Serving.{Serving}
-use Rattle.ua_services.specs.Services.{serving_of, ticking_of, forgotten}
+use Rattle.ua_services.specs.Services.{serving_of, ticking_of, shutting_of, forgotten}
 use Rattle.server_core.specs.declared.out.Step.{Step}
 use Rattle.server_core.specs.Effects.{Effect, doing, effects_of, are_spent, step, after_step}
 use Rattle.server_core.specs.World.{Core}
@@ -65,6 +66,14 @@ ticked_core core clock =
     let at : Core = record core { setting = setting } in
     answered at [] (ticking_of setting core.services)
 
+-- The server ends: its services do, and what they answer is sent; then the connections that are open are closed
+abbrev pub shut_core : Core → Done Core Effect
+shut_core core =
+    let s = shutting_of core.setting core.services in
+    let d = delivery_of core.setting core.connections s.replies in
+    let r = shut d.connections in
+    done (record core { connections = r.connections; services = s.state; is_shut = true }) (effects_of s.occurrences d ++ doing r.outs) false
+
 -- ---- what the code gives of it
 
 -- the state after it, what is given, whether the connection goes on, and whether a serial has passed its last value
@@ -89,6 +98,11 @@ abbrev pub Handles : Result Bool Halt → Core → Step → Step → Done Core E
 Handles (Ok b) new before after said = Shows new before after b said
 Handles (Err Memory) new before after said = ⊤
 Handles (Err Exhausted) new before after said = are_spent said.outs ≡ true
+
+abbrev pub Ends : Result Step Halt → Core → Done Core Effect → Type 0
+Ends (Ok given) new said = Shows new (step [] []) given false said
+Ends (Err Memory) new said = ⊤
+Ends (Err Exhausted) new said = are_spent said.outs ≡ true
 
 abbrev pub TicksTo : Result Step Halt → Core → Done Core Effect → Type 0
 TicksTo (Ok given) new said = Shows new (step [] []) given true said

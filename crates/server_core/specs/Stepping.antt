@@ -1,10 +1,12 @@
 -- One event.
 use Rattle.std.specs.Prelude.{◌≡◌, ⊤, ℕ, Bool, true, false, not, nat_lt, List, [], ◌++◌, Option, Some, None, Result, Ok, Err, is_some, if◌then◌else◌}
 use Rattle.std.specs.Ordering.{nat_cmp}
-use Rattle.std.specs.FinMap.{FinMap, get, insert, remove, len}
+use Rattle.std.specs.FinMap.{FinMap, get, insert, remove, empty, len}
 use Rattle.ua_types.specs.Answers as answers
 use Rattle.ua_types.specs.Moments.{later}
 use Rattle.ua_types.specs.declared.moment.Moment.{Moment}
+use Rattle.ua_types.specs.declared.status.Status.{Status}
+use Rattle.ua_types.specs.declared.status.TheConstants.Status as status
 use Rattle.ua_tcp.specs.Feeding.{Framing, unfed, framed_of}
 use Rattle.ua_tcp.specs.Pieces.{Stepped, at_end, all_handled}
 use Rattle.server_messages.specs.declared.halt.Halt.{Halt}
@@ -12,12 +14,12 @@ use Rattle.server_messages.specs.declared.halt.Halt.TheVariants as halt
 use Rattle.server_connections.specs.Connecting.{is_known, is_new, welcomed, turned_away}
 use Rattle.ua_services.specs.Services.{is_idle}
 use Rattle.server_core.specs.declared.event.Event.{Event}
-use Rattle.server_core.specs.declared.event.Event.TheVariants.{Opened, Bytes, Gone, Tick}
+use Rattle.server_core.specs.declared.event.Event.TheVariants.{Opened, Bytes, Gone, Tick, Shutdown}
 use Rattle.server_core.specs.declared.out.Step.{Step}
 use Rattle.server_core.specs.declared.out.StepFault.{StepFault}
 use Rattle.server_core.specs.declared.out.StepFault.TheVariants.{KnownConnection, UnknownConnection, Memory, Halted, Exhausted}
 use Rattle.server_core.specs.Effects.{Effect, doing, are_spent, shown}
-use Rattle.server_core.specs.Handling.{setting_at, handled, broken, gone_from, ticked_core}
+use Rattle.server_core.specs.Handling.{setting_at, handled, broken, gone_from, ticked_core, shut_core}
 use Rattle.server_core.specs.World.{World, Core}
 
 -- the world after an event, and its effects
@@ -41,17 +43,27 @@ greeted world conn key = record {
   core = record world.core { connections = welcomed world.core.connections conn key };
 }
 
--- one too many is closed at once
-abbrev pub refused : World → ℕ → List ℕ → Served
-refused world conn key =
-    let r = turned_away world.core.connections conn key in
+-- one that may not go on is closed at once
+abbrev pub refused : World → ℕ → List ℕ → Status → Served
+refused world conn key code =
+    let r = turned_away world.core.connections conn key code in
     served (record world { core = record world.core { connections = r.connections } }) (doing r.outs)
+
+-- why a new connection may not go on: the server was shut down, or there are too many
+abbrev pub refusal_of : World → Option Status
+refusal_of world =
+    if world.core.is_shut then Some status.BAD_SHUTDOWN
+    else if has_room world then None
+    else Some status.BAD_TCP_NOT_ENOUGH_RESOURCES
+
+abbrev pub opened_by : World → ℕ → List ℕ → Option Status → Served
+opened_by world conn key None = served (greeted world conn key) []
+opened_by world conn key (Some code) = refused world conn key code
 
 abbrev pub opened : World → ℕ → List ℕ → Result Served StepFault
 opened world conn key =
     if not (is_new world.core.connections conn) then Err KnownConnection
-    else if has_room world then Ok (served (greeted world conn key) [])
-    else Ok (refused world conn key)
+    else Ok (opened_by world conn key (refusal_of world))
 
 -- ---- Bytes
 
@@ -92,6 +104,17 @@ ticked world now =
     let d = ticked_core world.core (later world.core.setting.clock now) in
     served (record world { core = d.state }) d.outs
 
+-- ---- Shutdown
+
+abbrev pub ended : World → Served
+ended world =
+    let d = shut_core world.core in
+    served (record world { framers = empty; core = d.state }) d.outs
+
+-- all that is open ends, unless it did before
+unfoldable pub shut_down : World → Served
+shut_down world = if world.core.is_shut then served world [] else ended world
+
 -- ---- any event
 
 -- only of a connection that is known
@@ -104,6 +127,7 @@ step_of world (Opened conn key) = opened world conn key
 step_of world (Bytes conn bytes) = if_known world conn (fed world conn bytes)
 step_of world (Gone conn) = if_known world conn (served (forgotten world conn) [])
 step_of world (Tick now) = Ok (ticked world now)
+step_of world Shutdown = Ok (shut_down world)
 
 -- whether an event is answered without memory: it is refused, or it sends nothing and stores nothing
 abbrev pub takes_no_memory : World → Event → Bool
@@ -111,6 +135,7 @@ takes_no_memory world (Opened conn key) = not (is_new world.core.connections con
 takes_no_memory world (Bytes conn bytes) = not (is_some (get world.framers conn))
 takes_no_memory world (Gone conn) = true
 takes_no_memory world (Tick now) = is_idle (setting_at world.core (later world.core.setting.clock now)) world.core.services
+takes_no_memory world Shutdown = world.core.is_shut
 
 -- ---- what the code gives of it
 

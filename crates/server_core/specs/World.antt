@@ -1,5 +1,5 @@
 -- What the server knows.
-use Rattle.std.specs.Prelude.{Option}
+use Rattle.std.specs.Prelude.{false, Option}
 use Rattle.std.specs.FinMap.{empty}
 use Rattle.ua_types.specs.Configuration.{Configuration}
 use Rattle.ua_space.specs.Nodes.{SpaceState}
@@ -17,6 +17,7 @@ opening config space = record {
     setting = record { config = config; clock = config.start };
     connections = no_connections;
     services = no_services_used config space;
+    is_shut = false;
   };
 }
 

@@ -30,7 +30,8 @@ pub fn any_recut()
 
 /// Whatever happens, every channel is agreed on within the server's limits, no two channels have one
 /// number, every request that waits for its answer came by a connection that is open, there is a framer
-/// exactly where a connection is open, and no more are open at once than the configuration allows.
+/// exactly where a connection is open, no more are open at once than the configuration allows, and none
+/// is once the server was shut down.
 pub fn is_coherent()
     ensures { (config : Configuration) (space : SpaceState) (events : List Event) → IsConfigured config →
         IfRuns IsCoherent (reached config space events).server }

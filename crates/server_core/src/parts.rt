@@ -3,7 +3,7 @@
 ghost use Rattle.std.specs.Prelude.{◌≡◌, true, false, OnOk, IsOk};
 ghost use Rattle.ua_services.specs.Services.{is_idle};
 ghost use Rattle.ua_tcp.specs.Pieces.{all_handled, and_then, refused_if};
-ghost use Rattle.server_core.specs.Handling.{setting_at, Handles, Shows, TicksTo, handled, broken, gone_from, ticked_core};
+ghost use Rattle.server_core.specs.Handling.{setting_at, Handles, Shows, TicksTo, handled, broken, gone_from, ticked_core, shut_core, Ends};
 
 use crate::out::Step;
 use server_connections::{Connections, FrameOutcome};
@@ -22,6 +22,8 @@ pub struct Core {
     pub connections: Connections,
     /// What is served.
     pub services: Services,
+    /// Whether the server was shut down, for good.
+    pub is_shut: bool,
 }
 
 impl Core {
@@ -134,6 +136,22 @@ impl Core {
         let Served { replies, rows } = served;
         self.connections
             .deliver(alloc, &self.setting, replies, &mut step.outs)?;
+        step.rows = rows;
+        Ok(step)
+    }
+
+    /// Ends all that is open: the subscriptions, the requests that wait, the sessions and the connections.
+    #[tactic(auto, using(crate::proofs::EffectLemmas::shown_ending, crate::proofs::EffectLemmas::spent_before, crate::proofs::EffectLemmas::spent_effects, crate::proofs::EffectLemmas::ending_spends_none))]
+    pub fn shut_down(&mut self, alloc: Global) -> Result<Step, Halt>
+        ensures { Ends result self.new (shut_core self.old) }
+    {
+        self.is_shut = true;
+        let served = self.services.shut_down(alloc, &self.setting)?;
+        let mut step = Step::new(alloc);
+        let Served { replies, rows } = served;
+        self.connections
+            .deliver(alloc, &self.setting, replies, &mut step.outs)?;
+        self.connections.shut(alloc, &mut step.outs)?;
         step.rows = rows;
         Ok(step)
     }

@@ -44,6 +44,7 @@ impl Server {
                     setting: Setting { config, clock },
                     connections: Connections::new(alloc),
                     services,
+                    is_shut: false,
                 },
             }),
         }
@@ -54,7 +55,7 @@ impl Server {
     ///
     /// `KnownConnection` and `UnknownConnection` refuse the event, and nothing has changed. `Memory`
     /// comes only where an allocation failed, and never for an event that is refused, is of a
-    /// connection that is closed, is `Gone`, or is a `Tick` at which nothing is due. `Exhausted` comes
+    /// connection that is closed, is `Gone`, is a `Tick` at which nothing is due, or is a second `Shutdown`. `Exhausted` comes
     /// only where the event passes the last serial of 64 bits, and no such event is answered. Both halt the server, which answers
     /// `Halted` from then on, and at no other time.
     pub fn step(&mut self, alloc: Global, event: &Event) -> Result<Step, StepFault>

@@ -3,7 +3,7 @@
 ghost use Rattle.std.specs.Prelude.{◌≡◌, [], true, false, None, Err, IsOk, OnOk};
 ghost use Rattle.std.specs.FinMap.{get};
 ghost use Rattle.server_connections.specs.Connecting.{is_new, is_known};
-ghost use Rattle.server_core.specs.Stepping.{Feeds, fed, greeted, has_room as has_room_spec, opened, step_of, Matches, takes_no_memory};
+ghost use Rattle.server_core.specs.Stepping.{Feeds, fed, greeted, has_room as has_room_spec, refusal_of, opened, shut_down, step_of, Matches, takes_no_memory};
 ghost use Rattle.server_core.specs.declared.out.StepFault.TheVariants as step_fault;
 
 use crate::event::Event;
@@ -13,7 +13,7 @@ use bytes::Bytes;
 use server_messages::Halt;
 use std::alloc::{AllocError, Global};
 use ua_tcp::Framer;
-use ua_types::Numbered;
+use ua_types::{Numbered, Status};
 
 /// The framers of the open connections, and the rest. So nothing but a framer touches the bytes that
 /// are held of a frame.
@@ -60,6 +60,20 @@ impl World {
         self.framers.len() < self.core.setting.config.connections as usize
     }
 
+    // Why a connection that is new may not go on, if it may not.
+    fn refusal(&self) -> Option<Status>
+        ensures { result ≡ refusal_of self.now }
+    {
+        if self.core.is_shut {
+            return Some(Status::BAD_SHUTDOWN);
+        }
+        if self.has_room() {
+            None
+        } else {
+            Some(Status::BAD_TCP_NOT_ENOUGH_RESOURCES)
+        }
+    }
+
     #[tactic(auto, using(crate::proofs::EffectLemmas::shown_doing, crate::proofs::EffectLemmas::doing_spends_none))]
     fn open(&mut self, alloc: Global, conn: u64, key: &[u8; 32]) -> Result<Step, StepFault>
         ensures opened { Matches result self.old self.new (opened self.old conn key.now) }
@@ -68,14 +82,28 @@ impl World {
         if !self.core.connections.is_new(conn) {
             return Err(StepFault::KnownConnection);
         }
-        if self.has_room() {
-            self.await_first_frame(conn, key)?;
+        let mut step = Step::new(alloc);
+        match self.refusal() {
+            None => self.await_first_frame(conn, key)?,
+            Some(status) => {
+                self.core
+                    .connections
+                    .turn_away(alloc, conn, key, status, &mut step.outs)?;
+            }
+        }
+        Ok(step)
+    }
+
+    // Ends all that is open, unless that was done before.
+    fn shut_down(&mut self, alloc: Global) -> Result<Step, Halt>
+        ensures shut { Feeds result self.new (shut_down self.old) }
+        ensures again { self.old.core.is_shut ≡ true → IsOk result }
+    {
+        if self.core.is_shut {
             return Ok(Step::new(alloc));
         }
-        let mut step = Step::new(alloc);
-        self.core
-            .connections
-            .turn_away(alloc, conn, key, &mut step.outs)?;
+        let step = self.core.shut_down(alloc)?;
+        self.framers = Numbered::new(alloc);
         Ok(step)
     }
 
@@ -104,6 +132,7 @@ impl World {
                 let clock = self.core.setting.clock.later(*now);
                 Ok(self.core.tick(alloc, clock)?)
             }
+            Event::Shutdown => Ok(self.shut_down(alloc)?),
         }
     }
 }
