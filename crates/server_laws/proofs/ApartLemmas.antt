@@ -3,6 +3,8 @@
 use Rattle.std.proofs.Common.{◌≡◌, ℕ, ◌==◌, arith, Bool, true, false, not, cond, List, [], ◌∷◌, length, fold, Option, Some, None, Result, Ok, Err, refl, sym, subst}
 use Rattle.std.proofs.lemmas.Bool.{false≢true, eqb-true}
 use Rattle.std.specs.Prelude.{nat_lt, IfOk, IfSome}
+use Rattle.std.specs.FinMap.{get-empty}
+use Rattle.std.specs.Ordering.{nat_cmp}
 use Rattle.ua_types.specs.Configuration.{Configuration}
 use Rattle.ua_types.specs.declared.moment.Moment.{Moment}
 use Rattle.ua_types.specs.declared.node_id.NodeId.{NodeId}
@@ -36,6 +38,7 @@ use Rattle.ua_service_messages.specs.declared.sessions.CloseSessionRequest.{Clos
 use Rattle.ua_service_messages.specs.declared.sessions.CreateSessionRequest.{CreateSessionRequest}
 use Rattle.ua_service_messages.specs.declared.writing.WriteRequest.{WriteRequest}
 use Rattle.ua_service_messages.specs.declared.writing.WriteValue.{WriteValue}
+use Rattle.ua_subscription_messages.specs.Triggering.{set_triggering_request_reading}
 use Rattle.ua_subscription_messages.specs.MonitoredItems.{create_monitored_items_request_reading, modify_monitored_items_request_reading, set_monitoring_mode_request_reading, delete_monitored_items_request_reading}
 use Rattle.ua_subscription_messages.specs.Publishing.{publish_request_reading, republish_request_reading}
 use Rattle.ua_subscription_messages.specs.Subscriptions.{create_subscription_request_reading, modify_subscription_request_reading, set_publishing_mode_request_reading, delete_subscriptions_request_reading}
@@ -72,6 +75,7 @@ use Rattle.ua_services.specs.CloseSession.{closed_by, close_session_meaning}
 use Rattle.ua_services.specs.CreateMonitoredItems.{items_created, create_monitored_items_meaning}
 use Rattle.ua_services.specs.CreateSession.{create_session_body, create_session_meaning}
 use Rattle.ua_services.specs.CreateSubscription.{settings_asked, create_subscription_body, create_subscription_meaning}
+use Rattle.ua_services.specs.SetTriggering.{items_linked, set_triggering_meaning}
 use Rattle.ua_services.specs.DeleteMonitoredItems.{items_deleted, delete_monitored_items_meaning}
 use Rattle.ua_services.specs.DeleteSubscriptions.{delete_subscriptions_listed, delete_subscriptions_meaning}
 use Rattle.ua_services.specs.GetEndpoints.{get_endpoints_meaning}
@@ -80,14 +84,14 @@ use Rattle.ua_services.specs.InSession.{if_found, served_in_session}
 use Rattle.ua_services.specs.ItemServing.{Itemed, own_vars, items_called_by}
 use Rattle.ua_services.specs.ModifyMonitoredItems.{items_modified, modify_monitored_items_meaning}
 use Rattle.ua_services.specs.ModifySubscription.{settings_wanted, modify_subscription_body, modify_subscription_meaning}
-use Rattle.server_laws.specs.EventMoves.{create_asked, modify_asked, mode_asked, delete_asked}
+use Rattle.server_laws.specs.EventMoves.{create_asked, modify_asked, mode_asked, link_asked, delete_asked}
 use Rattle.server_laws.specs.Moving.{Went, ran_at}
 use Rattle.ua_services.specs.Operations.{operations_of}
 use Rattle.ua_services.specs.Paging.{AllDone, all_done, paged}
 use Rattle.ua_services.specs.Publish.{acknowledged_in, publish_call, publish_meaning}
 use Rattle.ua_services.specs.Read.{read_listed, read_timed, read_meaning}
 use Rattle.ua_services.specs.Republish.{republish_answer, republish_meaning}
-use Rattle.ua_services.specs.Services.{call_of, picked_of_subscriptions, picked_of_items, picked, serving_by, serving_of, ticking_of}
+use Rattle.ua_services.specs.Services.{call_of, picked_of_subscriptions, picked_of_items, picked, serving_by, serving_of, ticking_of, shutting_of}
 use Rattle.ua_services.specs.declared.services.Services.{Services}
 use Rattle.ua_services.specs.Serving.{Occurrence, Serving, reply_of, faulted, served_by}
 use Rattle.ua_services.specs.SessionServing.{spent_by, taken, with_sessions}
@@ -98,7 +102,7 @@ use Rattle.ua_services.specs.SubServing.{world_at, called, no_reply, told_alone,
 use Rattle.ua_services.specs.Write.{sampled, write_listed, write_meaning}
 use Rattle.ua_services.specs.declared.caller.Caller.{Caller}
 use Rattle.ua_services.specs.declared.history_read.Wanted.{Wanted}
-use Rattle.server_laws.proofs.MovingLemmas.{Asks, created_asks, modified_asks, moded_asks, deleted_asks, items_left}
+use Rattle.server_laws.proofs.MovingLemmas.{Asks, created_asks, modified_asks, moded_asks, linked_asks, deleted_asks, items_left}
 use Rattle.server_laws.proofs.OtherSessions.{IsFresh, Keeps, unchanged, sessions_stay, named_given, fresh_after, ticked_fresh, activate_header, close_header, find_leaves, activate_leaves, close_leaves, create_stays, points_stay, stay_behind}
 
 -- ---- what is left as it was
@@ -372,8 +376,9 @@ module _ (session : ℕ) (setting : Setting) (caller : Caller) (token : NodeId) 
       either session state _ _ _ (by_session session create_monitored_items_meaning setting caller token state from only (λ request after came. items_stay session setting caller request.subscription_id after came (items_created setting caller request after) (create_asked setting request after) (created_asks setting caller request after)) (message_of create_monitored_items_request_reading body))
       (either session state _ _ _ (by_session session modify_monitored_items_meaning setting caller token state from only (λ request after came. items_stay session setting caller request.subscription_id after came (items_modified setting caller request after) (modify_asked setting request after) (modified_asks setting caller request after)) (message_of modify_monitored_items_request_reading body))
       (either session state _ _ _ (by_session session set_monitoring_mode_meaning setting caller token state from only (λ request after came. items_stay session setting caller request.subscription_id after came (items_moded setting caller request after) (mode_asked setting request after) (moded_asks setting caller request after)) (message_of set_monitoring_mode_request_reading body))
+      (either session state _ _ _ (by_session session set_triggering_meaning setting caller token state from only (λ request after came. items_stay session setting caller request.subscription_id after came (items_linked setting caller request after) (link_asked setting request after) (linked_asks setting caller request after)) (message_of set_triggering_request_reading body))
       (either session state _ _ _ (by_session session delete_monitored_items_meaning setting caller token state from only (λ request after came. items_stay session setting caller request.subscription_id after came (items_deleted setting caller request after) (delete_asked setting request after) (deleted_asks setting caller request after)) (message_of delete_monitored_items_request_reading body))
-      (of_subscriptions_stay id))))
+      (of_subscriptions_stay id)))))
 
   -- where the type isn't that of a Write
   unless_write : (b : Bool) (x y : Serving) → b ≡ false → Apart session state y → Apart session state (cond b x y)
@@ -494,3 +499,8 @@ unfolding told_alone
 tick_fresh setting state fresh =
     let after = with_sessions state (ticked state.sessions setting.clock) in
     subst IsFresh (sym (timed_out_sessions setting (ended_by state.sessions setting.clock) (nothing_done after))) (ticked_fresh state.sessions setting.clock fresh)
+
+-- nor does the server's end make any
+pub end_fresh : (setting : Setting) (state : Services) → IsFresh (shutting_of setting state).state.sessions
+unfolding shutting_of told_alone
+end_fresh setting state = λ number above. get-empty nat_cmp number

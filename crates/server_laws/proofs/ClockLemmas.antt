@@ -85,6 +85,7 @@ module _ (clock : Moment) where
     found = found_clock;
     activated = activated_clock;
     closed = closed_clock;
+    ended = λ s h. h;
     browsed = λ space size session descriptions s h. h;
     went_on = λ space is_release session named s h. h;
     read = λ history nodes wanted session asked s h. h;

@@ -3,7 +3,7 @@ use Rattle.std.proofs.Common.{◌≡◌, ℕ, ◌+◌, ◌-◌, ◌≤◌, arith
 use Rattle.std.specs.Prelude.{not, ◌==◌, ◌&&◌, ◌^◌, nat_le, ℤ}
 use Rattle.std.specs.BTreeMap.{is_at, insert_entry}
 use Rattle.std.specs.Cmp.{nat_cmp_total}
-use Rattle.std.specs.FinMap.{FinMap, get, insert, remove, len, contains_key, get-empty, get-insert, get-remove, len-empty, len-insert, len-remove}
+use Rattle.std.specs.FinMap.{FinMap, get, insert, remove, empty, len, contains_key, get-empty, get-insert, get-remove, len-empty, len-insert, len-remove}
 use Rattle.std.specs.List.{AllByRecursion}
 use Rattle.std.specs.Map.{lookup, set_value}
 use Rattle.std.specs.Ordering.{nat_cmp, eq_by_cmp, match_ordering}
@@ -75,6 +75,9 @@ module _ (config : Configuration) where
 
   none_few : (most : ℕ) → most ≡ config.points → PointsFew config.points (no_points most)
   none_few most is = record { most_is = is; sound = stay_sound.new most }
+
+  none_left : (most : ℕ) → most ≡ config.points → Each most empty
+  none_left most is q = subst (λ (o : Option PointsState). PointsFew config.points (unwrap_or o (no_points most))) (sym (get-empty nat_cmp q)) (none_few most is)
 
   removed_points : (most k : ℕ) (m : FinMap nat_cmp PointsState) → most ≡ config.points → Each most m → Each most (remove m k)
   removed_points most k m is h q =
@@ -234,6 +237,7 @@ module _ (config : Configuration) where
     found = found_few clock;
     activated = activated_few clock;
     closed = closed_few clock;
+    ended = λ s h. record { most = h.most; most_points = h.most_points; few = let none = len-empty nat_cmp Session in let before = h.few in omega (arith, none, before); points = none_left s.most_points h.most_points };
     browsed = λ space size session descriptions s h. paged_few clock s session _ h (all_few config.points _ (browse_few config.points space size) descriptions _ (h.points session));
     went_on = λ space is_release session named s h. paged_few clock s session _ h (all_few config.points _ (go_on_few config.points space is_release) named _ (h.points session));
     read = λ history nodes wanted session asked s h. paged_few clock s session _ h (all_few config.points _ (node_read_few config.points history nodes wanted) asked _ (h.points session));

@@ -35,6 +35,7 @@ use Rattle.ua_service_messages.specs.declared.sessions.CloseSessionRequest.{Clos
 use Rattle.ua_service_messages.specs.declared.sessions.CreateSessionRequest.{CreateSessionRequest}
 use Rattle.ua_service_messages.specs.declared.writing.WriteRequest.{WriteRequest}
 use Rattle.ua_service_messages.specs.declared.writing.WriteValue.{WriteValue}
+use Rattle.ua_subscription_messages.specs.Triggering.{set_triggering_request_reading}
 use Rattle.ua_subscription_messages.specs.MonitoredItems.{create_monitored_items_request_reading, modify_monitored_items_request_reading, set_monitoring_mode_request_reading, delete_monitored_items_request_reading}
 use Rattle.ua_subscription_messages.specs.Publishing.{publish_request_reading, republish_request_reading}
 use Rattle.ua_subscription_messages.specs.Subscriptions.{create_subscription_request_reading, modify_subscription_request_reading, set_publishing_mode_request_reading, delete_subscriptions_request_reading}
@@ -44,6 +45,7 @@ use Rattle.ua_subscription_messages.specs.declared.monitored_items.ModifyMonitor
 use Rattle.ua_subscription_messages.specs.declared.monitored_items.MonitoredItemCreateRequest.{MonitoredItemCreateRequest}
 use Rattle.ua_subscription_messages.specs.declared.monitored_items.MonitoredItemModifyRequest.{MonitoredItemModifyRequest}
 use Rattle.ua_subscription_messages.specs.declared.monitored_items.SetMonitoringModeRequest.{SetMonitoringModeRequest}
+use Rattle.ua_subscription_messages.specs.declared.triggering.SetTriggeringRequest.{SetTriggeringRequest}
 use Rattle.ua_subscription_messages.specs.declared.publishing.PublishRequest.{PublishRequest}
 use Rattle.ua_subscription_messages.specs.declared.publishing.RepublishRequest.{RepublishRequest}
 use Rattle.ua_subscription_messages.specs.declared.subscriptions.CreateSubscriptionRequest.{CreateSubscriptionRequest}
@@ -56,10 +58,11 @@ use Rattle.ua_read_write.specs.Writing.{Writing, write_of}
 use Rattle.ua_read_write.specs.declared.timestamps.Timestamps.{Timestamps}
 use Rattle.ua_history.specs.declared.reading.RawRange.{RawRange}
 use Rattle.ua_monitored_items.specs.Items.{ItemsState}
+use Rattle.ua_monitored_items.specs.Links.{Linkage, link, after_link}
 use Rattle.ua_monitored_items.specs.Kinds.{mode_numbered}
 use Rattle.ua_monitored_items.specs.Moves as item_moves
 use Rattle.ua_monitored_items.specs.declared.kinds.Mode.{Mode}
-use Rattle.ua_subscriptions.specs.Ending.{session_ended}
+use Rattle.ua_subscriptions.specs.Ending.{session_ended, shut_down}
 use Rattle.ua_subscriptions.specs.Making.{modified, republished, timed}
 use Rattle.ua_subscriptions.specs.Named.{is_own, named_all, deleted}
 use Rattle.ua_subscriptions.specs.Publishing.{published}
@@ -88,16 +91,17 @@ use Rattle.ua_services.specs.ModifyMonitoredItems.{modify_listed, modify_timed, 
 use Rattle.ua_services.specs.ModifySubscription.{settings_wanted, modify_subscription_body, modify_subscription_meaning}
 use Rattle.server_laws.specs.Moving.{ran_at, StandIn, ComesOn, ComesOnWith, ComesOnBy}
 use Rattle.server_laws.specs.EventMoves as of_events
-use Rattle.server_laws.specs.EventMoves.{if_read, in_session, if_listed, close_moves, close_session_moves, write_moves, create_subscription_moves, modify_subscription_moves, set_publishing_mode_moves, delete_subscriptions_moves, publish_moves, republish_moves, nothing_asked, create_listed_asked, create_timed_asked, create_asked, modify_listed_asked, modify_timed_asked, modify_asked, mode_asked_by, mode_listed_asked, mode_asked, delete_listed_asked, delete_asked, items_moves_by, items_moves, moves_of_subscriptions, moves_of_items, moves_picked, serving_moves_by, serving_moves, end_move, ticking_moves, forgetting_moves}
-use Rattle.ua_services.specs.Operations.{operations_of}
+use Rattle.server_laws.specs.EventMoves.{if_read, in_session, if_listed, close_moves, close_session_moves, write_moves, create_subscription_moves, modify_subscription_moves, set_publishing_mode_moves, delete_subscriptions_moves, publish_moves, republish_moves, nothing_asked, create_listed_asked, create_timed_asked, create_asked, modify_listed_asked, modify_timed_asked, modify_asked, mode_asked_by, mode_listed_asked, mode_asked, link_counted_asked, link_asked, delete_listed_asked, delete_asked, items_moves_by, items_moves, moves_of_subscriptions, moves_of_items, moves_picked, serving_moves_by, serving_moves, end_move, ticking_moves, forgetting_moves, shutting_moves}
+use Rattle.ua_services.specs.Operations.{count_judged, operations_of}
 use Rattle.ua_services.specs.Paging.{AllDone, all_done, paged}
 use Rattle.ua_services.specs.Publish.{acknowledged_in, publish_call, publish_meaning}
 use Rattle.ua_services.specs.Read.{read_listed, read_timed, read_meaning}
 use Rattle.ua_services.specs.Republish.{republish_answer, republish_meaning}
-use Rattle.ua_services.specs.Services.{call_of, picked_of_subscriptions, picked_of_items, picked, serving_by, serving_of, ticking_of, forgotten}
+use Rattle.ua_services.specs.Services.{call_of, picked_of_subscriptions, picked_of_items, picked, serving_by, serving_of, ticking_of, shutting_of, forgotten}
 use Rattle.ua_services.specs.declared.services.Services.{Services}
 use Rattle.ua_services.specs.Serving.{Occurrence, Serving, rows_of, reply_of, answered, faulted, served_by}
 use Rattle.ua_services.specs.SessionServing.{spent_by, taken, with_sessions}
+use Rattle.ua_services.specs.SetTriggering.{listed, links_asked, linked_by, linked_counted, items_linked, set_triggering_meaning}
 use Rattle.ua_services.specs.SetMonitoringMode.{moded_all, moded_listed, items_moded, set_monitoring_mode_meaning}
 use Rattle.ua_services.specs.SetPublishingMode.{set_publishing_listed, set_publishing_mode_meaning}
 use Rattle.ua_services.specs.StatusResults.{statuses_body}
@@ -461,6 +465,19 @@ pub moded_asks : (setting : Setting) (caller : Caller) (request : SetMonitoringM
 unfolding items_moded
 moded_asks setting caller request state = moded_listed_asks setting caller request.subscription_id state (mode_numbered request.monitoring_mode) (operations_of setting.config request.monitored_item_ids)
 
+linked_same : (setting : Setting) (caller : Caller) (state : Services) (r : Result Linkage Status) → after_link state.items r ≡ (linked_by setting caller state r).items
+linked_same setting caller state (Ok done) = refl
+linked_same setting caller state (Err code) = refl
+
+link_counted_asks : (setting : Setting) (caller : Caller) (request : SetTriggeringRequest) (state : Services) (r : Result (Unit {0}) Status) → Asks request.subscription_id state.items (linked_counted setting caller request state r).items (link_counted_asked request r)
+link_counted_asks setting caller request state (Ok good) =
+    record { same = linked_same setting caller state (link state.items request.subscription_id request.triggering_item_id (listed request.links_to_add) (listed request.links_to_remove)) }
+link_counted_asks setting caller request state (Err code) = asks_none request.subscription_id state.items
+
+pub linked_asks : (setting : Setting) (caller : Caller) (request : SetTriggeringRequest) (state : Services) → Asks request.subscription_id state.items (items_linked setting caller request state).items (link_asked setting request state)
+unfolding items_linked
+linked_asks setting caller request state = link_counted_asks setting caller request state (count_judged setting.config (links_asked request))
+
 deleted_listed_asks : (setting : Setting) (caller : Caller) (number : ℕ) (state : Services) (r : Result (List ℕ) Status) → Asks number state.items (deleted_listed setting caller number state r).items (delete_listed_asked r)
 deleted_listed_asks setting caller number state (Ok numbers) = record { same = refl }
 deleted_listed_asks setting caller number state (Err code) = asks_none number state.items
@@ -516,8 +533,9 @@ of_items_on setting caller token body state id =
     either state _ _ _ _ _ (by_session create_monitored_items_meaning setting caller token state (λ session request at. items_moves setting session request.subscription_id (create_asked setting request at) at) (λ session request after. items_on setting caller request.subscription_id after (items_created setting caller request after) (create_asked setting request after) (created_asks setting caller request after) session) (message_of create_monitored_items_request_reading body))
     (either state _ _ _ _ _ (by_session modify_monitored_items_meaning setting caller token state (λ session request at. items_moves setting session request.subscription_id (modify_asked setting request at) at) (λ session request after. items_on setting caller request.subscription_id after (items_modified setting caller request after) (modify_asked setting request after) (modified_asks setting caller request after) session) (message_of modify_monitored_items_request_reading body))
     (either state _ _ _ _ _ (by_session set_monitoring_mode_meaning setting caller token state (λ session request at. items_moves setting session request.subscription_id (mode_asked setting request at) at) (λ session request after. items_on setting caller request.subscription_id after (items_moded setting caller request after) (mode_asked setting request after) (moded_asks setting caller request after) session) (message_of set_monitoring_mode_request_reading body))
+    (either state _ _ _ _ _ (by_session set_triggering_meaning setting caller token state (λ session request at. items_moves setting session request.subscription_id (link_asked setting request at) at) (λ session request after. items_on setting caller request.subscription_id after (items_linked setting caller request after) (link_asked setting request after) (linked_asks setting caller request after) session) (message_of set_triggering_request_reading body))
     (either state _ _ _ _ _ (by_session delete_monitored_items_meaning setting caller token state (λ session request at. items_moves setting session request.subscription_id (delete_asked setting request at) at) (λ session request after. items_on setting caller request.subscription_id after (items_deleted setting caller request after) (delete_asked setting request after) (deleted_asks setting caller request after) session) (message_of delete_monitored_items_request_reading body))
-    (of_subscriptions_on setting caller token body state id))))
+    (of_subscriptions_on setting caller token body state id)))))
 
 picked_on : (setting : Setting) (caller : Caller) (token : NodeId) (body : List ℕ) (state : Services) (id : ℕ) → IsOn state (moves_picked setting caller token body state id) (picked setting caller token body state id)
 picked_on setting caller token body state id =
@@ -543,6 +561,11 @@ serving_on setting request state = by_header setting request state (message_id_o
 
 timers_on : (setting : Setting) (state : Services) → ComesOnBy state (Move.Timers setting.clock ∷ []) (timers_met setting state)
 timers_on setting state = told_call state (timed (world_at setting state)) (Move.Timers setting.clock) (λ so_far replies. refl)
+
+-- the server's end comes to one call; that the sessions go then is nothing of the subscriptions
+pub shutting_on : (setting : Setting) (state : Services) → ComesOnBy state (shutting_moves setting) (shutting_of setting state)
+unfolding shutting_of
+shutting_on setting state = told_call state (shut_down (world_at setting state)) (Move.Shutdown setting.clock) (λ so_far replies. refl)
 
 pub ticking_on : (setting : Setting) (state : Services) → ComesOnBy state (ticking_moves setting state) (ticking_of setting state)
 ticking_on setting state =

@@ -5,6 +5,7 @@ use Rattle.std.specs.FinMap.{get}
 use Rattle.ua_types.specs.Configuration.{Configuration}
 use Rattle.ua_types.specs.Moments.{later}
 use Rattle.ua_types.specs.declared.moment.Moment.{Moment}
+use Rattle.ua_types.specs.declared.status.Status.{Status}
 use Rattle.ua_space.specs.Nodes.{SpaceState}
 use Rattle.ua_tcp.specs.Feeding.{Framing, framed_of}
 use Rattle.ua_tcp.specs.Frames.{End, Rest, Broken}
@@ -17,32 +18,33 @@ use Rattle.server_messages.specs.declared.reply.Reply.{Reply}
 use Rattle.server_messages.specs.declared.setting.Setting.{Setting}
 use Rattle.server_connections.specs.Connecting.{is_known, is_new, turned_away, taking_of, break_of}
 use Rattle.server_connections.specs.Delivering.{delivered, delivery_of}
+use Rattle.server_connections.specs.Shutting.{shut}
 use Rattle.server_connections.specs.declared.connections.Connections.{Connections}
 use Rattle.server_connections.specs.declared.frame_outcome.FrameOutcome.{FrameOutcome}
 use Rattle.server_connections.specs.declared.frame_outcome.FrameOutcome.TheVariants as outcome
 use Rattle.subscription_laws.specs.Runs.{Move, Ran, run}
-use Rattle.ua_services.specs.Services.{serving_of, ticking_of, forgotten}
+use Rattle.ua_services.specs.Services.{serving_of, ticking_of, shutting_of, forgotten}
 use Rattle.ua_services.specs.Serving.{Serving, rows_of}
 use Rattle.ua_services.specs.declared.services.Services.{Services}
 use Rattle.server_core.specs.Coherent.{reached}
 use Rattle.server_core.specs.Effects.{Effect, doing, effects_of, fired_of, outs_of}
-use Rattle.server_core.specs.Handling.{answered, asked_for, setting_at, handled, broken, ticked_core}
+use Rattle.server_core.specs.Handling.{answered, asked_for, setting_at, handled, broken, ticked_core, shut_core}
 use Rattle.server_core.specs.Running.{Running, joined_effects, then_run, run_of}
 use Rattle.server_core.specs.Stepping as stepping
 use Rattle.server_core.specs.Stepping.{Served, served, fed_to, fed, step_of}
 use Rattle.server_core.specs.World.{opening}
 use Rattle.server_core.specs.declared.event.Event.{Event}
-use Rattle.server_core.specs.declared.event.Event.TheVariants.{Opened, Bytes, Gone, Tick}
+use Rattle.server_core.specs.declared.event.Event.TheVariants.{Opened, Bytes, Gone, Tick, Shutdown}
 use Rattle.server_core.specs.declared.out.Step.{Step}
 use Rattle.server_core.specs.declared.out.StepFault.{StepFault}
 use Rattle.server_core.specs.declared.out.StepFault.TheVariants.{KnownConnection, UnknownConnection}
 use Rattle.server_core.specs.declared.parts.Core.{Core}
 use Rattle.server_core.specs.declared.world.World.{World}
 use Rattle.server_core.proofs.EffectLemmas.{fired_of-append, fired_of_doing, fired_of_effects, outs_of-append, shown_effects}
-use Rattle.server_laws.specs.EventMoves.{serving_moves, ticking_moves, forgetting_moves, asked_moves, frame_moves, frames_moves, end_moves, piece_moves, event_moves, moves_then, moves_from, moves_of}
+use Rattle.server_laws.specs.EventMoves.{serving_moves, ticking_moves, shutting_moves, forgetting_moves, asked_moves, frame_moves, frames_moves, end_moves, piece_moves, event_moves, moves_then, moves_from, moves_of}
 use Rattle.server_laws.specs.Moving.{ran_at, StandIn, ComesOnWith}
-use Rattle.server_laws.specs.Postings.{Posting, reply_posted, postings, asked_postings, frame_postings, frames_postings, piece_postings, ticking_postings, event_postings, postings_then, postings_from, posted, GoOut, outs_of_run}
-use Rattle.server_laws.proofs.MovingLemmas.{still, then_with, serving_on, ticking_on}
+use Rattle.server_laws.specs.Postings.{Posting, reply_posted, postings, asked_postings, frame_postings, frames_postings, piece_postings, ticking_postings, shutting_postings, event_postings, postings_then, postings_from, posted, GoOut, outs_of_run}
+use Rattle.server_laws.proofs.MovingLemmas.{still, then_with, serving_on, ticking_on, shutting_on}
 
 -- ---- going out
 
@@ -156,6 +158,16 @@ ticked_post core clock =
     let at : Core = record core { setting = setting } in
     answered_post at [] core.services (ticking_moves setting core.services) (ticking_of setting core.services) (ticking_on setting core.services)
 
+-- the server's end, and the connections that are closed then
+ended_post : (core : Core) → (let d = shut_core core in Posts core.services (shutting_moves core.setting) d.state.services (shutting_postings core) d.outs)
+ended_post core =
+    let s = shutting_of core.setting core.services in
+    let d = delivery_of core.setting core.connections s.replies in
+    let outs = (shut d.connections).outs in
+    subst (λ (ps : List Posting). Posts core.services (shutting_moves core.setting) s.state ps (effects_of s.occurrences d ++ doing outs)) (append-nil (shutting_postings core))
+    (both_post core.services s.state s.state (shutting_moves core.setting) [] (shutting_postings core) [] (effects_of s.occurrences d) (doing outs)
+    (answered_post core [] core.services (shutting_moves core.setting) s (shutting_on core.setting core.services)) (no_posts s.state (doing outs) (fired_of_doing outs)))
+
 -- ---- pieces
 
 then_post : (before : Services) (mid : Core) (effects : List Effect) (b : Bool) (more : Core → Done Core Effect) (ms ns : List Move) (ps qs : List Posting) → Posts before ms mid.services ps effects →
@@ -209,14 +221,23 @@ either_posts world moves ps false x y h g = g
 
 opened_posts : (world : World) (conn : ℕ) (key : List ℕ) → StepPosts world [] [] (stepping.opened world conn key)
 opened_posts world conn key =
-    let greeted : Result Served StepFault = Ok (served (stepping.greeted world conn key) []) in
-    let away : Result Served StepFault = Ok (stepping.refused world conn key) in
-    let r = turned_away world.core.connections conn key in
-    either_posts world [] [] (not (is_new world.core.connections conn)) (Err KnownConnection) (cond (stepping.has_room world) greeted away) tt
-    (either_posts world [] [] (stepping.has_room world) greeted away (nothing world.core.services) (no_posts world.core.services (doing r.outs) (fired_of_doing r.outs)))
+    either_posts world [] [] (not (is_new world.core.connections conn)) (Err KnownConnection) (Ok (stepping.opened_by world conn key (stepping.refusal_of world))) tt (by (stepping.refusal_of world))
+  where
+    by : (why : Option Status) → StepPosts world [] [] (Ok (stepping.opened_by world conn key why))
+    by None = nothing world.core.services
+    by (Some code) = let r = turned_away world.core.connections conn key code in no_posts world.core.services (doing r.outs) (fired_of_doing r.outs)
 
 if_known_posts : (world : World) (moves : List Move) (ps : List Posting) (conn : ℕ) (s : Served) → Posts world.core.services moves s.world.core.services ps s.effects → StepPosts world moves ps (stepping.if_known world conn s)
 if_known_posts world moves ps conn s h = either_posts world moves ps (is_known world.core.connections conn) (Ok s) (Err UnknownConnection) h tt
+
+shut_posts : (world : World) → (let s = stepping.shut_down world in Posts world.core.services (event_moves world Shutdown) s.world.core.services (event_postings world Shutdown) s.effects)
+unfolding stepping.shut_down
+shut_posts world = by world.core.is_shut
+  where
+    by : (b : Bool) → (let s : Served = cond b (served world []) (stepping.ended world) in
+        Posts world.core.services (cond b [] (shutting_moves world.core.setting)) s.world.core.services (cond b [] (shutting_postings world.core)) s.effects)
+    by true = nothing world.core.services
+    by false = ended_post world.core
 
 step_posts : (world : World) (event : Event) → StepPosts world (event_moves world event) (event_postings world event) (step_of world event)
 step_posts world (Opened conn key) = opened_posts world conn key
@@ -224,6 +245,7 @@ step_posts world (Bytes conn bytes) =
     if_known_posts world (piece_moves world conn bytes (get world.framers conn)) (piece_postings world conn bytes (get world.framers conn)) conn (fed world conn bytes) (fed_post world conn bytes)
 step_posts world (Gone conn) = if_known_posts world (forgetting_moves conn) [] conn (served (stepping.forgotten world conn) []) (forgotten_post world.core.services conn [])
 step_posts world (Tick now) = ticked_post world.core (later world.core.setting.clock now)
+step_posts world Shutdown = shut_posts world
 
 -- ---- any run
 

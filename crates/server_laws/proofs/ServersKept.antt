@@ -5,6 +5,7 @@ use Rattle.std.specs.FinMap.{get}
 use Rattle.ua_types.specs.Configuration.{Configuration}
 use Rattle.ua_types.specs.Moments.{later}
 use Rattle.ua_types.specs.declared.moment.Moment.{Moment}
+use Rattle.ua_types.specs.declared.status.Status.{Status}
 use Rattle.ua_tcp.specs.Feeding.{Framing, framed_of}
 use Rattle.ua_tcp.specs.Pieces.{all_handled}
 use Rattle.ua_tcp.specs.declared.frame.Frame.{Frame}
@@ -27,14 +28,14 @@ use Rattle.server_core.specs.Handling.{answered, asked_for, handled, broken, set
 use Rattle.server_core.specs.Stepping as stepping
 use Rattle.server_core.specs.Stepping.{Served, served, fed_to, fed, step_of}
 use Rattle.server_core.specs.declared.event.Event.{Event}
-use Rattle.server_core.specs.declared.event.Event.TheVariants.{Opened, Bytes, Gone, Tick}
+use Rattle.server_core.specs.declared.event.Event.TheVariants.{Opened, Bytes, Gone, Tick, Shutdown}
 use Rattle.server_core.specs.declared.out.StepFault.{StepFault}
 use Rattle.server_core.specs.declared.out.StepFault.TheVariants.{KnownConnection, UnknownConnection}
 use Rattle.server_core.specs.declared.parts.Core.{Core}
 use Rattle.server_core.specs.declared.world.World.{World}
 use Rattle.server_core.specs.World.{opening}
 use Rattle.server_core.proofs.Keeping.{frames_keep, end_keeps, Kept, lift}
-use Rattle.server_laws.proofs.ServicesKept.{AreKept, serving_keeps, ticking_keeps}
+use Rattle.server_laws.proofs.ServicesKept.{AreKept, serving_keeps, ticking_keeps, shutting_keeps}
 
 module _ (config : Configuration) (P : Moment → SessionsState → Type 0) (H : HistoryState → Type 0) (k : (clock : Moment) → AreKept (P clock) H)
     (tick : (clock brought : Moment) (s : SessionsState) → P clock s → P (later clock brought) (ticked s (later clock brought))) where
@@ -91,19 +92,30 @@ module _ (config : Configuration) (P : Moment → SessionsState → Type 0) (H :
   either true x y p q = p
   either false x y p q = q
 
+  opened_holds : (world : World) (conn : ℕ) (key : List ℕ) → Holds world.core → (why : Option Status) → Left (Ok (stepping.opened_by world conn key why))
+  opened_holds world conn key h None = (record { config_is = h.config_is; sessions = h.sessions; history = h.history }, tt)
+  opened_holds world conn key h (Some code) = (record { config_is = h.config_is; sessions = h.sessions; history = h.history }, tt)
+
+  shut_holds : (world : World) → Holds world.core → Left (Ok (stepping.shut_down world))
+  unfolding stepping.shut_down
+  shut_holds world h = by world.core.is_shut
+    where
+      by : (b : Bool) → Left (Ok (cond b (served world []) (stepping.ended world)))
+      by true = (h, tt)
+      by false =
+          let after = shutting_keeps (P world.core.setting.clock) H (k world.core.setting.clock) world.core.setting world.core.services (h.sessions, h.history) in
+          (record { config_is = h.config_is; sessions = after.0; history = after.1 }, tt)
+
   step_holds : (world : World) (event : Event) → Holds world.core → Left (step_of world event)
   step_holds world (Opened conn key) h =
-      let greeted : Result Served StepFault = Ok (served (stepping.greeted world conn key) []) in
-      let away : Result Served StepFault = Ok (stepping.refused world conn key) in
-      let still : Left greeted = (record { config_is = h.config_is; sessions = h.sessions; history = h.history }, tt) in
-      let gone : Left away = (record { config_is = h.config_is; sessions = h.sessions; history = h.history }, tt) in
-      either (not (is_new world.core.connections conn)) (Err KnownConnection) (cond (stepping.has_room world) greeted away) tt (either (stepping.has_room world) greeted away still gone)
+      either (not (is_new world.core.connections conn)) (Err KnownConnection) (Ok (stepping.opened_by world conn key (stepping.refusal_of world))) tt (opened_holds world conn key h (stepping.refusal_of world))
   step_holds world (Bytes conn bytes) h = either (is_known world.core.connections conn) (Ok (fed world conn bytes)) (Err UnknownConnection) (fed_holds world conn bytes h, tt) tt
   step_holds world (Gone conn) h =
       either (is_known world.core.connections conn) (Ok (served (stepping.forgotten world conn) [])) (Err UnknownConnection) (record { config_is = h.config_is; sessions = h.sessions; history = h.history }, tt) tt
   step_holds world (Tick now) h =
       let after = tick_holds world.core h now in
       (record { config_is = h.config_is; sessions = after.0; history = after.1 }, tt)
+  step_holds world Shutdown h = shut_holds world h
 
   pub all_hold : (space : SpaceState) (events : List Event) → Holds (opening config space).core → IfRuns (λ (world : World). Holds world.core) (reached config space events).server
   all_hold space events h = (lift (λ (world : World). Holds world.core) (λ (effects : List Effect). ⊤) step_holds events (opening config space) h).0

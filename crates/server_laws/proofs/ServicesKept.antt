@@ -16,6 +16,7 @@ use Rattle.ua_service_messages.specs.History.{history_read_request_reading}
 use Rattle.ua_service_messages.specs.Reading.{read_request_reading}
 use Rattle.ua_service_messages.specs.Writing.{write_request_reading}
 use Rattle.ua_service_messages.specs.Sessions.{create_session_request_reading, activate_session_request_reading, close_session_request_reading}
+use Rattle.ua_subscription_messages.specs.Triggering.{set_triggering_request_reading}
 use Rattle.ua_subscription_messages.specs.MonitoredItems.{create_monitored_items_request_reading, modify_monitored_items_request_reading, set_monitoring_mode_request_reading, delete_monitored_items_request_reading}
 use Rattle.ua_subscription_messages.specs.Publishing.{publish_request_reading, republish_request_reading}
 use Rattle.ua_subscription_messages.specs.Subscriptions.{create_subscription_request_reading, modify_subscription_request_reading, set_publishing_mode_request_reading, delete_subscriptions_request_reading}
@@ -35,7 +36,7 @@ use Rattle.ua_read_write.specs.declared.writing.Change.{Change}
 use Rattle.ua_browse.specs.Browsing.{page_size, browse_of}
 use Rattle.ua_history.specs.Histories.{HistoryState}
 use Rattle.ua_history.specs.declared.reading.RawRange.{RawRange}
-use Rattle.ua_session.specs.Sessions.{SessionsState, create_of, find_of, activate_of, close_of, points_of, with_points, ticked, ended_by}
+use Rattle.ua_session.specs.Sessions.{SessionsState, create_of, find_of, activate_of, close_of, points_of, with_points, ticked, ended_by, all_ended}
 use Rattle.ua_space.specs.Nodes.{Nodes, SpaceState}
 use Rattle.ua_state_table.specs.declared.vars.Vars.{Vars}
 use Rattle.ua_subscriptions.specs.Tables.{World}
@@ -60,9 +61,10 @@ use Rattle.ua_services.specs.Paging.{all_done}
 use Rattle.ua_services.specs.Publish.{acknowledged_in, publish_meaning}
 use Rattle.ua_services.specs.Read.{read_listed, read_timed, read_meaning}
 use Rattle.ua_services.specs.Republish.{republish_meaning}
-use Rattle.ua_services.specs.Services.{call_of, picked_of_subscriptions, picked_of_items, picked, serving_by, serving_of, ticking_of}
+use Rattle.ua_services.specs.Services.{call_of, picked_of_subscriptions, picked_of_items, picked, serving_by, serving_of, ticking_of, shutting_of}
 use Rattle.ua_services.specs.Serving.{Occurrence, Serving, faulted, served_by}
 use Rattle.ua_services.specs.SessionServing.{with_sessions, spent_by, taken}
+use Rattle.ua_services.specs.SetTriggering.{items_linked, set_triggering_meaning}
 use Rattle.ua_services.specs.SetMonitoringMode.{items_moded, set_monitoring_mode_meaning}
 use Rattle.ua_services.specs.SetPublishingMode.{set_publishing_listed, set_publishing_mode_meaning}
 use Rattle.ua_services.specs.SubServing.{told_alone, nothing_done, session_over, timed_out, all_timed_out}
@@ -77,6 +79,7 @@ pub record AreKept (P : SessionsState → Type 0) (H : HistoryState → Type 0) 
   pub found : (s : SessionsState) (token : NodeId) (conn : ℕ) → P s → P (find_of s token conn).state
   pub activated : (s : SessionsState) (token : NodeId) (conn : ℕ) (key : List ℕ) (is_anonymous : Bool) → P s → P (activate_of s token conn key is_anonymous).state
   pub closed : (s : SessionsState) (token : NodeId) (conn : ℕ) → P s → P (close_of s token conn).state
+  pub ended : (s : SessionsState) → P s → P (all_ended s)
   pub browsed : (space : SpaceState) (size session : ℕ) (descriptions : List BrowseDescription) (s : SessionsState) → P s →
       P (with_points s session (all_done (λ points d. browse_told (browse_of space points size d)) (points_of s session) descriptions).points)
   pub went_on : (space : SpaceState) (is_release : Bool) (session : ℕ) (named : List (Option (List ℕ))) (s : SessionsState) → P s →
@@ -209,8 +212,10 @@ module _ (P : SessionsState → Type 0) (H : HistoryState → Type 0) (k : AreKe
       (message_of modify_monitored_items_request_reading body))
       (either _ _ _ (by_session set_monitoring_mode_meaning setting caller token state p (λ session request after q. items_left setting caller request.subscription_id after (items_moded setting caller request after) q (own_vars session request.subscription_id after))
       (message_of set_monitoring_mode_request_reading body))
+      (either _ _ _ (by_session set_triggering_meaning setting caller token state p (λ session request after q. items_left setting caller request.subscription_id after (items_linked setting caller request after) q (own_vars session request.subscription_id after))
+      (message_of set_triggering_request_reading body))
       (either _ _ _ (by_session delete_monitored_items_meaning setting caller token state p (λ session request after q. items_left setting caller request.subscription_id after (items_deleted setting caller request after) q (own_vars session request.subscription_id after))
-      (message_of delete_monitored_items_request_reading body)) (subscriptions_left setting caller token body state id p))))
+      (message_of delete_monitored_items_request_reading body)) (subscriptions_left setting caller token body state id p)))))
 
   picked_left : (setting : Setting) (caller : Caller) (token : NodeId) (body : List ℕ) (state : Services) (id : ℕ) → Keeps state → Left (picked setting caller token body state id)
   picked_left setting caller token body state id p =
@@ -242,6 +247,11 @@ module _ (P : SessionsState → Type 0) (H : HistoryState → Type 0) (k : AreKe
   pub serving_keeps : (setting : Setting) (request : Request) (state : Services) → Keeps state → Keeps (serving_of setting request state).state
   unfolding serving_of
   serving_keeps setting request state p = (by_header setting request state (message_id_of request.body) (message_of request_header_reading request.body) p).keeps
+
+  -- once all sessions have ended
+  pub shutting_keeps : (setting : Setting) (state : Services) → Keeps state → Keeps (shutting_of setting state).state
+  unfolding shutting_of told_alone
+  shutting_keeps setting state p = (k.ended state.sessions p.0, p.1)
 
   -- once the sessions were told the time
   pub ticking_keeps : (setting : Setting) (state : Services) → P (ticked state.sessions setting.clock) → H state.history → Keeps (ticking_of setting state).state

@@ -7,6 +7,7 @@ use Rattle.std.specs.Ordering.{nat_cmp}
 use Rattle.ua_types.specs.Configuration.{Configuration}
 use Rattle.ua_types.specs.Moments.{later}
 use Rattle.ua_types.specs.declared.moment.Moment.{Moment}
+use Rattle.ua_types.specs.declared.status.Status.{Status}
 use Rattle.ua_tcp.specs.Feeding.{Framing, framed_of}
 use Rattle.ua_tcp.specs.Frames.{End, Rest, Broken}
 use Rattle.ua_tcp.specs.Pieces.{Done, and_then, all_handled, at_end}
@@ -19,6 +20,7 @@ use Rattle.server_messages.specs.declared.setting.Setting.{Setting}
 use Rattle.ua_space.specs.Nodes.{SpaceState}
 use Rattle.server_connections.specs.Connecting.{is_known, is_new, turned_away, taking_of, break_of}
 use Rattle.server_connections.specs.Delivering.{delivery_of}
+use Rattle.server_connections.specs.Shutting.{shut}
 use Rattle.server_connections.specs.declared.frame_outcome.FrameOutcome.{FrameOutcome}
 use Rattle.server_connections.specs.declared.frame_outcome.FrameOutcome.TheVariants as outcome
 use Rattle.server_connections.specs.declared.connections.Connections.{Connections}
@@ -32,26 +34,26 @@ use Rattle.subscription_laws.proofs.Concerned.{all_from, one_row_for_each}
 use Rattle.subscription_laws.proofs.Reached.{rows_are_lawful, all_steady, none_beside, lives_count, none_skipped}
 use Rattle.server_laws.specs.Moving.{Went, ComesOn, ran_at}
 use Rattle.ua_services.specs.Serving.{Serving, rows_of}
-use Rattle.ua_services.specs.Services.{serving_of, ticking_of, forgotten}
+use Rattle.ua_services.specs.Services.{serving_of, ticking_of, shutting_of, forgotten}
 use Rattle.ua_services.specs.declared.services.Services.{Services}
-use Rattle.server_laws.proofs.ApartLemmas.{CameBy, keeps_apart, stays_fresh, tick_fresh}
+use Rattle.server_laws.proofs.ApartLemmas.{CameBy, keeps_apart, stays_fresh, tick_fresh, end_fresh}
 use Rattle.server_laws.proofs.OtherSessions.{IsFresh}
-use Rattle.server_laws.proofs.MovingLemmas.{goes_on, none, and_on, serving_on, ticking_on, forgotten_on}
+use Rattle.server_laws.proofs.MovingLemmas.{goes_on, none, and_on, serving_on, ticking_on, shutting_on, forgotten_on}
 use Rattle.server_core.specs.Coherent.{reached, IfRuns}
 use Rattle.server_core.specs.Effects.{Effect, doing, effects_of, fired_of}
-use Rattle.server_core.specs.Handling.{answered, asked_for, setting_at, handled, broken, ticked_core}
+use Rattle.server_core.specs.Handling.{answered, asked_for, setting_at, handled, broken, ticked_core, shut_core}
 use Rattle.server_core.specs.Running.{Running, joined_effects, then_run, run_of}
 use Rattle.server_laws.specs.SessionsApart.{KeepsSessionsApart, ServesByFrames, SessionsStayApart}
 use Rattle.server_core.specs.Stepping as stepping
 use Rattle.server_core.specs.Stepping.{Served, served, fed_to, fed, step_of}
 use Rattle.server_laws.specs.Tables.{rows_of_run, IfShown, LeadTo, StaysSteady, NoneWaitsBesideARequest, LivesCountTimers, NoKeepAliveIsSkipped, FiresOneRow, TimesOutExactly, NoneTimesOutBesideARequest}
 use Rattle.server_laws.specs.Concern.{FiresFor, FiresForEach}
-use Rattle.server_laws.specs.EventMoves.{serving_moves, ticking_moves, forgetting_moves, asked_moves, frame_moves, frames_moves, end_moves, piece_moves, event_moves, moves_then, moves_from, moves_of}
+use Rattle.server_laws.specs.EventMoves.{serving_moves, ticking_moves, shutting_moves, forgetting_moves, asked_moves, frame_moves, frames_moves, end_moves, piece_moves, event_moves, moves_then, moves_from, moves_of}
 use Rattle.server_core.specs.World.{opening}
 use Rattle.server_core.specs.declared.world.World.{World}
 use Rattle.server_core.specs.declared.parts.Core.{Core}
 use Rattle.server_core.specs.declared.event.Event.{Event}
-use Rattle.server_core.specs.declared.event.Event.TheVariants.{Opened, Bytes, Gone, Tick}
+use Rattle.server_core.specs.declared.event.Event.TheVariants.{Opened, Bytes, Gone, Tick, Shutdown}
 use Rattle.server_core.specs.declared.out.StepFault.{StepFault}
 use Rattle.server_core.specs.declared.out.StepFault.TheVariants.{KnownConnection, UnknownConnection}
 use Rattle.server_core.proofs.EffectLemmas.{fired_of-append, fired_of_doing, fired_of_effects}
@@ -94,6 +96,11 @@ ticking_goes : (setting : Setting) (services : Services) → (let s = ticking_of
 ticking_goes setting services =
     let s = ticking_of setting services in
     record { goes = goes_on services (ticking_moves setting services) s.state (rows_of s.occurrences) s.replies (ticking_on setting services); fresh = λ from fresh. tick_fresh setting services fresh }
+
+shutting_goes : (setting : Setting) (services : Services) → (let s = shutting_of setting services in Goes services (shutting_moves setting) s.state (rows_of s.occurrences))
+shutting_goes setting services =
+    let s = shutting_of setting services in
+    record { goes = goes_on services (shutting_moves setting) s.state (rows_of s.occurrences) s.replies (shutting_on setting services); fresh = λ from fresh. end_fresh setting services }
 
 forgetting : (services : Services) (conn : ℕ) → Goes services (forgetting_moves conn) (forgotten services conn) []
 forgetting services conn = record { goes = forgotten_on services conn; fresh = λ from fresh. fresh }
@@ -143,6 +150,15 @@ ticked_goes core clock =
     let at : Core = record core { setting = setting } in
     answered_goes at [] core.services (ticking_moves setting core.services) (ticking_of setting core.services) (ticking_goes setting core.services)
 
+-- the server's end, and the connections that are closed then
+ended_goes : (core : Core) → (let d = shut_core core in Goes core.services (shutting_moves core.setting) d.state.services (fired_of d.outs))
+ended_goes core =
+    let s = shutting_of core.setting core.services in
+    let d = delivery_of core.setting core.connections s.replies in
+    let outs = (shut d.connections).outs in
+    both_go core.services s.state s.state (shutting_moves core.setting) [] (effects_of s.occurrences d) (doing outs)
+    (answered_goes core [] core.services (shutting_moves core.setting) s (shutting_goes core.setting core.services)) (no_rows s.state (doing outs) (fired_of_doing outs))
+
 -- ---- pieces
 
 then_goes : (before : Services) (mid : Core) (effects : List Effect) (b : Bool) (more : Core → Done Core Effect) (ms ns : List Move) → Goes before ms mid.services (fired_of effects) → Goes mid.services ns (more mid).state.services (fired_of (more mid).outs) →
@@ -184,20 +200,29 @@ either_goes world moves false x y p q = q
 
 opened_goes : (world : World) (conn : ℕ) (key : List ℕ) → StepGoes world [] (stepping.opened world conn key)
 opened_goes world conn key =
-    let greeted : Result Served StepFault = Ok (served (stepping.greeted world conn key) []) in
-    let away : Result Served StepFault = Ok (stepping.refused world conn key) in
-    let r = turned_away world.core.connections conn key in
-    either_goes world [] (not (is_new world.core.connections conn)) (Err KnownConnection) (cond (stepping.has_room world) greeted away) tt
-    (either_goes world [] (stepping.has_room world) greeted away (nothing world.core.services) (no_rows world.core.services (doing r.outs) (fired_of_doing r.outs)))
+    either_goes world [] (not (is_new world.core.connections conn)) (Err KnownConnection) (Ok (stepping.opened_by world conn key (stepping.refusal_of world))) tt (by (stepping.refusal_of world))
+  where
+    by : (why : Option Status) → StepGoes world [] (Ok (stepping.opened_by world conn key why))
+    by None = nothing world.core.services
+    by (Some code) = let r = turned_away world.core.connections conn key code in no_rows world.core.services (doing r.outs) (fired_of_doing r.outs)
 
 if_known_goes : (world : World) (moves : List Move) (conn : ℕ) (s : Served) → Goes world.core.services moves s.world.core.services (fired_of s.effects) → StepGoes world moves (stepping.if_known world conn s)
 if_known_goes world moves conn s p = either_goes world moves (is_known world.core.connections conn) (Ok s) (Err UnknownConnection) p tt
+
+shut_goes : (world : World) → (let s = stepping.shut_down world in Goes world.core.services (event_moves world Shutdown) s.world.core.services (fired_of s.effects))
+unfolding stepping.shut_down
+shut_goes world = by world.core.is_shut
+  where
+    by : (b : Bool) → (let s : Served = cond b (served world []) (stepping.ended world) in Goes world.core.services (cond b [] (shutting_moves world.core.setting)) s.world.core.services (fired_of s.effects))
+    by true = nothing world.core.services
+    by false = ended_goes world.core
 
 pub step_goes : (world : World) (event : Event) → StepGoes world (event_moves world event) (step_of world event)
 step_goes world (Opened conn key) = opened_goes world conn key
 step_goes world (Bytes conn bytes) = if_known_goes world (piece_moves world conn bytes (get world.framers conn)) conn (fed world conn bytes) (fed_goes world conn bytes)
 step_goes world (Gone conn) = if_known_goes world (forgetting_moves conn) conn (served (stepping.forgotten world conn) []) (forgetting world.core.services conn)
 step_goes world (Tick now) = ticked_goes world.core (later world.core.setting.clock now)
+step_goes world Shutdown = shut_goes world
 
 -- one row fires for each subscription that an event concerns
 for_each_by : (world : World) (moves : List Move) (r : Result Served StepFault) → StepGoes world moves r → FiresFor (concerned_from (ran_at world.core.services [] []) moves) r

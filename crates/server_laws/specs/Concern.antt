@@ -11,7 +11,8 @@ use Rattle.server_core.specs.declared.out.StepFault.{StepFault}
 
 -- Those that the calls of an event concern, each met by the world that those before it left: of one that a request made, the
 -- number that it gets; of one that a request names, if it is the session's; of a Publish, the best that waits, or else all of
--- the session's; of the end of a session, all of its own; of a tick, those of the sessions that end, and then those that are due
+-- the session's; of the end of a session, all of its own; of a tick, those of the sessions that end, and then those that are due; of
+-- a shutdown, all that live
 abbrev pub concerned : World → Event → List Concern
 concerned world event = concerned_from (ran_at world.core.services [] []) (event_moves world event)
 

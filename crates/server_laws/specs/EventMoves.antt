@@ -13,7 +13,7 @@ use Rattle.ua_tcp.specs.declared.frame.Frame.{Frame}
 use Rattle.ua_messages.specs.Bodies.{message_id_of, message_of}
 use Rattle.ua_messages.specs.Headers.{request_header_reading}
 use Rattle.ua_messages.specs.declared.headers.RequestHeader.{RequestHeader}
-use Rattle.ua_messages.specs.declared.type_ids.TheConstants.{GET_ENDPOINTS_REQUEST, CREATE_SESSION_REQUEST, ACTIVATE_SESSION_REQUEST, CLOSE_SESSION_REQUEST, READ_REQUEST, WRITE_REQUEST, BROWSE_REQUEST, BROWSE_NEXT_REQUEST, HISTORY_READ_REQUEST, CREATE_MONITORED_ITEMS_REQUEST, MODIFY_MONITORED_ITEMS_REQUEST, SET_MONITORING_MODE_REQUEST, DELETE_MONITORED_ITEMS_REQUEST, CREATE_SUBSCRIPTION_REQUEST, MODIFY_SUBSCRIPTION_REQUEST, SET_PUBLISHING_MODE_REQUEST, DELETE_SUBSCRIPTIONS_REQUEST, PUBLISH_REQUEST, REPUBLISH_REQUEST}
+use Rattle.ua_messages.specs.declared.type_ids.TheConstants.{GET_ENDPOINTS_REQUEST, CREATE_SESSION_REQUEST, ACTIVATE_SESSION_REQUEST, CLOSE_SESSION_REQUEST, READ_REQUEST, WRITE_REQUEST, BROWSE_REQUEST, BROWSE_NEXT_REQUEST, HISTORY_READ_REQUEST, CREATE_MONITORED_ITEMS_REQUEST, MODIFY_MONITORED_ITEMS_REQUEST, SET_MONITORING_MODE_REQUEST, SET_TRIGGERING_REQUEST, DELETE_MONITORED_ITEMS_REQUEST, CREATE_SUBSCRIPTION_REQUEST, MODIFY_SUBSCRIPTION_REQUEST, SET_PUBLISHING_MODE_REQUEST, DELETE_SUBSCRIPTIONS_REQUEST, PUBLISH_REQUEST, REPUBLISH_REQUEST}
 use Rattle.server_messages.specs.declared.request.Request.{Request}
 use Rattle.server_messages.specs.declared.setting.Setting.{Setting}
 use Rattle.ua_service_messages.specs.Sessions.{close_session_request_reading}
@@ -21,6 +21,7 @@ use Rattle.ua_service_messages.specs.Writing.{write_request_reading}
 use Rattle.ua_service_messages.specs.declared.sessions.CloseSessionRequest.{CloseSessionRequest}
 use Rattle.ua_service_messages.specs.declared.writing.WriteRequest.{WriteRequest}
 use Rattle.ua_service_messages.specs.declared.writing.WriteValue.{WriteValue}
+use Rattle.ua_subscription_messages.specs.Triggering.{set_triggering_request_reading}
 use Rattle.ua_subscription_messages.specs.MonitoredItems.{create_monitored_items_request_reading, modify_monitored_items_request_reading, set_monitoring_mode_request_reading, delete_monitored_items_request_reading}
 use Rattle.ua_subscription_messages.specs.Publishing.{publish_request_reading, republish_request_reading}
 use Rattle.ua_subscription_messages.specs.Subscriptions.{create_subscription_request_reading, modify_subscription_request_reading, set_publishing_mode_request_reading, delete_subscriptions_request_reading}
@@ -30,6 +31,7 @@ use Rattle.ua_subscription_messages.specs.declared.monitored_items.ModifyMonitor
 use Rattle.ua_subscription_messages.specs.declared.monitored_items.MonitoredItemCreateRequest.{MonitoredItemCreateRequest}
 use Rattle.ua_subscription_messages.specs.declared.monitored_items.MonitoredItemModifyRequest.{MonitoredItemModifyRequest}
 use Rattle.ua_subscription_messages.specs.declared.monitored_items.SetMonitoringModeRequest.{SetMonitoringModeRequest}
+use Rattle.ua_subscription_messages.specs.declared.triggering.SetTriggeringRequest.{SetTriggeringRequest}
 use Rattle.ua_subscription_messages.specs.declared.publishing.PublishRequest.{PublishRequest}
 use Rattle.ua_subscription_messages.specs.declared.publishing.RepublishRequest.{RepublishRequest}
 use Rattle.ua_subscription_messages.specs.declared.subscriptions.CreateSubscriptionRequest.{CreateSubscriptionRequest}
@@ -51,7 +53,8 @@ use Rattle.server_connections.specs.declared.frame_outcome.FrameOutcome.TheVaria
 use Rattle.ua_services.specs.CreateSubscription.{settings_asked}
 use Rattle.ua_services.specs.ItemServing.{own_vars}
 use Rattle.ua_services.specs.ModifySubscription.{settings_wanted}
-use Rattle.ua_services.specs.Operations.{operations_of}
+use Rattle.ua_services.specs.SetTriggering.{listed, links_asked}
+use Rattle.ua_services.specs.Operations.{count_judged, operations_of}
 use Rattle.ua_services.specs.Publish.{acknowledged_in, publish_call}
 use Rattle.ua_services.specs.Services.{call_of}
 use Rattle.ua_services.specs.SessionServing.{with_sessions}
@@ -63,7 +66,7 @@ use Rattle.server_core.specs.World.{opening}
 use Rattle.server_core.specs.declared.parts.Core.{Core}
 use Rattle.server_core.specs.declared.world.World.{World}
 use Rattle.server_core.specs.declared.event.Event.{Event}
-use Rattle.server_core.specs.declared.event.Event.TheVariants.{Opened, Bytes, Gone, Tick}
+use Rattle.server_core.specs.declared.event.Event.TheVariants.{Opened, Bytes, Gone, Tick, Shutdown}
 use Rattle.server_core.specs.declared.out.StepFault.{StepFault}
 
 -- ---- what every service begins with
@@ -168,6 +171,13 @@ mode_listed_asked setting state mode (Err code) = nothing_asked
 abbrev pub mode_asked : Setting → SetMonitoringModeRequest → Services → ItemsCall
 mode_asked setting request state = mode_listed_asked setting state (mode_numbered request.monitoring_mode) (operations_of setting.config request.monitored_item_ids)
 
+abbrev pub link_counted_asked : SetTriggeringRequest → Result (Unit {0}) Status → ItemsCall
+link_counted_asked request (Ok good) = ItemsCall.Link request.triggering_item_id (listed request.links_to_add) (listed request.links_to_remove)
+link_counted_asked request (Err code) = nothing_asked
+
+abbrev pub link_asked : Setting → SetTriggeringRequest → Services → ItemsCall
+link_asked setting request state = link_counted_asked request (count_judged setting.config (links_asked request))
+
 abbrev pub delete_listed_asked : Result (List ℕ) Status → ItemsCall
 delete_listed_asked (Ok numbers) = ItemsCall.Delete numbers
 delete_listed_asked (Err code) = nothing_asked
@@ -201,6 +211,7 @@ moves_of_items setting caller token body state id =
     if id == CREATE_MONITORED_ITEMS_REQUEST then if_read (in_session (λ session request at. items_moves setting session request.subscription_id (create_asked setting request at) at) caller token state) (message_of create_monitored_items_request_reading body)
     else if id == MODIFY_MONITORED_ITEMS_REQUEST then if_read (in_session (λ session request at. items_moves setting session request.subscription_id (modify_asked setting request at) at) caller token state) (message_of modify_monitored_items_request_reading body)
     else if id == SET_MONITORING_MODE_REQUEST then if_read (in_session (λ session request at. items_moves setting session request.subscription_id (mode_asked setting request at) at) caller token state) (message_of set_monitoring_mode_request_reading body)
+    else if id == SET_TRIGGERING_REQUEST then if_read (in_session (λ session request at. items_moves setting session request.subscription_id (link_asked setting request at) at) caller token state) (message_of set_triggering_request_reading body)
     else if id == DELETE_MONITORED_ITEMS_REQUEST then if_read (in_session (λ session request at. items_moves setting session request.subscription_id (delete_asked setting request at) at) caller token state) (message_of delete_monitored_items_request_reading body)
     else moves_of_subscriptions setting caller token body state id
 
@@ -238,6 +249,12 @@ ticking_moves setting state = map (end_move setting) (ended_by state.sessions se
 abbrev pub forgetting_moves : ℕ → List Move
 forgetting_moves conn = Move.Gone conn ∷ []
 
+-- ---- the server's end
+
+-- it comes to one call, the first time
+abbrev pub shutting_moves : Setting → List Move
+shutting_moves setting = Move.Shutdown setting.clock ∷ []
+
 -- ---- an event
 
 -- a frame completes a request, ends its connection, or neither
@@ -273,6 +290,7 @@ event_moves world (Opened conn key) = []
 event_moves world (Bytes conn bytes) = piece_moves world conn bytes (get world.framers conn)
 event_moves world (Gone conn) = forgetting_moves conn
 event_moves world (Tick now) = let core : Core = world.core in ticking_moves (setting_at core (later core.setting.clock now)) core.services
+event_moves world Shutdown = let core : Core = world.core in if core.is_shut then [] else shutting_moves core.setting
 
 -- ---- a run
 

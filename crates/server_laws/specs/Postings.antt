@@ -14,14 +14,14 @@ use Rattle.server_connections.specs.Delivering.{delivered}
 use Rattle.server_connections.specs.declared.connections.Connections.{Connections}
 use Rattle.server_connections.specs.declared.frame_outcome.FrameOutcome.{FrameOutcome}
 use Rattle.server_connections.specs.declared.frame_outcome.FrameOutcome.TheVariants as outcome
-use Rattle.ua_services.specs.Services.{serving_of, ticking_of}
+use Rattle.ua_services.specs.Services.{serving_of, ticking_of, shutting_of}
 use Rattle.server_core.specs.Effects.{outs_of}
 use Rattle.server_core.specs.Handling.{handled, setting_at}
 use Rattle.server_core.specs.Running.{Running, joined_effects}
 use Rattle.server_core.specs.Stepping.{Served, step_of}
 use Rattle.server_core.specs.World.{opening}
 use Rattle.server_core.specs.declared.event.Event.{Event}
-use Rattle.server_core.specs.declared.event.Event.TheVariants.{Opened, Bytes, Gone, Tick}
+use Rattle.server_core.specs.declared.event.Event.TheVariants.{Opened, Bytes, Gone, Tick, Shutdown}
 use Rattle.server_core.specs.declared.out.StepFault.{StepFault}
 use Rattle.server_core.specs.declared.parts.Core.{Core}
 use Rattle.server_core.specs.declared.world.World.{World}
@@ -67,11 +67,16 @@ piece_postings world conn piece (Some framing) = frames_postings conn world.core
 abbrev pub ticking_postings : Core → Setting → List Posting
 ticking_postings core setting = postings setting core.connections (ticking_of setting core.services).replies
 
+-- the server's end answers all that waits
+abbrev pub shutting_postings : Core → List Posting
+shutting_postings core = postings core.setting core.connections (shutting_of core.setting core.services).replies
+
 abbrev pub event_postings : World → Event → List Posting
 event_postings world (Opened conn key) = []
 event_postings world (Bytes conn bytes) = piece_postings world conn bytes (get world.framers conn)
 event_postings world (Gone conn) = []
 event_postings world (Tick now) = let core : Core = world.core in ticking_postings core (setting_at core (later core.setting.clock now))
+event_postings world Shutdown = let core : Core = world.core in if core.is_shut then [] else shutting_postings core
 
 abbrev pub postings_then : World → Event → Result Served StepFault → (World → List Posting) → List Posting
 postings_then world event (Ok s) more = event_postings world event ++ more s.world
