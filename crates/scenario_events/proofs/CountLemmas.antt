@@ -133,6 +133,7 @@ assembled_counted a (statements.OpenChannel connection request) w = assembled_op
 assembled_counted a (statements.CloseChannel connection) w = sent_counted a connection (closing_of (client_of a connection)) w (closing_counted (client_of a connection) (w.clients connection))
 assembled_counted a (statements.Gone connection) w = record { clients = taken_counted a.clients connection w.clients; channels = w.channels }
 assembled_counted a (statements.Tick now) w = w
+assembled_counted a statements.Shutdown w = w
 assembled_counted a (statements.Raw connection bytes) w = w
 assembled_counted a (statements.Cut size) w = record { clients = w.clients; channels = w.channels }
 assembled_counted a (statements.Chunk size) w = record { clients = w.clients; channels = w.channels }

@@ -203,6 +203,7 @@ line_happens a (statements.OpenChannel connection request) w read = opening_happ
 line_happens a (statements.CloseChannel connection) w read = closing_happens a connection w read
 line_happens a (statements.Gone connection) w read = λ others tail rest. group_on _ _ _ _ _ tail (refl, refl) rest
 line_happens a (statements.Tick now) w read = λ others tail rest. group_on _ _ _ _ _ tail (refl, refl) rest
+line_happens a statements.Shutdown w read = λ others tail rest. group_on _ _ _ _ _ tail (refl, refl) rest
 line_happens a (statements.Raw connection bytes) w read = λ others tail rest. group_on _ _ _ _ _ tail (comes_in a.cut connection bytes, refl) rest
 line_happens a (statements.Cut size) w read = λ others tail rest. rest
 line_happens a (statements.Chunk size) w read = λ others tail rest. rest

@@ -34,6 +34,7 @@ line_limit a (statements.OpenChannel connection request) = sent_or_limit _ _ _ _
 line_limit a (statements.CloseChannel connection) = sent_or_limit _ _ _ _ _
 line_limit a (statements.Gone connection) = tt
 line_limit a (statements.Tick now) = tt
+line_limit a statements.Shutdown = tt
 line_limit a (statements.Raw connection bytes) = tt
 line_limit a (statements.Cut size) = tt
 line_limit a (statements.Chunk size) = tt

@@ -27,7 +27,7 @@ use Rattle.scenario_text.specs.declared.choices.ChannelRequest.{ChannelRequest}
 use Rattle.scenario_text.specs.declared.choices.ChannelRequest.TheVariants.{Issue, Renew}
 use Rattle.scenario_requests.specs.Messages.{IsServiceBody, IsEndpointsBody, IsSessionBody, IsOpeningBody, IsClosingBody}
 use Rattle.scenario_requests.specs.Structures.{plain_request}
-use Rattle.scenario_events.specs.Meaning.{Asking, Endpoints, NewSession, Service, Kind, Opening, Closing, Passing, Greeting, ChannelOpening, ChannelEnd, Asked, Unread, Happening}
+use Rattle.scenario_events.specs.Meaning.{Asking, Endpoints, NewSession, Service, Kind, Opening, Closing, Passing, Ending, Greeting, ChannelOpening, ChannelEnd, Asked, Unread, Happening}
 use Rattle.scenario_events.specs.Reading.{messages_of}
 use Rattle.scenario_events.specs.declared.assembler.Session.{Session}
 use Rattle.scenario_events.specs.declared.clients.Client.{Client}
@@ -194,6 +194,7 @@ abbrev pub IsGroup : Counts → ℕ → ℕ → Kind → List Event → Counts �
 IsGroup c cut chunk (Opening connection key) group after = (group ≡ events.Opened connection key ∷ []) × (after ≡ with_numbers c connection (first_numbers key))
 IsGroup c cut chunk (Closing connection) group after = (group ≡ events.Gone connection ∷ []) × (after ≡ record c { clients = remove c.clients connection })
 IsGroup c cut chunk (Passing now) group after = (group ≡ events.Tick now ∷ []) × (after ≡ c)
+IsGroup c cut chunk Ending group after = (group ≡ events.Shutdown ∷ []) × (after ≡ c)
 IsGroup c cut chunk (Unread connection bytes) group after = ComesIn cut connection bytes group × (after ≡ c)
 IsGroup c cut chunk (Greeting connection url) group after = Bring cut connection (IsOneFrame message.Hello hello_reading (greeting url) IsNothing) group × (after ≡ with_numbers c connection (numbers_on c connection))
 IsGroup c cut chunk (ChannelOpening connection request) group after =

@@ -16,11 +16,12 @@ pub data Asking : Type 0 where
   NewSession : Asking
   Service : ℕ → Request → Asking
 
--- What happens on a connection, whose number comes first. A request may be given up.
+-- What happens: on a connection, whose number comes first, or as time passes, or at the server's end. A request may be given up.
 pub data Kind : Type 0 where
   Opening : ℕ → List ℕ → Kind
   Closing : ℕ → Kind
   Passing : Moment → Kind
+  Ending : Kind
   Greeting : ℕ → Option (List ℕ) → Kind
   ChannelOpening : ℕ → ChannelRequest → Kind
   ChannelEnd : ℕ → Kind
@@ -56,6 +57,7 @@ happens_by m (statements.OpenChannel connection request) others = with_happening
 happens_by m (statements.CloseChannel connection) others = with_happening m (ChannelEnd connection) (others m)
 happens_by m (statements.Gone connection) others = with_happening m (Closing connection) (others m)
 happens_by m (statements.Tick now) others = with_happening m (Passing now) (others m)
+happens_by m statements.Shutdown others = with_happening m Ending (others m)
 happens_by m (statements.Raw connection bytes) others = with_happening m (Unread connection bytes) (others m)
 happens_by m (statements.Cut size) others = others (record m { cut = size })
 happens_by m (statements.Chunk size) others = others (record m { chunk = size })

@@ -84,6 +84,7 @@ assembled_of a (statements.OpenChannel connection request) = assembled_opening a
 assembled_of a (statements.CloseChannel connection) = sending a connection (closing_of (client_of a connection))
 assembled_of a (statements.Gone connection) = Ok (Own (events.Gone connection), record a { clients = remove a.clients connection })
 assembled_of a (statements.Tick now) = Ok (Own (events.Tick now), a)
+assembled_of a statements.Shutdown = Ok (Own events.Shutdown, a)
 assembled_of a (statements.Raw connection bytes) = Ok (Stream connection bytes, a)
 assembled_of a (statements.Cut size) = Ok (Nothing, record a { cut = size })
 assembled_of a (statements.Chunk size) = Ok (Nothing, record a { chunk = size })

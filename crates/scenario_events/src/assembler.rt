@@ -245,6 +245,7 @@ impl Assembler {
                 Ok(Member::Own(Event::Gone { conn: connection }))
             }
             Statement::Tick { now } => Ok(Member::Own(Event::Tick { now })),
+            Statement::Shutdown => Ok(Member::Own(Event::Shutdown)),
             Statement::Raw { connection, bytes } => Ok(Member::Stream { connection, bytes }),
             Statement::Cut { size } => {
                 self.cut = size;
