@@ -6,7 +6,7 @@ use Rattle.hex.specs.Hex.{encode_lower}
 use Rattle.server_messages.specs.declared.out.Out.{Out}
 use Rattle.server_messages.specs.declared.out.Out.TheVariants.{Send, Close}
 use Rattle.server_core.specs.declared.event.Event.{Event}
-use Rattle.server_core.specs.declared.event.Event.TheVariants.{Opened, Bytes, Gone, Tick}
+use Rattle.server_core.specs.declared.event.Event.TheVariants.{Opened, Bytes, Gone, Tick, Shutdown}
 
 -- a word, a number, and what ends a line
 abbrev pub numbered : List ℕ → ℕ → List ℕ → List ℕ
@@ -24,6 +24,7 @@ event_line (Opened conn key) = numbered (codes "open ") conn (in_hex key)
 event_line (Bytes conn bytes) = numbered (codes "bytes ") conn (in_hex bytes)
 event_line (Gone conn) = numbered (codes "gone ") conn newline
 event_line (Tick now) = codes "tick " ++ signed_decimal now.0 ++ newline
+event_line Shutdown = codes "shutdown" ++ newline
 
 unfoldable pub out_line : Out → List ℕ
 out_line (Send conn bytes) = numbered (codes "send ") conn (in_hex bytes)

@@ -30,6 +30,7 @@ pub(crate) fn event_line(alloc: Global, event: &Event) -> Result<String, AllocEr
             let moment: i64 = now.0;
             format!(in alloc; "tick {moment}\n")
         }
+        Event::Shutdown => format!(in alloc; "shutdown\n"),
     }
 }
 
