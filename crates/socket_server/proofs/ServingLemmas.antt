@@ -5,7 +5,7 @@ use Rattle.mio.specs.declared.event.event.Event as ready
 use Rattle.mio.specs.Event.{event_token}
 use Rattle.ua_types.specs.declared.moment.Moment.{Moment}
 use Rattle.server_core.specs.declared.event.Event.{Event}
-use Rattle.server_core.specs.declared.event.Event.TheVariants.{Opened, Bytes, Gone, Tick}
+use Rattle.server_core.specs.declared.event.Event.TheVariants.{Opened, Bytes, Gone, Tick, Shutdown}
 use Rattle.socket_peers.specs.declared.peer.Heard.{Heard}
 use Rattle.socket_peers.specs.declared.peer.Heard.TheVariants as heard
 use Rattle.socket_peers.specs.Peer.{PeerState}
@@ -17,7 +17,7 @@ use Rattle.socket_server.specs.Output.{Output, EventText}
 use Rattle.socket_server.specs.declared.serve_fault.ServeFault.TheVariants as serve_fault
 use Rattle.socket_server.specs.declared.serve_fault.ServeFault.{ServeFault}
 use Rattle.rand_core.specs.Stream.{Stream}
-use Rattle.socket_server.specs.Serving.{State, Scene, scene, IsNextKey, IsQuiet, Happening, Connects, Reports, Gathers, Looks, Hears, Waits, Writes, Leaves, Drops, Passes, is_piece, may_be_more, Does, Runs, ticks, Fails, IsOutside, HandsIn, Goes, Stops, Serves, GivesNoMore, GoesOn, ReadsOn, Attends, AttendsEach, AttendsAll, TakesTurn, Turns, unknown, uncounted, takes_bytes, is_of_listener, reported_event, reported_events, begun, IsServed, IsStopped}
+use Rattle.socket_server.specs.Serving.{State, Scene, scene, IsNextKey, IsQuiet, Happening, Connects, Reports, Gathers, Looks, Hears, Waits, Writes, Leaves, Drops, Passes, is_piece, may_be_more, Does, Runs, ticks, Fails, IsOutside, HandsIn, Goes, Stops, Serves, GivesNoMore, GoesOn, ReadsOn, Attends, AttendsEach, AttendsAll, TakesTurn, Turns, ServesToTheEnd, unknown, uncounted, takes_bytes, is_of_listener, reported_event, reported_events, begun, IsServed, IsStopped}
 
 -- what a call that went well says
 pub when_ok : {X E : Type 0} (r : Result X E) (P : Type 0) → is_err r ≡ false → OnOk r P → P
@@ -250,6 +250,13 @@ module _ {S : Type 0} (remaining contents : S → Option (List ℕ)) (calls : S 
   turned a b c (Ok x) goes attends = (b, goes, attends)
   turned a b c (Err fault) goes stops = stops_after 1 a b c fault goes stops
 
+  -- so many turns, and then the server is told to end
+  pub to_the_end : {X : Type 0} (n : ℕ) (a b c : Scene S) (r : Result X ServeFault) → Turns remaining contents calls text n a b
+      → MatchResult r (λ _. HandsIn remaining contents calls text Shutdown b c) (Fails text Shutdown b c)
+      → MatchResult r (λ _. ServesToTheEnd remaining contents calls text n a c) (Stops remaining contents calls text a c)
+  to_the_end n a b c (Ok x) turns hands = (b, turns, hands)
+  to_the_end n a b c (Err fault) turns fails = stops_after n a b c fault (turns_go n a b turns) (stops_at Shutdown b c fault fails)
+
   -- sockets that are reported
   reported_once : (event : ready.Event) (b : Bool) (a c : Scene S) → c.peers ≡ cond b a.peers (reported a.peers (event_token event).0 (takes_bytes event)) → IsQuiet a c
       → Goes remaining contents calls text 0 a c
@@ -296,17 +303,17 @@ module _ {S : Type 0} (remaining contents : S → Option (List ℕ)) (calls : S 
   goes_writer turns a b (acts, t, p) = runs_writer acts a b p
 
   pub run_writer : {X : Type 0} (turns : ℕ) (a b : Scene S) (r : Result X ServeFault)
-      → MatchResult r (λ _. Turns remaining contents calls text turns a b) (Stops remaining contents calls text a b) → b.output.writer ≡ a.output.writer
-  run_writer turns a b (Ok x) h = goes_writer turns a b (turns_go turns a b h)
+      → MatchResult r (λ _. ServesToTheEnd remaining contents calls text turns a b) (Stops remaining contents calls text a b) → b.output.writer ≡ a.output.writer
+  run_writer turns a b (Ok x) (mid, h, (peers, (given, steps, owed, events, puts, keys), flushed)) = puts.writer ∙ goes_writer turns a mid (turns_go turns a mid h)
   run_writer turns a b (Err fault) h = stops_writer a b fault h
 
 -- a run, from a server that is known
 pub ran : {X : Type 0} (text : EventText) (first server server' : State) (old new : Sockets TcpStream) (output output' : Output) (turns : ℕ) (r : Result X ServeFault) → server ≡ first
-    → MatchResult r (λ _. Turns unknown unknown uncounted text turns (begun old server output) (begun new server' output'))
+    → MatchResult r (λ _. ServesToTheEnd unknown unknown uncounted text turns (begun old server output) (begun new server' output'))
     (Stops unknown unknown uncounted text (begun old server output) (begun new server' output'))
     → OnOk r (0 < turns)
     → MatchResult r (λ _. IsServed text old first turns output output') (λ fault. IsStopped text old first fault output output')
 ran text first server server' old new output output' turns (Ok x) e h bounded =
-    (bounded, begun new server' output', refl, subst (λ (s : State). Turns unknown unknown uncounted text turns (begun old s output) (begun new server' output')) e h)
+    (bounded, begun new server' output', refl, subst (λ (s : State). ServesToTheEnd unknown unknown uncounted text turns (begun old s output) (begun new server' output')) e h)
 ran text first server server' old new output output' turns (Err fault) e h bounded =
     (begun new server' output', refl, subst (λ (s : State). Stops unknown unknown uncounted text (begun old s output) (begun new server' output') fault) e h)

@@ -8,7 +8,7 @@ use Rattle.ua_types.specs.declared.moment.Moment.{Moment}
 use Rattle.server_core.specs.declared.world.World.{World}
 use Rattle.server_core.specs.Stepping.{step_on, StepsTo}
 use Rattle.server_core.specs.declared.event.Event.{Event}
-use Rattle.server_core.specs.declared.event.Event.TheVariants.{Opened, Bytes, Gone, Tick}
+use Rattle.server_core.specs.declared.event.Event.TheVariants.{Opened, Bytes, Gone, Tick, Shutdown}
 use Rattle.server_core.specs.declared.out.Step.{Step}
 use Rattle.socket_peers.specs.declared.peer.Heard.{Heard}
 use Rattle.socket_peers.specs.declared.peer.Heard.TheVariants as heard
@@ -188,6 +188,10 @@ module _ {S : Type 0} (remaining contents : S → Option (List ℕ)) (calls : S 
   Turns zero old new = new ≡ old
   Turns (suc turns) old new = (mid : Scene S) × Turns turns old mid × TakesTurn mid new
 
+  -- so many turns, and then the server is told to end, and the sockets take some of what they are owed then
+  abbrev pub ServesToTheEnd : ℕ → Scene S → Scene S → Type 0
+  ServesToTheEnd turns old new = (mid : Scene S) × Turns turns old mid × HandsIn Shutdown mid new
+
 -- what comes and goes over a network is not known, and neither is what its calls come to
 abbrev pub unknown : TcpStream → Option (List ℕ)
 unknown stream = None
@@ -214,11 +218,11 @@ reported_events p events = fold reported_event p events
 abbrev pub begun : Sockets TcpStream → State → Output → Scene TcpStream
 begun sockets server output = scene (key_stream sockets.keys) server sockets.peers sockets.events output
 
--- From there on so many turns are well done, which are some, since without a bound they end with a fault alone; or it stopped in one. And
--- this is what was put out before and after
+-- From there on so many turns are well done, which are some, since without a bound they end with a fault alone, and then the server has
+-- ended; or it stopped in one. And this is what was put out before and after
 abbrev pub IsServed : EventText → Sockets TcpStream → State → ℕ → Output → Output → Type 0
 IsServed text sockets server turns old new =
-    (0 < turns) × (after : Scene TcpStream) × (after.output ≡ new) × Turns unknown unknown uncounted text turns (begun sockets server old) after
+    (0 < turns) × (after : Scene TcpStream) × (after.output ≡ new) × ServesToTheEnd unknown unknown uncounted text turns (begun sockets server old) after
 
 abbrev pub IsStopped : EventText → Sockets TcpStream → State → ServeFault → Output → Output → Type 0
 IsStopped text sockets server fault old new =

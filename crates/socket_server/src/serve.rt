@@ -6,10 +6,9 @@ ghost use Rattle.std.specs.Duration.{as_nanos};
 ghost use Rattle.mio.specs.declared.event.event.Event as ready;
 ghost use Rattle.mio.specs.Events.{items};
 ghost use Rattle.server_core.specs.World.{world_of};
-ghost use Rattle.server_core.specs.declared.event.Event.TheVariants as happening;
 ghost use Rattle.socket_server.specs.Moments.{moment_since_1970};
 ghost use Rattle.socket_server.specs.Sockets.{IsUnserved, IsLocal, key_stream};
-ghost use Rattle.socket_server.specs.Serving.{scene, unknown, uncounted, is_of_listener, reported_event, reported_events, IsOutside, HandsIn, Fails, Serves, Stops, TakesTurn, Turns, Drawn};
+ghost use Rattle.socket_server.specs.Serving.{scene, unknown, uncounted, is_of_listener, reported_event, reported_events, IsOutside, HandsIn, Fails, Serves, Stops, TakesTurn, Turns, ServesToTheEnd, Drawn};
 
 use crate::events::{Arrival, attend_all, hand_in, join_socket};
 use crate::observer::Observer;
@@ -216,7 +215,9 @@ impl Serve {
 
     /// Serves for so many turns, or without end for 0. A turn waits until a socket is ready, at most for
     /// 100 ms; then it tells the server the time, takes in who has connected, and looks at each socket that
-    /// is ready. The observer is told which rows fire at each event, and which connections come and go.
+    /// is ready. After the last turn the server is told to end: what waits is answered, each connection is
+    /// told that the server shuts down, and what is owed then is written as far as the sockets take it at
+    /// once. The observer is told which rows fire at each event, and which connections come and go.
     ///
     /// Each event that is handed to the server counts, from 1 on; a later run counts on. Without end it ends
     /// with a fault alone.
@@ -233,12 +234,31 @@ impl Serve {
     ) -> Result<(), ServeFault>
         ensures serves { let old = scene (key_stream self.old.keys) (world_of server.old) self.old.peers self.old.events (W.output observer.old) in
             let new = scene (key_stream self.new.keys) (world_of server.new) self.new.peers self.new.events (W.output observer.new) in
-            MatchResult result (λ _. Turns unknown unknown uncounted W.text turns old new) (Stops unknown unknown uncounted W.text old new) }
+            MatchResult result (λ _. ServesToTheEnd unknown unknown uncounted W.text turns old new) (Stops unknown unknown uncounted W.text old new) }
         ensures bounded { OnOk result (0 < turns) }
     {
         if turns == 0 {
             return Err(self.run_on(rt, alloc, server, observer));
         }
+        match self.run_turns(rt, alloc, server, observer, turns) {
+            Ok(()) => self.tell(alloc, server, observer, &ServerEvent::Shutdown),
+            Err(fault) => Err(fault),
+        }
+    }
+
+    // So many turns.
+    fn run_turns<R: Clock + Wait, W: Observer>(
+        &mut self,
+        rt: &R,
+        alloc: Global,
+        server: &mut Server,
+        observer: &mut W,
+        turns: u64,
+    ) -> Result<(), ServeFault>
+        ensures { let old = scene (key_stream self.old.keys) (world_of server.old) self.old.peers self.old.events (W.output observer.old) in
+            let new = scene (key_stream self.new.keys) (world_of server.new) self.new.peers self.new.events (W.output observer.new) in
+            MatchResult result (λ _. Turns unknown unknown uncounted W.text turns old new) (Stops unknown unknown uncounted W.text old new) }
+    {
         for _turn in 0..turns {
             match self.turn(rt, alloc, server, observer) {
                 Ok(()) => {}
@@ -286,7 +306,7 @@ impl Serve {
         let Ok(now) = moment(rt) else {
             return Err(ServeFault::Network);
         };
-        match self.tick(alloc, server, observer, now) {
+        match self.tell(alloc, server, observer, &ServerEvent::Tick { now }) {
             Ok(()) => {}
             Err(fault) => return Err(fault),
         }
@@ -302,26 +322,25 @@ impl Serve {
         }
     }
 
-    // Tells the server that it is this moment.
-    fn tick<W: Observer>(
+    // Tells the server what happened, and writes what the sockets take of what it sends.
+    fn tell<W: Observer>(
         &mut self,
         alloc: Global,
         server: &mut Server,
         observer: &mut W,
-        now: Moment,
+        event: &ServerEvent,
     ) -> Result<(), ServeFault>
         ensures { let old = scene (key_stream self.old.keys) (world_of server.old) self.old.peers self.old.events (W.output observer.old) in
             let new = scene (key_stream self.new.keys) (world_of server.new) self.new.peers self.new.events (W.output observer.new) in
-            MatchResult result (λ _. HandsIn unknown unknown uncounted W.text (happening.Tick now) old new) (Fails W.text (happening.Tick now) old new) }
+            MatchResult result (λ _. HandsIn unknown unknown uncounted W.text event.now old new) (Fails W.text event.now old new) }
     {
-        let tick = ServerEvent::Tick { now };
         match hand_in(
             alloc,
             &mut self.peers,
             &mut self.events_so_far,
             server,
             observer,
-            &tick,
+            event,
         ) {
             Ok(_) => Ok(()),
             Err(fault) => Err(fault),

@@ -4,21 +4,18 @@ use Rattle.server_core.specs.World.{world_of}
 use Rattle.socket_server.specs.Sockets.{Sockets, key_stream}
 use Rattle.socket_server.specs.Serving.{scene, unknown, uncounted, HandsIn, Fails}
 use Rattle.socket_server.proofs.serve.Serve.tell.Goals as goal
-
-pub returns-in-Ok : goal.returns-in-Ok
-returns-in-Ok g c =
-    let output = g.W.Observer.output c.args.observer.now in
-    let keys = key_stream c.self.inside.keys in
-    let new = scene keys (world_of c.hand_in.new.server) c.hand_in.new.peers c.hand_in.new.events (g.W.Observer.output c.hand_in.new.observer) in
-    subst
-    (λ (s : Sockets TcpStream). HandsIn unknown unknown uncounted g.W.Observer.text c.args.event.now (scene (key_stream s.keys) (world_of c.args.server.now) s.peers s.events output) new)
-    c.self.view_is (c.in-Ok.ensures keys)
+use Rattle.socket_server.proofs.serve.Serve.tell.Goals.{in-Ok, in-Err}
 
 pub returns : goal.returns
 returns g c =
     let output = g.W.Observer.output c.args.observer.now in
     let keys = key_stream c.self.inside.keys in
     let new = scene keys (world_of c.hand_in.new.server) c.hand_in.new.peers c.hand_in.new.events (g.W.Observer.output c.hand_in.new.observer) in
-    subst
-    (λ (s : Sockets TcpStream). Fails g.W.Observer.text c.args.event.now (scene (key_stream s.keys) (world_of c.args.server.now) s.peers s.events output) new c.in-Err.fault)
-    c.self.view_is (c.in-Err.ensures keys)
+    elim c.match-hand_in.branch [
+      | in-Ok w ↦ rw w.result-is (subst
+          (λ (s : Sockets TcpStream). HandsIn unknown unknown uncounted g.W.Observer.text c.args.event.now (scene (key_stream s.keys) (world_of c.args.server.now) s.peers s.events output) new)
+          c.self.view_is (w.in-Ok.ensures keys))
+      | in-Err w ↦ rw w.result-is (subst
+          (λ (s : Sockets TcpStream). Fails g.W.Observer.text c.args.event.now (scene (key_stream s.keys) (world_of c.args.server.now) s.peers s.events output) new w.in-Err.fault)
+          c.self.view_is (w.in-Err.ensures keys))
+    ]
