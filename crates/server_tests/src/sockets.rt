@@ -20,6 +20,9 @@ const ASKED: &[u8] =
 const ANSWERED: &[u8] =
     b"ACKF\x1c\0\0\0\0\0\0\0\0\0\x01\0\0\0\x01\0\0\0\x10\0@\0\0\0OPNF\x87\0\0\0\x01\0\0\0/\0\0\0http://opcfoundation.org/UA/SecurityPolicy#None\xff\xff\xff\xff\xff\xff\xff\xff\x01\0\0\0\x01\0\0\0\x01\0\xc1\x01\0\0\0\0\0\0\0\0\x01\0\0\0\0\0\0\0\0\xff\xff\xff\xff\0\0\0\0\0\0\0\x01\0\0\0\x01\0\0\0\0\0\0\0\0\0\0\0\x80\xee6\0\xff\xff\xff\xffMSGFC\x01\0\0\x01\0\0\0\x01\0\0\0\x02\0\0\0\x02\0\0\0\x01\0\xaf\x01\0\0\0\0\0\0\0\0\x02\0\0\0\0\0\0\0\0\xff\xff\xff\xff\0\0\0\x01\0\0\0\x18\0\0\0opc.tcp://localhost:4840\x0c\0\0\0urn:uaserver\xff\xff\xff\xff\x02\x08\0\0\0uaserver\0\0\0\0\xff\xff\xff\xff\xff\xff\xff\xff\x01\0\0\0\x18\0\0\0opc.tcp://localhost:4840\xff\xff\xff\xff\x01\0\0\0/\0\0\0http://opcfoundation.org/UA/SecurityPolicy#None\x01\0\0\0\x09\0\0\0anonymous\0\0\0\0\xff\xff\xff\xff\xff\xff\xff\xff\xff\xff\xff\xffA\0\0\0http://opcfoundation.org/UA-Profile/Transport/uatcp-uasc-uabinary\0";
 
+// What a client is told whose connection is open as the server ends (Error, IEC 62541-6, 7.1.2): Bad_Shutdown, and no reason.
+const SHUT_DOWN: &[u8] = b"ERRF\x10\0\0\0\0\0\x0c\x80\xff\xff\xff\xff";
+
 // Whether this was read, but for the times: of the answer to the opening, of its token, and of that to GetEndpoints.
 fn is_answered(read: &[u8]) -> bool {
     read.len() == ANSWERED.len()
@@ -38,17 +41,27 @@ fn client(rt: &HostRuntime, address: SocketAddr, said: &[&[u8]]) -> Result<TcpSt
     Ok(stream)
 }
 
-// What is to be read without waiting, on a connection that is open.
+// What is to be read without waiting, to the end or up to what is still to come.
 fn waiting(alloc: Global, mut stream: &TcpStream) -> Result<Vec<u8>, Fail> {
     stream.set_nonblocking(true)?;
     let mut read = Vec::new(alloc);
     match stream.read_to_end(&mut read) {
+        Ok(_) => Ok(read),
         Err(error) if error.kind() == ErrorKind::WouldBlock => Ok(read),
-        _ => Err(Fail::new("it was closed, or failed")),
+        Err(_) => Err(Fail::new("it failed")),
     }
 }
 
-// The loop takes turns until one of two connections is closed.
+// Whether this is what the client of an open connection reads once the server has ended: an Acknowledge, and then that the
+// server shuts down.
+fn is_told_the_end(read: &[u8]) -> bool {
+    match read.strip_prefix(ACKNOWLEDGE) {
+        Some(rest) => rest == SHUT_DOWN,
+        None => false,
+    }
+}
+
+// The loop takes turns until one of two connections is closed; then the server ends.
 fn takes_turns<R: Clock + Wait>(rt: &R, alloc: Global, serve: &mut Serve) -> Result<bool, Fail> {
     let mut server = base_server(alloc)?;
     let is_done = serve
@@ -64,8 +77,8 @@ fn all_of(alloc: Global, mut stream: TcpStream) -> Result<Vec<u8>, Fail> {
     Ok(read)
 }
 
-// Whether one of two clients is left when the other has ended its channel, and each has read what it is due. The clients'
-// sockets are the host's.
+// Whether one of two clients is left when the other has ended its channel, and each has read what it is due, up to the
+// server's end. The clients' sockets are the host's.
 fn are_served<R: Clock + Wait>(
     host: &HostRuntime,
     rt: &R,
@@ -76,9 +89,9 @@ fn are_served<R: Clock + Wait>(
     let one = client(host, address, &[HELLO, ASKED])?;
     let two = client(host, address, &[HELLO])?;
     let is_left = takes_turns(rt, alloc, serve)?;
-    let acknowledged = waiting(alloc, &two)?;
+    let told = waiting(alloc, &two)?;
     let answered = all_of(alloc, one)?;
-    Ok(is_left && acknowledged.as_slice() == ACKNOWLEDGE && is_answered(answered.as_slice()))
+    Ok(is_left && is_told_the_end(told.as_slice()) && is_answered(answered.as_slice()))
 }
 
 #[test]
