@@ -39,12 +39,13 @@ const MESSAGES: [(u32, &str); 22] = [
 ];
 
 // The statuses that the server answers with (docs/SERVICES.md has them with their numbers).
-const STATUSES: [(Status, &str); 48] = [
+const STATUSES: [(Status, &str); 49] = [
     (Status::GOOD, "Good"),
     (Status::GOOD_NO_DATA, "Good_NoData"),
     (Status::BAD_DECODING_ERROR, "Bad_DecodingError"),
     (Status::BAD_TIMEOUT, "Bad_Timeout"),
     (Status::BAD_SERVICE_UNSUPPORTED, "Bad_ServiceUnsupported"),
+    (Status::BAD_SHUTDOWN, "Bad_Shutdown"),
     (Status::BAD_NOTHING_TO_DO, "Bad_NothingToDo"),
     (Status::BAD_TOO_MANY_OPERATIONS, "Bad_TooManyOperations"),
     (
