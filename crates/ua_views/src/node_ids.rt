@@ -1,12 +1,12 @@
 //! Ids of nodes.
 
-ghost use Rattle.std.specs.Prelude.{◌≡◌, ◌≢◌, Err, IfOk};
+ghost use Rattle.std.specs.Prelude.{◌≡◌, ◌≢◌, Err, IfOk, IsOk};
 ghost use Rattle.ua_binary.specs.declared.fault.TakeFault.TheVariants.{Memory};
 ghost use Rattle.ua_binary.specs.ExpandedNodeIds.{expanded_node_id_reading};
 ghost use Rattle.ua_binary.specs.NodeIds.{node_id_reading, after_form_reading};
 ghost use Rattle.ua_binary.specs.Reading.{Reads};
 ghost use Rattle.ua_types.specs.NodeIds.{numeric_id};
-ghost use Rattle.ua_views.specs.Identifiers.{identifier_of};
+ghost use Rattle.ua_views.specs.Identifiers.{identifier_of, IsPlain};
 
 use crate::parts::{look_number_where_set, look_text_where_set};
 use crate::texts::{ByteStringView, TextView};
@@ -38,9 +38,10 @@ impl<'a> Drop for IdentifierView<'a> {
 }
 
 impl<'a> IdentifierView<'a> {
-    /// A copy to keep.
+    /// A copy to keep. That of a number or a Guid takes no memory.
     pub fn to_value(&self, alloc: Global) -> Result<Identifier, AllocError>
-        ensures { IfOk result (λ identifier. identifier ≡ identifier_of self.now) }
+        ensures copy { IfOk result (λ identifier. identifier ≡ identifier_of self.now) }
+        ensures plain { IsPlain (identifier_of self.now) → IsOk result }
     {
         match self {
             IdentifierView::Numeric(number) => Ok(Identifier::Numeric(*number)),
@@ -69,9 +70,10 @@ impl<'a> Model for NodeIdView<'a> {
 }
 
 impl<'a> NodeIdView<'a> {
-    /// A copy to keep. That of an id with a number or a Guid takes no memory.
+    /// A copy to keep. That of a number or a Guid takes no memory.
     pub fn to_value(&self, alloc: Global) -> Result<NodeId, AllocError>
-        ensures { IfOk result (λ id. id ≡ self.now) }
+        ensures copy { IfOk result (λ id. id ≡ self.now) }
+        ensures plain { IsPlain self.now.identifier → IsOk result }
     {
         Ok(NodeId {
             namespace: self.namespace,

@@ -79,7 +79,8 @@ impl<'a> VariantView<'a> {
     {
         match Variant::decode(alloc, &mut Cursor::new(self.bytes)) {
             Ok(value) => Ok(value),
-            Err(_) => Err(AllocError),
+            Err(TakeFault::Memory) => Err(AllocError),
+            Err(_) => unreachable!(),
         }
     }
 }
