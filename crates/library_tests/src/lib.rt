@@ -22,3 +22,5 @@ mod spaces;
 mod types;
 #[cfg(test)]
 mod values;
+#[cfg(test)]
+mod views;
