@@ -1,7 +1,7 @@
 //! The service HistoryRead.
 
 ghost use Rattle.std.specs.Prelude.{◌≡◌, IfOk};
-ghost use Rattle.ua_service_messages.specs.History.{history_read_value_id_reading, history_read_request_reading};
+ghost use Rattle.ua_service_messages.specs.History.{read_raw_modified_details_reading, history_read_value_id_reading, history_read_request_reading};
 
 use crate::headers::RequestHeaderView;
 use std::alloc::{AllocError, Global};
@@ -9,10 +9,51 @@ use std::marker::Model;
 use ua_binary::{Cursor, TakeFault};
 use ua_messages::TimestampsToReturn;
 use ua_service_messages::HistoryReadValueId;
+use ua_types::Moment;
 use ua_views::{
     ArrayView, ByteStringView, ExtensionObjectView, NodeIdView, QualifiedNameView, Readable,
     TextView, View, look_enumeration,
 };
+
+/// A [`ua_service_messages::ReadRawModifiedDetails`] in the bytes that it stands in.
+#[derive(Debug, Drop)]
+pub struct ReadRawModifiedDetailsView {
+    /// Whether the values that were replaced are wanted, and not those that stand.
+    pub is_read_modified: bool,
+    /// The first time, or 0 where it is not given.
+    pub start_time: Moment,
+    /// The last time, or 0 where it is not given. Where it lies before the start, times fall.
+    pub end_time: Moment,
+    /// The most values that a result is to have, or 0 where it is not given.
+    pub num_values_per_node: u32,
+    /// Whether the values just outside the interval are wanted too.
+    pub return_bounds: bool,
+}
+
+impl Model for ReadRawModifiedDetailsView {
+    ghost use Rattle.ua_service_messages.specs.declared.history.ReadRawModifiedDetails.{ReadRawModifiedDetails};
+
+    ghost Value = { ReadRawModifiedDetails };
+
+    ghost view = { λ v. record { is_read_modified = v.is_read_modified; start_time = v.start_time; end_time = v.end_time; num_values_per_node = v.num_values_per_node; return_bounds = v.return_bounds } };
+}
+
+impl Readable for ReadRawModifiedDetailsView {
+    ghost reading = { read_raw_modified_details_reading };
+}
+
+#[tactic(auto, unfolding(ua_service_messages::specs::History::read_raw_modified_details_reading))]
+impl<'a> View<'a> for ReadRawModifiedDetailsView {
+    fn look(cursor: &mut Cursor<'a>) -> Result<ReadRawModifiedDetailsView, TakeFault> {
+        Ok(ReadRawModifiedDetailsView {
+            is_read_modified: bool::look(cursor)?,
+            start_time: Moment::look(cursor)?,
+            end_time: Moment::look(cursor)?,
+            num_values_per_node: u32::look(cursor)?,
+            return_bounds: bool::look(cursor)?,
+        })
+    }
+}
 
 /// A [`HistoryReadValueId`] in the bytes that it stands in.
 #[derive(Debug, Drop)]

@@ -1,6 +1,7 @@
 //! Views of the requests of services (IEC 62541-4), which are looked at in the bodies in which they came.
 //!
-//! [`message_view`] gives the view of a body's message, as [`ua_messages::received`] gives the message. Each view has
+//! [`message_view`] gives the view of a body's message, as [`ua_messages::received`] gives the message, and
+//! [`structure_view`] that of what an ExtensionObject holds. Each view has
 //! the fields of the structure of its name, and contracts see it as that structure, by the same *reading*; a list of it
 //! gives its elements one by one ([`ua_views::ArrayView`]). No view takes memory, and `to_value` makes a copy to keep.
 //!
@@ -15,11 +16,13 @@ mod headers;
 mod history;
 mod messages;
 mod reading;
+mod structures;
 mod writing;
 
 pub use browsing::{BrowseDescriptionView, BrowseNextRequestView, BrowseRequestView};
 pub use headers::RequestHeaderView;
-pub use history::{HistoryReadRequestView, HistoryReadValueIdView};
+pub use history::{HistoryReadRequestView, HistoryReadValueIdView, ReadRawModifiedDetailsView};
 pub use messages::message_view;
 pub use reading::{ReadRequestView, ReadValueIdView};
+pub use structures::structure_view;
 pub use writing::{WriteRequestView, WriteValueView};

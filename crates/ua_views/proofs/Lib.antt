@@ -1,2 +1,3 @@
 mod Looking
+mod Stepping
 pub mod VariantBytes

@@ -1,5 +1,6 @@
 //! Lists, for every type of elements.
 
+ghost use Rattle.std.specs.Iterator.{YieldsFirst, item_count};
 ghost use Rattle.std.specs.Prelude.{◌≡◌, ◌≢◌, ◌<◌, ◌^◌, Err, option_map, length, drop, is_none};
 ghost use Rattle.ua_binary.specs.declared.fault.TakeFault.TheVariants.{Memory};
 ghost use Rattle.ua_binary.specs.Arrays.{array_reading, elements_reading};
@@ -73,8 +74,8 @@ impl<'a, T: View<'a>> ArrayView<'a, T> {
         self.left.is_none()
     }
 
-    /// The next element, behind which the list goes on. None at its end, and of a null list.
-    pub fn next(&mut self) -> Option<T>
+    // The next element, behind which the list goes on. None at its end, and of a null list.
+    fn step(&mut self) -> Option<T>
         ensures element { result ≡ first_in self.old }
         ensures rest { self.new ≡ option_map (drop 1) self.old }
     {
@@ -91,6 +92,20 @@ impl<'a, T: View<'a>> ArrayView<'a, T> {
             }
             Err(_) => unreachable!(),
         }
+    }
+}
+
+// The elements that are left, one after the other. A null list has none.
+#[tactic(auto, using(crate::proofs::Stepping::yields_first))]
+impl<'a, T: View<'a>> Iterator for ArrayView<'a, T> {
+    type Item = T;
+
+    ghost next_gives = { YieldsFirst or_none };
+
+    ghost remaining = { item_count or_none };
+
+    fn next(&mut self) -> Option<T> {
+        self.step()
     }
 }
 

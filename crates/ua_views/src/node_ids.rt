@@ -5,7 +5,7 @@ ghost use Rattle.ua_binary.specs.declared.fault.TakeFault.TheVariants.{Memory};
 ghost use Rattle.ua_binary.specs.ExpandedNodeIds.{expanded_node_id_reading};
 ghost use Rattle.ua_binary.specs.NodeIds.{node_id_reading, after_form_reading};
 ghost use Rattle.ua_binary.specs.Reading.{Reads};
-ghost use Rattle.ua_types.specs.NodeIds.{numeric_id};
+ghost use Rattle.ua_types.specs.NodeIds.{numeric_id, is_null_id};
 ghost use Rattle.ua_views.specs.Identifiers.{identifier_of, IsPlain};
 
 use crate::parts::{look_number_where_set, look_text_where_set};
@@ -38,6 +38,18 @@ impl<'a> Drop for IdentifierView<'a> {
 }
 
 impl<'a> IdentifierView<'a> {
+    // An identifier that stands elsewhere.
+    fn of(identifier: &'a Identifier) -> IdentifierView<'a>
+        ensures { identifier_of result ≡ identifier.now }
+    {
+        match identifier {
+            Identifier::Numeric(number) => IdentifierView::Numeric(*number),
+            Identifier::String(text) => IdentifierView::String(TextView::of(text)),
+            Identifier::Guid(guid) => IdentifierView::Guid(*guid),
+            Identifier::Opaque(bytes) => IdentifierView::Opaque(ByteStringView::of(bytes)),
+        }
+    }
+
     /// A copy to keep. That of a number or a Guid takes no memory.
     pub fn to_value(&self, alloc: Global) -> Result<Identifier, AllocError>
         ensures copy { IfOk result (λ identifier. identifier ≡ identifier_of self.now) }
@@ -70,6 +82,23 @@ impl<'a> Model for NodeIdView<'a> {
 }
 
 impl<'a> NodeIdView<'a> {
+    /// An id that stands elsewhere, for who has one and not the bytes of one.
+    pub fn of(id: &'a NodeId) -> NodeIdView<'a>
+        ensures { result ≡ id.now }
+    {
+        NodeIdView {
+            namespace: id.namespace,
+            identifier: IdentifierView::of(&id.identifier),
+        }
+    }
+
+    /// Whether it is the null id. No other id counts as null.
+    pub fn is_null(&self) -> bool
+        ensures { result ≡ is_null_id self.now }
+    {
+        self.namespace == 0 && matches!(&self.identifier, IdentifierView::Numeric(0))
+    }
+
     /// A copy to keep. That of a number or a Guid takes no memory.
     pub fn to_value(&self, alloc: Global) -> Result<NodeId, AllocError>
         ensures copy { IfOk result (λ id. id ≡ self.now) }

@@ -35,6 +35,14 @@ impl<'a> TextView<'a> {
         TextView { inside: None }
     }
 
+    /// A text that stands elsewhere.
+    pub fn of(text: &'a Text) -> TextView<'a>
+        ensures { result ≡ text.now }
+    {
+        let inside = text.as_str();
+        TextView { inside }
+    }
+
     /// Whether it is null.
     pub fn is_null(&self) -> bool
         ensures { result ≡ is_none self.now }
@@ -99,11 +107,29 @@ impl<'a> Model for ByteStringView<'a> {
 }
 
 impl<'a> ByteStringView<'a> {
+    /// A byte string that stands elsewhere.
+    pub fn of(bytes: &'a ByteString) -> ByteStringView<'a>
+        ensures { result ≡ bytes.now }
+    {
+        let inside = bytes.as_slice();
+        ByteStringView { inside }
+    }
+
     /// Whether it is null.
     pub fn is_null(&self) -> bool
         ensures { result ≡ is_none self.now }
     {
         self.inside.is_none()
+    }
+
+    /// Whether it is neither null nor empty, as a continuation point has to be where one is given.
+    pub fn is_given(&self) -> bool
+        ensures { result ≡ is_given self.now }
+    {
+        match self.inside {
+            None => false,
+            Some(bytes) => !bytes.is_empty(),
+        }
     }
 
     /// The bytes, unless it is null.

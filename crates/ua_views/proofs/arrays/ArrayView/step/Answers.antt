@@ -1,6 +1,6 @@
 use Rattle.std.proofs.Common.{◌<◌, ◌∙◌, ap, arith, Some}
 use Rattle.ua_views.proofs.Looking.{is_fault, none_is_at_end, is_next, is_no_fault}
-use Rattle.ua_views.proofs.arrays.ArrayView.next.Goals as goal
+use Rattle.ua_views.proofs.arrays.ArrayView.step.Goals as goal
 
 pub returns-then-left-eq0-clause-element : goal.returns-then-left-eq0-clause-element
 returns-then-left-eq0-clause-element g c =
