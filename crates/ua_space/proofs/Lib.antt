@@ -6,6 +6,7 @@ pub mod Counting
 pub mod Ranking
 pub mod Marking
 pub mod Soundness
+pub mod Searching
 pub mod Walking
 pub mod Referring
 pub mod Making

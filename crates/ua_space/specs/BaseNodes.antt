@@ -3,7 +3,6 @@
 use Rattle.std.specs.Prelude.{ℕ, pos, List, [], ◌∷◌, ◌++◌, map, Option, Some, None, codes, false, unwrap_or}
 use Rattle.ua_types.specs.Configuration.{Configuration}
 use Rattle.ua_types.specs.NodeIds.{numeric_id}
-use Rattle.ua_types.specs.declared.moment.Moment.{Moment}
 use Rattle.ua_values.specs.declared.content.Content.TheVariants as content
 use Rattle.ua_values.specs.declared.data_value.DataValue.{DataValue}
 use Rattle.ua_values.specs.declared.variant.Variant.{Variant}

@@ -1,6 +1,7 @@
 pub mod NodeClasses
 pub mod Variables
 pub mod Nodes
+pub mod NodePlaces
 pub mod Values
 pub mod References
 pub mod Spaces

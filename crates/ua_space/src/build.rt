@@ -13,6 +13,7 @@ use crate::hints::Hints;
 use crate::index::Indexes;
 use crate::loops::no_loop;
 use crate::node::{Node, NodeDetails};
+use crate::node_table::NodeTable;
 use crate::numbering::Numbering;
 use crate::space::Space;
 use crate::triple::{Part, Triple};
@@ -161,6 +162,7 @@ impl Space {
         let hints = Hints::new(alloc, all.as_slice())?;
         let numbering = Numbering::new(alloc, all.as_slice(), hints.order())?;
         no_loop(all.as_slice(), &indexes.supertypes, &numbering, &hints)?;
-        Ok(Space::new(known, all, indexes, numbering))
+        let nodes = NodeTable::new(alloc, known)?;
+        Ok(Space::new(nodes, all, indexes, numbering))
     }
 }

@@ -8,6 +8,9 @@
 //! What a contract sees of a `Space`: its nodes under their ids, in the order of ids, and its
 //! references in declared order (`SpaceState`).
 //!
+//! A node is found by a binary search among all of them, without memory, also by an id that stands in the
+//! bytes of a request ([`Space::find`]); who goes on with that id takes the node's own.
+//!
 //! Read [`Node`] and [`Triple`] first, and docs/NODES.md for the base set as a picture.
 #![tactic(auto)]
 
@@ -19,6 +22,7 @@ mod index;
 pub mod laws;
 mod loops;
 mod node;
+mod node_table;
 mod numbering;
 mod references;
 mod space;

@@ -1,20 +1,18 @@
 //! The address space.
 
-ghost use Rattle.std.specs.Prelude.{◌≡◌, true};
-ghost use Rattle.ua_space.specs.Values.{takes_at, with_value};
-
 use crate::index::{Indexes, places_at};
 use crate::node::{Node, NodeDetails, Variable};
+use crate::node_table::NodeTable;
 use crate::numbering::Numbering;
 use crate::references::{References, TripleList};
 use crate::subtype_set::{Subtypes, walked_down};
 use crate::subtypes::is_subtype;
 use crate::triple::Triple;
 use std::alloc::{AllocError, Global};
-use std::collections::BTreeMap;
 use std::marker::Model;
 use ua_types::NodeId;
 use ua_values::DataValue;
+use ua_views::NodeIdView;
 
 /// The nodes of a server and the references between them, the base set included.
 ///
@@ -25,7 +23,7 @@ use ua_values::DataValue;
 #[derive(Drop)]
 pub struct Space {
     // Each node under its own id.
-    nodes: BTreeMap<NodeId, Node>,
+    nodes: NodeTable,
     // The references in declared order, those of the base set first.
     triples: Vec<Triple>,
     // Which references each node has. They never change.
@@ -43,7 +41,7 @@ impl Model for Space {
 
     ghost Value = { SpaceState };
 
-    ghost view = { λ s. record { nodes = s.nodes.entries; triples = s.triples.items } };
+    ghost view = { λ s. record { nodes = s.nodes; triples = s.triples.items } };
 
     ghost invariant = { λ s. record {
       sound : IsSpace (view s);
@@ -52,22 +50,8 @@ impl Model for Space {
     } };
 }
 
-// Gives the variable under this id a new value.
-fn set_in(nodes: &mut BTreeMap<NodeId, Node>, id: &NodeId, value: DataValue)
-    requires { takes_at id.now value nodes.old.entries ≡ true }
-    ensures { nodes.new.entries ≡ with_value id.now value nodes.old.entries }
-{
-    match nodes.get_mut(id) {
-        None => {}
-        Some(node) => match &mut node.details {
-            NodeDetails::Variable(variable) => variable.set(value),
-            _ => {}
-        },
-    }
-}
-
 impl Space {
-    ghost use Rattle.std.specs.Prelude.{◌≡◌, length, true, IsTrue, ◌↔◌, IfOk};
+    ghost use Rattle.std.specs.Prelude.{◌≡◌, length, true, IsTrue, ◌↔◌, IfOk, IfSome};
     ghost use Rattle.std.specs.List.{list_any};
     ghost use Rattle.ua_types.specs.NodeIdOrder.{same_id};
     ghost use Rattle.ua_types.specs.declared.node_id.NodeId.{NodeId};
@@ -82,15 +66,15 @@ impl Space {
 
     // A space of these nodes and references, of their indexes, and of the numbers of their types.
     pub(crate) fn new(
-        nodes: BTreeMap<NodeId, Node>,
+        nodes: NodeTable,
         triples: Vec<Triple>,
         indexes: Indexes,
         numbering: Numbering,
     ) -> Space
-        requires sound { IsSpace (record { nodes = nodes.entries; triples = triples.items }) }
+        requires sound { IsSpace (record { nodes = nodes; triples = triples.items }) }
         requires indexes { AreIndexes triples.items indexes }
         requires numbered { AreNumbered triples.items numbering.types.items numbering.numbers.entries }
-        ensures { result ≡ record { nodes = nodes.entries; triples = triples.items } }
+        ensures { result ≡ record { nodes = nodes; triples = triples.items } }
     {
         Space {
             nodes,
@@ -112,6 +96,16 @@ impl Space {
         ensures { option_copied result ≡ node_at id.now self.now.nodes }
     {
         self.nodes.get(id)
+    }
+
+    /// The node with an id that is looked at in place.
+    ///
+    /// A caller goes on with the node's own id, which is the same. Takes no memory.
+    pub fn find(&self, id: &NodeIdView<'_>) -> Option<&Node>
+        ensures node { option_copied result ≡ node_at id.now self.now.nodes }
+        ensures own { IfSome result (λ node. node.now.id ≡ id.now) }
+    {
+        self.nodes.find(id)
     }
 
     /// Whether the node with this id is a ReferenceType node.
@@ -155,7 +149,7 @@ impl Space {
         ensures nodes { self.new.nodes ≡ with_value id.now value self.old.nodes }
         ensures triples { self.new.triples ≡ self.old.triples }
     {
-        set_in(&mut self.nodes, id, value);
+        self.nodes.set_value(id, value);
     }
 
     /// How many nodes there are, the base set included.

@@ -1,0 +1,108 @@
+//! The nodes of a space in the order of their ids, found by binary search.
+
+ghost use Rattle.std.specs.Prelude.{◌≡◌, length, true, IfOk, slice_get};
+ghost use Rattle.std.specs.Option.{option_copied};
+ghost use Rattle.ua_types.specs.declared.node_id.NodeId.{NodeId};
+ghost use Rattle.ua_space.specs.Nodes.{node_at};
+ghost use Rattle.ua_space.specs.NodePlaces.{IsPlaceOf, takes_in, with_value_in};
+ghost use Rattle.ua_space.specs.Values.{takes_at, with_value};
+
+use crate::node::{Node, NodeDetails};
+use std::alloc::{AllocError, Global};
+use std::collections::BTreeMap;
+use std::marker::Model;
+use ua_types::NodeId;
+use ua_values::DataValue;
+use ua_views::{NodeIdView, compare};
+
+/// Nodes under their ids.
+///
+/// Which ids there are never changes: the table is sorted once, by the map that it is made from. A map can be
+/// asked for an id of its own type alone, and the table for one that stands in the bytes of a request.
+#[derive(Drop)]
+pub(crate) struct NodeTable {
+    // In the order of ids, none twice.
+    entries: Vec<(NodeId, Node)>,
+}
+
+impl Model for NodeTable {
+    ghost use Rattle.std.specs.List.Sorted.{IsStrictlySortedBy};
+    ghost use Rattle.std.specs.Map.{keys_of};
+    ghost use Rattle.ua_types.specs.NodeIdOrder.{id_cmp};
+    ghost use Rattle.ua_space.specs.Nodes.{Nodes};
+
+    ghost Value = { Nodes };
+
+    ghost view = { λ t. t.entries.items };
+
+    ghost invariant = { λ t. IsStrictlySortedBy id_cmp (keys_of t.entries.items) };
+}
+
+// Gives the variable at this place a new value.
+fn set_in(entries: &mut Vec<(NodeId, Node)>, place: usize, value: DataValue)
+    requires { takes_in (slice_get entries.old.items place) value ≡ true }
+    ensures { entries.new.items ≡ with_value_in place value entries.old.items }
+{
+    match entries.get_mut(place) {
+        None => {}
+        Some(entry) => match &mut entry.1.details {
+            NodeDetails::Variable(variable) => variable.set(value),
+            _ => {}
+        },
+    }
+}
+
+impl NodeTable {
+    /// The nodes of a map.
+    pub(crate) fn new(alloc: Global, nodes: BTreeMap<NodeId, Node>) -> Result<NodeTable, AllocError>
+        ensures { IfOk result (λ table. table ≡ nodes.entries) }
+    {
+        let entries = nodes.into_iter().collect(alloc)?;
+        Ok(NodeTable { entries })
+    }
+
+    // Where the search for an id ends.
+    fn place(&self, id: &NodeIdView<'_>) -> Result<usize, usize>
+        ensures { IsPlaceOf id.now self.now result }
+    {
+        self.entries.binary_search_by(|entry| compare(&entry.0, id))
+    }
+
+    /// The node with an id that is looked at in place.
+    pub(crate) fn find(&self, id: &NodeIdView<'_>) -> Option<&Node>
+        ensures { option_copied result ≡ node_at id.now self.now }
+    {
+        match self.place(id) {
+            Err(_) => None,
+            Ok(place) => match self.entries.get(place) {
+                None => None,
+                Some(entry) => Some(&entry.1),
+            },
+        }
+    }
+
+    /// The node with this id.
+    pub(crate) fn get(&self, id: &NodeId) -> Option<&Node>
+        ensures { option_copied result ≡ node_at id.now self.now }
+    {
+        self.find(&NodeIdView::of(id))
+    }
+
+    /// Gives the variable with this id a new value.
+    pub(crate) fn set_value(&mut self, id: &NodeId, value: DataValue)
+        requires { takes_at id.now value self.old ≡ true }
+        ensures { self.new ≡ with_value id.now value self.old }
+    {
+        match self.place(&NodeIdView::of(id)) {
+            Err(_) => {}
+            Ok(place) => set_in(&mut self.entries, place, value),
+        }
+    }
+
+    /// How many nodes there are.
+    pub(crate) fn len(&self) -> usize
+        ensures { result ≡ length self.now }
+    {
+        self.entries.len()
+    }
+}
