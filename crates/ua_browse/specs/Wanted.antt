@@ -78,6 +78,10 @@ wanted_from space d place = left_of (is_wanted space d) (references_of d.node_id
 
 -- ---- what is refused
 
+-- a type that may be named: null, for all types, or a ReferenceType node
+abbrev pub is_type : Nodes → NodeId → Bool
+is_type nodes id = is_null_id id || is_reference_type (node_at id nodes)
+
 -- the node is judged first, then the type, then the direction
 unfoldable pub judged : Nodes → BrowseDescription → Result (Unit {0}) Status
 judged nodes d =

@@ -8,13 +8,15 @@ ghost use Rattle.ua_session.specs.Points.{TakesSerial};
 ghost use Rattle.ua_browse.specs.Browsing.{page_size as page_size_spec, page_of, browse_of, browse_next_of, release_of};
 ghost use Rattle.ua_browse.specs.Wanted.{judged as judged_spec};
 
+use crate::asked::Asked;
 use crate::pages::page_from;
 use crate::wanted::judged;
-use std::alloc::{AllocError, Global};
-use ua_service_messages::{BrowseDescription, ReferenceDescription};
+use std::alloc::Global;
+use ua_service_messages::ReferenceDescription;
+use ua_service_views::BrowseDescriptionView;
 use ua_session::{BrowsePoint, Point, Points};
 use ua_space::Space;
-use ua_types::{Array, Copyable, Refusal, Status};
+use ua_types::{Array, NodeId, Refusal, Status};
 
 /// References of a node, and the serial of the point by which BrowseNext gives more of them.
 #[derive(Debug, Drop)]
@@ -61,48 +63,40 @@ fn paged(
 /// `BAD_BROWSE_DIRECTION_INVALID`; there are more references than the page has, and no room for another
 /// point, `BAD_NO_CONTINUATION_POINTS`. `Exhausted` where no serial is left for the point. The first three come
 /// however little memory there is: nothing grows before. At an `Err` the points are as they were.
+///
+/// The description is looked at where it came, and copied only into a point.
 #[tactic(auto, unfolding(crate::specs::Browsing::browse_of), using(crate::proofs::Paging::takes_page))]
 pub fn browse(
     alloc: Global,
     space: &Space,
     points: &mut Points,
     size: u32,
-    description: BrowseDescription,
+    description: &BrowseDescriptionView<'_>,
 ) -> Result<Page, Refusal>
-    ensures taken { TakesSerial result points.old points.new (browse_of space.now points.old size description) }
-    ensures judged { IfErr (judged_spec space.now.nodes description) (λ code. result ≡ Err (Service code)) }
+    ensures taken { TakesSerial result points.old points.new (browse_of space.now points.old size description.now) }
+    ensures judged { IfErr (judged_spec space.now.nodes description.now) (λ code. result ≡ Err (Service code)) }
 {
-    if let Err(status) = judged(space, &description) {
-        return Err(Refusal::Service(status));
-    }
-    let cut = page_from(alloc, space, &description, size, 0)?;
+    let null = NodeId::null();
+    let asked = match judged(space, &null, description) {
+        Ok(asked) => asked,
+        Err(status) => return Err(Refusal::Service(status)),
+    };
+    let cut = page_from(alloc, space, &asked, size, 0)?;
     match cut.next {
         None => Ok(Page {
             references: Array::new(cut.references),
             point: None,
         }),
-        Some(next) => paged(
-            cut.references,
-            points.hold(Point::Browse(BrowsePoint {
+        Some(next) => {
+            let description = asked.copy(alloc)?;
+            let further = Point::Browse(BrowsePoint {
                 description,
                 size,
                 next,
-            })),
-        ),
+            });
+            paged(cut.references, points.hold(further))
+        }
     }
-}
-
-fn copied(alloc: Global, description: &BrowseDescription) -> Result<BrowseDescription, AllocError>
-    ensures { IfOk result (λ copy. copy ≡ description.now) }
-{
-    Ok(BrowseDescription {
-        node_id: description.node_id.copy(alloc)?,
-        browse_direction: description.browse_direction,
-        reference_type_id: description.reference_type_id.copy(alloc)?,
-        include_subtypes: description.include_subtypes,
-        node_class_mask: description.node_class_mask,
-        result_mask: description.result_mask,
-    })
 }
 
 /// The next page after a point (IEC 62541-4, 5.8.3, BrowseNext). The point is used up; where more references are
@@ -124,7 +118,8 @@ pub fn browse_next(
         return Err(Refusal::Service(Status::BAD_CONTINUATION_POINT_INVALID));
     };
     let size = point.size;
-    let cut = page_from(alloc, space, &point.description, size, point.next)?;
+    let asked = Asked::by(&point.description);
+    let cut = page_from(alloc, space, &asked, size, point.next)?;
     match cut.next {
         None => {
             points.give_up(serial);
@@ -134,7 +129,7 @@ pub fn browse_next(
             })
         }
         Some(next) => {
-            let description = copied(alloc, &point.description)?;
+            let description = asked.copy(alloc)?;
             let further = Point::Browse(BrowsePoint {
                 description,
                 size,

@@ -4,6 +4,7 @@ ghost use Rattle.std.specs.Prelude.{◌≡◌, IfOk};
 ghost use Rattle.ua_space.specs.Nodes.{node_at};
 ghost use Rattle.ua_browse.specs.Describing.{expanded as expanded_spec, type_told as type_told_spec, no_name as no_name_spec, no_words as no_words_spec, labels_of, definition_told as definition_told_spec, described as described_spec};
 
+use crate::asked::Asked;
 use crate::wanted::has_bit;
 use std::alloc::{AllocError, Global};
 use ua_service_messages::{BrowseDescription, ReferenceDescription};
@@ -103,15 +104,16 @@ fn definition_told(
     }
 }
 
-/// What is told of a reference, of which the mask says what is wanted.
+/// What is told of a reference, as far as it is asked for.
 pub(crate) fn described(
     alloc: Global,
     space: &Space,
-    mask: u32,
+    asked: &Asked<'_>,
     reference: &Reference<'_>,
 ) -> Result<ReferenceDescription, AllocError>
-    ensures { IfOk result (λ description. description ≡ described_spec space.now mask reference.now) }
+    ensures { IfOk result (λ description. description ≡ described_spec space.now asked.now.result_mask reference.now) }
 {
+    let mask = asked.result_mask;
     let end = reference.end();
     let labels = labelled(alloc, space, mask, end)?;
     Ok(ReferenceDescription {

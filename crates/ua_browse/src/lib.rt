@@ -12,6 +12,7 @@
 //! Read [`browse`] first, and docs/SERVICES.md for the refusals as a table.
 #![tactic(auto)]
 
+mod asked;
 mod browsing;
 mod describing;
 pub mod laws;

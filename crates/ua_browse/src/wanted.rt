@@ -1,15 +1,22 @@
 //! Which references of a node are wanted.
 
-ghost use Rattle.std.specs.Prelude.{◌≡◌, ◌<◌, Bool, List, All, OnOk, IfOk, IfSome};
+ghost use Rattle.std.specs.Option.{option_copied};
+ghost use Rattle.std.specs.Prelude.{◌≡◌, ◌<◌, Bool, List, All, Some, None, OnOk, IfOk, IfSome, if◌then◌else◌};
+ghost use Rattle.std.specs.Result.{result_map_both};
+ghost use Rattle.ua_types.specs.NodeIds.{numeric_id};
 ghost use Rattle.ua_types.specs.declared.node_id.NodeId.{NodeId};
+ghost use Rattle.ua_space.specs.Spaces.{is_reference_type as is_reference_type_spec};
 ghost use Rattle.ua_space.specs.Subtypes.{is_subtype};
 ghost use Rattle.ua_space.specs.declared.triple.Triple.{Triple};
-ghost use Rattle.ua_browse.specs.Wanted.{has_bit as has_bit_spec, goes as goes_spec, is_direction as is_direction_spec, is_type_wanted as is_type_wanted_spec, IsRight, is_class_in as is_class_in_spec, is_class_wanted as is_class_wanted_spec, is_wanted as is_wanted_spec, judged as judged_spec};
+ghost use Rattle.ua_browse.specs.Wanted.{has_bit as has_bit_spec, goes as goes_spec, is_direction as is_direction_spec, is_type_wanted as is_type_wanted_spec, IsRight, is_class_in as is_class_in_spec, is_class_wanted as is_class_wanted_spec, is_wanted as is_wanted_spec, is_type, judged as judged_spec};
 
+use crate::asked::Asked;
 use std::alloc::{AllocError, Global};
-use ua_service_messages::{BrowseDescription, BrowseDirection};
-use ua_space::{Direction, Reference, Space, Subtypes};
+use ua_service_messages::BrowseDirection;
+use ua_service_views::BrowseDescriptionView;
+use ua_space::{Direction, Node, NodeDetails, Reference, Space, Subtypes};
 use ua_types::{NodeClass, NodeId, Status};
+use ua_views::NodeIdView;
 
 /// Whether a mask has a bit, which is told by its value.
 pub(crate) fn has_bit(mask: u32, bit: u32) -> bool
@@ -119,19 +126,19 @@ impl<'a> Verdicts<'a> {
 fn is_type_wanted<'a>(
     alloc: Global,
     space: &Space,
-    description: &BrowseDescription,
+    asked: &Asked<'_>,
     verdicts: &mut Verdicts<'a>,
     id: &'a NodeId,
 ) -> Result<bool, AllocError>
-    requires { IsRight space.now.triples description.now.reference_type_id verdicts.old }
-    ensures wanted { IfOk result (λ wanted. wanted ≡ is_type_wanted_spec space.now.triples description.now id.now) }
-    ensures right { OnOk result (IsRight space.now.triples description.now.reference_type_id verdicts.new) }
+    requires { IsRight space.now.triples asked.now.reference_type_id verdicts.old }
+    ensures wanted { IfOk result (λ wanted. wanted ≡ is_type_wanted_spec space.now.triples asked.now id.now) }
+    ensures right { OnOk result (IsRight space.now.triples asked.now.reference_type_id verdicts.new) }
 {
-    let named = &description.reference_type_id;
+    let named = asked.reference_type_id;
     if named.is_null() {
         return Ok(true);
     }
-    if !description.include_subtypes {
+    if !asked.include_subtypes {
         return Ok(id == named);
     }
     verdicts.is_below(alloc, space, named, id)
@@ -167,38 +174,71 @@ fn is_class_wanted(space: &Space, mask: u32, id: &NodeId) -> bool
 pub(crate) fn is_wanted<'a>(
     alloc: Global,
     space: &Space,
-    description: &BrowseDescription,
+    asked: &Asked<'_>,
     verdicts: &mut Verdicts<'a>,
     reference: &Reference<'a>,
 ) -> Result<bool, AllocError>
-    requires { IsRight space.now.triples description.now.reference_type_id verdicts.old }
-    ensures wanted { IfOk result (λ wanted. wanted ≡ is_wanted_spec space.now description.now reference.now) }
-    ensures right { OnOk result (IsRight space.now.triples description.now.reference_type_id verdicts.new) }
+    requires { IsRight space.now.triples asked.now.reference_type_id verdicts.old }
+    ensures wanted { IfOk result (λ wanted. wanted ≡ is_wanted_spec space.now asked.now reference.now) }
+    ensures right { OnOk result (IsRight space.now.triples asked.now.reference_type_id verdicts.new) }
 {
-    if !goes(description.browse_direction, reference.direction) {
+    if !goes(asked.browse_direction, reference.direction) {
         return Ok(false);
     }
     let id = &reference.triple.reference_type;
-    if !is_type_wanted(alloc, space, description, verdicts, id)? {
+    if !is_type_wanted(alloc, space, asked, verdicts, id)? {
         return Ok(false);
     }
-    Ok(is_class_wanted(space, description.node_class_mask, reference.end()))
+    Ok(is_class_wanted(space, asked.node_class_mask, reference.end()))
 }
 
-/// Whether a description can be served, or why not.
-#[tactic(auto, unfolding(crate::specs::Wanted::judged))]
-pub(crate) fn judged(space: &Space, description: &BrowseDescription) -> Result<(), Status>
-    ensures { result ≡ judged_spec space.now.nodes description.now }
+// Whether it is a ReferenceType node.
+fn is_reference_type(node: &Node) -> bool
+    ensures { result ≡ is_reference_type_spec (Some node.now) }
 {
-    if space.node(&description.node_id).is_none() {
+    matches!(&node.details, NodeDetails::ReferenceType { .. })
+}
+
+// The space's own id of a type of references, or null where all types are wanted.
+#[tactic(auto, using(crate::proofs::Naming::null_is_the_null_id))]
+fn type_named<'a>(space: &'a Space, null: &'a NodeId, named: &NodeIdView<'_>) -> Option<&'a NodeId>
+    requires { null.now ≡ numeric_id 0 0 }
+    ensures { option_copied result ≡ (if is_type space.now.nodes named.now then Some named.now else None) }
+{
+    if named.is_null() {
+        return Some(null);
+    }
+    match space.find(named) {
+        Some(node) if is_reference_type(node) => Some(&node.id),
+        _ => None,
+    }
+}
+
+/// What a description asks for, with the space's own ids, or why it can't be served. `null` is the null id. Takes no memory.
+#[tactic(auto, unfolding(crate::specs::Wanted::judged))]
+pub(crate) fn judged<'a>(
+    space: &'a Space,
+    null: &'a NodeId,
+    description: &BrowseDescriptionView<'_>,
+) -> Result<Asked<'a>, Status>
+    requires { null.now ≡ numeric_id 0 0 }
+    ensures { result ≡ result_map_both (λ good. description.now) (λ code. code) (judged_spec space.now.nodes description.now) }
+{
+    let Some(node) = space.find(&description.node_id) else {
         return Err(Status::BAD_NODE_ID_UNKNOWN);
-    }
-    let reference_type = &description.reference_type_id;
-    if !reference_type.is_null() && !space.is_reference_type(reference_type) {
+    };
+    let Some(reference_type_id) = type_named(space, null, &description.reference_type_id) else {
         return Err(Status::BAD_REFERENCE_TYPE_ID_INVALID);
-    }
+    };
     if !is_direction(description.browse_direction) {
         return Err(Status::BAD_BROWSE_DIRECTION_INVALID);
     }
-    Ok(())
+    Ok(Asked {
+        node_id: &node.id,
+        browse_direction: description.browse_direction,
+        reference_type_id,
+        include_subtypes: description.include_subtypes,
+        node_class_mask: description.node_class_mask,
+        result_mask: description.result_mask,
+    })
 }

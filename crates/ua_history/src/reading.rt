@@ -9,16 +9,17 @@ ghost use Rattle.ua_types.specs.declared.refusal.Refusal.TheVariants.{Service};
 ghost use Rattle.ua_types.specs.declared.status.TheConstants.Status as status;
 ghost use Rattle.ua_session.specs.Points.{TakesSerial, serial_of};
 ghost use Rattle.ua_history.specs.Pages.{IsCut, seen};
-ghost use Rattle.ua_history.specs.Reading.{judged as judged_spec, page_of, page_seen, begun, history_point, left_at, judged_at, point_named, point_past as point_past_spec, at_point, read_raw_of, release_of};
+ghost use Rattle.ua_history.specs.Reading.{node_judged, page_of, page_seen, begun, history_point, left_at, judged_at, point_named, point_past as point_past_spec, at_point, read_raw_of, release_of};
 
 use crate::history::History;
 use crate::intervals::Interval;
 use crate::pages::{Cut, Kept};
 use std::alloc::{AllocError, Global};
-use ua_service_messages::HistoryReadValueId;
+use ua_service_views::HistoryReadValueIdView;
 use ua_session::{HistoryPoint, Point, Points, point_serial};
-use ua_space::{NodeDetails, Space};
-use ua_types::{ByteString, Copyable, Listed, Moment, NodeId, Refusal, Status, Text};
+use ua_space::{Node, NodeDetails, Space};
+use ua_types::{Copyable, Listed, Moment, NodeId, Refusal, Status};
+use ua_views::{ByteStringView, TextView};
 
 /// Which values of nodes are asked for, of ReadRawModifiedDetails (IEC 62541-11, section 6).
 #[derive(Clone, Copy, Debug)]
@@ -43,20 +44,16 @@ pub struct Page<'a> {
 }
 
 // Whether the history of a node may be read, or why not.
-#[tactic(auto, unfolding(crate::specs::Reading::judged))]
-fn judged(space: &Space, asked: &HistoryReadValueId) -> Result<(), Status>
-    ensures { result ≡ judged_spec space.now.nodes asked.now }
+fn judged(node: &Node, index_range: &TextView<'_>) -> Result<(), Status>
+    ensures { result ≡ node_judged index_range.now (Some node.now) }
 {
-    let Some(node) = space.node(&asked.node_id) else {
-        return Err(Status::BAD_NODE_ID_UNKNOWN);
-    };
     let NodeDetails::Variable(variable) = &node.details else {
         return Err(Status::BAD_HISTORY_OPERATION_UNSUPPORTED);
     };
     if variable.access / 4 % 2 != 1 {
         return Err(Status::BAD_HISTORY_OPERATION_UNSUPPORTED);
     }
-    if asked.index_range.is_given() {
+    if index_range.is_given() {
         return Err(Status::BAD_INDEX_RANGE_INVALID);
     }
     Ok(())
@@ -155,12 +152,12 @@ fn go_on<'a>(
     history: &'a History,
     points: &mut Points,
     node: &NodeId,
-    named: &ByteString,
+    named: &ByteStringView<'_>,
 ) -> Result<Page<'a>, Refusal>
     ensures taken { TakesSerial (result_map_both page_seen (λ refusal. refusal) result) points.old points.new (at_point history.now points.old node.now (serial_of named.now)) }
     ensures held { point_named points.old node.now named.now ≡ None → result ≡ Err (Service status.BAD_CONTINUATION_POINT_INVALID) }
 {
-    let Some(serial) = point_serial(named) else {
+    let Some(serial) = point_serial(named.as_slice()) else {
         return Err(Refusal::Service(Status::BAD_CONTINUATION_POINT_INVALID));
     };
     let Some(point) = point_for(points, node, serial) else {
@@ -184,7 +181,7 @@ fn go_on<'a>(
 ///
 /// A point keeps its node, interval, size and the last time that was given, which hold in place of `range`. It is used
 /// up by the page that it leads to, which has the values past that time as the history then is. Where more are left
-/// there is another point.
+/// there is another point. Of what is asked nothing is copied: a point keeps the node's own id.
 ///
 /// It refuses in this order: no node has the id, `BAD_NODE_ID_UNKNOWN`; it isn't a Variable whose AccessLevel lets its
 /// history be read, `BAD_HISTORY_OPERATION_UNSUPPORTED`; an index range is given, `BAD_INDEX_RANGE_INVALID`; a point
@@ -192,41 +189,38 @@ fn go_on<'a>(
 /// none; there are more values than the page has, and no room for a point, `BAD_NO_CONTINUATION_POINTS`. `Exhausted`
 /// where no serial is left for the point. The first four come however little memory there is: nothing grows before
 /// them. At an `Err` the points are as they were.
-#[tactic(auto, unfolding(crate::specs::Reading::read_raw_of))]
+#[tactic(auto, unfolding(crate::specs::Reading::read_raw_of, crate::specs::Reading::judged))]
 pub fn read_raw<'a>(
     alloc: Global,
     history: &'a History,
     space: &Space,
     points: &mut Points,
     range: RawRange,
-    asked: &HistoryReadValueId,
+    asked: &HistoryReadValueIdView<'_>,
 ) -> Result<Page<'a>, Refusal>
     ensures taken { TakesSerial (result_map_both page_seen (λ refusal. refusal) result) points.old points.new (read_raw_of history.now space.now.nodes range points.old asked.now) }
     ensures judged { IfErr (judged_at points.old space.now.nodes asked.now) (λ code. result ≡ Err (Service code)) }
 {
-    if let Err(status) = judged(space, asked) {
+    let Some(node) = space.find(&asked.node_id) else {
+        return Err(Refusal::Service(Status::BAD_NODE_ID_UNKNOWN));
+    };
+    if let Err(status) = judged(node, &asked.index_range) {
         return Err(Refusal::Service(status));
     }
     if asked.continuation_point.is_given() {
-        go_on(
-            alloc,
-            history,
-            points,
-            &asked.node_id,
-            &asked.continuation_point,
-        )
+        go_on(alloc, history, points, &node.id, &asked.continuation_point)
     } else {
-        begin(alloc, history, points, range, &asked.node_id)
+        begin(alloc, history, points, range, &node.id)
     }
 }
 
 /// Gives a point of HistoryRead up. Takes no memory.
 ///
 /// `BAD_CONTINUATION_POINT_INVALID` where none is held under these bytes; then nothing changed.
-pub fn release(points: &mut Points, named: &ByteString) -> Result<(), Status>
+pub fn release(points: &mut Points, named: &ByteStringView<'_>) -> Result<(), Status>
     ensures { step result points.new ≡ release_of points.old named.now }
 {
-    let Some(serial) = point_serial(named) else {
+    let Some(serial) = point_serial(named.as_slice()) else {
         return Err(Status::BAD_CONTINUATION_POINT_INVALID);
     };
     if !matches!(points.get(serial), Some(Point::History(_))) {

@@ -37,7 +37,7 @@ use Rattle.ua_monitored_items.proofs.Tables.{greater, at_itself, above_found, Is
 -- ---- items that change at one number
 
 -- an item of this subscription, if any
-abbrev IsItsOwn : ℕ → Option Item → Type 0
+abbrev pub IsItsOwn : ℕ → Option Item → Type 0
 IsItsOwn subscription found = (item : Item) → found ≡ Some item → is_of subscription item ≡ true
 
 are_in : (subscription k : ℕ) (items there : NumberedItems) → ((n : ℕ) → n ≢ k → item_at n there ≡ item_at n items) → IsItsOwn subscription (item_at k items) → OthersAreIn subscription items there
@@ -63,7 +63,7 @@ pub stays_then : (subscription : ℕ) (a b c : NumberedItems) → OthersStay sub
 stays_then subscription a b c f g = (in_then subscription a b c f.0 g.0, in_then subscription c b a g.1 f.1)
 
 -- an item that is the subscription's is so where it is found
-own_found : (subscription : ℕ) (found : Option Item) (own : Item) → own_if subscription found ≡ Some own → IsItsOwn subscription found
+pub own_found : (subscription : ℕ) (found : Option Item) (own : Item) → own_if subscription found ≡ Some own → IsItsOwn subscription found
 own_found subscription None own is item e = absurd cc
 own_found subscription (Some other) own is item e = let it : item ≡ other = cc in ap (is_of subscription) it ∙ by (is_of subscription other) refl is
   where
@@ -129,9 +129,9 @@ left_in subscription (e ∷ es) n item found not_own = by (is_at (nat_cmp n) e.0
     by false is true own here rest = rest here
     by false is false own here rest = rw is (rest here)
 
-were_in : (subscription : ℕ) (items : NumberedItems) → AreRising items → OthersAreIn subscription (without_all subscription items) items
-were_in subscription [] rising n item found not_own = found
-were_in subscription (e ∷ es) rising n item found not_own = by (is_at (nat_cmp n) e.0) refl (is_of subscription e.1) found (λ f. were_in subscription es rising.1 n item f not_own)
+pub was_in : (subscription : ℕ) (items : NumberedItems) → AreRising items → (n : ℕ) (item : Item) → item_at n (without_all subscription items) ≡ Some item → item_at n items ≡ Some item
+was_in subscription [] rising n item found = found
+was_in subscription (e ∷ es) rising n item found = by (is_at (nat_cmp n) e.0) refl (is_of subscription e.1) found (was_in subscription es rising.1 n item)
   where
     first : (b : Bool) → is_at (nat_cmp n) e.0 ≡ b → item_at n (e ∷ without_all subscription es) ≡ Some item → cond b (Some e.1) (item_at n (without_all subscription es)) ≡ Some item
     first b is here = sym (ap (λ (c : Bool). cond c (Some e.1) (item_at n (without_all subscription es))) is) ∙ here
@@ -147,7 +147,7 @@ were_in subscription (e ∷ es) rising n item found not_own = by (is_at (nat_cmp
     by false is false here rest = rest (first false is here)
 
 stays_ended : (subscription : ℕ) (items : NumberedItems) → AreRising items → OthersStay subscription items (without_all subscription items)
-stays_ended subscription items rising = (left_in subscription items, were_in subscription items rising)
+stays_ended subscription items rising = (left_in subscription items, λ n item found not_own. was_in subscription items rising n item found)
 
 -- ---- what is done with an item leaves it its subscription's
 

@@ -10,6 +10,7 @@ pub mod Following
 pub mod FollowingEnds
 pub mod Runs
 pub mod Apart
+pub mod Inside
 pub mod FirstNotes
 pub mod Undoing
 pub mod Rooms

@@ -7,7 +7,7 @@ use Rattle.std.specs.Set.{remove_key}
 use Rattle.ua_types.proofs.NumberMaps.{same_number}
 use Rattle.std.proofs.lemmas.Bool.{false≢true}
 use Rattle.std.specs.Cmp.{nat_cmp_is, nat_cmp_total, eq_by_cmp_equiv}
-use Rattle.std.specs.Prelude.{◌==◌, ◌&&◌, fold, not, flat_map, OnOk, OnErr}
+use Rattle.std.specs.Prelude.{◌==◌, ◌&&◌, fold, not, OnOk, OnErr}
 use Rattle.std.specs.Ordering.{nat_cmp, is_eq, match_ordering}
 use Rattle.std.specs.declared.cmp.Ordering.{Ordering}
 use Rattle.std.specs.declared.cmp.Ordering.TheVariants.{Less, Equal, Greater}
@@ -19,14 +19,11 @@ use Rattle.ua_values.specs.declared.data_value.DataValue.{DataValue}
 use Rattle.ua_read_write.specs.declared.timestamps.Timestamps.{Timestamps}
 use Rattle.ua_subscription_messages.specs.declared.monitoring_parameters.MonitoringParameters.{MonitoringParameters}
 use Rattle.ua_monitored_items.specs.Item.{is_enabled, takes, queued, seen, with_mode, disabled, modified, gave, waiting_in}
-use Rattle.ua_monitored_items.specs.Items.{Visit, visited, sampled_items, Taking, nat_least, taken_from, with_taken, without_all, first_number, VisitedSome, taken_of, nothing_taken, all_visits, visits_of}
+use Rattle.ua_monitored_items.specs.Items.{Visit, visited, sampled_items, Taking, nat_least, taken_from, with_taken, without_all, first_number, VisitedSome, taken_of, nothing_taken}
 use Rattle.ua_monitored_items.specs.Preparing.{enabled_from, moded_from}
-use Rattle.ua_monitored_items.specs.Sampling.{index_visits}
 use Rattle.ua_monitored_items.specs.declared.preparing.FirstSample.{FirstSample}
 use Rattle.ua_monitored_items.specs.declared.preparing.Modification.{Modification}
 use Rattle.ua_monitored_items.specs.Modifying.{modified_with}
-use Rattle.ua_read_write.specs.declared.writing.Change.{Change}
-use Rattle.std.proofs.lemmas.List.Concat.{flat_map-cons}
 use Rattle.ua_monitored_items.specs.declared.item.Item.{Item}
 use Rattle.ua_monitored_items.specs.declared.kinds.Mode.{Mode}
 use Rattle.ua_monitored_items.specs.declared.kinds.Trigger.{Trigger}
@@ -437,8 +434,3 @@ module _ (made : ℕ) (of_subscription : BTreeMap ℕ (BTreeSet ℕ)) (on_node :
   pub table_after_taking : {T E : Type 0} (r : Result T E) (new : NumberedItems) (n : ℕ) (numbers : List ℕ) → OnOk r (new ≡ (taken_of items n numbers).items) → OnErr r (new ≡ items) → IsTable made new of_subscription on_node
   table_after_taking (Ok x) new n numbers ok err = subst (λ (es : NumberedItems). IsTable made es of_subscription on_node) (sym ok) (table_taken made of_subscription on_node (nothing_taken items n) numbers h)
   table_after_taking (Err x) new n numbers ok err = subst (λ (es : NumberedItems). IsTable made es of_subscription on_node) (sym err) h
-
-  -- the visits that the index leads to are those of the items of each node
-  pub same_visits : (changed : List Change) → flat_map (index_visits on_node) changed ≡ all_visits items changed
-  same_visits [] = refl
-  same_visits (c ∷ cs) = flat_map-cons (index_visits on_node) c cs ∙ (rw (h.nodes c.node_id, same_visits cs) refl) ∙ sym (flat_map-cons (visits_of items) c cs)

@@ -272,9 +272,6 @@ pub record Visit : Type 0 where
 abbrev pub visits_of : NumberedItems → Change → List Visit
 visits_of items change = map (λ number. record { number = number; value = change.value }) (numbers_on change.node_id items)
 
-abbrev pub all_visits : NumberedItems → List Change → List Visit
-all_visits items changed = flat_map (visits_of items) changed
-
 abbrev pub visited : NumberedItems → Visit → NumberedItems
 visited items visit = with_item visit.number (seen visit.value) items
 

@@ -1,5 +1,5 @@
 -- Whatever is done with the items of a server, told as moves on their queues.
-use Rattle.std.specs.Prelude.{◌≡◌, ℕ, ◌==◌, List, [], ◌∷◌, ◌++◌, take, fold, Option, Some, None, false, if◌then◌else◌}
+use Rattle.std.specs.Prelude.{◌≡◌, ◌<◌, ◌≤◌, ℕ, ◌==◌, All, List, [], ◌∷◌, ◌++◌, take, fold, Option, Some, None, false, if◌then◌else◌}
 use Rattle.ua_types.specs.Configuration.{Configuration}
 use Rattle.ua_types.specs.declared.moment.Moment.{Moment}
 use Rattle.ua_values.specs.declared.data_value.DataValue.{DataValue}
@@ -146,6 +146,15 @@ IsOfSubscription subscription (TakeNotes own n) = own ≡ subscription
 abbrev pub SubscriptionsStayApart : Type 0
 SubscriptionsStayApart = (config : Configuration) (moves : List Move) (move : Move) (subscription : ℕ) → IsOfSubscription subscription move →
     OthersStay subscription (run config moves).state.items (run config (moves ++ move ∷ [])).state.items
+
+-- a number that was given, and whose item is of this subscription, where it lives yet
+abbrev pub LeadsInto : ℕ → ItemsState → ℕ → Type 0
+LeadsInto subscription s number = (0 < number) × (number ≤ s.made) × ((item : Item) → item_at number s.items ≡ Some item → item.subscription ≡ subscription)
+
+-- what is linked to an item was given, and is of the item's own subscription, where it lives yet
+abbrev pub LinksStayInside : Type 0
+LinksStayInside = (config : Configuration) (moves : List Move) (number : ℕ) (item : Item) → let s = (run config moves).state in
+    item_at number s.items ≡ Some item → All (LeadsInto item.subscription s) item.links
 
 -- what an item has to tell: nothing unless it reports or is released
 abbrev pub told_notes : Item → List MonitoredItemNotification

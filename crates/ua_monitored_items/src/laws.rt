@@ -1,7 +1,7 @@
 //! What becomes of the values that the items queue, whatever is called. The laws have no code: their
 //! contracts state them, over lists of calls (`specs/Moves`).
 
-ghost use Rattle.ua_monitored_items.specs.Moves.{QueuesAreTheirMoves, QueuesAreWhatWaits, FatesAreFinal, AccountsAreInOrder, AccountsMarkLosses, SubscriptionsStayApart, NotesAreTheFirst};
+ghost use Rattle.ua_monitored_items.specs.Moves.{QueuesAreTheirMoves, QueuesAreWhatWaits, FatesAreFinal, AccountsAreInOrder, AccountsMarkLosses, SubscriptionsStayApart, LinksStayInside, NotesAreTheFirst};
 ghost use Rattle.ua_monitored_items.specs.Causes.{FatesHaveTheirCauses};
 ghost use Rattle.ua_monitored_items.specs.Givings.{NotesAreOfGivings, GivingsAreWhatWasSent};
 
@@ -45,6 +45,13 @@ pub fn losses_are_marked()
 /// another subscription.
 pub fn subscriptions_stay_apart()
     ensures { SubscriptionsStayApart }
+{}
+
+/// After any calls, whatever is linked to an item is the number of one that was made before, and is of the item's own
+/// subscription, where that one lives yet. No number is given twice, so no link leads into another subscription later either.
+#[tactic(auto, using(crate::proofs::Inside::links_stay_inside))]
+pub fn links_stay_inside()
+    ensures { LinksStayInside }
 {}
 
 /// What [`crate::Items::take_notes`] answers is the first of all that the subscription's items that report or

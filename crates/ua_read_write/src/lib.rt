@@ -2,10 +2,15 @@
 //! space and without the services round them: no session, no request's header and no limit is known
 //! here.
 //!
+//! What a request asks for is judged where it stands in the request's bytes, by views of `ua_service_views`; a contract
+//! sees a view as the structure that it shows.
+//!
 //! [`read`] answers one read by an [`Answer`], which borrows what it shows and takes no memory; it is
-//! written straight into the response ([`read_body`]), or copied ([`Answer::copy`], [`sample`]).
+//! written straight into the response ([`read_body`]), or copied ([`Answer::copy`]). [`sample`] and [`refusal`] are the
+//! same for who keeps the id of what is read, as an item does.
 //! [`write`] gives variables new values in the order of the request, and tells what became of each
-//! ([`Written`]); [`accepted`] judges one value alone, for a caller that stores it by itself.
+//! ([`Written`]); [`accepted`] judges one value alone, for a caller that stores it by itself. A value is copied out of the
+//! request once it is accepted, and no other is.
 //!
 //! What a contract sees: the nodes of the space. `specs/Attributes` says which attributes a node has and
 //! what they are, `Reading` what is answered, and `Writing` what is stored; each as one definition,

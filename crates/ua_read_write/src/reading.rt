@@ -1,6 +1,7 @@
 //! The service Read.
 
-ghost use Rattle.std.specs.Prelude.{◌≡◌, ◌<◌, ◌^◌, ◌++◌, Some, None, length, IfErr, IfOk, IsOk, OnOk};
+ghost use Rattle.std.specs.Option.{option_copied};
+ghost use Rattle.std.specs.Prelude.{◌≡◌, ◌++◌, ℕ, List, Option, Some, None, IfErr, IfOk, IsOk, OnOk};
 ghost use Rattle.std.specs.Result.{result_map_both};
 ghost use Rattle.ua_binary.specs.Arrays.{array_encoding};
 ghost use Rattle.ua_binary.specs.DataValues.{data_value_encoding};
@@ -8,17 +9,21 @@ ghost use Rattle.ua_messages.specs.Bodies.{body_encoding};
 ghost use Rattle.ua_messages.specs.declared.type_ids.TheConstants.{READ_RESPONSE};
 ghost use Rattle.ua_messages.specs.ResultLists.{results_encoding, results_of};
 ghost use Rattle.ua_read_write.specs.Attributes.{seen};
-ghost use Rattle.ua_read_write.specs.Reading.{is_readable, readable, refusal_in, attribute_read, read_of, all_read};
+ghost use Rattle.ua_read_write.specs.Reading.{is_readable, readable, readable_of, refusal_in, attribute_read, read_of, all_read};
 ghost use Rattle.ua_read_write.specs.declared.timestamps.Timestamps.TheVariants as timestamp_choices;
+ghost use Rattle.ua_types.specs.Given.{is_given};
+ghost use Rattle.ua_views.specs.Views.{or_none};
 
 use crate::answer::{Answer, copied, refused};
 use crate::attributes::{Attribute, attribute_at};
 use crate::timestamps::Timestamps;
 use std::alloc::{AllocError, Global};
 use ua_messages::{DiagnosticInfos, MessageBody, ReadValueId, ResponseHeader, type_ids};
-use ua_space::Space;
+use ua_service_views::ReadValueIdView;
+use ua_space::{Node, Space};
 use ua_types::{Moment, NodeId, Status, Text};
 use ua_values::DataValue;
+use ua_views::ArrayView;
 
 // Whether AccessLevel lets it be read, which speaks of the value alone.
 fn is_readable(attribute: Attribute<'_>) -> bool
@@ -28,6 +33,25 @@ fn is_readable(attribute: Attribute<'_>) -> bool
         Attribute::Value(variable) => variable.access % 2 == 1,
         _ => true,
     }
+}
+
+// An attribute of the node that was looked up, or why it can't be read, where an index range is given or isn't.
+fn readable_in(node: Option<&Node>, number: u32, is_ranged: bool) -> Result<Attribute<'_>, Status>
+    ensures { (index_range : Option (List ℕ)) → is_given index_range ≡ is_ranged → result_map_both seen (λ code. code) result ≡ readable_of number index_range (option_copied node.entry) }
+{
+    let Some(node) = node else {
+        return Err(Status::BAD_NODE_ID_UNKNOWN);
+    };
+    let Some(attribute) = attribute_at(node, number) else {
+        return Err(Status::BAD_ATTRIBUTE_ID_INVALID);
+    };
+    if is_ranged {
+        return Err(Status::BAD_INDEX_RANGE_INVALID);
+    }
+    if !is_readable(attribute) {
+        return Err(Status::BAD_NOT_READABLE);
+    }
+    Ok(attribute)
 }
 
 // An attribute of a node, or why it can't be read.
@@ -40,19 +64,7 @@ fn readable<'a>(
 ) -> Result<Attribute<'a>, Status>
     ensures { result_map_both seen (λ code. code) result ≡ readable space.now.nodes id.now number index_range.now }
 {
-    let Some(node) = space.node(id) else {
-        return Err(Status::BAD_NODE_ID_UNKNOWN);
-    };
-    let Some(attribute) = attribute_at(node, number) else {
-        return Err(Status::BAD_ATTRIBUTE_ID_INVALID);
-    };
-    if index_range.is_given() {
-        return Err(Status::BAD_INDEX_RANGE_INVALID);
-    }
-    if !is_readable(attribute) {
-        return Err(Status::BAD_NOT_READABLE);
-    }
-    Ok(attribute)
+    readable_in(space.node(id), number, index_range.is_given())
 }
 
 /// What the service Read answers to one of its requests at this clock (IEC 62541-4, "Read"). Takes no
@@ -61,20 +73,18 @@ fn readable<'a>(
 /// It refuses in this order: no node has the id, `BAD_NODE_ID_UNKNOWN`; the node's class doesn't have the
 /// attribute, `BAD_ATTRIBUTE_ID_INVALID`; an index range is given, `BAD_INDEX_RANGE_INVALID`; it is the
 /// value, and AccessLevel doesn't let it be read, `BAD_NOT_READABLE`.
+#[tactic(auto, unfolding(crate::specs::Reading::readable))]
 pub fn read<'a>(
     space: &'a Space,
     clock: Moment,
     timestamps: Timestamps,
-    request: &ReadValueId,
+    request: &ReadValueIdView<'_>,
 ) -> Answer<'a>
     ensures { result ≡ read_of space.now.nodes clock timestamps request.now }
 {
-    let attribute = readable(
-        space,
-        &request.node_id,
-        request.attribute_id,
-        &request.index_range,
-    );
+    let node = space.find(&request.node_id);
+    let is_ranged = request.index_range.is_given();
+    let attribute = readable_in(node, request.attribute_id, is_ranged);
     Answer::new(attribute, clock, timestamps)
 }
 
@@ -114,37 +124,35 @@ pub fn sample(
 
 // Writes the list of all answers.
 #[tactic(auto, unfolding(ua_binary::specs::Arrays::array_encoding))]
-fn write_answers(
+fn write_answers<'a>(
     space: &Space,
     clock: Moment,
     timestamps: Timestamps,
-    requests: &[ReadValueId],
+    requests: ArrayView<'a, ReadValueIdView<'a>>,
     body: &mut MessageBody,
 ) -> Result<(), AllocError>
-    requires { length requests.now < 2 ^ 31 }
-    ensures { OnOk result (body.new ≡ body.old ++ array_encoding data_value_encoding (Some (all_read space.now.nodes clock timestamps requests.now))) }
+    ensures { OnOk result (body.new ≡ body.old ++ array_encoding data_value_encoding (Some (all_read space.now.nodes clock timestamps (or_none requests.entry)))) }
 {
     body.write(&(requests.len() as u32))?;
     for request in requests {
-        body.write(&read(space, clock, timestamps, request))?;
+        body.write(&read(space, clock, timestamps, &request))?;
     }
     Ok(())
 }
 
 /// The whole body of the response to these requests, with this header: what [`read`] answers to each, in
-/// their order. Each answer is written where it stands, by one look-up.
+/// their order. Each is looked at in the request's bytes, and its answer is written where it stands, by one look-up.
 #[tactic(auto, using(ua_messages::proofs::ResultLemmas::results_joined), unfolding(ua_messages::specs::ResultLists::results_encoding))]
-pub fn read_body(
+pub fn read_body<'a>(
     alloc: Global,
     space: &Space,
     clock: Moment,
     timestamps: Timestamps,
     response_header: &ResponseHeader,
-    requests: &[ReadValueId],
+    requests: ArrayView<'a, ReadValueIdView<'a>>,
 ) -> Result<MessageBody, AllocError>
-    requires { length requests.now < 2 ^ 31 }
     ensures { IfOk result (λ body. body ≡ body_encoding (results_encoding data_value_encoding) READ_RESPONSE
-        (results_of response_header.now (all_read space.now.nodes clock timestamps requests.now))) }
+        (results_of response_header.now (all_read space.now.nodes clock timestamps (or_none requests.entry)))) }
 {
     let mut body = MessageBody::new(alloc)?;
     body.write(&NodeId::numeric(0, type_ids::READ_RESPONSE))?;

@@ -1,15 +1,20 @@
 //! The service Write.
 
-ghost use Rattle.std.specs.Prelude.{◌≡◌, ◌⊎◌, ◌++◌, true, length, Ok, IfErr, IfOk, OnOk, OnErr};
-ghost use Rattle.ua_space.specs.Values.{takes_at};
+ghost use Rattle.std.specs.Prelude.{◌≡◌, ◌⊎◌, ◌++◌, true, length, Ok, Err, IfErr, IfOk, IsOk, OnOk, OnErr};
 ghost use Rattle.ua_read_write.specs.Writing.{stored_of, is_writable, judged, accepted_of, status_of, nodes_after, changes_of, write_of, WroteSome};
+ghost use Rattle.ua_space.specs.Values.{takes_at};
+ghost use Rattle.ua_space.specs.Variables.{shape_has_rank, takes};
+ghost use Rattle.ua_types.specs.Refusals.{GivesOrRefuses};
+ghost use Rattle.ua_types.specs.declared.refusal.Refusal.TheVariants.{Memory};
+ghost use Rattle.ua_views.specs.Views.{or_none};
 
 use crate::attributes::{Attribute, attribute_at};
 use std::alloc::{AllocError, Global};
-use ua_service_messages::WriteValue;
-use ua_space::{Space, Variable};
-use ua_types::{Copyable, Listed, Moment, NodeId, Status};
-use ua_values::DataValue;
+use ua_service_views::WriteValueView;
+use ua_space::{Space, ValueRank, Variable};
+use ua_types::{Copyable, Listed, Moment, NodeId, Refusal, Status};
+use ua_values::{DataValue, Shape};
+use ua_views::{ArrayView, VariantView};
 
 /// A variable that was written.
 #[derive(Debug, Drop)]
@@ -35,13 +40,32 @@ fn is_writable(variable: &Variable) -> bool
     variable.access / 2 % 2 == 1
 }
 
+// Whether it is one value, or a list without dimensions, as the rank says.
+fn has_rank(shape: Shape, rank: ValueRank) -> bool
+    ensures { result ≡ shape_has_rank rank shape }
+{
+    match shape {
+        Shape::Scalar => rank == ValueRank::Scalar,
+        Shape::List => rank == ValueRank::List,
+        Shape::Null | Shape::Matrix => false,
+    }
+}
+
+// Whether a variable may have this value, by its type and shape alone, as `Variable::takes` says it of a value that is there.
+#[tactic(auto, unfolding(ua_space::specs::Variables::has_rank))]
+fn takes(variable: &Variable, value: &VariantView<'_>) -> bool
+    ensures { result ≡ takes variable.now value.now }
+{
+    value.type_number() == variable.data_type && has_rank(value.shape(), variable.value_rank)
+}
+
 // Whether a value is accepted, or why not.
 #[tactic(auto, unfolding(crate::specs::Writing::judged))]
-fn judged(space: &Space, write: &WriteValue) -> Result<(), Status>
+fn judged(space: &Space, write: &WriteValueView<'_>) -> Result<(), Status>
     ensures judged { result ≡ judged space.now.nodes write.now }
     ensures taken { OnOk result (takes_at write.now.node_id write.now.value space.now.nodes ≡ true) }
 {
-    let Some(node) = space.node(&write.node_id) else {
+    let Some(node) = space.find(&write.node_id) else {
         return Err(Status::BAD_NODE_ID_UNKNOWN);
     };
     let Some(attribute) = attribute_at(node, write.attribute_id) else {
@@ -59,7 +83,7 @@ fn judged(space: &Space, write: &WriteValue) -> Result<(), Status>
     if !is_writable(variable) {
         return Err(Status::BAD_NOT_WRITABLE);
     }
-    if !variable.takes(value) {
+    if !takes(variable, value) {
         return Err(Status::BAD_TYPE_MISMATCH);
     }
     Ok(())
@@ -80,45 +104,53 @@ fn stored(value: DataValue, clock: Moment) -> DataValue
 }
 
 /// A value of a Write as it is stored at this clock, with the variable that gets it: for who stores the values by
-/// himself ([`Space::set_value`]), and looks at each before. It is moved, and not copied.
+/// himself ([`Space::set_value`]), and looks at each before.
 ///
-/// It is refused as [`write`] says, and then nothing was done. Takes no memory.
-pub fn accepted(space: &Space, clock: Moment, write: WriteValue) -> Result<Change, Status>
-    ensures answer { result ≡ accepted_of clock write (judged space.now.nodes write) }
+/// It is judged where it stands in the request's bytes, and refused as [`write`] says. Only what is accepted is copied,
+/// once, so a refusal takes no memory. It is never refused as exhausted.
+pub fn accepted<'a>(
+    alloc: Global,
+    space: &Space,
+    clock: Moment,
+    write: &WriteValueView<'a>,
+) -> Result<Change, Refusal>
+    ensures answer { GivesOrRefuses result (accepted_of clock write.now (judged space.now.nodes write.now)) }
+    ensures memory { result ≡ Err Memory → IsOk (judged space.now.nodes write.now) }
     ensures taken { IfOk result (λ change. takes_at change.node_id change.value space.now.nodes ≡ true) }
 {
-    judged(space, &write)?;
+    judged(space, write)?;
+    let node_id = write.node_id.to_value(alloc)?;
+    let value = write.value.to_value(alloc)?;
     Ok(Change {
-        node_id: write.node_id,
-        value: stored(write.value, clock),
+        node_id,
+        value: stored(value, clock),
     })
 }
 
 // Writes one value where it is accepted, and answers its outcome.
-fn write_one(
+fn write_one<'a>(
     alloc: Global,
     space: &mut Space,
     clock: Moment,
-    write: WriteValue,
+    write: &WriteValueView<'a>,
     changed: &mut Vec<Change>,
 ) -> Result<Status, AllocError>
-    ensures status { IfOk result (λ status. status ≡ status_of (judged space.old.nodes write)) }
-    ensures nodes { OnOk result (space.new.nodes ≡ nodes_after clock write (judged space.old.nodes write) space.old.nodes) }
-    ensures changed { OnOk result (changed.new.items ≡ changed.old.items ++ changes_of clock write (judged space.old.nodes write)) }
+    ensures status { IfOk result (λ status. status ≡ status_of (judged space.old.nodes write.now)) }
+    ensures nodes { OnOk result (space.new.nodes ≡ nodes_after clock write.now (judged space.old.nodes write.now) space.old.nodes) }
+    ensures changed { OnOk result (changed.new.items ≡ changed.old.items ++ changes_of clock write.now (judged space.old.nodes write.now)) }
     ensures triples { space.new.triples ≡ space.old.triples }
-    ensures refused { IfErr (judged space.old.nodes write) (λ status. result ≡ Ok status) }
-    ensures err { OnErr result ((space.new.nodes ≡ space.old.nodes) ⊎ (space.new.nodes ≡ nodes_after clock write (judged space.old.nodes write) space.old.nodes)) }
+    ensures refused { IfErr (judged space.old.nodes write.now) (λ status. result ≡ Ok status) }
+    ensures err { OnErr result ((space.new.nodes ≡ space.old.nodes) ⊎ (space.new.nodes ≡ nodes_after clock write.now (judged space.old.nodes write.now) space.old.nodes)) }
 {
-    if let Err(status) = judged(space, &write) {
-        return Ok(status);
-    }
-    let value = stored(write.value, clock);
-    let copy = value.copy(alloc)?;
-    space.set_value(&write.node_id, value);
-    changed.push(Change {
-        node_id: write.node_id,
-        value: copy,
-    })?;
+    let change = match accepted(alloc, space, clock, write) {
+        Ok(change) => change,
+        Err(Refusal::Service(status)) => return Ok(status),
+        Err(Refusal::Memory) => return Err(AllocError),
+        Err(Refusal::Exhausted) => unreachable!(),
+    };
+    let value = change.value.copy(alloc)?;
+    space.set_value(&change.node_id, value);
+    changed.push(change)?;
     Ok(Status::GOOD)
 }
 
@@ -132,23 +164,23 @@ fn write_one(
 /// are good. They are stored with the clock as the server's time, and as the source's where none was written.
 ///
 /// Where memory runs out, some of the values were written, from the first on.
-pub fn write(
+pub fn write<'a>(
     alloc: Global,
     space: &mut Space,
     clock: Moment,
-    values: Vec<WriteValue>,
+    values: ArrayView<'a, WriteValueView<'a>>,
 ) -> Result<Written, AllocError>
-    ensures nodes { OnOk result (space.new.nodes ≡ (write_of clock space.old.nodes values.items).nodes) }
-    ensures statuses { IfOk result (λ written. written.statuses ≡ (write_of clock space.old.nodes values.items).statuses) }
-    ensures changed { IfOk result (λ written. written.changed ≡ (write_of clock space.old.nodes values.items).changed) }
-    ensures count { IfOk result (λ written. length written.statuses ≡ length values.items) }
+    ensures nodes { OnOk result (space.new.nodes ≡ (write_of clock space.old.nodes (or_none values.entry)).nodes) }
+    ensures statuses { IfOk result (λ written. written.statuses ≡ (write_of clock space.old.nodes (or_none values.entry)).statuses) }
+    ensures changed { IfOk result (λ written. written.changed ≡ (write_of clock space.old.nodes (or_none values.entry)).changed) }
+    ensures count { IfOk result (λ written. length written.statuses ≡ length (or_none values.entry)) }
     ensures triples { space.new.triples ≡ space.old.triples }
-    ensures err { OnErr result (WroteSome clock space.old.nodes space.new.nodes values.items) }
+    ensures err { OnErr result (WroteSome clock space.old.nodes space.new.nodes (or_none values.entry)) }
 {
     let mut statuses = Vec::with_capacity(alloc, values.len())?;
     let mut changed = Vec::new(alloc);
     for value in values {
-        let status = write_one(alloc, space, clock, value, &mut changed)?;
+        let status = write_one(alloc, space, clock, &value, &mut changed)?;
         statuses.push(status)?;
     }
     Ok(Written {

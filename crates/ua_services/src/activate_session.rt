@@ -14,6 +14,7 @@ use ua_service_messages::{
     ActivateSessionRequest, ActivateSessionResponse, AnonymousIdentityToken,
 };
 use ua_types::{Array, ByteString, ExtensionObject, ExtensionObjectBody, Status};
+use ua_views::NodeIdView;
 
 // Whether the user stays anonymous.
 fn is_anonymous(identity: &ExtensionObject) -> bool
@@ -59,10 +60,10 @@ impl Service for ActivateSession {
         services: &mut Services,
     ) -> Result<Served, Unserved> {
         let is_anonymous = is_anonymous(&request.user_identity_token);
-        let token = &request.request_header.authentication_token;
+        let token = NodeIdView::of(&request.request_header.authentication_token);
         match services
             .sessions
-            .activate(token, caller.conn, &caller.key, is_anonymous)
+            .activate(&token, caller.conn, &caller.key, is_anonymous)
         {
             Ok(nonce) => {
                 let response = response(alloc, setting, caller.handle, &nonce)?;

@@ -9,17 +9,18 @@ ghost use Rattle.ua_services.specs.RisingSerials.{browse_rises};
 
 use crate::browse_results::tell;
 use crate::caller::Caller;
-use crate::operations::into_operations;
+use crate::operations::viewed_operations;
 use crate::paging::{Pages, serve_pages};
 use crate::services::Services;
-use crate::session_service::SessionService;
 use crate::unserved::Unserved;
+use crate::viewed_service::ViewedService;
 use server_messages::{Halt, Served, Setting};
 use std::alloc::Global;
 use ua_browse::{browse, page_size};
 use ua_history::History;
 use ua_messages::{MessageBody, type_ids};
-use ua_service_messages::{BrowseDescription, BrowseRequest, BrowseResult};
+use ua_service_messages::BrowseResult;
+use ua_service_views::{BrowseDescriptionView, BrowseRequestView};
 use ua_session::Points;
 use ua_space::Space;
 use ua_types::{Config, Status};
@@ -39,16 +40,20 @@ struct FirstPages {
 }
 
 #[tactic(auto, using(crate::proofs::PagingLemmas::does_one))]
-impl Pages for FirstPages {
-    type Asked = BrowseDescription;
+impl<'a> Pages<'a> for FirstPages {
+    type Asked = BrowseDescriptionView<'a>;
 
     type Answer = BrowseResult;
-
-    const RESPONSE: u32 = type_ids::BROWSE_RESPONSE;
 
     ghost RESPONSE = { BROWSE_RESPONSE };
 
     ghost meaning = { λ pages space history points d. browse_told (browse_of space points pages.size d) };
+
+    fn response(&self) -> u32
+        ensures { result ≡ BROWSE_RESPONSE }
+    {
+        type_ids::BROWSE_RESPONSE
+    }
 
     fn page(
         &self,
@@ -56,10 +61,10 @@ impl Pages for FirstPages {
         space: &Space,
         _history: &History,
         points: &mut Points,
-        description: BrowseDescription,
+        description: BrowseDescriptionView<'a>,
         body: &mut MessageBody,
     ) -> Result<(), Halt> {
-        let page = browse(alloc, space, points, self.size, description);
+        let page = browse(alloc, space, points, self.size, &description);
         tell(alloc, page, body)
     }
 
@@ -74,8 +79,8 @@ impl Pages for FirstPages {
 /// ([`ua_browse::browse`]).
 pub struct Browse;
 
-impl SessionService for Browse {
-    type Request = BrowseRequest;
+impl<'a> ViewedService<'a> for Browse {
+    type Request = BrowseRequestView<'a>;
 
     ghost meaning = { browse_meaning };
 
@@ -84,13 +89,13 @@ impl SessionService for Browse {
         setting: &Setting,
         caller: &Caller,
         session: u32,
-        request: BrowseRequest,
+        request: BrowseRequestView<'a>,
         services: &mut Services,
     ) -> Result<Served, Unserved> {
         if !request.view_id.is_null() {
             return Err(Unserved::Fault(Status::BAD_VIEW_ID_UNKNOWN));
         }
-        let descriptions = match into_operations(&setting.config, request.nodes_to_browse) {
+        let descriptions = match viewed_operations(&setting.config, request.nodes_to_browse) {
             Ok(descriptions) => descriptions,
             Err(status) => return Err(Unserved::Fault(status)),
         };

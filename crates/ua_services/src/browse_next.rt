@@ -10,20 +10,22 @@ ghost use Rattle.ua_services.specs.RisingSerials.{go_on_rises};
 
 use crate::browse_results::tell;
 use crate::caller::Caller;
-use crate::operations::into_operations;
+use crate::operations::viewed_operations;
 use crate::paging::{Pages, serve_pages};
 use crate::services::Services;
-use crate::session_service::SessionService;
 use crate::unserved::Unserved;
+use crate::viewed_service::ViewedService;
 use server_messages::{Halt, Served, Setting};
 use std::alloc::Global;
 use ua_browse::{Page, browse_next, release};
 use ua_history::History;
 use ua_messages::{MessageBody, type_ids};
-use ua_service_messages::{BrowseNextRequest, BrowseResult};
+use ua_service_messages::BrowseResult;
+use ua_service_views::BrowseNextRequestView;
 use ua_session::{Points, point_serial};
 use ua_space::Space;
-use ua_types::{Array, ByteString, Refusal, Status};
+use ua_types::{Array, Refusal, Status};
+use ua_views::ByteStringView;
 
 // Gives a point up, and answers a page of no references.
 fn given_up(alloc: Global, points: &mut Points, serial: u64) -> Result<Page, Refusal>
@@ -44,11 +46,11 @@ fn go_on(
     space: &Space,
     points: &mut Points,
     is_release: bool,
-    point: &ByteString,
+    point: &ByteStringView<'_>,
 ) -> Result<Page, Refusal>
     ensures { TakesSerial result points.old points.new (go_on_of space.now is_release points.old point.now) }
 {
-    match point_serial(point) {
+    match point_serial(point.as_slice()) {
         None => Err(Refusal::Service(Status::BAD_CONTINUATION_POINT_INVALID)),
         Some(serial) if is_release => given_up(alloc, points, serial),
         Some(serial) => browse_next(alloc, space, points, serial),
@@ -63,16 +65,20 @@ struct NextPages {
 }
 
 #[tactic(auto, using(crate::proofs::PagingLemmas::does_one))]
-impl Pages for NextPages {
-    type Asked = ByteString;
+impl<'a> Pages<'a> for NextPages {
+    type Asked = ByteStringView<'a>;
 
     type Answer = BrowseResult;
-
-    const RESPONSE: u32 = type_ids::BROWSE_NEXT_RESPONSE;
 
     ghost RESPONSE = { BROWSE_NEXT_RESPONSE };
 
     ghost meaning = { λ pages space history points bytes. browse_told (go_on_of space pages.is_release points bytes) };
+
+    fn response(&self) -> u32
+        ensures { result ≡ BROWSE_NEXT_RESPONSE }
+    {
+        type_ids::BROWSE_NEXT_RESPONSE
+    }
 
     fn page(
         &self,
@@ -80,7 +86,7 @@ impl Pages for NextPages {
         space: &Space,
         _history: &History,
         points: &mut Points,
-        point: ByteString,
+        point: ByteStringView<'a>,
         body: &mut MessageBody,
     ) -> Result<(), Halt> {
         let page = go_on(alloc, space, points, self.is_release, &point);
@@ -98,8 +104,8 @@ impl Pages for NextPages {
 /// none.
 pub struct BrowseNext;
 
-impl SessionService for BrowseNext {
-    type Request = BrowseNextRequest;
+impl<'a> ViewedService<'a> for BrowseNext {
+    type Request = BrowseNextRequestView<'a>;
 
     ghost meaning = { browse_next_meaning };
 
@@ -108,10 +114,10 @@ impl SessionService for BrowseNext {
         setting: &Setting,
         caller: &Caller,
         session: u32,
-        request: BrowseNextRequest,
+        request: BrowseNextRequestView<'a>,
         services: &mut Services,
     ) -> Result<Served, Unserved> {
-        let named = match into_operations(&setting.config, request.continuation_points) {
+        let named = match viewed_operations(&setting.config, request.continuation_points) {
             Ok(named) => named,
             Err(status) => return Err(Unserved::Fault(status)),
         };

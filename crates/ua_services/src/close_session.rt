@@ -14,6 +14,7 @@ use std::alloc::{AllocError, Global};
 use ua_messages::{ResponseHeader, body, type_ids};
 use ua_service_messages::{CloseSessionRequest, CloseSessionResponse};
 use ua_types::Status;
+use ua_views::NodeIdView;
 
 // The answer, once the session is no more.
 fn closed(alloc: Global, setting: &Setting, caller: &Caller) -> Result<Served, AllocError>
@@ -45,8 +46,8 @@ impl Service for CloseSession {
         request: CloseSessionRequest,
         services: &mut Services,
     ) -> Result<Served, Unserved> {
-        let token = &request.request_header.authentication_token;
-        let number = match services.sessions.close(token, caller.conn) {
+        let token = NodeIdView::of(&request.request_header.authentication_token);
+        let number = match services.sessions.close(&token, caller.conn) {
             Ok(number) => number,
             Err(status) => return Err(Unserved::Fault(status)),
         };

@@ -1,8 +1,6 @@
 //! The service HistoryRead (IEC 62541-4, "HistoryRead").
 
-ghost use Rattle.std.specs.Prelude.{◌≡◌, Err, IsOk};
-ghost use Rattle.ua_types.specs.declared.refusal.Refusal.TheVariants.{Memory};
-ghost use Rattle.ua_types.specs.Refusals.{GivesOrRefuses};
+ghost use Rattle.std.specs.Prelude.{◌≡◌};
 ghost use Rattle.ua_messages.specs.declared.type_ids.TheConstants.{HISTORY_READ_RESPONSE};
 ghost use Rattle.ua_read_write.specs.Timestamps.{timestamps_of};
 ghost use Rattle.ua_history.specs.Reading.{read_raw_of};
@@ -14,23 +12,25 @@ ghost use Rattle.ua_services.specs.RisingSerials.{node_read_rises};
 
 use crate::caller::Caller;
 use crate::history_results::{tell, tell_release};
-use crate::operations::into_operations;
+use crate::operations::viewed_operations;
 use crate::paging::{Pages, serve_pages};
 use crate::services::Services;
-use crate::session_service::SessionService;
-use crate::unserved::{Unserved, why_unserved};
+use crate::unserved::Unserved;
+use crate::viewed_service::ViewedService;
 use server_messages::{Halt, Served, Setting};
 use std::alloc::Global;
 use ua_browse::page_size;
 use ua_history::{History, RawRange, read_raw, release};
-use ua_messages::{MessageBody, StructureFault, TimestampsToReturn, received_structure, type_ids};
+use ua_messages::{MessageBody, StructureFault, TimestampsToReturn, type_ids};
 use ua_read_write::Timestamps;
-use ua_service_messages::{
-    HistoryReadRequest, HistoryReadResult, HistoryReadValueId, ReadRawModifiedDetails,
+use ua_service_messages::HistoryReadResult;
+use ua_service_views::{
+    HistoryReadRequestView, HistoryReadValueIdView, ReadRawModifiedDetailsView, structure_view,
 };
 use ua_session::Points;
 use ua_space::Space;
-use ua_types::{Config, ExtensionObject, Moment, Refusal, Status};
+use ua_types::{Config, Moment, Status};
+use ua_views::ExtensionObjectView;
 
 /// What a request wants of each of its nodes.
 #[derive(Clone, Copy, Debug)]
@@ -59,7 +59,7 @@ fn is_time_given(time: Moment) -> bool
 }
 
 // Whether at least two of start, end and count are given.
-fn is_bounded(details: &ReadRawModifiedDetails) -> bool
+fn is_bounded(details: &ReadRawModifiedDetailsView) -> bool
     ensures { result ≡ is_bounded_spec details.now }
 {
     let start = is_time_given(details.start_time);
@@ -69,7 +69,7 @@ fn is_bounded(details: &ReadRawModifiedDetails) -> bool
 }
 
 // What the details ask for, or why it isn't served.
-fn range_of(config: &Config, details: &ReadRawModifiedDetails) -> Result<RawRange, Status>
+fn range_of(config: &Config, details: &ReadRawModifiedDetailsView) -> Result<RawRange, Status>
     ensures { result ≡ range_of_spec config.now details.now }
 {
     if details.is_read_modified || details.return_bounds {
@@ -86,23 +86,15 @@ fn range_of(config: &Config, details: &ReadRawModifiedDetails) -> Result<RawRang
 }
 
 // What the object asks for, or why it isn't served.
-fn judged(alloc: Global, config: &Config, object: &ExtensionObject) -> Result<RawRange, Refusal>
-    ensures gives { GivesOrRefuses result (details_judged config.now object.now) }
-    ensures memory { result ≡ Err Memory → IsOk (details_judged config.now object.now) }
+fn judged(config: &Config, object: &ExtensionObjectView<'_>) -> Result<RawRange, Status>
+    ensures { result ≡ details_judged config.now object.now }
 {
     let type_id = type_ids::READ_RAW_MODIFIED_DETAILS;
-    match received_structure::<ReadRawModifiedDetails>(alloc, type_id, object) {
-        Ok(details) => match range_of(config, &details) {
-            Ok(range) => Ok(range),
-            Err(status) => Err(Refusal::Service(status)),
-        },
-        Err(StructureFault::OtherType) => Err(Refusal::Service(
-            Status::BAD_HISTORY_OPERATION_UNSUPPORTED,
-        )),
-        Err(StructureFault::Unreadable) => {
-            Err(Refusal::Service(Status::BAD_HISTORY_OPERATION_INVALID))
-        }
-        Err(StructureFault::Memory) => Err(Refusal::Memory),
+    match structure_view::<ReadRawModifiedDetailsView>(type_id, object) {
+        Ok(details) => range_of(config, &details),
+        Err(StructureFault::OtherType) => Err(Status::BAD_HISTORY_OPERATION_UNSUPPORTED),
+        Err(StructureFault::Unreadable) => Err(Status::BAD_HISTORY_OPERATION_INVALID),
+        Err(StructureFault::Memory) => unreachable!(),
     }
 }
 
@@ -113,7 +105,7 @@ fn tell_page(
     space: &Space,
     points: &mut Points,
     wanted: Wanted,
-    asked: &HistoryReadValueId,
+    asked: &HistoryReadValueIdView<'_>,
     body: &mut MessageBody,
 ) -> Result<(), Halt>
     ensures { DoesOne history_read_result_encoding result body.old body.new points.old points.new (told_as (history_result_of wanted.timestamps) (read_raw_of history.now space.now.nodes wanted.range points.old asked.now)) }
@@ -122,16 +114,20 @@ fn tell_page(
     tell(alloc, wanted.timestamps, page, body)
 }
 
-impl Pages for Wanted {
-    type Asked = HistoryReadValueId;
+impl<'a> Pages<'a> for Wanted {
+    type Asked = HistoryReadValueIdView<'a>;
 
     type Answer = HistoryReadResult;
-
-    const RESPONSE: u32 = type_ids::HISTORY_READ_RESPONSE;
 
     ghost RESPONSE = { HISTORY_READ_RESPONSE };
 
     ghost meaning = { λ wanted space history points asked. node_read history space.nodes wanted points asked };
+
+    fn response(&self) -> u32
+        ensures { result ≡ HISTORY_READ_RESPONSE }
+    {
+        type_ids::HISTORY_READ_RESPONSE
+    }
 
     fn page(
         &self,
@@ -139,7 +135,7 @@ impl Pages for Wanted {
         space: &Space,
         history: &History,
         points: &mut Points,
-        asked: HistoryReadValueId,
+        asked: HistoryReadValueIdView<'a>,
         body: &mut MessageBody,
     ) -> Result<(), Halt> {
         if self.is_release {
@@ -163,8 +159,8 @@ impl Pages for Wanted {
 /// is told in its result ([`ua_history::read_raw`]); where points are given up, the point of each is judged alone.
 pub struct HistoryRead;
 
-impl SessionService for HistoryRead {
-    type Request = HistoryReadRequest;
+impl<'a> ViewedService<'a> for HistoryRead {
+    type Request = HistoryReadRequestView<'a>;
 
     ghost meaning = { history_read_meaning };
 
@@ -173,17 +169,17 @@ impl SessionService for HistoryRead {
         setting: &Setting,
         caller: &Caller,
         session: u32,
-        request: HistoryReadRequest,
+        request: HistoryReadRequestView<'a>,
         services: &mut Services,
     ) -> Result<Served, Unserved> {
         let Some(timestamps) = some_times(request.timestamps_to_return) else {
             return Err(Unserved::Fault(Status::BAD_TIMESTAMPS_TO_RETURN_INVALID));
         };
-        let nodes = match into_operations(&setting.config, request.nodes_to_read) {
+        let nodes = match viewed_operations(&setting.config, request.nodes_to_read) {
             Ok(nodes) => nodes,
             Err(status) => return Err(Unserved::Fault(status)),
         };
-        match judged(alloc, &setting.config, &request.history_read_details) {
+        match judged(&setting.config, &request.history_read_details) {
             Ok(range) => {
                 let wanted = Wanted {
                     timestamps,
@@ -192,7 +188,7 @@ impl SessionService for HistoryRead {
                 };
                 serve_pages(alloc, setting, caller, session, services, &wanted, nodes)
             }
-            Err(refusal) => Err(why_unserved(refusal)),
+            Err(status) => Err(Unserved::Fault(status)),
         }
     }
 }

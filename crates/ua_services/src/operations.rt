@@ -3,8 +3,10 @@
 ghost use Rattle.std.specs.Prelude.{◌≡◌, ◌<◌, ◌^◌, length, IfOk};
 ghost use Rattle.std.specs.Result.{result_map_both};
 ghost use Rattle.ua_services.specs.Operations.{count_judged, operations_of};
+ghost use Rattle.ua_views.specs.Views.{or_none};
 
 use ua_types::{Array, Config, Status};
+use ua_views::{ArrayView, View};
 
 /// Whether a request may ask for so many things: `BAD_NOTHING_TO_DO` for none, `BAD_TOO_MANY_OPERATIONS` for more than
 /// the configuration's `operations`.
@@ -33,6 +35,18 @@ pub(crate) fn operations<'a, T>(config: &Config, list: &'a Array<T>) -> Result<&
     };
     judge(config, entries.len())?;
     Ok(entries)
+}
+
+/// What a request asks for, as [`operations`] gives it, where the list is looked at in the bytes that came.
+pub(crate) fn viewed_operations<'a, T: View<'a>>(
+    config: &Config,
+    list: ArrayView<'a, T>,
+) -> Result<ArrayView<'a, T>, Status>
+    ensures entries { result_map_both or_none (λ code. code) result ≡ operations_of config.now list.entry }
+    ensures short { IfOk result (λ entries. length (or_none entries) < 2 ^ 31) }
+{
+    judge(config, list.len())?;
+    Ok(list)
 }
 
 /// What a request asks for, as [`operations`] gives it, where the list is used up.

@@ -1,6 +1,6 @@
 //! What the services with continuation points share.
 
-ghost use Rattle.std.specs.Prelude.{◌≡◌, ◌<◌, ◌^◌, ◌++◌, ℕ, List, length, IfOk};
+ghost use Rattle.std.specs.Prelude.{◌≡◌, ◌++◌, ℕ, List, IfOk};
 ghost use Rattle.std.specs.List.{flat_map};
 ghost use Rattle.ua_history.specs.Histories.{HistoryState};
 ghost use Rattle.ua_messages.specs.Diagnostics.{diagnostic_infos_encoding};
@@ -9,6 +9,7 @@ ghost use Rattle.ua_session.specs.Sessions.{points_of};
 ghost use Rattle.ua_space.specs.Nodes.{SpaceState};
 ghost use Rattle.ua_services.specs.Paging.{Done, DoesOne, DoesAll, Rises, all_done, results_head_of, results_body_of, paged};
 ghost use Rattle.ua_services.specs.Serving.{Judges, replied, reply_of};
+ghost use Rattle.ua_views.specs.Views.{or_none};
 
 use crate::caller::Caller;
 use crate::service::reply;
@@ -22,25 +23,27 @@ use ua_messages::{DiagnosticInfos, MessageBody, ResponseHeader};
 use ua_session::Points;
 use ua_space::Space;
 use ua_types::{NodeId, Status};
+use ua_views::{ArrayView, View};
 
 /// How a service answers each thing that it is asked for, page by page.
 ///
 /// Implementors write one result at a time, straight into the response. [`serve_pages`] asks for all, with the
 /// continuation points of the session.
-pub(crate) trait Pages {
-    /// One thing that is asked for.
-    type Asked: Drop;
+pub(crate) trait Pages<'a> {
+    /// One thing that is asked for, looked at where it came.
+    type Asked: View<'a>;
 
     /// Its result, by its encoding.
     type Answer: Wire;
-
-    /// The type id of the response.
-    const RESPONSE: u32;
 
     ghost RESPONSE: { ℕ };
 
     /// What one comes to, with the points that are held.
     ghost meaning: { Self → SpaceState → HistoryState → PointsState → Self.Asked → Done Self.Answer };
+
+    /// The type id of the response.
+    fn response(&self) -> u32
+        ensures { result ≡ RESPONSE };
 
     /// Writes the result of one. `Exhausted` where a point's serial is the last. At an `Err` nothing is known of what is
     /// written.
@@ -60,16 +63,16 @@ pub(crate) trait Pages {
 }
 
 // Writes the result of each, one behind the other.
-fn all_pages<P: Pages>(
+fn all_pages<'a, P: Pages<'a>>(
     alloc: Global,
     space: &Space,
     history: &History,
     points: &mut Points,
     wanted: &P,
-    list: Vec<P::Asked>,
+    list: ArrayView<'a, P::Asked>,
     body: &mut MessageBody,
 ) -> Result<(), Halt>
-    ensures { DoesAll P.Answer.encoding result body.old body.new points.old points.new (all_done (P.meaning wanted.now space.now history.now) points.old list.items) }
+    ensures { DoesAll P.Answer.encoding result body.old body.new points.old points.new (all_done (P.meaning wanted.now space.now history.now) points.old (or_none list.entry)) }
 {
     for asked in list {
         match wanted.page(alloc, space, history, points, asked, body) {
@@ -106,25 +109,24 @@ fn answer(alloc: Global, caller: &Caller, mut body: MessageBody) -> Result<Serve
 }
 
 /// Answers with the first page of each thing that is asked for, and leaves the session the points for the next ones.
-pub(crate) fn serve_pages<P: Pages>(
+pub(crate) fn serve_pages<'a, P: Pages<'a>>(
     alloc: Global,
     setting: &Setting,
     caller: &Caller,
     session: u32,
     services: &mut Services,
     wanted: &P,
-    list: Vec<P::Asked>,
+    list: ArrayView<'a, P::Asked>,
 ) -> Result<Served, Unserved>
-    requires { length list.items < 2 ^ 31 }
     ensures { Judges setting.now caller.now result services.new (paged P.Answer.encoding setting.now caller.now session P.RESPONSE services.old
-        (all_done (P.meaning wanted.now services.old.space services.old.history) (points_of services.old.sessions session) list.items)) }
+        (all_done (P.meaning wanted.now services.old.space services.old.history) (points_of services.old.sessions session) (or_none list.entry))) }
 {
     services.sessions.open_points(alloc, session)?;
     let (space, history) = (&services.space, &services.history);
     let Some(points) = services.sessions.points_mut(session) else {
         unreachable!();
     };
-    let mut body = head(alloc, setting, caller, P::RESPONSE, list.len() as u32)?;
+    let mut body = head(alloc, setting, caller, wanted.response(), list.len() as u32)?;
     match all_pages(alloc, space, history, points, wanted, list, &mut body) {
         Ok(()) => Ok(answer(alloc, caller, body)?),
         Err(halt) => Err(Unserved::Halted(halt)),

@@ -3,16 +3,16 @@
 ghost use Rattle.ua_services.specs.Read.{read_meaning};
 
 use crate::caller::Caller;
-use crate::operations::operations;
+use crate::operations::viewed_operations;
 use crate::service::reply;
 use crate::services::Services;
-use crate::session_service::SessionService;
 use crate::unserved::Unserved;
+use crate::viewed_service::ViewedService;
 use server_messages::{Served, Setting};
 use std::alloc::Global;
 use ua_messages::ResponseHeader;
 use ua_read_write::{Timestamps, read_body};
-use ua_service_messages::ReadRequest;
+use ua_service_views::ReadRequestView;
 use ua_types::Status;
 
 /// Reads attributes of nodes.
@@ -23,8 +23,8 @@ use ua_types::Status;
 /// result ([`ua_read_write::read`]).
 pub struct Read;
 
-impl SessionService for Read {
-    type Request = ReadRequest;
+impl<'a> ViewedService<'a> for Read {
+    type Request = ReadRequestView<'a>;
 
     ghost meaning = { read_meaning };
 
@@ -33,13 +33,13 @@ impl SessionService for Read {
         setting: &Setting,
         caller: &Caller,
         _session: u32,
-        request: ReadRequest,
+        request: ReadRequestView<'a>,
         services: &mut Services,
     ) -> Result<Served, Unserved> {
         let Some(timestamps) = Timestamps::chosen(request.timestamps_to_return) else {
             return Err(Unserved::Fault(Status::BAD_TIMESTAMPS_TO_RETURN_INVALID));
         };
-        match operations(&setting.config, &request.nodes_to_read) {
+        match viewed_operations(&setting.config, request.nodes_to_read) {
             Ok(nodes) => {
                 let header = ResponseHeader::new(caller.handle, Status(0), setting.clock);
                 let space = &services.space;

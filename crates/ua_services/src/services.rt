@@ -29,17 +29,19 @@ use crate::set_publishing_mode::SetPublishingMode;
 use crate::set_triggering::SetTriggering;
 use crate::sub_serving::{end_sessions, fire_timers, joined, served_alone};
 use crate::unserved::Unserved;
+use crate::viewed_service::ViewedService;
 use crate::write::Write;
 use server_messages::{Halt, Request, Served, Setting};
 use std::alloc::Global;
-use ua_binary::TakeFault;
 use ua_history::History;
-use ua_messages::{RequestHeader, message_id, received, type_ids};
+use ua_messages::{message_id, type_ids};
 use ua_monitored_items::Items;
+use ua_service_views::{RequestHeaderView, message_view};
 use ua_session::Sessions;
 use ua_space::Space;
 use ua_subscriptions::Subscriptions;
-use ua_types::{Config, NodeId, Status};
+use ua_types::{Config, Status};
+use ua_views::NodeIdView;
 
 /// The services, and what they keep.
 ///
@@ -99,9 +101,8 @@ impl Services {
         let Ok(type_id) = message_id(body) else {
             return Ok(refuse(alloc, &caller, Status::BAD_DECODING_ERROR, setting.clock)?);
         };
-        let header: RequestHeader = match received(alloc, body) {
+        let header: RequestHeaderView<'_> = match message_view(body) {
             Ok(header) => header,
-            Err(TakeFault::Memory) => return Err(Halt::Memory),
             Err(_) => {
                 return Ok(refuse(alloc, &caller, Status::BAD_DECODING_ERROR, setting.clock)?);
             }
@@ -121,7 +122,7 @@ impl Services {
         alloc: Global,
         setting: &Setting,
         caller: &Caller,
-        token: &NodeId,
+        token: &NodeIdView<'_>,
         type_id: u32,
         body: &[u8],
     ) -> Result<Served, Unserved>

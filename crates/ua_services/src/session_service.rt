@@ -15,7 +15,8 @@ use server_messages::{Halt, Served, Setting};
 use std::alloc::Global;
 use ua_binary::TakeFault;
 use ua_messages::received;
-use ua_types::{NodeId, Status};
+use ua_types::Status;
+use ua_views::NodeIdView;
 use ua_walks::Walk;
 
 /// A service of a session: a type of request, and what is done about it once its session is found.
@@ -53,7 +54,7 @@ pub trait SessionService {
         alloc: Global,
         setting: &Setting,
         caller: &Caller,
-        token: &NodeId,
+        token: &NodeIdView<'_>,
         body: &[u8],
         services: &mut Services,
     ) -> Result<Served, Unserved>

@@ -3,24 +3,26 @@
 ghost use Rattle.std.specs.Prelude.{◌≡◌, true, length, OnOk, IfOk};
 ghost use Rattle.ua_space.specs.Values.{takes_at, variable_at};
 ghost use Rattle.ua_read_write.specs.Writing.{judged, accepted_of, status_of, write_of};
+ghost use Rattle.ua_views.specs.Views.{or_none};
 ghost use Rattle.ua_services.specs.Write.{is_historizing as is_historizing_spec, with_change, with_accepted, with_judged, with_written, write_meaning};
 
 use crate::caller::Caller;
-use crate::operations::into_operations;
+use crate::operations::viewed_operations;
 use crate::service::reply;
 use crate::services::Services;
-use crate::session_service::SessionService;
 use crate::status_results::statuses_body;
 use crate::unserved::Unserved;
+use crate::viewed_service::ViewedService;
 use server_messages::{Served, Setting};
 use std::alloc::{AllocError, Global};
 use std::slice;
 use ua_history::History;
 use ua_messages::type_ids;
 use ua_read_write::{Change, accepted};
-use ua_service_messages::{WriteRequest, WriteValue};
+use ua_service_views::{WriteRequestView, WriteValueView};
 use ua_space::Space;
-use ua_types::{Copyable, Moment, NodeId, Status};
+use ua_types::{Copyable, Moment, NodeId, Refusal, Status};
+use ua_views::ArrayView;
 
 // Whether the values of this node are kept.
 fn is_historizing(space: &Space, node: &NodeId) -> bool
@@ -61,38 +63,40 @@ fn put(alloc: Global, services: &mut Services, change: Change) -> Result<(), All
 }
 
 // Does with one value what the service does, and answers its outcome.
-fn write_one(
+fn write_one<'a>(
     alloc: Global,
     services: &mut Services,
     clock: Moment,
-    value: WriteValue,
+    value: &WriteValueView<'a>,
 ) -> Result<Status, AllocError>
-    ensures services { OnOk result (services.new ≡ with_judged services.old (accepted_of clock value (judged services.old.space.nodes value))) }
-    ensures status { IfOk result (λ status. status ≡ status_of (judged services.old.space.nodes value)) }
+    ensures services { OnOk result (services.new ≡ with_judged services.old (accepted_of clock value.now (judged services.old.space.nodes value.now))) }
+    ensures status { IfOk result (λ status. status ≡ status_of (judged services.old.space.nodes value.now)) }
 {
-    match accepted(&services.space, clock, value) {
+    match accepted(alloc, &services.space, clock, value) {
         Ok(change) => {
             put(alloc, services, change)?;
             Ok(Status::GOOD)
         }
-        Err(status) => Ok(status),
+        Err(Refusal::Service(status)) => Ok(status),
+        Err(Refusal::Memory) => Err(AllocError),
+        Err(Refusal::Exhausted) => unreachable!(),
     }
 }
 
 // Does with all values what the service does, one after the other, and answers their outcomes.
-fn write_all(
+fn write_all<'a>(
     alloc: Global,
     services: &mut Services,
     clock: Moment,
-    values: Vec<WriteValue>,
+    values: ArrayView<'a, WriteValueView<'a>>,
 ) -> Result<Vec<Status>, AllocError>
-    ensures services { OnOk result (services.new ≡ with_written services.old (write_of clock services.old.space.nodes values.items)) }
-    ensures statuses { IfOk result (λ statuses. statuses.items ≡ (write_of clock services.old.space.nodes values.items).statuses) }
-    ensures count { IfOk result (λ statuses. length statuses.items ≡ length values.items) }
+    ensures services { OnOk result (services.new ≡ with_written services.old (write_of clock services.old.space.nodes (or_none values.entry))) }
+    ensures statuses { IfOk result (λ statuses. statuses.items ≡ (write_of clock services.old.space.nodes (or_none values.entry)).statuses) }
+    ensures count { IfOk result (λ statuses. length statuses.items ≡ length (or_none values.entry)) }
 {
     let mut statuses = Vec::with_capacity(alloc, values.len())?;
     for value in values {
-        let status = write_one(alloc, services, clock, value)?;
+        let status = write_one(alloc, services, clock, &value)?;
         statuses.push(status)?;
     }
     Ok(statuses)
@@ -107,8 +111,8 @@ fn write_all(
 /// values were written, shown and kept, from the first on, and the server halts.
 pub struct Write;
 
-impl SessionService for Write {
-    type Request = WriteRequest;
+impl<'a> ViewedService<'a> for Write {
+    type Request = WriteRequestView<'a>;
 
     ghost meaning = { write_meaning };
 
@@ -117,10 +121,10 @@ impl SessionService for Write {
         setting: &Setting,
         caller: &Caller,
         _session: u32,
-        request: WriteRequest,
+        request: WriteRequestView<'a>,
         services: &mut Services,
     ) -> Result<Served, Unserved> {
-        let values = match into_operations(&setting.config, request.nodes_to_write) {
+        let values = match viewed_operations(&setting.config, request.nodes_to_write) {
             Ok(values) => values,
             Err(status) => return Err(Unserved::Fault(status)),
         };

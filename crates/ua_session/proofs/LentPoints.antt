@@ -1,12 +1,12 @@
 -- The continuation points of a session, used in their place.
-use Rattle.std.proofs.Common.{◌≡◌, ℕ, true, Option, Some, None, is_some, OnSome, refl, ap, sym, ◌∙◌, subst}
+use Rattle.std.proofs.Common.{◌≡◌, ℕ, true, Option, Some, None, is_some, OnSome, refl, ap, sym, ◌∙◌}
 use Rattle.std.proofs.lemmas.Bool.{false≢true}
 use Rattle.std.specs.Ordering.{nat_cmp}
 use Rattle.std.specs.Option.{unwrap_or}
 use Rattle.std.specs.FinMap.{FinMap, get, insert}
 use Rattle.ua_types.proofs.NumberMaps.{insert_same}
 use Rattle.ua_session.specs.Points.{PointsState}
-use Rattle.ua_session.specs.Sessions.{SessionsState, with_points, points_of}
+use Rattle.ua_session.specs.Sessions.{SessionsState, with_points}
 
 -- what holds where something was lent
 pub on_some : {X : Type 0} (A B : Type 0) (r : Option X) → OnSome r A → (A → B) → OnSome r B

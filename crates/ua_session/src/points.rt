@@ -172,10 +172,10 @@ pub fn point_bytes(alloc: Global, serial: Option<u64>) -> Result<ByteString, All
 }
 
 /// The serial of the one point that these bytes may name. None where they aren't 8 bytes.
-pub fn point_serial(bytes: &ByteString) -> Option<u64>
-    ensures { result ≡ serial_of bytes.now }
+pub fn point_serial(bytes: Option<&[u8]>) -> Option<u64>
+    ensures { result ≡ serial_of (option_copied bytes.entry) }
 {
-    let bytes = bytes.as_slice()?;
+    let bytes = bytes?;
     if bytes.len() != 8 {
         return None;
     }

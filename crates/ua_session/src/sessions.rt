@@ -18,6 +18,7 @@ use crate::tokens::{session_secret, session_token, token_parts};
 use std::alloc::{AllocError, Global};
 use std::marker::Model;
 use ua_types::{Config, Moment, NodeId, Refusal, Status};
+use ua_views::NodeIdView;
 
 /// What a client is told of its new session.
 #[derive(Debug, Drop)]
@@ -112,7 +113,7 @@ impl Sessions {
     }
 
     // The session whose token this is, with its number.
-    fn named(&self, token: &NodeId) -> Option<(u32, Session)>
+    fn named(&self, token: &NodeIdView<'_>) -> Option<(u32, Session)>
         ensures { option_map (λ n. record { number = n.0; session = n.1 }) result ≡ named_spec self.now token.now }
     {
         let (secret, number) = token_parts(token)?;
@@ -213,7 +214,7 @@ impl Sessions {
     /// `BAD_SECURE_CHANNEL_ID_INVALID` on another connection than the session's,
     /// `BAD_SESSION_NOT_ACTIVATED` before ActivateSession. At an `Err` nothing changed.
     #[tactic(auto, unfolding(crate::specs::Sessions::find_of))]
-    pub fn find(&mut self, token: &NodeId, conn: u64) -> Result<u32, Status>
+    pub fn find(&mut self, token: &NodeIdView<'_>, conn: u64) -> Result<u32, Status>
         ensures { step result self.new ≡ find_of self.old token.now conn }
     {
         let Some((number, session)) = self.named(token) else {
@@ -240,7 +241,7 @@ impl Sessions {
     #[tactic(auto, unfolding(crate::specs::Sessions::activate_of))]
     pub fn activate(
         &mut self,
-        token: &NodeId,
+        token: &NodeIdView<'_>,
         conn: u64,
         key: &[u8; 32],
         is_anonymous: bool,
@@ -275,7 +276,7 @@ impl Sessions {
     /// `BAD_SESSION_ID_INVALID` where no session has the token, `BAD_SECURE_CHANNEL_ID_INVALID` on another
     /// connection than the session's. At an `Err` nothing changed.
     #[tactic(auto, unfolding(crate::specs::Sessions::close_of))]
-    pub fn close(&mut self, token: &NodeId, conn: u64) -> Result<u32, Status>
+    pub fn close(&mut self, token: &NodeIdView<'_>, conn: u64) -> Result<u32, Status>
         ensures { step result self.new ≡ close_of self.old token.now conn }
     {
         let Some((number, session)) = self.named(token) else {

@@ -5,6 +5,7 @@ ghost use Rattle.ua_session.specs.Tokens.{session_id_of, secret_of, token_of, pa
 
 use std::alloc::{AllocError, Global};
 use ua_types::{ByteString, Identifier, NodeId};
+use ua_views::{IdentifierView, NodeIdView};
 
 /// The namespace of the server's own names.
 const OWN: u16 = 1;
@@ -42,10 +43,10 @@ pub fn session_token(alloc: Global, secret: &[u8; 16], number: u32) -> Result<No
 }
 
 /// The secret and the number of the one session whose token this may be.
-pub(crate) fn token_parts(token: &NodeId) -> Option<(&[u8], u32)>
+pub(crate) fn token_parts<'a>(token: &NodeIdView<'a>) -> Option<(&'a [u8], u32)>
     ensures { option_map (λ p. (p.0.now, p.1)) result ≡ parts_of token.now }
 {
-    let Identifier::Opaque(bytes) = &token.identifier else {
+    let IdentifierView::Opaque(bytes) = &token.identifier else {
         return None;
     };
     let bytes = bytes.as_slice()?;

@@ -12,7 +12,7 @@ use Rattle.ua_browse.proofs.pages.page_from.Goals.{in-Some+in_ok-is_wanted+then-
 pub returns-then-len-size-clause-next : goal.returns-then-len-size-clause-next
 returns-then-len-size-clause-next c =
     let space = c.args.space.now in
-    let d = c.args.description.now in
+    let d = c.args.asked.now in
     full_next (λ p. described space d.result_mask p.reference) (is_wanted space d) (references_of d.node_id space.triples) (wanted_from space d c.args.start) c.loop-place.references.items c.loop-place.place
     c.args.size c.in-Some.reference
     (let few = c.loop-place.invariant.few in let long = c.len.ensures in let full = c.if-len-size.true in omega (arith, few, long, full))
@@ -21,7 +21,7 @@ returns-then-len-size-clause-next c =
 pub returns-then-len-size-clause-few : goal.returns-then-len-size-clause-few
 returns-then-len-size-clause-few c =
     let space = c.args.space.now in
-    let d = c.args.description.now in
+    let d = c.args.asked.now in
     few_shown space d c.args.size c.args.start c.loop-place.references.items c.soundness.ensures
     (full_page (λ p. described space d.result_mask p.reference) (is_wanted space d) (references_of d.node_id space.triples) (wanted_from space d c.args.start) c.loop-place.references.items c.loop-place.place
     c.args.size (let few = c.loop-place.invariant.few in let long = c.len.ensures in let full = c.if-len-size.true in omega (arith, few, long, full)) c.loop-place.invariant.front)
@@ -29,7 +29,7 @@ returns-then-len-size-clause-few c =
 pub loop-place-init : goal.loop-place-init
 loop-place-init c =
     let space = c.args.space.now in
-    let d = c.args.description.now in
+    let d = c.args.asked.now in
     let all = wanted_from space d c.args.start in
     let none = ap length c.new-references.ensures.items in
     record {
@@ -41,7 +41,7 @@ loop-place-init c =
 pub loop-place-preserved : goal.loop-place-preserved
 loop-place-preserved c =
     let space = c.args.space.now in
-    let d = c.args.description.now in
+    let d = c.args.asked.now in
     let f : Placed → ReferenceDescription = λ p. described space d.result_mask p.reference in
     let rs = references_of d.node_id space.triples in
     let all = wanted_from space d c.args.start in
@@ -73,7 +73,7 @@ loop-place-preserved c =
 pub returns-clause-references : goal.returns-clause-references
 returns-clause-references c =
     let space = c.args.space.now in
-    let d = c.args.description.now in
+    let d = c.args.asked.now in
     let past : length (references_of d.node_id space.triples) ≤ c.loop-place.place =
     let same = ap length c.references-all.ensures in let long = c.len-place-end.ensures in let over = c.loop-place-test.false in omega (arith, same, long, over)
     in
@@ -81,12 +81,12 @@ returns-clause-references c =
     c.args.size c.loop-place.invariant.few past c.loop-place.invariant.front
 
 pub returns-clause-few : goal.returns-clause-few
-returns-clause-few c = few_shown c.args.space.now c.args.description.now c.args.size c.args.start c.loop-place.references.items c.soundness.ensures (returns-clause-references c)
+returns-clause-few c = few_shown c.args.space.now c.args.asked.now c.args.size c.args.start c.loop-place.references.items c.soundness.ensures (returns-clause-references c)
 
 pub returns-clause-next : goal.returns-clause-next
 returns-clause-next c =
     let space = c.args.space.now in
-    let d = c.args.description.now in
+    let d = c.args.asked.now in
     let past : length (references_of d.node_id space.triples) ≤ c.loop-place.place =
     let same = ap length c.references-all.ensures in let long = c.len-place-end.ensures in let over = c.loop-place-test.false in omega (arith, same, long, over)
     in

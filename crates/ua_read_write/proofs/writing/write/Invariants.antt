@@ -1,5 +1,5 @@
 use Rattle.std.proofs.Common.{◌≡◌, ◌++◌, length}
-use Rattle.std.specs.Vec.Iter.{into_iter_items}
+use Rattle.ua_views.specs.Views.{or_none}
 use Rattle.ua_read_write.specs.Writing.{write_of}
 use Rattle.ua_read_write.proofs.writing.write.Given as goal
 
@@ -9,5 +9,5 @@ invariant-loop-value l = record {
   written : record { nodes = l.space.nodes; statuses = l.statuses.items; changed = l.changed.items } ≡ write_of l.clock l.fn.space.nodes l.yielded;
   count : length l.statuses.items ≡ length l.yielded;
   triples : l.space.triples ≡ l.fn.space.triples;
-  left : l.yielded ++ into_iter_items l.value-iterator ≡ l.fn.values.items;
+  left : l.yielded ++ or_none l.value-iterator ≡ or_none l.fn.values;
 }

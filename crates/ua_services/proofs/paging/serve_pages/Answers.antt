@@ -7,6 +7,7 @@ use Rattle.ua_session.specs.Sessions.{points_of, with_points}
 use Rattle.ua_services.specs.Paging.{DoesAll, Halts, all_done, results_body_of, results_head_of}
 use Rattle.ua_services.specs.Serving.{replied, reply_of}
 use Rattle.ua_services.proofs.PagingLemmas.{lent_points, some_lent, served_all, halted_all, all_counted, body_written}
+use Rattle.ua_views.specs.Views.{or_none}
 use Rattle.ua_services.proofs.paging.serve_pages.Goals as goal
 
 pub unreachable-requires : goal.unreachable-requires
@@ -18,7 +19,7 @@ returns-in_ok-answer-in-Ok g c =
     let setting = c.args.setting.now in
     let caller = c.args.caller.now in
     let state = c.args.services.now in
-    let list = c.args.list.items in
+    let list = or_none c.args.list in
     let meaning = g.P.Pages.meaning c.args.wanted.now state.space state.history in
     let before = points_of state.sessions c.args.session in
     let done = all_done meaning before list in
@@ -26,9 +27,9 @@ returns-in_ok-answer-in-Ok g c =
     let same = lent_points state.sessions c.open_points.new.self c.args.session _ _ c.in_ok-open_points.ensures.ok found in
     let did : DoesAll encoding (Ok tt) c.in_ok-body.body c.all_pages.new.body before c.all_pages.new.points done =
     subst (λ p. DoesAll encoding (Ok tt) c.in_ok-body.body c.all_pages.new.body p c.all_pages.new.points (all_done meaning p list)) same c.in-Ok.ensures in
-    let head : c.in_ok-body.body ≡ results_head_of setting caller g.P.Pages.RESPONSE c.len.result = rw c.RESPONSE.ensures at c.in_ok-body.ensures in
+    let head : c.in_ok-body.body ≡ results_head_of setting caller g.P.Pages.RESPONSE c.len.result = rw c.response.ensures at c.in_ok-body.ensures in
     let counted = all_counted meaning before list in
-    let count : length done.results ≡ c.len.result = omega (arith, counted, c.len.ensures, c.args.list.ok) in
+    let count : length done.results ≡ c.len.result = omega (arith, counted, c.len.ensures.len) in
     let written = body_written encoding setting caller g.P.Pages.RESPONSE c.len.result done.results count in
     let body : c.all_pages.new.body ++ diagnostic_infos_encoding (record {}) ≡ results_body_of encoding setting caller g.P.Pages.RESPONSE done.results =
     ap (λ b. b ++ diagnostic_infos_encoding (record {})) (did.0 ∙ ap (λ b. b ++ flat_map encoding done.results) head) ∙ written in
@@ -45,4 +46,4 @@ returns-in-Err g c =
     let same = lent_points c.args.services.now.sessions c.open_points.new.self c.args.session _ _ c.in_ok-open_points.ensures.ok found in
     let meaning = g.P.Pages.meaning c.args.wanted.now c.args.services.now.space c.args.services.now.history in
     halted_all g.P.Answer.Wire.encoding c.args.setting.now c.args.caller.now c.args.session g.P.Pages.RESPONSE c.args.services.now _ c.in-Err.halt _
-    (subst (λ p. Halts c.in-Err.halt p (all_done meaning p c.args.list.items).points) same c.in-Err.ensures)
+    (subst (λ p. Halts c.in-Err.halt p (all_done meaning p (or_none c.args.list)).points) same c.in-Err.ensures)

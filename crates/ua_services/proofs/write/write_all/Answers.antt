@@ -1,5 +1,5 @@
 use Rattle.std.proofs.Common.{◌∙◌, ◌++◌, ◌∷◌, [], List, length, length-append, append_assoc, ap, sym, arith}
-use Rattle.std.specs.Vec.Iter.{into_iter_items}
+use Rattle.ua_views.specs.Views.{or_none}
 use Rattle.ua_types.specs.declared.status.Status.{Status}
 use Rattle.ua_service_messages.specs.declared.writing.WriteValue.{WriteValue}
 use Rattle.ua_read_write.specs.Writing.{judged, accepted_of, status_of, write_of}
@@ -31,5 +31,5 @@ loop-value-preserved c =
           let more = length-append done (w ∷ []) in
           let same = before.count in
           omega (arith, grown, more, same);
-      left = append_assoc done (w ∷ []) (into_iter_items c.next.new.self) ∙ ap (λ (list : List WriteValue). done ++ list) (sym c.in-Some.ensures.steps.0) ∙ before.left;
+      left = append_assoc done (w ∷ []) (or_none c.next.new.self) ∙ ap (λ (list : List WriteValue). done ++ list) (sym c.in-Some.ensures.steps) ∙ before.left;
     }

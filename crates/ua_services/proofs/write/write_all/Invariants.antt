@@ -1,5 +1,5 @@
 use Rattle.std.proofs.Common.{◌≡◌, ◌++◌, length}
-use Rattle.std.specs.Vec.Iter.{into_iter_items}
+use Rattle.ua_views.specs.Views.{or_none}
 use Rattle.ua_read_write.specs.Writing.{write_of}
 use Rattle.ua_services.specs.Write.{with_written}
 use Rattle.ua_services.proofs.write.write_all.Given as goal
@@ -10,5 +10,5 @@ invariant-loop-value l = record {
   written : l.services ≡ with_written l.fn.services (write_of l.clock l.fn.services.space.nodes l.yielded);
   statuses : l.statuses.items ≡ (write_of l.clock l.fn.services.space.nodes l.yielded).statuses;
   count : length l.statuses.items ≡ length l.yielded;
-  left : l.yielded ++ into_iter_items l.value-iterator ≡ l.fn.values.items;
+  left : l.yielded ++ or_none l.value-iterator ≡ or_none l.fn.values;
 }
