@@ -1,4 +1,4 @@
--- A server's shutdown: what it answers, and what it leaves.
+-- A server's shutdown: what it answers, whom it concerns, and what it leaves.
 use Rattle.std.proofs.Common.{◌≡◌, ℕ, Bool, true, false, cond, List, [], ◌∷◌, ◌++◌, map, Option, Some, None, unwrap_or, refl, ap, ◌∙◌}
 use Rattle.std.specs.BTreeMap.{is_at}
 use Rattle.std.specs.Map.{keys_of, values_of, lookup, set_value}
@@ -12,13 +12,15 @@ use Rattle.ua_subscriptions.specs.declared.publish_call.PublishCall.{PublishCall
 use Rattle.ua_subscriptions.specs.declared.session_part.SessionSubscriptions.{SessionSubscriptions}
 use Rattle.ua_subscriptions.specs.declared.subscription.Subscription.{Subscription}
 use Rattle.ua_subscriptions.specs.Answers.{refused_of}
+use Rattle.ua_subscriptions.specs.Calls.{event_of}
 use Rattle.ua_subscriptions.specs.Ending.{all_requests, shut_down}
 use Rattle.ua_subscriptions.specs.Firing.{fired}
 use Rattle.ua_subscriptions.specs.Scenes.{Scene, row_done}
 use Rattle.ua_subscriptions.specs.SubscriptionCalls.{world_of}
-use Rattle.ua_subscriptions.specs.Subscriptions.{no_part}
-use Rattle.ua_subscriptions.specs.Tables.{World, no_table, with_call, without_closed, met_found, met, all_met, part_at, part_of, set_part, subscription_at}
-use Rattle.ua_subscriptions.proofs.Shutdowns.{nothing_left}
+use Rattle.ua_subscriptions.specs.Subscriptions.{no_part, vars_of}
+use Rattle.ua_subscriptions.specs.Tables.{World, no_table, with_call, without_closed, met_found, met, all_met, part_at, part_of, set_part, subscription_at, vars_by}
+use Rattle.ua_subscriptions.proofs.Shutdowns.{nothing_left, first_found, first_gone}
+use Rattle.subscription_laws.specs.Concern.{Concern, concern, number_of, if_live, one_concerned, each_concerned, concerned}
 use Rattle.subscription_laws.specs.Runs.{Move, moved, run}
 use Rattle.subscription_laws.proofs.Keeping.{scene_at}
 
@@ -101,3 +103,21 @@ all_are_answered config moves clock = let r = run config moves in ap (λ (rs : L
 
 pub none_is_left : (config : Configuration) (moves : List Move) (clock : Moment) → (moved (run config moves) (Move.Shutdown clock)).subs.table ≡ no_table
 none_is_left config moves clock = let r = run config moves in nothing_left (world_of r.subs r.items clock)
+
+-- ---- each subscription that lives is concerned
+
+first_is : (w : World) (n : ℕ) (s : Subscription) (es : List (ℕ × Subscription)) → w.table.subscriptions ≡ (n, s) ∷ es →
+    one_concerned w n call.Shutdown ≡ concern n (event_of call.Shutdown) (vars_of s (part_of s.session w.table.sessions) w.items n) ∷ []
+first_is w n s es is =
+    ap (λ (xs : List (ℕ × Subscription)). if_live n (event_of call.Shutdown) (vars_by n w.items w.table.sessions (subscription_at n xs))) is
+    ∙ ap (λ (o : Option Subscription). if_live n (event_of call.Shutdown) (vars_by n w.items w.table.sessions o)) (first_found n s es)
+
+each_is : (es : List (ℕ × Subscription)) (w : World) → w.table.subscriptions ≡ es → map number_of (each_concerned call.Shutdown w (keys_of es)) ≡ keys_of es
+each_is [] w is = refl
+each_is (e ∷ es) w is =
+    ap (λ (cs : List Concern). map number_of (cs ++ each_concerned call.Shutdown (met w e.0 call.Shutdown) (keys_of es))) (first_is w e.0 e.1 es is)
+    ∙ ap (λ (ns : List ℕ). e.0 ∷ ns) (each_is es (met w e.0 call.Shutdown) (first_gone w e.0 e.1 es is))
+
+pub all_are_concerned : (config : Configuration) (moves : List Move) (clock : Moment) → let r = run config moves in
+    map number_of (concerned r (Move.Shutdown clock)) ≡ keys_of r.subs.table.subscriptions
+all_are_concerned config moves clock = let r = run config moves in each_is r.subs.table.subscriptions (world_of r.subs r.items clock) refl

@@ -1,17 +1,18 @@
 -- A server's shutdown: a subscription that meets it is gone, and nothing is left in the end.
-use Rattle.std.proofs.Common.{◌≡◌, ◌<◌, ℕ, Bool, true, cond, List, [], ◌∷◌, length, Option, Some, None, Err, refl, arith, sym, ap, subst, ◌∙◌}
+use Rattle.std.proofs.Common.{◌≡◌, ◌<◌, ℕ, Bool, true, cond, List, [], ◌∷◌, ◌++◌, length, Option, Some, None, Err, refl, arith, sym, ap, subst, ◌∙◌}
 use Rattle.std.specs.BTreeMap.{is_at}
-use Rattle.std.specs.Map.{keys_of, lookup, set_value, remove_entry}
+use Rattle.std.specs.Map.{keys_of, values_of, lookup, set_value, remove_entry}
 use Rattle.std.specs.Ordering.{nat_cmp}
 use Rattle.server_messages.specs.declared.halt.Halt.{Halt}
 use Rattle.server_messages.specs.declared.halt.Halt.TheVariants.{Memory, Exhausted}
 use Rattle.ua_monitored_items.specs.Items.{ItemsState}
 use Rattle.ua_types.proofs.NumberMaps.{numbers_same}
 use Rattle.ua_subscriptions.specs.declared.call.Call.TheVariants.{Shutdown}
+use Rattle.ua_subscriptions.specs.declared.publish_call.PublishCall.{PublishCall}
 use Rattle.ua_subscriptions.specs.declared.session_part.SessionSubscriptions.{SessionSubscriptions}
 use Rattle.ua_subscriptions.specs.declared.subscription.Subscription.{Subscription}
 use Rattle.ua_subscriptions.specs.declared.round.Round.{Round}
-use Rattle.ua_subscriptions.specs.Ending.{shut_down}
+use Rattle.ua_subscriptions.specs.Ending.{all_requests, shut_down}
 use Rattle.ua_subscriptions.specs.Firing.{fired, is_closed}
 use Rattle.ua_subscriptions.specs.Queues.{first_of}
 use Rattle.ua_subscriptions.specs.Scenes.{scene, row_done, is_overspent}
@@ -32,7 +33,7 @@ module _ {X : Type 0} (n : ℕ) where
       ap (λ (b : Bool). remove_entry (is_at (nat_cmp n)) (cond b ((n, w) ∷ es) ((n, v) ∷ set_value (is_at (nat_cmp n)) es w))) same
       ∙ ap (λ (b : Bool). cond b es ((n, w) ∷ remove_entry (is_at (nat_cmp n)) es)) same
 
-  first_found : (v : X) (es : List (ℕ × X)) → lookup (is_at (nat_cmp n)) ((n, v) ∷ es) ≡ Some v
+  pub first_found : (v : X) (es : List (ℕ × X)) → lookup (is_at (nat_cmp n)) ((n, v) ∷ es) ≡ Some v
   first_found v es = rw (numbers_same n n refl) refl
 
 gone_by : (round : Round) (n : ℕ) (s : Subscription) (es : List (ℕ × Subscription)) (sessions : List (ℕ × SessionSubscriptions)) (items : ItemsState) →
@@ -45,7 +46,7 @@ gone_by round n s es sessions items =
     ∙ removed_first n s t es
 
 -- the first one is gone
-first_gone : (w : World) (n : ℕ) (s : Subscription) (es : List (ℕ × Subscription)) → w.table.subscriptions ≡ (n, s) ∷ es → (met w n Shutdown).table.subscriptions ≡ es
+pub first_gone : (w : World) (n : ℕ) (s : Subscription) (es : List (ℕ × Subscription)) → w.table.subscriptions ≡ (n, s) ∷ es → (met w n Shutdown).table.subscriptions ≡ es
 unfolding met
 first_gone w n s es is =
     ap (λ (xs : List (ℕ × Subscription)). (without_closed n (met_found (with_call w.round n Shutdown) xs w.table.sessions w.items (subscription_at n xs))).table.subscriptions) is
@@ -104,3 +105,18 @@ close_stops Exhausted w v new all n so_far first h =
     let after = met v n Shutdown in
     let is : all_closed after ≡ all_closed w = sym (first_closed v n first) ∙ so_far in
     subst (λ (x : World). is_overspent x.round ≡ true) is (grind (arith, h, all_met_place Shutdown (keys_of after.table.subscriptions) after))
+
+-- ---- where nothing lives and none waits, nothing grows
+
+pub both_none : (calls more : List PublishCall) → calls ++ more ≡ [] → (calls ≡ []) × (more ≡ [])
+both_none [] more none = (refl, none)
+both_none (x ∷ xs) more none = absurd (cc)
+
+pub none_lives : (es : List (ℕ × Subscription)) (n : ℕ) → es ≡ [] → first_of (keys_of es) ≡ Some n → ⊥
+none_lives [] n none first = absurd (cc)
+none_lives (e ∷ es) n none first = absurd (cc)
+
+-- the requests that wait are those that waited
+pub none_waits : (w v : World) → v ≡ all_closed w → w.table.subscriptions ≡ [] → all_requests (values_of w.table.sessions) ≡ [] → all_requests (values_of v.table.sessions) ≡ []
+none_waits w v is none calm =
+    ap (λ (x : World). all_requests (values_of x.table.sessions)) (is ∙ ap (λ (es : List (ℕ × Subscription)). all_met Shutdown w (keys_of es)) none) ∙ calm

@@ -1,6 +1,6 @@
 //! The end of sessions, of connections, and of the server.
 
-ghost use Rattle.std.specs.Prelude.{◌≡◌, [], map, filter, OnOk};
+ghost use Rattle.std.specs.Prelude.{◌≡◌, [], map, filter, OnOk, IsOk};
 ghost use Rattle.std.specs.BTreeMap.{is_at};
 ghost use Rattle.std.specs.Map.{keys_of, values_of, set_value};
 ghost use Rattle.std.specs.Ordering.{nat_cmp};
@@ -68,6 +68,7 @@ impl LiveSubscriptions {
     fn close_all(&mut self, alloc: Global, round: &mut Round, items: &mut Items) -> Result<(), Halt>
         ensures met { Meets result (world round.new self.new items.new) (all_met Shutdown (world round.old self.old items.old) (keys_of self.old.subscriptions)) }
         ensures none { OnOk result (self.new.subscriptions ≡ []) }
+        ensures calm { self.old.subscriptions ≡ [] → IsOk result }
     {
         while let Some(number) = first_number(&self.subscriptions) {
             match self.fire_one(alloc, round, items, number, Call::Shutdown) {
@@ -86,7 +87,8 @@ impl LiveSubscriptions {
         round: &mut Round,
         status: Status,
     ) -> Result<(), AllocError>
-        ensures { OnOk result ((items : ItemsState) → world round.new self.new items ≡ all_left status (world round.old self.old items)) }
+        ensures left { OnOk result ((items : ItemsState) → world round.new self.new items ≡ all_left status (world round.old self.old items)) }
+        ensures none { all_requests (values_of self.old.sessions) ≡ [] → IsOk result }
     {
         let sessions = replace(&mut self.sessions, BTreeMap::new(alloc));
         self.askers = AskerList::new(alloc);
@@ -104,6 +106,7 @@ impl LiveSubscriptions {
     ) -> Result<(), Halt>
         ensures meets { Meets result (world round.new self.new items.new) (shut_down (world round.old self.old items.old)) }
         ensures empty { OnOk result (self.new ≡ no_table) }
+        ensures none { self.old.subscriptions ≡ [] → all_requests (values_of self.old.sessions) ≡ [] → IsOk result }
     {
         match self.close_all(alloc, round, items) {
             Ok(()) => {}
@@ -131,7 +134,8 @@ fn refuse_sessions(
     sessions: BTreeMap<u32, SessionSubscriptions>,
     status: Status,
 ) -> Result<(), AllocError>
-    ensures { OnOk result (round.new ≡ with_replies round.old (map (refused_of round.old.clock status) (all_requests (values_of sessions.entries)))) }
+    ensures refused { OnOk result (round.new ≡ with_replies round.old (map (refused_of round.old.clock status) (all_requests (values_of sessions.entries)))) }
+    ensures none { all_requests (values_of sessions.entries) ≡ [] → IsOk result }
 {
     for part in sessions.into_values() {
         let mut requests = part.requests;

@@ -1,6 +1,6 @@
 //! Requests that name subscriptions of their session.
 
-ghost use Rattle.std.specs.Prelude.{◌≡◌, List, [], map, OnOk};
+ghost use Rattle.std.specs.Prelude.{◌≡◌, List, [], map, OnOk, IsOk};
 ghost use Rattle.ua_subscriptions.specs.Askers.{AreAsked};
 ghost use Rattle.ua_subscriptions.specs.declared.askers.Asker.{Asker as AskerLem};
 ghost use Rattle.ua_subscriptions.specs.Named.{is_own as is_own_spec, is_own_in, Comes, own_met, named_all, with_replies, requests_refused, sessions_without_requests, all_refused, has_none, deleted};
@@ -31,6 +31,7 @@ pub(crate) fn refuse_requests(
 ) -> Result<(), AllocError>
     ensures round { OnOk result (round.new ≡ with_replies round.old (map (refused_of round.old.clock status) requests.old)) }
     ensures requests { OnOk result (requests.new ≡ []) }
+    ensures none { requests.old ≡ [] → IsOk result }
 {
     while let Some(call) = requests.pop() {
         round

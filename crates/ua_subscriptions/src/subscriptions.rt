@@ -1,7 +1,8 @@
 //! The subscriptions of a server.
 
-ghost use Rattle.std.specs.Prelude.{◌≡◌, ◌<◌, ◌-◌, ◌^◌, false, option_map, IfOk, OnOk, IsOk, None};
-ghost use Rattle.ua_subscriptions.specs.Ending.{session_ended, shut_down, without_conn};
+ghost use Rattle.std.specs.Prelude.{◌≡◌, ◌<◌, ◌-◌, ◌^◌, false, [], option_map, IfOk, OnOk, IsOk, None};
+ghost use Rattle.std.specs.Map.{values_of};
+ghost use Rattle.ua_subscriptions.specs.Ending.{session_ended, shut_down, all_requests, without_conn};
 ghost use Rattle.ua_subscriptions.specs.Making.{kept_at, modified, republished, timed};
 ghost use Rattle.ua_subscriptions.specs.Named.{is_own as is_own_spec, named_all, deleted};
 ghost use Rattle.ua_subscriptions.specs.Publishing.{published};
@@ -374,7 +375,8 @@ impl Subscriptions {
 
     /// The server shuts down. Each subscription is deleted, whether it has a session or none, the least number first; then
     /// the Publish requests that wait are answered `BAD_SHUTDOWN`, by the rising number of their sessions, the oldest of each
-    /// first. Nothing is left: no subscription, and no session with a request or a note.
+    /// first. Nothing is left: no subscription, and no session with a request or a note. Takes no memory where no subscription
+    /// lives and no request waits.
     pub fn shut_down(
         &mut self,
         alloc: Global,
@@ -383,6 +385,7 @@ impl Subscriptions {
     ) -> Result<Answered<()>, Halt>
         ensures serves { Serves result self.old self.new items.new (told self.old (shut_down (world_of self.old items.old clock))) }
         ensures empty { OnOk result (self.new.table ≡ no_table) }
+        ensures none { self.old.halted ≡ None → self.old.table.subscriptions ≡ [] → all_requests (values_of self.old.table.sessions) ≡ [] → IsOk result }
     {
         if let Some(halt) = self.halted {
             return Err(halt);

@@ -2,7 +2,7 @@ use Rattle.std.proofs.Common.{◌≡◌, ◌<◌, length, Some, rules, sym, ap, 
 use Rattle.std.specs.Map.{keys_of}
 use Rattle.ua_subscriptions.specs.Queues.{first_of}
 use Rattle.ua_subscriptions.specs.Tables.{World, world}
-use Rattle.ua_subscriptions.proofs.Shutdowns.{all_closed, first_closed, fewer_left, none_first, close_stops}
+use Rattle.ua_subscriptions.proofs.Shutdowns.{all_closed, first_closed, fewer_left, none_first, none_lives, close_stops}
 use Rattle.ua_subscriptions.proofs.table.LiveSubscriptions.close_all.Goals as goal
 
 pub loop-number-smaller : goal.loop-number-smaller
@@ -13,14 +13,21 @@ loop-number-smaller c =
 
 pub loop-number-preserved : goal.loop-number-preserved
 loop-number-preserved c =
-    let first : first_of (keys_of c.loop-number.self.subscriptions) ≡ Some c.in-Some.number = search rules in
-    ap all_closed c.in-Ok.ensures ∙ sym (first_closed (world c.loop-number.round c.loop-number.self c.loop-number.items) c.in-Some.number first) ∙ c.loop-number.invariant
+    let first : first_of (keys_of c.loop-number.self.subscriptions) ≡ Some c.in-Some.number = search rules in (
+      ap all_closed c.in-Ok.ensures ∙ sym (first_closed (world c.loop-number.round c.loop-number.self c.loop-number.items) c.in-Some.number first) ∙ c.loop-number.invariant.0,
+      λ none. absurd (none_lives c.loop-number.self.subscriptions c.in-Some.number (c.loop-number.invariant.1 none) first),
+    )
 
 pub returns-in-Err-clause-met : goal.returns-in-Err-clause-met
 returns-in-Err-clause-met c =
     let first : first_of (keys_of c.loop-number.self.subscriptions) ≡ Some c.in-Some.number = search rules in
     close_stops c.in-Err.halt (world c.args.round.now c.args.self.now c.args.items.now) (world c.loop-number.round c.loop-number.self c.loop-number.items)
-    (world c.fire_one.new.round c.fire_one.new.self c.fire_one.new.items) (world c.fire_one.new.round c.fire_one.new.self c.fire_one.new.items) c.in-Some.number c.loop-number.invariant first c.in-Err.ensures
+    (world c.fire_one.new.round c.fire_one.new.self c.fire_one.new.items) (world c.fire_one.new.round c.fire_one.new.self c.fire_one.new.items) c.in-Some.number c.loop-number.invariant.0 first c.in-Err.ensures
+
+pub returns-in-Err-clause-calm : goal.returns-in-Err-clause-calm
+returns-in-Err-clause-calm c = λ none.
+    let first : first_of (keys_of c.loop-number.self.subscriptions) ≡ Some c.in-Some.number = search rules in
+    absurd (none_lives c.loop-number.self.subscriptions c.in-Some.number (c.loop-number.invariant.1 none) first)
 
 pub returns-clause-none : goal.returns-clause-none
 returns-clause-none c = none_first (world c.loop-number.round c.loop-number.self c.loop-number.items) (search rules)
