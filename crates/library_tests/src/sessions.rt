@@ -53,6 +53,10 @@ fn points_as_bytes(rt: HostRuntime) -> Result<(), Fail> {
     let bytes = point_bytes(rt.alloc(), Some(0x0201))?;
     let expected: &[u8] = &[1, 2, 0, 0, 0, 0, 0, 0];
     holds(&rt, "lowest first", bytes.as_slice() == Some(expected));
-    holds(&rt, "read again", point_serial(&bytes) == Some(0x0201));
+    holds(
+        &rt,
+        "read again",
+        point_serial(bytes.as_slice()) == Some(0x0201),
+    );
     Ok(())
 }

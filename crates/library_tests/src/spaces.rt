@@ -3,11 +3,13 @@
 use crate::holding::holds;
 use std::alloc::{AllocError, Global};
 use std::test::*;
-use ua_binary::Written as _;
+use ua_binary::{Cursor, Wire as _, Written as _};
 use ua_messages::ReadValueId;
 use ua_read_write::{Timestamps, read};
+use ua_service_views::ReadValueIdView;
 use ua_space::*;
 use ua_types::{Config, LocalizedText, Moment, NodeId, QualifiedName, Text};
+use ua_views::View as _;
 
 fn no_words() -> LocalizedText {
     LocalizedText {
@@ -161,16 +163,20 @@ fn list_space(alloc: Global) -> Result<Option<Space>, AllocError> {
     Ok(Space::build(alloc, &config, nodes, Vec::new(alloc)).ok())
 }
 
-// The bytes of an attribute of its type.
+// The bytes of an attribute of its type, asked for as a request has it. Empty where its bytes aren't such an entry.
 fn attribute(alloc: Global, space: &Space, attribute_id: u32) -> Result<Vec<u8>, AllocError> {
-    let asked = ReadValueId {
+    let entry = ReadValueId {
         node_id: NodeId::numeric(1, 21),
         attribute_id,
         index_range: Text::null(),
         data_encoding: no_name(),
     };
+    let mut request = Vec::new(alloc);
+    entry.put(&mut request)?;
     let mut bytes = Vec::new(alloc);
-    read(space, Moment(9), Timestamps::Neither, &asked).write(&mut bytes)?;
+    if let Ok(asked) = ReadValueIdView::view(&mut Cursor::new(&request)) {
+        read(space, Moment(9), Timestamps::Neither, &asked).write(&mut bytes)?;
+    }
     Ok(bytes)
 }
 

@@ -1,31 +1,32 @@
 //! Lines that tell the encoding of OPC UA: what bytes mean, how it is written again, how values are ordered, and what a
 //! text says of a node id.
 
-use std::alloc::Global;
+use crate::viewed::Viewed;
+use std::alloc::{AllocError, Global};
 use std::fmt::Debug;
 use std::io;
 use std::io::Write;
-use ua_binary::{Cursor, Wire};
+use ua_binary::{Cursor, TakeFault, Wire};
 use ua_messages::type_ids::*;
 use ua_messages::*;
 use ua_service_messages::*;
+use ua_service_views::*;
 use ua_subscription_messages::*;
 use ua_types::{
     Array, ByteString, Copyable, Duration, ExpandedNodeId, ExtensionObject, Guid, LocalizedText,
     Moment, NodeId, QualifiedName, Status, Text, write_id,
 };
 use ua_values::{DataValue, Double, Float, Variant};
+use ua_views::*;
 
-// A value that bytes begin with, how it is written again, and how many bytes are left.
-fn write_value<T: Wire + Debug>(
+// What was read, how it is written again, and how many bytes are left.
+fn write_read<T: Wire + Debug>(
     alloc: Global,
-    bytes: &[u8],
+    read: Result<T, TakeFault>,
+    left: usize,
     output: &mut Vec<u8>,
 ) -> io::Result<()> {
-    let mut cursor = Cursor::new(bytes);
-    let taken = T::take(alloc, &mut cursor);
-    let left = cursor.rest().len();
-    match taken {
+    match read {
         Ok(value) => {
             let mut again = Vec::new(alloc);
             value.put(&mut again)?;
@@ -36,14 +37,63 @@ fn write_value<T: Wire + Debug>(
     }
 }
 
-// The number of the id that a body begins with, its message, and how it is written behind the id of its type.
-fn write_message<T: Wire + Debug>(
+// A value that bytes begin with, how it is written again, and how many bytes are left.
+fn write_value<T: Wire + Debug>(
     alloc: Global,
-    type_id: u32,
     bytes: &[u8],
     output: &mut Vec<u8>,
 ) -> io::Result<()> {
-    match message::<T>(alloc, bytes) {
+    let mut cursor = Cursor::new(bytes);
+    let taken = T::take(alloc, &mut cursor);
+    write_read(alloc, taken, cursor.rest().len(), output)
+}
+
+// A copy of what is viewed, or the fault.
+fn copied<'a, V: Viewed<'a>>(
+    alloc: Global,
+    viewed: Result<V, TakeFault>,
+) -> Result<Result<V::Value, TakeFault>, AllocError> {
+    match viewed {
+        Ok(view) => Ok(Ok(view.copied(alloc)?)),
+        Err(fault) => Ok(Err(fault)),
+    }
+}
+
+// Writes the lines of what was taken, and behind them those of its view where they aren't the same.
+fn write_both(taken: &[u8], viewed: &[u8], output: &mut Vec<u8>) -> io::Result<()> {
+    output.write_all(taken)?;
+    if taken != viewed {
+        output.write_all(b"but its view:\n".as_slice())?;
+        output.write_all(viewed)?;
+    }
+    Ok(())
+}
+
+// As `write_value`, where the value has a view, which is to say the same.
+fn write_viewed<'a, V: Viewed<'a>>(
+    alloc: Global,
+    bytes: &'a [u8],
+    output: &mut Vec<u8>,
+) -> io::Result<()> {
+    let mut taken = Vec::new(alloc);
+    write_value::<V::Value>(alloc, bytes, &mut taken)?;
+    let mut cursor = Cursor::new(bytes);
+    let view = copied(alloc, V::view(&mut cursor))?;
+    let mut viewed = Vec::new(alloc);
+    write_read(alloc, view, cursor.rest().len(), &mut viewed)?;
+    write_both(taken.as_slice(), viewed.as_slice(), output)
+}
+
+// The number of the id that a body begins with, the message that was read of it, and how it is written behind the id of its
+// type.
+fn write_body<T: Wire + Debug>(
+    alloc: Global,
+    type_id: u32,
+    bytes: &[u8],
+    read: Result<T, TakeFault>,
+    output: &mut Vec<u8>,
+) -> io::Result<()> {
+    match read {
         Ok(value) => {
             let number = message_id(bytes).unwrap_or(0);
             let again = body(alloc, type_id, &value)?;
@@ -52,6 +102,30 @@ fn write_message<T: Wire + Debug>(
         }
         Err(fault) => write!(output, "{fault:?}\n"),
     }
+}
+
+fn write_message<T: Wire + Debug>(
+    alloc: Global,
+    type_id: u32,
+    bytes: &[u8],
+    output: &mut Vec<u8>,
+) -> io::Result<()> {
+    write_body(alloc, type_id, bytes, message::<T>(alloc, bytes), output)
+}
+
+// As `write_message`, where the message has a view, which is to say the same.
+fn write_message_viewed<'a, V: Viewed<'a>>(
+    alloc: Global,
+    type_id: u32,
+    bytes: &'a [u8],
+    output: &mut Vec<u8>,
+) -> io::Result<()> {
+    let mut taken = Vec::new(alloc);
+    write_message::<V::Value>(alloc, type_id, bytes, &mut taken)?;
+    let view = copied(alloc, message_view::<V>(bytes))?;
+    let mut viewed = Vec::new(alloc);
+    write_body(alloc, type_id, bytes, view, &mut viewed)?;
+    write_both(taken.as_slice(), viewed.as_slice(), output)
 }
 
 // The structure of the type with this id in an object, and the object around it.
@@ -284,9 +358,14 @@ fn write_of_services(
             bytes,
             output,
         ),
-        "BrowseRequest" => write_message::<BrowseRequest>(alloc, BROWSE_REQUEST, bytes, output),
+        "BrowseRequest" => write_message_viewed::<BrowseRequestView>(
+            alloc,
+            BROWSE_REQUEST,
+            bytes,
+            output,
+        ),
         "BrowseResponse" => write_message::<BrowseResponse>(alloc, BROWSE_RESPONSE, bytes, output),
-        "BrowseNextRequest" => write_message::<BrowseNextRequest>(
+        "BrowseNextRequest" => write_message_viewed::<BrowseNextRequestView>(
             alloc,
             BROWSE_NEXT_REQUEST,
             bytes,
@@ -298,11 +377,21 @@ fn write_of_services(
             bytes,
             output,
         ),
-        "ReadRequest" => write_message::<ReadRequest>(alloc, READ_REQUEST, bytes, output),
+        "ReadRequest" => write_message_viewed::<ReadRequestView>(
+            alloc,
+            READ_REQUEST,
+            bytes,
+            output,
+        ),
         "ReadResponse" => write_message::<ReadResponse>(alloc, READ_RESPONSE, bytes, output),
-        "WriteRequest" => write_message::<WriteRequest>(alloc, WRITE_REQUEST, bytes, output),
+        "WriteRequest" => write_message_viewed::<WriteRequestView>(
+            alloc,
+            WRITE_REQUEST,
+            bytes,
+            output,
+        ),
         "WriteResponse" => write_message::<WriteResponse>(alloc, WRITE_RESPONSE, bytes, output),
-        "HistoryReadRequest" => write_message::<HistoryReadRequest>(
+        "HistoryReadRequest" => write_message_viewed::<HistoryReadRequestView>(
             alloc,
             HISTORY_READ_REQUEST,
             bytes,
@@ -369,7 +458,12 @@ fn write_of_channels(
             output,
         ),
         "ServiceFault" => write_message::<ServiceFault>(alloc, SERVICE_FAULT, bytes, output),
-        "RequestHeader" => write_message::<RequestHeader>(alloc, READ_REQUEST, bytes, output),
+        "RequestHeader" => write_message_viewed::<RequestHeaderView>(
+            alloc,
+            READ_REQUEST,
+            bytes,
+            output,
+        ),
         "DiagnosticInfo" => write_value::<DiagnosticInfo>(alloc, bytes, output),
         "DiagnosticInfos" => write_value::<DiagnosticInfos>(alloc, bytes, output),
         _ => write_of_services(alloc, name, bytes, output),
@@ -392,16 +486,16 @@ fn write_named(alloc: Global, name: &str, bytes: &[u8], output: &mut Vec<u8>) ->
         "DateTime" => write_value::<Moment>(alloc, bytes, output),
         "StatusCode" => write_value::<Status>(alloc, bytes, output),
         "Duration" => write_value::<Duration>(alloc, bytes, output),
-        "String" => write_value::<Text>(alloc, bytes, output),
-        "ByteString" => write_value::<ByteString>(alloc, bytes, output),
+        "String" => write_viewed::<TextView>(alloc, bytes, output),
+        "ByteString" => write_viewed::<ByteStringView>(alloc, bytes, output),
         "Guid" => write_value::<Guid>(alloc, bytes, output),
-        "NodeId" => write_value::<NodeId>(alloc, bytes, output),
-        "ExpandedNodeId" => write_value::<ExpandedNodeId>(alloc, bytes, output),
-        "QualifiedName" => write_value::<QualifiedName>(alloc, bytes, output),
-        "LocalizedText" => write_value::<LocalizedText>(alloc, bytes, output),
-        "ExtensionObject" => write_value::<ExtensionObject>(alloc, bytes, output),
-        "Variant" => write_value::<Variant>(alloc, bytes, output),
-        "DataValue" => write_value::<DataValue>(alloc, bytes, output),
+        "NodeId" => write_viewed::<NodeIdView>(alloc, bytes, output),
+        "ExpandedNodeId" => write_viewed::<ExpandedNodeIdView>(alloc, bytes, output),
+        "QualifiedName" => write_viewed::<QualifiedNameView>(alloc, bytes, output),
+        "LocalizedText" => write_viewed::<LocalizedTextView>(alloc, bytes, output),
+        "ExtensionObject" => write_viewed::<ExtensionObjectView>(alloc, bytes, output),
+        "Variant" => write_viewed::<VariantView>(alloc, bytes, output),
+        "DataValue" => write_viewed::<DataValueView>(alloc, bytes, output),
         "UInt32s" => write_value::<Array<u32>>(alloc, bytes, output),
         "Strings" => write_value::<Array<Text>>(alloc, bytes, output),
         _ => write_of_channels(alloc, name, bytes, output),

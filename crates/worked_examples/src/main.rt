@@ -29,7 +29,8 @@
 //!
 //! - `take TYPE HEX`: what the bytes mean as a value of this type, how it is written again, and how many bytes are left,
 //!   or why they mean none, and how many are then left. Where the type is a message, they are its body, whose number
-//!   precedes the value; where it is the structure in an ExtensionObject, they are that object. No rest is told of these;
+//!   precedes the value; where it is the structure in an ExtensionObject, they are that object. No rest is told of these.
+//!   Where [`viewed`] has a view of the type, it has to say the same of the same bytes: what it says else is printed too;
 //! - `compare TYPE HEX HEX`: how the first of two values is ordered beside the second, whether they are equal, and a copy
 //!   of the first;
 //! - `number HEX`: the number of the id that a body begins with, 0 where that is none of the standard's;
@@ -50,6 +51,7 @@ mod names;
 mod node_files;
 mod runs;
 mod state_table;
+mod viewed;
 
 use behind::{named, write_behind};
 use encoding::{write_compared, write_node_id, write_number, write_taken};

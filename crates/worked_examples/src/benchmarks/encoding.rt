@@ -1,4 +1,4 @@
-//! Lists of 1,000 elements, written and read.
+//! Lists of 1,000 elements, written, read, and looked at in place.
 
 use super::elapsed;
 use std::alloc::{AllocError, Global};
@@ -6,8 +6,10 @@ use std::io::{self, Write};
 use std::time::Instant;
 use ua_binary::{Cursor, Wire};
 use ua_messages::ReadValueId;
+use ua_service_views::ReadValueIdView;
 use ua_types::{Array, Moment, NodeId, QualifiedName, Status, Text};
 use ua_values::{Content, DataValue, Double, Variant};
+use ua_views::{ArrayView, DataValueView, TextView, View};
 
 /// How many elements each list has.
 const ELEMENTS: u32 = 1000;
@@ -66,19 +68,75 @@ fn report(rt: &HostRuntime, name: &str, way: &str, fastest: u128) {
     let _ = writeln!(errors, "{name} {way}: {}.{} ns", each / 10, each % 10);
 }
 
-// Writes and reads a list so many times, and tells how many bytes and elements it has.
+// Which list is looked at in place.
+#[derive(Clone, Copy)]
+enum Looked {
+    DataValues,
+    ReadValueIds,
+    Texts,
+}
+
+// Looks at each element that is left, and says how many there are.
+fn count<'a, V: View<'a>>(list: ArrayView<'a, V>) -> usize {
+    let mut count = 0usize;
+    for _ in list {
+        count = count.saturating_add(1);
+    }
+    count
+}
+
+// Looks at a list in place: at all of it, and then at each element. Says how many there are.
+fn look(looked: Looked, bytes: &[u8]) -> usize {
+    let mut cursor = Cursor::new(bytes);
+    match looked {
+        Looked::DataValues => match ArrayView::<DataValueView<'_>>::view(&mut cursor) {
+            Ok(list) => count(list),
+            Err(_) => 0,
+        },
+        Looked::ReadValueIds => match ArrayView::<ReadValueIdView<'_>>::view(&mut cursor) {
+            Ok(list) => count(list),
+            Err(_) => 0,
+        },
+        Looked::Texts => match ArrayView::<TextView<'_>>::view(&mut cursor) {
+            Ok(list) => count(list),
+            Err(_) => 0,
+        },
+    }
+}
+
+// Looks at a list in place so many times, and tells how many elements it has.
+fn time_views(
+    rt: &HostRuntime,
+    name: &str,
+    looked: Looked,
+    bytes: &[u8],
+    rounds: u32,
+) -> io::Result<()> {
+    let mut fastest = u128::MAX;
+    let mut count = 0;
+    for _ in 0..rounds {
+        let start = Instant::now(rt);
+        count = look(looked, bytes);
+        fastest = fastest.min(elapsed(rt, start));
+    }
+    report(rt, name, "viewed", fastest);
+    let mut out = rt.stdout();
+    writeln!(out, "{name}: {count} viewed")
+}
+
+// Writes and reads a list so many times, tells how many bytes and elements it has, and gives its bytes.
 fn time_both_ways<T: Wire>(
     rt: &HostRuntime,
     name: &str,
     elements: Vec<T>,
     rounds: u32,
-) -> io::Result<()> {
+) -> io::Result<Vec<u8>> {
     let alloc = rt.alloc();
+    let mut bytes = Vec::new(alloc);
     if elements.len() > ELEMENTS as usize {
-        return Ok(());
+        return Ok(bytes);
     }
     let list = Array::new(elements);
-    let mut bytes = Vec::new(alloc);
     let mut fastest = u128::MAX;
     for _ in 0..rounds {
         let start = Instant::now(rt);
@@ -99,13 +157,20 @@ fn time_both_ways<T: Wire>(
     }
     report(rt, name, "read", fastest);
     let mut out = rt.stdout();
-    writeln!(out, "{name}: {count} in {} bytes", bytes.len())
+    writeln!(out, "{name}: {count} in {} bytes", bytes.len())?;
+    Ok(bytes)
 }
 
-/// Writes and reads data values, read value ids and texts.
+/// Writes and reads data values, read value ids and texts, and looks at them in place.
 pub(crate) fn run(rt: &HostRuntime, rounds: u32) -> io::Result<()> {
     let alloc = rt.alloc();
-    time_both_ways(rt, "data values", data_values(alloc)?, rounds)?;
-    time_both_ways(rt, "read value ids", read_value_ids(alloc)?, rounds)?;
-    time_both_ways(rt, "texts", texts(alloc)?, rounds)
+    let name = "data values";
+    let bytes = time_both_ways(rt, name, data_values(alloc)?, rounds)?;
+    time_views(rt, name, Looked::DataValues, bytes.as_slice(), rounds)?;
+    let name = "read value ids";
+    let bytes = time_both_ways(rt, name, read_value_ids(alloc)?, rounds)?;
+    time_views(rt, name, Looked::ReadValueIds, bytes.as_slice(), rounds)?;
+    let name = "texts";
+    let bytes = time_both_ways(rt, name, texts(alloc)?, rounds)?;
+    time_views(rt, name, Looked::Texts, bytes.as_slice(), rounds)
 }

@@ -3,7 +3,7 @@
 use super::elapsed;
 use bytes::Bytes;
 use node_loader::load;
-use server_core::{Event, Out, Server};
+use server_core::{Event, Out, Server, Step};
 use std::alloc::{AllocError, Global};
 use std::io::{self, ErrorKind, Write};
 use std::time::Instant;
@@ -55,13 +55,15 @@ const NO_CLIENT: &[u8] =
 const NO_USER: &[u8] =
     b"\xff\xff\xff\xff\xff\xff\xff\xff\xff\xff\xff\xff\xff\xff\xff\xff\0\0\0\xff\xff\xff\xff\xff\xff\xff\xff";
 
-// A Read without times, up to its list; the variable's value, to be read; and a list of one, in which it
-// is written with the number 258.
+// A Read without times, up to its list; the variable's value, to be read; and the same, to be written with the number 258.
 const NO_TIMES: &[u8] = b"\0\0\0\0\0\0\0\0\x03\0\0\0";
 
 const VALUE: &[u8] = b"\x01\x01\x01\0\x0d\0\0\0\xff\xff\xff\xff\0\0\xff\xff\xff\xff";
 
-const WRITTEN: &[u8] = b"\x01\0\0\0\x01\x01\x01\0\x0d\0\0\0\xff\xff\xff\xff\x01\x05\x02\x01";
+const WRITTEN: &[u8] = b"\x01\x01\x01\0\x0d\0\0\0\xff\xff\xff\xff\x01\x05\x02\x01";
+
+// The same with the number 1027.
+const ANOTHER: &[u8] = b"\x01\x01\x01\0\x0d\0\0\0\xff\xff\xff\xff\x01\x05\x03\x04";
 
 pub(crate) fn failed() -> io::Error {
     io::Error::from(ErrorKind::Other)
@@ -75,12 +77,18 @@ pub(crate) fn joined(alloc: Global, parts: &[&[u8]]) -> Result<Vec<u8>, AllocErr
     Ok(out)
 }
 
+// Hands bytes to the server.
+fn step(alloc: Global, server: &mut Server, bytes: Vec<u8>) -> io::Result<Step> {
+    let bytes = Bytes::from_vec(bytes)?;
+    match server.step(alloc, &Event::Bytes { conn: 1, bytes }) {
+        Ok(step) => Ok(step),
+        Err(_) => Err(failed()),
+    }
+}
+
 // Hands bytes to the server, and says how many it sends.
 pub(crate) fn hand_in(alloc: Global, server: &mut Server, bytes: Vec<u8>) -> io::Result<usize> {
-    let bytes = Bytes::from_vec(bytes)?;
-    let Ok(step) = server.step(alloc, &Event::Bytes { conn: 1, bytes }) else {
-        return Err(failed());
-    };
+    let step = step(alloc, server, bytes)?;
     let mut sent = 0usize;
     for out in step.outs.as_slice() {
         match out {
@@ -89,6 +97,24 @@ pub(crate) fn hand_in(alloc: Global, server: &mut Server, bytes: Vec<u8>) -> io:
         }
     }
     Ok(sent)
+}
+
+// Hands bytes to the server, and writes the bodies of what it sends.
+fn write_answers(rt: &HostRuntime, server: &mut Server, bytes: Vec<u8>) -> io::Result<()> {
+    let alloc = rt.alloc();
+    let step = step(alloc, server, bytes)?;
+    let mut output = rt.stdout();
+    for out in step.outs.as_slice() {
+        match out {
+            Out::Send { conn: _, bytes } => {
+                let body = bytes.as_slice().get(24..).unwrap_or(b"".as_slice());
+                let digits = hex::encode(alloc, body)?;
+                writeln!(output, "{digits}")?;
+            }
+            Out::Close { conn: _ } => return Err(failed()),
+        }
+    }
+    Ok(())
 }
 
 // A request in one chunk of the first channel.
@@ -173,33 +199,89 @@ fn time_requests(
     writeln!(out, "{name}: {rounds}, each answered in {sent} bytes")
 }
 
-// The fields of a Read of the variable's value so many times.
-fn reads(alloc: Global, many: u32) -> Result<Vec<u8>, AllocError> {
+// A request's fields: what stands before its list, and the list of so many of the same.
+fn listed(alloc: Global, before: &[u8], entry: &[u8], many: u32) -> Result<Vec<u8>, AllocError> {
     let mut fields = Vec::new(alloc);
-    fields.extend_from_slice(NO_TIMES)?;
+    fields.extend_from_slice(before)?;
     fields.extend_from_slice(many.to_le_bytes().as_slice())?;
     for _ in 0..many {
-        fields.extend_from_slice(VALUE)?;
+        fields.extend_from_slice(entry)?;
     }
     Ok(fields)
 }
 
-fn time_all(rt: &HostRuntime, server: &mut Server, rounds: u32) -> io::Result<()> {
+// Hands in requests for one and for 1,000 of these, the first under this number, and gives the number of the next one.
+fn time_both(
+    rt: &HostRuntime,
+    server: &mut Server,
+    name: &str,
+    type_id: &[u8; 4],
+    (before, entry): (&[u8], &[u8]),
+    first: u32,
+    rounds: u32,
+) -> io::Result<u32> {
     let alloc = rt.alloc();
-    greet(alloc, server)?;
-    let one = reads(alloc, 1)?;
-    let name = "reads of one value";
-    time_requests(rt, server, name, &READ, one.as_slice(), 4, rounds)?;
-    let many = reads(alloc, 1000)?;
-    let next = rounds.saturating_add(4);
-    let name = "reads of 1000 values";
-    time_requests(rt, server, name, &READ, many.as_slice(), next, rounds)?;
-    let next = next.saturating_add(rounds);
-    let name = "writes of one value";
-    time_requests(rt, server, name, &WRITE, WRITTEN, next, rounds)
+    let one = listed(alloc, before, entry, 1)?;
+    let of_one = format!(in alloc; "{name} of one value")?;
+    time_requests(
+        rt,
+        server,
+        of_one.as_str(),
+        type_id,
+        one.as_slice(),
+        first,
+        rounds,
+    )?;
+    let many = listed(alloc, before, entry, 1000)?;
+    let of_many = format!(in alloc; "{name} of 1000 values")?;
+    let next = first.saturating_add(rounds);
+    time_requests(
+        rt,
+        server,
+        of_many.as_str(),
+        type_id,
+        many.as_slice(),
+        next,
+        rounds,
+    )?;
+    Ok(next.saturating_add(rounds))
 }
 
-/// Reads one value and 1,000 values, and writes one, each so many times.
+fn time_all(rt: &HostRuntime, server: &mut Server, rounds: u32) -> io::Result<()> {
+    greet(rt.alloc(), server)?;
+    let next = time_both(rt, server, "reads", &READ, (NO_TIMES, VALUE), 4, rounds)?;
+    let next = time_both(
+        rt,
+        server,
+        "writes",
+        &WRITE,
+        (b"".as_slice(), WRITTEN),
+        next,
+        rounds,
+    )?;
+    cut_short(rt, server, next)
+}
+
+// A Write of 1,000 values of which the last lacks its last byte is answered by a fault, and writes none: then the value is read.
+fn cut_short(rt: &HostRuntime, server: &mut Server, number: u32) -> io::Result<()> {
+    let alloc = rt.alloc();
+    let mut values = listed(alloc, b"".as_slice(), ANOTHER, 1000)?;
+    values.pop();
+    write_answers(
+        rt,
+        server,
+        request(alloc, number, &WRITE, TOKEN, values.as_slice())?,
+    )?;
+    let value = listed(alloc, NO_TIMES, VALUE, 1)?;
+    let next = number.saturating_add(1);
+    write_answers(
+        rt,
+        server,
+        request(alloc, next, &READ, TOKEN, value.as_slice())?,
+    )
+}
+
+/// Reads one value and 1,000 values, and writes as many, each so many times; and then writes 1,000 that are cut short.
 pub(crate) fn run(rt: &HostRuntime, rounds: u32) -> io::Result<()> {
     let alloc = rt.alloc();
     let (config, space) = plant(alloc, NODES)?;

@@ -1,0 +1,155 @@
+//! Views beside the values that are taken from the same bytes.
+
+use std::alloc::{AllocError, Global};
+use std::fmt::Debug;
+use ua_binary::Wire;
+use ua_messages::RequestHeader;
+use ua_service_messages::{
+    BrowseNextRequest, BrowseRequest, HistoryReadRequest, ReadRequest, WriteRequest,
+};
+use ua_service_views::{
+    BrowseDescriptionView, BrowseNextRequestView, BrowseRequestView, HistoryReadRequestView,
+    HistoryReadValueIdView, ReadRequestView, ReadValueIdView, RequestHeaderView, WriteRequestView,
+    WriteValueView,
+};
+use ua_types::{
+    Array, ByteString, ExpandedNodeId, ExtensionObject, LocalizedText, NodeId, QualifiedName, Text,
+};
+use ua_values::{DataValue, Variant};
+use ua_views::{
+    ArrayView, ByteStringView, DataValueView, ExpandedNodeIdView, ExtensionObjectView,
+    LocalizedTextView, NodeIdView, QualifiedNameView, TextView, VariantView, View,
+};
+
+/// A view, and the value that it is a view of.
+pub(crate) trait Viewed<'a>: View<'a> {
+    type Value: Wire + Debug;
+
+    /// A copy of that value.
+    fn copied(self, alloc: Global) -> Result<Self::Value, AllocError>;
+}
+
+// Views with a copy of their own.
+macro_rules! viewed {
+    ($view:ident, $value:ty) => {
+        impl<'a> Viewed<'a> for $view<'a> {
+            type Value = $value;
+
+            fn copied(self, alloc: Global) -> Result<$value, AllocError> {
+                self.to_value(alloc)
+            }
+        }
+    };
+}
+
+viewed!(TextView, Text);
+
+viewed!(ByteStringView, ByteString);
+
+viewed!(NodeIdView, NodeId);
+
+viewed!(ExpandedNodeIdView, ExpandedNodeId);
+
+viewed!(QualifiedNameView, QualifiedName);
+
+viewed!(LocalizedTextView, LocalizedText);
+
+viewed!(ExtensionObjectView, ExtensionObject);
+
+viewed!(VariantView, Variant);
+
+viewed!(DataValueView, DataValue);
+
+viewed!(RequestHeaderView, RequestHeader);
+
+viewed!(ReadValueIdView, ua_messages::ReadValueId);
+
+viewed!(WriteValueView, ua_service_messages::WriteValue);
+
+viewed!(BrowseDescriptionView, ua_service_messages::BrowseDescription);
+
+viewed!(HistoryReadValueIdView, ua_service_messages::HistoryReadValueId);
+
+// The list of copies of the elements, or null.
+fn copies<'a, V: Viewed<'a>>(
+    alloc: Global,
+    list: ArrayView<'a, V>,
+) -> Result<Array<V::Value>, AllocError> {
+    if list.is_null() {
+        return Ok(Array::null());
+    }
+    let mut values = Vec::with_capacity(alloc, list.len())?;
+    for element in list {
+        values.push(element.copied(alloc)?)?;
+    }
+    // It has no more than the view, which no proof says here.
+    if values.len() >= 1 << 31 {
+        return Err(AllocError);
+    }
+    Ok(Array::new(values))
+}
+
+impl<'a> Viewed<'a> for ReadRequestView<'a> {
+    type Value = ReadRequest;
+
+    fn copied(self, alloc: Global) -> Result<ReadRequest, AllocError> {
+        Ok(ReadRequest {
+            request_header: self.request_header.copied(alloc)?,
+            max_age: self.max_age,
+            timestamps_to_return: self.timestamps_to_return,
+            nodes_to_read: copies(alloc, self.nodes_to_read)?,
+        })
+    }
+}
+
+impl<'a> Viewed<'a> for WriteRequestView<'a> {
+    type Value = WriteRequest;
+
+    fn copied(self, alloc: Global) -> Result<WriteRequest, AllocError> {
+        Ok(WriteRequest {
+            request_header: self.request_header.copied(alloc)?,
+            nodes_to_write: copies(alloc, self.nodes_to_write)?,
+        })
+    }
+}
+
+impl<'a> Viewed<'a> for BrowseRequestView<'a> {
+    type Value = BrowseRequest;
+
+    fn copied(self, alloc: Global) -> Result<BrowseRequest, AllocError> {
+        Ok(BrowseRequest {
+            request_header: self.request_header.copied(alloc)?,
+            view_id: self.view_id.copied(alloc)?,
+            view_timestamp: self.view_timestamp,
+            view_version: self.view_version,
+            requested_max_references_per_node: self.requested_max_references_per_node,
+            nodes_to_browse: copies(alloc, self.nodes_to_browse)?,
+        })
+    }
+}
+
+impl<'a> Viewed<'a> for BrowseNextRequestView<'a> {
+    type Value = BrowseNextRequest;
+
+    fn copied(self, alloc: Global) -> Result<BrowseNextRequest, AllocError> {
+        Ok(BrowseNextRequest {
+            request_header: self.request_header.copied(alloc)?,
+            release_continuation_points: self.release_continuation_points,
+            continuation_points: copies(alloc, self.continuation_points)?,
+        })
+    }
+}
+
+impl<'a> Viewed<'a> for HistoryReadRequestView<'a> {
+    type Value = HistoryReadRequest;
+
+    fn copied(self, alloc: Global) -> Result<HistoryReadRequest, AllocError> {
+        Ok(HistoryReadRequest {
+            request_header: self.request_header.copied(alloc)?,
+            history_read_details: self.history_read_details.copied(alloc)?,
+            timestamps_to_return: self.timestamps_to_return,
+            release_continuation_points: self.release_continuation_points,
+            nodes_to_read: copies(alloc, self.nodes_to_read)?,
+        })
+    }
+}
