@@ -15,12 +15,11 @@ fn sampled(alloc: Global, size: usize, is_oldest: bool) -> Result<ItemQueue<u32>
 }
 
 // Two digits for each value that waits, the second of them 1 where it is marked.
-fn digits(mut queue: ItemQueue<u32>) -> u64 {
+fn digits(queue: &ItemQueue<u32>) -> u64 {
     let mut number = 0u64;
-    let len = queue.len();
-    for _ in 0..len {
-        if let Some(Entry { value, marked }) = queue.take_oldest() {
-            let entry = u64::from(value).wrapping_mul(10) | u64::from(marked);
+    for index in 0..queue.len() {
+        if let Some(Entry { value, marked }) = queue.get(index) {
+            let entry = u64::from(*value).wrapping_mul(10) | u64::from(*marked);
             number = number.wrapping_mul(100).wrapping_add(entry);
         }
     }
@@ -39,7 +38,7 @@ fn full_queues_tell_what_they_lost(rt: HostRuntime) -> Result<(), Fail> {
         (7, true, 102030405060),
     ] {
         let queue = sampled(alloc, size, is_oldest)?;
-        holds(&rt, "what waits", digits(queue) == number);
+        holds(&rt, "what waits", digits(&queue) == number);
     }
     Ok(())
 }
@@ -57,12 +56,12 @@ fn another_size_marks_nothing(rt: HostRuntime) -> Result<(), Fail> {
     ] {
         let mut queue = sampled(alloc, 6, true)?;
         queue.resize(Room::new(alloc, size)?, is_oldest);
-        holds(&rt, "what is left", digits(queue) == number);
+        holds(&rt, "what is left", digits(&queue) == number);
 
         let mut queue = sampled(alloc, 6, true)?;
         queue.resize(Room::new(alloc, size)?, is_oldest);
         queue.sample(9);
-        holds(&rt, "what waits", digits(queue) == later);
+        holds(&rt, "what waits", digits(&queue) == later);
     }
     Ok(())
 }
@@ -72,5 +71,23 @@ fn a_queue_is_cleared(rt: HostRuntime) -> Result<(), Fail> {
     let mut queue = sampled(rt.alloc(), 6, true)?;
     queue.clear();
     holds(&rt, "empty", queue.is_empty());
+    holds(&rt, "the last one", queue.last() == Some(&6));
+    Ok(())
+}
+
+// The values 1 to 6 in a queue of 6, of which so many are sent: what waits then, and the value that was queued last.
+#[test]
+fn what_was_sent_waits_no_more(rt: HostRuntime) -> Result<(), Fail> {
+    for (count, number) in [(0, 102030405060u64), (2, 30405060), (5, 60), (6, 0), (7, 0)] {
+        let mut queue = sampled(rt.alloc(), 6, true)?;
+        queue.send(count);
+        holds(&rt, "what waits", digits(&queue) == number);
+        holds(&rt, "the last one", queue.last() == Some(&6));
+        queue.sample(9);
+        holds(&rt, "the next one", queue.last() == Some(&9));
+    }
+    let mut queue = sampled(rt.alloc(), 6, true)?;
+    queue.resize(Room::new(rt.alloc(), 2)?, false);
+    holds(&rt, "which was cleared", queue.last() == Some(&6));
     Ok(())
 }

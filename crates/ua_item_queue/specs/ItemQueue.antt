@@ -9,11 +9,12 @@ abbrev pub marked_front : {V : Type 0} → List (Entry V) → List (Entry V)
 marked_front [] = []
 marked_front (e ∷ es) = record e { marked = true } ∷ es
 
--- a queue: the values that wait, how many may, and which one goes where it is full
+-- a queue: the values that wait, how many may, which one goes where it is full, and the value that was queued last
 pub record QueueState (V : Type 0) : Type 0 where
   pub entries : List (Entry V)
   pub size : ℕ
   pub discard_oldest : Bool
+  pub last : Option V
 
 -- the changes of a queue
 pub data QueueChange (V : Type 0) : Type 0 where
@@ -69,16 +70,23 @@ queue_after q d = fold changed q (changes_of q d)
 abbrev pub queue : {V : Type 0} → List (QueueMove V) → List (Entry V)
 queue ds = fold queue_after [] ds
 
-abbrev pub first_of : {V : Type 0} → List (Entry V) → Option (Entry V)
-first_of [] = None
-first_of (e ∷ es) = Some e
+-- the newest value that waits
+abbrev pub newest : {V : Type 0} → List (Entry V) → Option V
+newest [] = None
+newest (e ∷ []) = Some e.value
+newest (e ∷ f ∷ es) = newest (f ∷ es)
+
+-- the value that was queued last: one that is kept beside the queue, or else the newest that waits
+abbrev pub last_of : {V : Type 0} → Option V → List (Entry V) → Option V
+last_of (Some v) es = Some v
+last_of None es = newest es
 
 -- a queue after each call, which is one move
 abbrev pub after : {V : Type 0} → QueueState V → QueueMove V → QueueState V
 after q d = record q { entries = queue_after q.entries d }
 
 abbrev pub sampled : {V : Type 0} → QueueState V → V → QueueState V
-sampled q v = after q (Sample q.size q.discard_oldest v)
+sampled q v = record (after q (Sample q.size q.discard_oldest v)) { last = Some v }
 
 abbrev pub sent : {V : Type 0} → QueueState V → ℕ → QueueState V
 sent q n = after q (Send n)
@@ -87,4 +95,4 @@ abbrev pub cleared : {V : Type 0} → QueueState V → QueueState V
 cleared q = after q Clear
 
 abbrev pub resized : {V : Type 0} → QueueState V → ℕ → Bool → QueueState V
-resized q size discard_oldest = record { entries = queue_after q.entries (Resize size discard_oldest); size = size; discard_oldest = discard_oldest }
+resized q size discard_oldest = record (after q (Resize size discard_oldest)) { size = size; discard_oldest = discard_oldest }

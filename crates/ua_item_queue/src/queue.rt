@@ -1,8 +1,9 @@
 //! The queue of a monitored item.
 
-ghost use Rattle.std.specs.Prelude.{◌≡◌, ◌≤◌, ◌<◌, IfOk, length, [], ◌∷◌, ◌++◌, ◌-◌, take, drop, IsTrue, ◌↔◌};
+ghost use Rattle.std.specs.Prelude.{◌≡◌, ◌≤◌, ◌<◌, ℕ, IfOk, length, [], ◌∷◌, ◌++◌, ◌-◌, Option, None, take, drop, IsTrue, ◌↔◌, slice_get};
+ghost use Rattle.std.specs.Option.{option_copied};
 ghost use Rattle.circular_buffer.specs.Buffer.{buffer};
-ghost use Rattle.ua_item_queue.specs.ItemQueue.{QueueState, queue_after, marked_front, sampled, sent, cleared, resized, first_of};
+ghost use Rattle.ua_item_queue.specs.ItemQueue.{QueueState, queue_after, marked_front, newest as newest_spec, last_of, sampled, sent, cleared, resized};
 ghost use Rattle.ua_item_queue.specs.ItemQueue.QueueMove.{Sample, Resize};
 
 use crate::entry::Entry;
@@ -11,21 +12,24 @@ use circular_buffer::HeapCircularBuffer;
 use std::alloc::{AllocError, Global};
 use std::marker::Model;
 
-/// The values of a monitored item that wait to be sent, oldest first: at most as many as its size.
+/// The values of a monitored item that wait to be sent, oldest first: at most as many as its size; and the value
+/// that was queued last, with which the next one is compared.
 ///
 /// They stand in a ring, which has a place for each value that may wait from the beginning: so a value that
-/// comes in wants no memory.
+/// comes in wants no memory. It stands there once, for both uses.
 pub struct ItemQueue<T> {
     // The values that wait, the oldest first. Its capacity is the queue's size, at least 1.
     ring: HeapCircularBuffer<Entry<T>>,
     // Which value is lost where the queue is full: the oldest one, or the newest.
     discard_oldest: bool,
+    // The value that was queued last, once it waits no more. Until then it is the newest of the ring.
+    last: Option<T>,
 }
 
 impl<T> Model for ItemQueue<T> {
     ghost Value = { QueueState T };
 
-    ghost view = { λ q. record { entries = q.ring.items; size = q.ring.capacity; discard_oldest = q.discard_oldest } };
+    ghost view = { λ q. record { entries = q.ring.items; size = q.ring.capacity; discard_oldest = q.discard_oldest; last = last_of q.last q.ring.items } };
 
     ghost invariant = { λ q. 1 ≤ q.ring.capacity };
 }
@@ -35,12 +39,13 @@ impl<T: Drop> ItemQueue<T> {
     /// its newest.
     pub fn new(alloc: Global, size: usize, discard_oldest: bool) -> Result<ItemQueue<T>, AllocError>
         requires { 1 ≤ size }
-        ensures { IfOk result (λ queue. queue ≡ record { entries = []; size = size; discard_oldest = discard_oldest }) }
+        ensures { IfOk result (λ queue. queue ≡ record { entries = []; size = size; discard_oldest = discard_oldest; last = None }) }
     {
         let ring = HeapCircularBuffer::with_capacity(alloc, size)?;
         Ok(ItemQueue {
             ring,
             discard_oldest,
+            last: None,
         })
     }
 
@@ -58,27 +63,50 @@ impl<T: Drop> ItemQueue<T> {
         self.ring.is_empty()
     }
 
+    /// The value that waits behind so many others.
+    pub fn get(&self, index: usize) -> Option<&Entry<T>>
+        ensures { option_copied result ≡ slice_get self.now.entries index }
+    {
+        self.ring.get(index)
+    }
+
+    /// The value that was queued last, without a mark, whatever became of it since.
+    pub fn last(&self) -> Option<&T>
+        ensures { option_copied result ≡ self.now.last }
+    {
+        match &self.last {
+            Some(value) => Some(value),
+            None => newest(&self.ring),
+        }
+    }
+
     /// Takes in a value. Where the queue is full, a value is lost: the oldest, and the new oldest is
     /// marked; or the newest, and the value that comes in is marked. A queue of size 1 marks nothing.
     /// Takes no memory.
+    #[tactic(auto, using(crate::proofs::LastLemmas::newest_sampled))]
     pub fn sample(&mut self, value: T)
         ensures { self.new ≡ sampled self.old value }
     {
-        sample_into(&mut self.ring, self.discard_oldest, value)
+        sample_into(&mut self.ring, self.discard_oldest, value);
+        self.last = None;
     }
 
-    /// Takes the oldest value out, to be sent.
-    pub fn take_oldest(&mut self) -> Option<Entry<T>>
-        ensures oldest { result ≡ first_of self.old.entries }
-        ensures others { self.new ≡ sent self.old 1 }
+    /// The oldest values are sent, so many or all, and wait no more.
+    pub fn send(&mut self, count: usize)
+        ensures { self.new ≡ sent self.old count }
     {
-        self.ring.pop_front()
+        if count >= self.ring.len() {
+            self.clear();
+        } else {
+            send_front(&mut self.ring, count);
+        }
     }
 
-    /// Takes all values out, which are cleared.
+    /// All values are cleared.
     pub fn clear(&mut self)
         ensures { self.new ≡ cleared self.old }
     {
+        remember(&mut self.ring, &mut self.last);
         self.ring.clear();
     }
 
@@ -88,10 +116,50 @@ impl<T: Drop> ItemQueue<T> {
         ensures { self.new ≡ resized self.old room discard_oldest }
     {
         let mut ring = room.into_ring();
-        cut(&mut self.ring, ring.capacity(), discard_oldest);
+        cut(
+            &mut self.ring,
+            &mut self.last,
+            ring.capacity(),
+            discard_oldest,
+        );
         move_all(&mut self.ring, &mut ring);
         self.ring = ring;
         self.discard_oldest = discard_oldest;
+    }
+}
+
+// The newest value that waits.
+fn newest<T>(ring: &HeapCircularBuffer<Entry<T>>) -> Option<&T>
+    ensures { option_copied result ≡ newest_spec ring.now.items }
+{
+    match ring.back() {
+        Some(entry) => Some(&entry.value),
+        None => None,
+    }
+}
+
+// Takes out the oldest values, so many and not all.
+#[tactic(auto, using(crate::proofs::LastLemmas::newest_dropped))]
+fn send_front<T: Drop>(ring: &mut HeapCircularBuffer<Entry<T>>, count: usize)
+    requires { count < length ring.old.items }
+    ensures items { ring.new ≡ buffer (drop count ring.old.items) ring.old.capacity }
+    ensures last { (last : Option T) → last_of last ring.new.items ≡ last_of last ring.old.items }
+{
+    ring.truncate_front(ring.len() - count);
+}
+
+// Keeps the value that was queued last, before it waits no more: the newest one leaves the ring for it, if it is that.
+#[tactic(auto, using(crate::proofs::LastLemmas::take_of_front))]
+fn remember<T: Drop>(ring: &mut HeapCircularBuffer<Entry<T>>, last: &mut Option<T>)
+    ensures last { last.new ≡ last_of last.old ring.old.items }
+    ensures front { (n : ℕ) → n < length ring.old.items → take n ring.new.items ≡ take n ring.old.items }
+    ensures room { ring.new.capacity ≡ ring.old.capacity }
+{
+    if last.is_some() {
+        return;
+    }
+    if let Some(entry) = ring.pop_back() {
+        *last = Some(entry.value);
     }
 }
 
@@ -131,15 +199,24 @@ fn mark_front<T>(ring: &mut HeapCircularBuffer<Entry<T>>)
     }
 }
 
-// Takes out the oldest or newest values, where there are more than so many.
-fn cut<T: Drop>(ring: &mut HeapCircularBuffer<Entry<T>>, size: usize, discard_oldest: bool)
+// Takes out the oldest or newest values, where there are more than so many, and keeps the value that was queued last.
+#[tactic(auto, using(crate::proofs::LastLemmas::newest_dropped))]
+fn cut<T: Drop>(
+    ring: &mut HeapCircularBuffer<Entry<T>>,
+    last: &mut Option<T>,
+    size: usize,
+    discard_oldest: bool,
+)
+    requires { 1 ≤ size }
     ensures items { ring.new ≡ buffer (queue_after ring.old.items (Resize size discard_oldest)) ring.old.capacity }
+    ensures last { last_of last.new ring.new.items ≡ last_of last.old ring.old.items }
     ensures within { length ring.new.items ≤ size }
 {
     if ring.len() > size {
         if discard_oldest {
             ring.truncate_front(size);
         } else {
+            remember(ring, last);
             ring.truncate_back(size);
         }
     }
@@ -162,6 +239,7 @@ impl<T: Drop> Drop for ItemQueue<T> {
         let ItemQueue {
             ring: _,
             discard_oldest: _,
+            last: _,
         } = self;
     }
 }

@@ -1,30 +1,31 @@
--- What an item gives, value after value.
-use Rattle.std.proofs.Common.{◌≡◌, ℕ, ◌+◌, suc, zero, List, [], ◌∷◌, ◌++◌, map, take, drop, refl, sym, ap, add-one}
+-- What an item tells, value after value.
+use Rattle.std.proofs.Common.{◌≡◌, ℕ, ◌+◌, suc, zero, List, [], ◌∷◌, ◌++◌, map, take, Some, None, refl, sym, ap, ◌∙◌, add-one, arith}
+use Rattle.std.specs.Prelude.{slice_get}
 use Rattle.ua_item_queue.specs.declared.entry.Entry.{Entry}
 use Rattle.ua_values.specs.declared.data_value.DataValue.{DataValue}
-use Rattle.ua_monitored_items.specs.Item.{with_sent, notes_of, note_of}
+use Rattle.ua_monitored_items.specs.Item.{notes_of, note_of}
 use Rattle.ua_monitored_items.specs.declared.item.Item.{Item}
 
-drop_more : {A : Type 0} (n : ℕ) (xs : List A) → drop 1 (drop n xs) ≡ drop (suc n) xs
-drop_more zero xs = refl
-drop_more (suc n) [] = refl
-drop_more (suc n) (x ∷ xs) = drop_more n xs
+one_more : {A B : Type 0} (f : A → B) (n : ℕ) (xs : List A) (x : A) → Some x ≡ slice_get xs n → take n (map f xs) ++ f x ∷ [] ≡ take (suc n) (map f xs)
+one_more f n [] x is = absurd cc
+one_more f zero (y ∷ ys) x is = let same : x ≡ y = cc in ap (λ z. f z ∷ []) same
+one_more f (suc n) (y ∷ ys) x is = ap (λ zs. f y ∷ zs) (one_more f n ys x is)
 
-map_drop : {A B : Type 0} (f : A → B) (n : ℕ) (xs : List A) → map f (drop n xs) ≡ drop n (map f xs)
-map_drop f zero xs = refl
-map_drop f (suc n) [] = refl
-map_drop f (suc n) (x ∷ xs) = map_drop f n xs
+take_none : {A : Type 0} (n : ℕ) → take {A = A} n [] ≡ []
+take_none zero = refl
+take_none (suc n) = refl
 
-take_more : {A : Type 0} (n : ℕ) (xs : List A) → take (suc n) xs ≡ take n xs ++ take 1 (drop n xs)
-take_more zero xs = refl
-take_more (suc n) [] = refl
-take_more (suc n) (x ∷ xs) = ap (λ ys. x ∷ ys) (take_more n xs)
+none_left : {A B : Type 0} (f : A → B) (n k : ℕ) (xs : List A) → None ≡ slice_get xs n → take n (map f xs) ≡ take (n + k) (map f xs)
+none_left f n k [] is = take_none n ∙ sym (take_none (n + k))
+none_left f zero k (y ∷ ys) is = absurd cc
+none_left f (suc n) k (y ∷ ys) is =
+    let more : suc n + k ≡ suc (n + k) = omega arith in
+    rw more (ap (λ zs. f y ∷ zs) (none_left f n k ys is))
 
-pub sent_more : (n : ℕ) (item : Item) → with_sent 1 (with_sent n item) ≡ with_sent (n + 1) item
-sent_more n item = rw (add-one n) (ap (λ (es : List (Entry DataValue)). record item { queue = record item.queue { entries = es } }) (drop_more n item.queue.entries))
+-- one value more is told
+pub notes_more : (n : ℕ) (item : Item) (e : Entry DataValue) → Some e ≡ slice_get item.queue.entries n → take n (notes_of item) ++ note_of item.client_handle item.timestamps e ∷ [] ≡ take (n + 1) (notes_of item)
+notes_more n item e is = rw (add-one n) (one_more (note_of item.client_handle item.timestamps) n item.queue.entries e is)
 
-notes_sent : (n : ℕ) (item : Item) → notes_of (with_sent n item) ≡ drop n (notes_of item)
-notes_sent n item = map_drop (note_of item.client_handle item.timestamps) n item.queue.entries
-
-pub notes_more : (n : ℕ) (item : Item) → take n (notes_of item) ++ take 1 (notes_of (with_sent n item)) ≡ take (n + 1) (notes_of item)
-notes_more n item = rw (add-one n, notes_sent n item) (sym (take_more n (notes_of item)))
+-- all are told
+pub notes_end : (n k : ℕ) (item : Item) → None ≡ slice_get item.queue.entries n → take n (notes_of item) ≡ take (n + k) (notes_of item)
+notes_end n k item is = none_left (note_of item.client_handle item.timestamps) n k item.queue.entries is

@@ -1,4 +1,3 @@
-pub mod Firsts
 pub mod Edits
 pub mod Tables
 pub mod Serving
@@ -13,7 +12,6 @@ pub mod Apart
 pub mod Inside
 pub mod FirstNotes
 pub mod Undoing
-pub mod Rooms
 pub mod Counting
 pub mod Readiness
 pub mod Modifications

@@ -11,32 +11,25 @@ use Rattle.ua_space.specs.Nodes.{Nodes}
 use Rattle.ua_monitored_items.specs.Item.{is_enabled, queued, with_mode, disabled, enabled, moded}
 use Rattle.ua_monitored_items.specs.ItemTables.{NumberedItems, item_at, with_found, with_item}
 use Rattle.ua_monitored_items.specs.Items.{ItemsState, own_if, own_item, moded_by, mode_one}
-use Rattle.ua_monitored_items.specs.Preparing.{FitsAt, IsReady, AreReady, enabled_from, moded_from, mode_status, moded_own}
+use Rattle.ua_monitored_items.specs.Preparing.{IsReady, AreReady, enabled_from, moded_from, mode_status, moded_own}
 use Rattle.ua_monitored_items.specs.declared.item.Item.{Item}
 use Rattle.ua_monitored_items.specs.declared.kinds.Mode.{Mode}
-use Rattle.ua_monitored_items.specs.declared.preparing.FirstSample.{FirstSample}
 use Rattle.ua_monitored_items.specs.declared.preparing.Prepared.{Prepared}
 use Rattle.ua_monitored_items.proofs.Following.{set_here, set_other}
 use Rattle.ua_monitored_items.proofs.Runs.{own_is}
 
 module _ (nodes : Nodes) (clock : Moment) (mode : Mode) where
-  -- what is ready fits
-  pub ready_fits : (own : Option Item) (first : Option FirstSample) → IsReady nodes clock mode own first → FitsAt mode own first
-  ready_fits None first ready = tt
-  ready_fits (Some item) None ready = tt
-  ready_fits (Some item) (Some first) ready = λ on off. (ready on off).1
-
-  -- and makes of an item what the mode does
-  moded_same : (item : Item) (first : Option FirstSample) → IsReady nodes clock mode (Some item) first → moded_from mode first item ≡ moded nodes clock mode item
+  -- what is ready makes of an item what the mode does
+  moded_same : (item : Item) (first : Option DataValue) → IsReady nodes clock mode (Some item) first → moded_from mode first item ≡ moded nodes clock mode item
   moded_same item first ready = by (is_enabled mode) refl (is_enabled item.mode) refl first ready
     where
-      by : (b : Bool) → is_enabled mode ≡ b → (c : Bool) → is_enabled item.mode ≡ c → (first : Option FirstSample) → IsReady nodes clock mode (Some item) first
+      by : (b : Bool) → is_enabled mode ≡ b → (c : Bool) → is_enabled item.mode ≡ c → (first : Option DataValue) → IsReady nodes clock mode (Some item) first
           → cond b (with_mode mode (enabled_from first item)) (disabled item) ≡ cond b (with_mode mode (enabled nodes clock item)) (disabled item)
       by false e c f first ready = refl
       by true e true f None ready = rw f refl
       by true e true f (Some first) ready = rw f refl
       by true e false f None ready = absurd (ready e f)
-      by true e false f (Some first) ready = rw f (ap (λ (v : DataValue). with_mode mode (queued v item)) (ready e f).0)
+      by true e false f (Some first) ready = rw f (ap (λ (v : DataValue). with_mode mode (queued v item)) (ready e f))
 
   module _ (subscription : ℕ) (s : ItemsState) where
     pub served_status : (e : Prepared) → mode_status (own_item s subscription e.number) ≡ (mode_one nodes clock subscription mode s e.number).result
@@ -65,7 +58,7 @@ module _ (nodes : Nodes) (clock : Moment) (mode : Mode) where
             (one ∙ ap (set_value (is_at (nat_cmp e.number)) s.items) (moded_same item e.first ready) ∙ sym two)
 
     -- an item that got the mode wants nothing more
-    enabled_now : (v : Item) (first : Option FirstSample) → IsReady nodes clock mode (own_if subscription (Some (moded nodes clock mode v))) first
+    enabled_now : (v : Item) (first : Option DataValue) → IsReady nodes clock mode (own_if subscription (Some (moded nodes clock mode v))) first
     enabled_now v first = own ((moded nodes clock mode v).subscription == subscription)
       where
         by : (b : Bool) → b ≡ true → is_enabled (cond b (with_mode mode (enabled nodes clock v)) (disabled v)).mode ≡ false → is_enabled mode ≡ true → ⊥
@@ -76,7 +69,7 @@ module _ (nodes : Nodes) (clock : Moment) (mode : Mode) where
         own true = λ on off. absurd (by (is_enabled mode) on off on)
         own false = tt
 
-    one_kept : (k : ℕ) (n : ℕ) (first : Option FirstSample) → IsReady nodes clock mode (own_item s subscription n) first
+    one_kept : (k : ℕ) (n : ℕ) (first : Option DataValue) → IsReady nodes clock mode (own_item s subscription n) first
         → IsReady nodes clock mode (own_item (mode_one nodes clock subscription mode s k).state subscription n) first
     unfolding mode_one
     one_kept k n first ready = by (own_item s subscription k) refl

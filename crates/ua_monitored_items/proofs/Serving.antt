@@ -99,10 +99,13 @@ flat_at f xs i x less here = flat_split f (take i xs) (drop (suc i) xs) x ∙ ap
 taking_is : (t u : Taking) → u.notes ≡ t.notes → u.items ≡ t.items → u.left ≡ t.left → u ≡ t
 taking_is t u notes items left = rw (notes, items, left) refl
 
-pub took_more : (items : NumberedItems) (n : ℕ) (front : List ℕ) (number : ℕ) (before after : Taking) → before ≡ taken_of items n front
-    → after.notes ≡ (with_taken before number).notes → after.items ≡ (with_taken before number).items → after.left ≡ (with_taken before number).left → after ≡ taken_of items n (front ++ number ∷ [])
-took_more items n front number before after is notes its left =
-    taking_is (with_taken before number) after notes its left ∙ ap (λ (t : Taking). with_taken t number) is ∙ sym (taken_more items n front number)
+-- what is told of an item is of no account for what it gives
+pub gives_alike : (t : Taking) (number : ℕ) → ((with_taken (nothing_taken t.items t.left) number).items ≡ (with_taken t number).items) × ((with_taken (nothing_taken t.items t.left) number).left ≡ (with_taken t number).left)
+gives_alike t number = by (item_at number t.items)
+  where
+    by : (found : Option Item) → ((taken_from (nothing_taken t.items t.left) number found).items ≡ (taken_from t number found).items) × ((taken_from (nothing_taken t.items t.left) number found).left ≡ (taken_from t number found).left)
+    by None = (refl, refl)
+    by (Some item) = (refl, refl)
 
 -- nothing is wanted any more
 least_zero : (w : ℕ) → nat_least 0 w ≡ 0

@@ -21,7 +21,6 @@ use Rattle.ua_subscription_messages.specs.declared.monitoring_parameters.Monitor
 use Rattle.ua_monitored_items.specs.Item.{is_enabled, takes, queued, seen, with_mode, disabled, modified, gave, waiting_in}
 use Rattle.ua_monitored_items.specs.Items.{Visit, visited, sampled_items, Taking, nat_least, taken_from, with_taken, without_all, first_number, VisitedSome, taken_of, nothing_taken}
 use Rattle.ua_monitored_items.specs.Preparing.{enabled_from, moded_from}
-use Rattle.ua_monitored_items.specs.declared.preparing.FirstSample.{FirstSample}
 use Rattle.ua_monitored_items.specs.declared.preparing.Modification.{Modification}
 use Rattle.ua_monitored_items.specs.Modifying.{modified_with}
 use Rattle.ua_monitored_items.specs.declared.item.Item.{Item}
@@ -342,16 +341,16 @@ there_seen v item = by (takes item v)
     by true = there_queued v item
     by false = record { subscription = refl; node = refl; attribute = refl }
 
-pub there_moded : (mode : Mode) (first : Option FirstSample) (item : Item) → IsThere item (moded_from mode first item)
+pub there_moded : (mode : Mode) (first : Option DataValue) (item : Item) → IsThere item (moded_from mode first item)
 there_moded mode first item = by (is_enabled mode) first (is_enabled item.mode)
   where
     queued_if : (c : Bool) (v : DataValue) → IsThere item (with_mode mode (cond c item (queued v item)))
     queued_if true v = record { subscription = refl; node = refl; attribute = refl }
     queued_if false v = record { subscription = refl; node = refl; attribute = refl }
 
-    by : (b : Bool) (first : Option FirstSample) (c : Bool) → IsThere item (cond b (with_mode mode (enabled_from first item)) (disabled item))
+    by : (b : Bool) (first : Option DataValue) (c : Bool) → IsThere item (cond b (with_mode mode (enabled_from first item)) (disabled item))
     by true None c = record { subscription = refl; node = refl; attribute = refl }
-    by true (Some first) c = queued_if (is_enabled item.mode) first.value
+    by true (Some first) c = queued_if (is_enabled item.mode) first
     by false first c = record { subscription = refl; node = refl; attribute = refl }
 
 pub there_gave : (n : ℕ) (item : Item) → IsThere item (gave n item)
@@ -431,6 +430,5 @@ module _ (made : ℕ) (of_subscription : BTreeMap ℕ (BTreeSet ℕ)) (on_node :
   table_after_samples (Ok x) new visits ok err = subst (λ (es : NumberedItems). IsTable made es of_subscription on_node) (sym ok) (table_sampled made of_subscription on_node items visits h)
   table_after_samples (Err x) new visits ok (front, rest, joined, is) = subst (λ (es : NumberedItems). IsTable made es of_subscription on_node) (sym is) (table_sampled made of_subscription on_node items front h)
 
-  pub table_after_taking : {T E : Type 0} (r : Result T E) (new : NumberedItems) (n : ℕ) (numbers : List ℕ) → OnOk r (new ≡ (taken_of items n numbers).items) → OnErr r (new ≡ items) → IsTable made new of_subscription on_node
-  table_after_taking (Ok x) new n numbers ok err = subst (λ (es : NumberedItems). IsTable made es of_subscription on_node) (sym ok) (table_taken made of_subscription on_node (nothing_taken items n) numbers h)
-  table_after_taking (Err x) new n numbers ok err = subst (λ (es : NumberedItems). IsTable made es of_subscription on_node) (sym err) h
+  pub table_sent : (new : NumberedItems) (n : ℕ) (numbers : List ℕ) → new ≡ (taken_of items n numbers).items → IsTable made new of_subscription on_node
+  table_sent new n numbers is = subst (λ (es : NumberedItems). IsTable made es of_subscription on_node) (sym is) (table_taken made of_subscription on_node (nothing_taken items n) numbers h)

@@ -64,13 +64,13 @@ is_change_since trigger (Some last) v = is_change trigger last v
 
 -- whether an item queues a value that was written
 abbrev pub takes : Item → DataValue → Bool
-takes item v = is_enabled item.mode && is_change_since item.trigger item.last v
+takes item v = is_enabled item.mode && is_change_since item.trigger item.queue.last v
 
 -- ---- what is done with an item
 
 -- a value is queued
 abbrev pub queued : DataValue → Item → Item
-queued v item = record item { queue = sampled item.queue v; last = Some v }
+queued v item = record item { queue = sampled item.queue v }
 
 -- a value was written
 abbrev pub seen : DataValue → Item → Item

@@ -121,8 +121,7 @@ new_item s subscription timestamps request kind =
       timestamps = timestamps;
       mode = kind.mode;
       trigger = kind.trigger;
-      queue = record { entries = []; size = revised_size s.longest wanted.queue_size; discard_oldest = wanted.discard_oldest };
-      last = None;
+      queue = record { entries = []; size = revised_size s.longest wanted.queue_size; discard_oldest = wanted.discard_oldest; last = None };
       released = false;
       links = [];
     }

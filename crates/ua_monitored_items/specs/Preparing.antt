@@ -3,39 +3,23 @@ use Rattle.std.specs.Prelude.{◌≡◌, ⊤, ℕ, false, true, List, [], ◌∷
 use Rattle.ua_types.specs.declared.moment.Moment.{Moment}
 use Rattle.ua_types.specs.declared.status.Status.{Status}
 use Rattle.ua_types.specs.declared.status.TheConstants.Status as status
+use Rattle.ua_values.specs.declared.data_value.DataValue.{DataValue}
 use Rattle.ua_space.specs.Nodes.{Nodes}
 use Rattle.ua_monitored_items.specs.Item.{is_enabled, queued, reading, with_mode, disabled}
 use Rattle.ua_monitored_items.specs.Items.{ItemsState, own_item, with_change}
 use Rattle.ua_monitored_items.specs.declared.item.Item.{Item}
 use Rattle.ua_monitored_items.specs.declared.kinds.Mode.{Mode}
-use Rattle.ua_monitored_items.specs.declared.preparing.FirstSample.{FirstSample}
 use Rattle.ua_monitored_items.specs.declared.preparing.Prepared.{Prepared}
 
--- the two copies are one value
-abbrev pub IsTwice : FirstSample → Type 0
-IsTwice first = first.last ≡ first.value
-
--- an item that the mode enables can queue what was sampled
-abbrev pub Fits : Mode → Item → Option FirstSample → Type 0
-Fits mode item None = ⊤
-Fits mode item (Some first) = is_enabled mode ≡ true → is_enabled item.mode ≡ false → IsTwice first
-
-abbrev pub FitsAt : Mode → Option Item → Option FirstSample → Type 0
-FitsAt mode None first = ⊤
-FitsAt mode (Some item) first = Fits mode item first
-
 -- what was sampled is what stands
-abbrev pub IsFirstSample : Nodes → Moment → Item → FirstSample → Type 0
-IsFirstSample nodes clock item first = (first.value ≡ reading nodes clock item) × IsTwice first
-
-abbrev pub HasFirstSample : Nodes → Moment → Item → Option FirstSample → Type 0
-HasFirstSample nodes clock item None = ⊥
-HasFirstSample nodes clock item (Some first) = IsFirstSample nodes clock item first
+abbrev pub IsFirstSample : Nodes → Moment → Item → Option DataValue → Type 0
+IsFirstSample nodes clock item None = ⊥
+IsFirstSample nodes clock item (Some first) = first ≡ reading nodes clock item
 
 -- an item that the mode enables has its sample
-abbrev pub IsReady : Nodes → Moment → Mode → Option Item → Option FirstSample → Type 0
+abbrev pub IsReady : Nodes → Moment → Mode → Option Item → Option DataValue → Type 0
 IsReady nodes clock mode None first = ⊤
-IsReady nodes clock mode (Some item) first = is_enabled mode ≡ true → is_enabled item.mode ≡ false → HasFirstSample nodes clock item first
+IsReady nodes clock mode (Some item) first = is_enabled mode ≡ true → is_enabled item.mode ≡ false → IsFirstSample nodes clock item first
 
 -- and so have all that a request names
 abbrev pub AreReady : Nodes → Moment → ℕ → Mode → ItemsState → List Prepared → Type 0
@@ -43,12 +27,12 @@ AreReady nodes clock subscription mode s [] = ⊤
 AreReady nodes clock subscription mode s (e ∷ es) = IsReady nodes clock mode (own_item s subscription e.number) e.first × AreReady nodes clock subscription mode s es
 
 -- a disabled item that is enabled queues what was sampled
-abbrev pub enabled_from : Option FirstSample → Item → Item
+abbrev pub enabled_from : Option DataValue → Item → Item
 enabled_from None item = item
-enabled_from (Some first) item = if is_enabled item.mode then item else queued first.value item
+enabled_from (Some first) item = if is_enabled item.mode then item else queued first item
 
 -- an item gets a mode
-abbrev pub moded_from : Mode → Option FirstSample → Item → Item
+abbrev pub moded_from : Mode → Option DataValue → Item → Item
 moded_from mode first item = if is_enabled mode then with_mode mode (enabled_from first item) else disabled item
 
 abbrev pub mode_status : Option Item → Status

@@ -1,7 +1,9 @@
--- How many values a message takes, told before it takes them.
-use Rattle.std.specs.Prelude.{ℕ, ◌-◌, List, [], ◌∷◌, Option, Some, None}
+-- What items have to tell, while none of them gives it yet.
+use Rattle.std.specs.Prelude.{ℕ, List, [], ◌∷◌, ◌++◌, Option, Some, None}
+use Rattle.ua_subscription_messages.specs.declared.publishing.MonitoredItemNotification.{MonitoredItemNotification}
 use Rattle.ua_monitored_items.specs.Item.{waiting_in}
 use Rattle.ua_monitored_items.specs.ItemTables.{NumberedItems, item_at}
+use Rattle.ua_monitored_items.specs.Moves.{told_notes}
 use Rattle.ua_monitored_items.specs.declared.item.Item.{Item}
 
 -- how many values of an item wait to be sent, if there is such an item
@@ -9,7 +11,12 @@ abbrev pub waiting_at : Option Item → ℕ
 waiting_at None = 0
 waiting_at (Some item) = waiting_in item
 
--- how many of so many values are wanted yet once the items of these numbers gave what waits
-abbrev pub left_after : NumberedItems → ℕ → List ℕ → ℕ
-left_after items left [] = left
-left_after items left (number ∷ numbers) = left_after items (left - waiting_at (item_at number items)) numbers
+-- what an item has to tell, if there is such an item
+abbrev pub told_at : Option Item → List MonitoredItemNotification
+told_at None = []
+told_at (Some item) = told_notes item
+
+-- what the items of some numbers have to tell, one after the other
+abbrev pub told_by : NumberedItems → List ℕ → List MonitoredItemNotification
+told_by items [] = []
+told_by items (number ∷ numbers) = told_at (item_at number items) ++ told_by items numbers

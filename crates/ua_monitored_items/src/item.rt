@@ -1,22 +1,22 @@
 //! A monitored item.
 
-ghost use Rattle.std.specs.Vec.{vec_len, vec_capacity};
-ghost use Rattle.std.specs.Prelude.{◌≡◌, ◌≤◌, ◌<◌, ◌+◌, ◌++◌, [], take, map, length, OnOk, OnErr, IfOk, if◌then◌else◌};
+ghost use Rattle.std.specs.Prelude.{◌≡◌, ◌≤◌, ◌++◌, [], take, OnOk, OnErr, IfOk, if◌then◌else◌};
 ghost use Rattle.std.specs.Option.{option_copied};
 ghost use Rattle.ua_monitored_items.specs.Item.{is_change_since as is_change_since_spec, takes as takes_spec, queued, seen, reading, revised_size as revised_size_spec, takes_last as takes_last_spec, with_sent, gave, notes_of, tells as tells_spec, waiting_in, released_in, with_links, time_if, marked_status, shown, note_of};
 ghost use Rattle.ua_monitored_items.specs.Modifying.{modified_with};
-ghost use Rattle.ua_monitored_items.specs.Preparing.{IsTwice, IsFirstSample, Fits, moded_from};
+ghost use Rattle.ua_monitored_items.specs.Preparing.{moded_from};
 ghost use Rattle.ua_monitored_items.specs.Releases.{releases_of};
 
 use crate::kinds::{Mode, Trigger};
 use crate::links::Links;
-use crate::preparing::{FirstSample, Modification};
+use crate::preparing::Modification;
 use crate::releases::Release;
 use std::alloc::{AllocError, Global};
+use ua_binary::BorrowedDataValue;
 use ua_item_queue::{Entry, ItemQueue};
 use ua_read_write::{Timestamps, sample};
 use ua_space::Space;
-use ua_subscription_messages::{MonitoredItemNotification, MonitoringParameters};
+use ua_subscription_messages::{BorrowedNotification, MonitoringParameters};
 use ua_types::{Copyable, Moment, NodeId, Status};
 use ua_values::DataValue;
 
@@ -47,11 +47,9 @@ pub struct Item {
     /// Which changes are queued.
     pub trigger: Trigger,
 
-    /// The values that wait, with both times as they were read.
+    /// The values that wait, with both times as they were read, and the last one that was queued: none until the
+    /// item is enabled first.
     pub queue: ItemQueue<DataValue>,
-
-    /// The last value that was queued, without a mark. None until the item is enabled first.
-    pub last: Option<DataValue>,
 
     /// Its values are sent although it only samples, since an item to which it is linked queued a value. That
     /// ends when its queue is empty, and when its mode is set.
@@ -73,7 +71,6 @@ impl Drop for Item {
             mode: _,
             trigger: _,
             queue: _,
-            last: _,
             released: _,
             links: _,
         } = self;
@@ -111,27 +108,24 @@ fn marked_status(marked: bool, status: Status) -> Status
     }
 }
 
-// A value as a client is told it.
-fn note(
+// A value as a client is told it, written from where it waits.
+fn note<'a>(
     client_handle: u32,
     timestamps: Timestamps,
-    entry: Entry<DataValue>,
-) -> MonitoredItemNotification
-    ensures { result ≡ note_of client_handle timestamps entry }
+    entry: &'a Entry<DataValue>,
+) -> BorrowedNotification<'a>
+    ensures { result ≡ note_of client_handle timestamps entry.now }
 {
-    let Entry { value, marked } = entry;
-    let status = marked_status(marked, value.status);
-    let source_time = time_if(timestamps.has_source(), value.source_time);
-    let server_time = time_if(timestamps.has_server(), value.server_time);
-    MonitoredItemNotification {
+    let value = &entry.value;
+    BorrowedNotification::new(
         client_handle,
-        value: DataValue {
-            value: value.into_value(),
-            status,
-            source_time,
-            server_time,
-        },
-    }
+        BorrowedDataValue::new(
+            value.value.as_ref(),
+            marked_status(entry.marked, value.status),
+            time_if(timestamps.has_source(), value.source_time),
+            time_if(timestamps.has_server(), value.server_time),
+        ),
+    )
 }
 
 // Whether a trigger sees a change since the last value that was queued.
@@ -149,18 +143,14 @@ impl Item {
     fn takes(&self, value: &DataValue) -> bool
         ensures { result ≡ takes_spec self.now value.now }
     {
-        self.mode.is_enabled() && is_change_since(self.trigger, self.last.as_ref(), value)
+        self.mode.is_enabled() && is_change_since(self.trigger, self.queue.last(), value)
     }
 
-    // Queues a value. At an `Err` nothing changed.
-    pub(crate) fn queue_value(&mut self, alloc: Global, value: DataValue) -> Result<(), AllocError>
-        ensures ok { OnOk result (self.new ≡ queued value self.old) }
-        ensures err { OnErr result (self.new ≡ self.old) }
+    // Queues a value. Takes no memory.
+    fn queue_value(&mut self, value: DataValue)
+        ensures { self.new ≡ queued value self.old }
     {
-        let last = value.copy(alloc)?;
         self.queue.sample(value);
-        self.last = Some(last);
-        Ok(())
     }
 
     // Queues what stands. At an `Err` nothing changed.
@@ -173,8 +163,9 @@ impl Item {
         ensures ok { OnOk result (self.new ≡ queued (reading space.now.nodes clock self.old) self.old) }
         ensures err { OnErr result (self.new ≡ self.old) }
     {
-        let value = sample(alloc, space, clock, &self.node_id, self.attribute_id)?;
-        self.queue_value(alloc, value)
+        let value = self.first_sample(alloc, space, clock)?;
+        self.queue_value(value);
+        Ok(())
     }
 
     // What it releases where it queues a value, behind what is there. At an `Err` a part may be there.
@@ -203,8 +194,7 @@ impl Item {
     {
         if self.takes(value) {
             self.add_releases(releases)?;
-            let value = value.copy(alloc)?;
-            self.queue_value(alloc, value)?;
+            self.queue_value(value.copy(alloc)?);
         }
         Ok(())
     }
@@ -231,24 +221,10 @@ impl Item {
         alloc: Global,
         space: &Space,
         clock: Moment,
-    ) -> Result<FirstSample, AllocError>
-        ensures { IfOk result (IsFirstSample space.now.nodes clock self.now) }
+    ) -> Result<DataValue, AllocError>
+        ensures { IfOk result (λ first. first ≡ reading space.now.nodes clock self.now) }
     {
-        let value = sample(alloc, space, clock, &self.node_id, self.attribute_id)?;
-        Ok(FirstSample {
-            last: value.copy(alloc)?,
-            value,
-        })
-    }
-
-    // Queues what was sampled for it. Takes no memory.
-    fn begin(&mut self, first: FirstSample)
-        requires { IsTwice first }
-        ensures { self.new ≡ queued first.value self.old }
-    {
-        let FirstSample { value, last } = first;
-        self.queue.sample(value);
-        self.last = Some(last);
+        sample(alloc, space, clock, &self.node_id, self.attribute_id)
     }
 
     // Is released by an item of a subscription that queued a value. Takes no memory.
@@ -268,8 +244,7 @@ impl Item {
     }
 
     // Gets a mode, and queues what was sampled for it where that enables it. Takes no memory.
-    pub(crate) fn set_mode(&mut self, mode: Mode, first: Option<FirstSample>)
-        requires { Fits mode self.old first }
+    pub(crate) fn set_mode(&mut self, mode: Mode, first: Option<DataValue>)
         ensures { self.new ≡ moded_from mode first self.old }
     {
         self.released = false;
@@ -280,7 +255,7 @@ impl Item {
         }
         if let Some(first) = first {
             if !self.mode.is_enabled() {
-                self.begin(first);
+                self.queue_value(first);
             }
         }
         self.mode = mode;
@@ -300,20 +275,6 @@ impl Item {
         if self.tells() { self.queue.len() } else { 0 }
     }
 
-    // Gives its oldest value, if there is one.
-    #[tactic(auto, using(crate::proofs::Firsts::first_taken))]
-    fn give_one(&mut self, notes: &mut Vec<MonitoredItemNotification>)
-        requires { vec_len notes.old < vec_capacity notes.old }
-        ensures gave { self.new ≡ with_sent 1 self.old }
-        ensures notes { notes.new.items ≡ notes.old.items ++ take 1 (notes_of self.old) }
-        ensures len { vec_len notes.new ≤ vec_len notes.old + 1 }
-        ensures room { vec_capacity notes.new ≡ vec_capacity notes.old }
-    {
-        if let Some(entry) = self.queue.take_oldest() {
-            notes.push_reserved(note(self.client_handle, self.timestamps, entry));
-        }
-    }
-
     // Whether so many values, if they are any, are all that it holds.
     fn takes_last(&self, count: usize) -> bool
         ensures { result ≡ takes_last_spec count self.now }
@@ -321,32 +282,30 @@ impl Item {
         count > 0 && self.queue.len() <= count
     }
 
-    // Gives its oldest values, so many.
-    fn give_each(&mut self, count: usize, notes: &mut Vec<MonitoredItemNotification>)
-        requires { vec_len notes.old + count ≤ vec_capacity notes.old }
-        ensures gave { self.new ≡ with_sent count self.old }
-        ensures notes { notes.new.items ≡ notes.old.items ++ take count (notes_of self.old) }
-        ensures len { vec_len notes.new ≤ vec_len notes.old + count }
-        ensures room { vec_capacity notes.new ≡ vec_capacity notes.old }
+    // Tells of its oldest values, so many, behind what is there. At an `Err` a part of them is there.
+    pub(crate) fn tell<'a>(
+        &'a self,
+        count: usize,
+        notes: &mut Vec<BorrowedNotification<'a>>,
+    ) -> Result<(), AllocError>
+        ensures { OnOk result (notes.new.items ≡ notes.old.items ++ take count (notes_of self.now)) }
     {
-        for _ in 0..count {
-            self.give_one(notes);
+        for index in 0..count {
+            let Some(entry) = self.queue.get(index) else {
+                return Ok(());
+            };
+            notes.push(note(self.client_handle, self.timestamps, entry))?;
         }
+        Ok(())
     }
 
-    // Gives its oldest values, so many; the last one ends a release. Takes no memory, since there is room for
-    // them.
-    pub(crate) fn give(&mut self, count: usize, notes: &mut Vec<MonitoredItemNotification>)
-        requires { vec_len notes.old + count ≤ vec_capacity notes.old }
-        ensures gave { self.new ≡ gave count self.old }
-        ensures notes { notes.new.items ≡ notes.old.items ++ take count (notes_of self.old) }
-        ensures len { vec_len notes.new ≤ vec_len notes.old + count }
-        ensures room { vec_capacity notes.new ≡ vec_capacity notes.old }
+    // Its oldest values were sent, so many; the last one ends a release. Takes no memory.
+    pub(crate) fn send(&mut self, count: usize)
+        ensures { self.new ≡ gave count self.old }
     {
-        let last = self.takes_last(count);
-        self.give_each(count, notes);
-        if last {
+        if self.takes_last(count) {
             self.released = false;
         }
+        self.queue.send(count);
     }
 }

@@ -10,7 +10,7 @@ ghost use Rattle.ua_monitored_items.specs.Item.{with_links};
 ghost use Rattle.ua_monitored_items.specs.ItemTables.{TableState, item_at, numbers_of, is_of, is_on, with_item, IsPut, IsTakenOut, IsPutBack, IsKept, IsOwn};
 ghost use Rattle.ua_monitored_items.specs.Items.{without_all, any_waits, taken_of, first_number};
 ghost use Rattle.ua_monitored_items.specs.Modifying.{modified_with};
-ghost use Rattle.ua_monitored_items.specs.Preparing.{FitsAt, moded_from};
+ghost use Rattle.ua_monitored_items.specs.Preparing.{moded_from};
 ghost use Rattle.ua_monitored_items.specs.Releases.{all_released, shown, ShownSome};
 
 use crate::index::{Index, put_in, take_out};
@@ -18,17 +18,18 @@ use crate::item::Item;
 use crate::kinds::Mode;
 use crate::links::Links;
 use crate::numbered::Numbered;
-use crate::preparing::{FirstSample, Modification};
+use crate::preparing::Modification;
 use crate::releases::Release;
 use crate::sampling::{release_all, sample_all};
-use crate::taking::take_all;
+use crate::taking::{send_all, tell_all};
 use std::alloc::{AllocError, Global};
 use std::collections::BTreeMap;
 use std::marker::Model;
 use ua_read_write::{Change, Timestamps};
 use ua_space::Space;
-use ua_subscription_messages::{MonitoredItemNotification, MonitoringParameters};
-use ua_types::{Copyable, Moment, NodeId};
+use ua_subscription_messages::{BorrowedNotification, MonitoringParameters};
+use ua_types::{Copyable, NodeId};
+use ua_values::DataValue;
 
 /// The number of the attribute Value.
 const VALUE: u32 = 13;
@@ -249,8 +250,7 @@ impl ItemTable {
 
     /// The item with this number gets a mode, and queues what was sampled for it where that enables it.
     /// Takes no memory.
-    pub fn set_mode(&mut self, number: u32, mode: Mode, first: Option<FirstSample>)
-        requires { FitsAt mode (item_at number self.old.items) first }
+    pub fn set_mode(&mut self, number: u32, mode: Mode, first: Option<DataValue>)
         ensures { self.new ≡ record { made = self.old.made; items = with_item number (moded_from mode first) self.old.items } }
     {
         self.items.set_mode(number, mode, first);
@@ -287,21 +287,29 @@ impl ItemTable {
         self.items.has_value(subscription)
     }
 
-    /// The first values of a subscription's items that report or are released, at most so many. At an `Err` nothing changed.
-    pub fn take(
-        &mut self,
+    /// What a subscription's items that report or are released have to tell, at most so many values.
+    #[tactic(auto, using(crate::proofs::FirstNotes::taken_are_told))]
+    pub fn tell(
+        &self,
         alloc: Global,
         subscription: u32,
         count: usize,
-    ) -> Result<Vec<MonitoredItemNotification>, AllocError>
-        ensures made { self.new.made ≡ self.old.made }
-        ensures notes { IfOk result (λ notes. notes.items ≡ (taken_of self.old.items count (numbers_of subscription self.old.items)).notes) }
-        ensures items { OnOk result (self.new.items ≡ (taken_of self.old.items count (numbers_of subscription self.old.items)).items) }
-        ensures err { OnErr result (self.new ≡ self.old) }
+    ) -> Result<Vec<BorrowedNotification<'_>>, AllocError>
+        ensures { IfOk result (λ notes. notes.items ≡ (taken_of self.now.items count (numbers_of subscription self.now.items)).notes) }
     {
         match self.of_subscription.get(&subscription) {
             None => Ok(Vec::new(alloc)),
-            Some(numbers) => take_all(alloc, &mut self.items, numbers, count),
+            Some(numbers) => tell_all(alloc, &self.items, numbers, count),
+        }
+    }
+
+    /// The first values of a subscription's items that report or are released are sent, at most so many. Takes no memory.
+    pub fn send(&mut self, subscription: u32, count: usize)
+        ensures made { self.new.made ≡ self.old.made }
+        ensures items { self.new.items ≡ (taken_of self.old.items count (numbers_of subscription self.old.items)).items }
+    {
+        if let Some(numbers) = self.of_subscription.get(&subscription) {
+            send_all(&mut self.items, numbers, count);
         }
     }
 }

@@ -9,7 +9,7 @@ ghost use Rattle.ua_monitored_items.specs.ItemTables.{numbers_of};
 ghost use Rattle.ua_monitored_items.specs.Items.{no_items, is_full as is_full_spec, null_object, zero_duration, create_judged, create_one, create_result, create_refused, new_item, begun, with_new_item, own_item, with_change, modify_one, modify_result, modify_refused, mode_one, delete_one, without, ended as ended_spec, all_served, is_available, taken_of};
 ghost use Rattle.ua_monitored_items.specs.Links.{link_status, unlinked, is_own as is_own_spec, may_link as may_link_spec, linked, in_order, link as link_spec, after_link, IsAnswer};
 ghost use Rattle.ua_monitored_items.specs.Modifying.{modification_of};
-ghost use Rattle.ua_monitored_items.specs.Preparing.{FitsAt, IsReady, AreReady, mode_status, moded_own};
+ghost use Rattle.ua_monitored_items.specs.Preparing.{IsReady, AreReady, mode_status, moded_own};
 ghost use Rattle.ua_monitored_items.specs.Releases.{mode_releases, modes_release, modes_set, shown, ShownSome};
 ghost use Rattle.ua_monitored_items.specs.Undoing.{last_undone, undone, CanBeUndone};
 
@@ -26,8 +26,8 @@ use ua_messages::ReadValueId;
 use ua_read_write::{Change, Timestamps, refusal};
 use ua_space::Space;
 use ua_subscription_messages::{
-    MonitoredItemCreateRequest, MonitoredItemCreateResult, MonitoredItemModifyRequest,
-    MonitoredItemModifyResult, MonitoredItemNotification,
+    BorrowedNotification, MonitoredItemCreateRequest, MonitoredItemCreateResult,
+    MonitoredItemModifyRequest, MonitoredItemModifyResult,
 };
 use ua_types::{Config, Duration, ExtensionObject, ExtensionObjectBody, Moment, NodeId, Status};
 
@@ -203,7 +203,6 @@ impl Items {
             mode: kind.mode,
             trigger: kind.trigger,
             queue,
-            last: None,
             released: false,
             links: Links::new(alloc),
         })
@@ -495,7 +494,6 @@ impl Items {
 
     // Gives one item a mode, if it is known. Takes no memory.
     fn mode_one(&mut self, subscription: u32, mode: Mode, prepared: Prepared) -> Status
-        requires { FitsAt mode (own_item self.old subscription prepared.number) prepared.first }
         ensures result { result ≡ mode_status (own_item self.old subscription prepared.number) }
         ensures state { self.new ≡ moded_own mode self.old prepared (own_item self.old subscription prepared.number) }
     {
@@ -738,22 +736,26 @@ impl Items {
         self.table.available(subscription)
     }
 
-    /// Takes the first values of a subscription's items that report or are released, at most so many: the items
-    /// by rising number, and the values of each oldest first. Each goes with the client's number of the item, the
-    /// times that are wanted now, and the Overflow bit where it is marked.
-    ///
-    /// At want of memory nothing changed: there is room for all of them before the first is taken.
-    pub fn take_notes(
-        &mut self,
+    /// What a subscription's items that report or are released have to tell, at most so many values: the items by
+    /// rising number, and the values of each oldest first. Each goes with the client's number of the item, the times
+    /// that are wanted now, and the Overflow bit where it is marked. The values stand where they wait, until
+    /// [`Items::send`] says that they were sent.
+    pub fn notes(
+        &self,
         alloc: Global,
         subscription: u32,
         count: usize,
-    ) -> Result<Vec<MonitoredItemNotification>, AllocError>
-        ensures notes { IfOk result (λ notes. notes.items ≡ (taken_of self.old.items count (numbers_of subscription self.old.items)).notes) }
-        ensures ok { OnOk result (self.new.items ≡ (taken_of self.old.items count (numbers_of subscription self.old.items)).items) }
-        ensures others { self.new ≡ record self.old { items = self.new.items } }
-        ensures err { OnErr result (self.new ≡ self.old) }
+    ) -> Result<Vec<BorrowedNotification<'_>>, AllocError>
+        ensures { IfOk result (λ notes. notes.items ≡ (taken_of self.now.items count (numbers_of subscription self.now.items)).notes) }
     {
-        self.table.take(alloc, subscription, count)
+        self.table.tell(alloc, subscription, count)
+    }
+
+    /// What [`Items::notes`] tells was sent, and waits no more. Takes no memory.
+    pub fn send(&mut self, subscription: u32, count: usize)
+        ensures items { self.new.items ≡ (taken_of self.old.items count (numbers_of subscription self.old.items)).items }
+        ensures others { self.new ≡ record self.old { items = self.new.items } }
+    {
+        self.table.send(subscription, count);
     }
 }

@@ -1,30 +1,29 @@
 //! Items under their numbers, and how many of each subscription's items have a value to send.
 
-ghost use Rattle.std.specs.Prelude.{◌≡◌, ◌≤◌, ◌+◌, ◌++◌, [], None, OnOk, OnErr, IfOk, IfErr, IfNone};
+ghost use Rattle.std.specs.Prelude.{◌≡◌, ◌++◌, [], None, OnOk, OnErr, IfOk, IfErr, IfNone};
 ghost use Rattle.std.specs.BTreeMap.{is_at, insert_entry};
 ghost use Rattle.std.specs.Map.{remove_entry};
 ghost use Rattle.std.specs.Option.{option_copied};
 ghost use Rattle.std.specs.Ordering.{nat_cmp};
-ghost use Rattle.std.specs.Vec.{vec_len, vec_capacity};
 ghost use Rattle.ua_monitored_items.specs.Counts.{recount_by, AreRecounted, CanCount, AreHeld, AreSame};
 ghost use Rattle.ua_monitored_items.specs.Item.{seen, gave, released_in, with_links};
 ghost use Rattle.ua_monitored_items.specs.ItemTables.{item_at, numbers_of, with_item, AreRising};
-ghost use Rattle.ua_monitored_items.specs.Items.{any_waits, nat_least, Taking, with_taken};
+ghost use Rattle.ua_monitored_items.specs.Items.{any_waits, nat_least, with_taken, nothing_taken};
 ghost use Rattle.ua_monitored_items.specs.Modifying.{modified_with};
-ghost use Rattle.ua_monitored_items.specs.Preparing.{FitsAt, moded_from};
+ghost use Rattle.ua_monitored_items.specs.Preparing.{moded_from};
 ghost use Rattle.ua_monitored_items.specs.Releases.{visit_releases, with_release};
 ghost use Rattle.ua_monitored_items.specs.Taking.{waiting_at};
 
 use crate::item::Item;
 use crate::kinds::Mode;
 use crate::links::Links;
-use crate::preparing::{FirstSample, Modification};
+use crate::preparing::Modification;
 use crate::releases::Release;
 use std::alloc::{AllocError, AllocFailed, Global};
 use std::collections::BTreeMap;
 use std::marker::Model;
 use ua_read_write::Timestamps;
-use ua_subscription_messages::{MonitoredItemNotification, MonitoringParameters};
+use ua_subscription_messages::MonitoringParameters;
 use ua_values::DataValue;
 
 /// Of an item that is put in, changed or taken out: whether it had a value to send before, and has one now.
@@ -94,9 +93,8 @@ fn set_mode_at(
     items: &mut BTreeMap<u32, Item>,
     number: u32,
     mode: Mode,
-    first: Option<FirstSample>,
+    first: Option<DataValue>,
 ) -> Option<Recount>
-    requires { FitsAt mode (item_at number items.old.entries) first }
     ensures items { items.new.entries ≡ with_item number (moded_from mode first) items.old.entries }
     ensures recount { result ≡ recount_by (moded_from mode first) (item_at number items.old.entries) }
 {
@@ -165,28 +163,18 @@ fn visit_at(
     }))
 }
 
-// The item with this number gives its oldest values, at most so many. Answers how many more are wanted.
-#[tactic(auto, using(crate::proofs::Edits::set_same))]
-fn take_at(
-    items: &mut BTreeMap<u32, Item>,
-    number: u32,
-    left: usize,
-    notes: &mut Vec<MonitoredItemNotification>,
-) -> (usize, Option<Recount>)
-    requires { vec_len notes.old + nat_least left (waiting_at (item_at number items.old.entries)) ≤ vec_capacity notes.old }
-    ensures left { result.0 ≡ (with_taken (record { notes = notes.old.items; items = items.old.entries; left = left }) number).left }
-    ensures notes { notes.new.items ≡ (with_taken (record { notes = notes.old.items; items = items.old.entries; left = left }) number).notes }
-    ensures items { items.new.entries ≡ (with_taken (record { notes = notes.old.items; items = items.old.entries; left = left }) number).items }
+// The oldest values of the item with this number are sent, at most so many. Answers how many more are wanted.
+fn send_at(items: &mut BTreeMap<u32, Item>, number: u32, left: usize) -> (usize, Option<Recount>)
+    ensures left { result.0 ≡ (with_taken (nothing_taken items.old.entries left) number).left }
+    ensures items { items.new.entries ≡ (with_taken (nothing_taken items.old.entries left) number).items }
     ensures recount { result.1 ≡ recount_by (gave (nat_least left (waiting_at (item_at number items.old.entries)))) (item_at number items.old.entries) }
-    ensures len { vec_len notes.new + result.0 ≤ vec_len notes.old + left }
-    ensures room { vec_capacity notes.new ≡ vec_capacity notes.old }
 {
     match items.get_mut(&number) {
         None => (left, None),
         Some(item) => {
             let waiting = item.waiting();
             let count = left.min(waiting);
-            item.give(count, notes);
+            item.send(count);
             let recount = Recount {
                 subscription: item.subscription,
                 had: waiting > 0,
@@ -309,8 +297,7 @@ impl Numbered {
 
     /// The item with this number gets a mode, and queues what was sampled for it where that enables it.
     /// Takes no memory.
-    pub fn set_mode(&mut self, number: u32, mode: Mode, first: Option<FirstSample>)
-        requires { FitsAt mode (item_at number self.old) first }
+    pub fn set_mode(&mut self, number: u32, mode: Mode, first: Option<DataValue>)
         ensures { self.new ≡ with_item number (moded_from mode first) self.old }
     {
         let most = self.items.len();
@@ -359,23 +346,14 @@ impl Numbered {
         Ok(())
     }
 
-    /// The item with this number gives its oldest values, at most so many. Answers how many more are wanted.
-    /// Takes no memory, since there is room.
-    pub fn take_from(
-        &mut self,
-        number: u32,
-        left: usize,
-        notes: &mut Vec<MonitoredItemNotification>,
-    ) -> usize
-        requires { vec_len notes.old + nat_least left (waiting_at (item_at number self.old)) ≤ vec_capacity notes.old }
-        ensures left { result ≡ (with_taken (record { notes = notes.old.items; items = self.old; left = left }) number).left }
-        ensures notes { notes.new.items ≡ (with_taken (record { notes = notes.old.items; items = self.old; left = left }) number).notes }
-        ensures items { self.new ≡ (with_taken (record { notes = notes.old.items; items = self.old; left = left }) number).items }
-        ensures len { vec_len notes.new + result ≤ vec_len notes.old + left }
-        ensures room { vec_capacity notes.new ≡ vec_capacity notes.old }
+    /// The oldest values of the item with this number are sent, at most so many. Answers how many more are wanted.
+    /// Takes no memory.
+    pub fn send_from(&mut self, number: u32, left: usize) -> usize
+        ensures left { result ≡ (with_taken (nothing_taken self.old left) number).left }
+        ensures items { self.new ≡ (with_taken (nothing_taken self.old left) number).items }
     {
         let most = self.items.len();
-        let (wanted, found) = take_at(&mut self.items, number, left, notes);
+        let (wanted, found) = send_at(&mut self.items, number, left);
         if let Some(recount) = found {
             count(&mut self.counts, recount, most);
         }

@@ -1,61 +1,77 @@
-//! What a message takes of the items.
+//! What a message tells of the items, and what they have no more once it did.
 
-ghost use Rattle.std.specs.Prelude.{◌≡◌, ◌≤◌, OnOk, OnErr, IfOk};
+ghost use Rattle.std.specs.Prelude.{◌≡◌, ◌++◌, ◌-◌, length, take, OnOk, IfOk};
 ghost use Rattle.ua_monitored_items.specs.ItemTables.{item_at};
 ghost use Rattle.ua_monitored_items.specs.Items.{taken_of};
-ghost use Rattle.ua_monitored_items.specs.Taking.{waiting_at as waiting_at_spec, left_after as left_after_spec};
+ghost use Rattle.ua_monitored_items.specs.Taking.{told_at, told_by};
 
 use crate::numbered::Numbered;
 use std::alloc::{AllocError, Global};
 use std::collections::BTreeSet;
-use ua_subscription_messages::MonitoredItemNotification;
+use ua_subscription_messages::BorrowedNotification;
 
-// How many values of the item with this number wait to be sent.
-fn waiting_at(items: &Numbered, number: u32) -> usize
-    ensures { result ≡ waiting_at_spec (item_at number items.now) }
-{
-    match items.get(number) {
-        None => 0,
-        Some(item) => item.waiting(),
-    }
-}
-
-// How many values are wanted yet once the items with these numbers gave theirs.
-#[tactic(auto, using(crate::proofs::Rooms::left_none))]
-fn left_after(items: &Numbered, numbers: &BTreeSet<u32>, count: usize) -> usize
-    ensures left { result ≡ left_after_spec items.now count numbers.now.keys }
-    ensures fewer { result ≤ count }
-{
-    let mut left = count;
+// How many values the items with these numbers have to tell, at most so many.
+fn count_of(items: &Numbered, numbers: &BTreeSet<u32>, most: usize) -> usize {
+    let mut count = 0usize;
     for number in numbers {
-        if left == 0 {
+        if count >= most {
             break;
         }
-        left = left.saturating_sub(waiting_at(items, *number));
+        if let Some(item) = items.get(*number) {
+            count = count.saturating_add(item.waiting());
+        }
     }
-    left
+    count.min(most)
 }
 
-/// The first values of the items with these numbers, at most so many. At an `Err` nothing changed: room
-/// for all of them is taken first.
-pub(crate) fn take_all(
+// Tells of the values of the item with this number, at most so many, behind what is there. Answers how many more are wanted.
+#[tactic(auto, using(crate::proofs::FirstNotes::told_first, crate::proofs::FirstNotes::told_rest))]
+fn tell_from<'a>(
+    items: &'a Numbered,
+    number: u32,
+    left: usize,
+    notes: &mut Vec<BorrowedNotification<'a>>,
+) -> Result<usize, AllocError>
+    ensures notes { OnOk result (notes.new.items ≡ notes.old.items ++ take left (told_at (item_at number items.now))) }
+    ensures left { IfOk result (λ rest. rest ≡ left - length (told_at (item_at number items.now))) }
+{
+    let Some(item) = items.get(number) else {
+        return Ok(left);
+    };
+    let count = left.min(item.waiting());
+    item.tell(count, notes)?;
+    Ok(left - count)
+}
+
+/// What the items with these numbers have to tell, the first so many values.
+pub(crate) fn tell_all<'a>(
     alloc: Global,
-    items: &mut Numbered,
+    items: &'a Numbered,
     numbers: &BTreeSet<u32>,
     count: usize,
-) -> Result<Vec<MonitoredItemNotification>, AllocError>
-    ensures notes { IfOk result (λ notes. notes.items ≡ (taken_of items.old count numbers.now.keys).notes) }
-    ensures items { OnOk result (items.new ≡ (taken_of items.old count numbers.now.keys).items) }
-    ensures err { OnErr result (items.new ≡ items.old) }
+) -> Result<Vec<BorrowedNotification<'a>>, AllocError>
+    ensures { IfOk result (λ notes. notes.items ≡ take count (told_by items.now numbers.now.keys)) }
 {
-    let given = count - left_after(items, numbers, count);
-    let mut notes = Vec::with_capacity(alloc, given)?;
+    let mut notes = Vec::with_capacity(alloc, count_of(items, numbers, count))?;
     let mut left = count;
     for number in numbers {
         if left == 0 {
             break;
         }
-        left = items.take_from(*number, left, &mut notes);
+        left = tell_from(items, *number, left, &mut notes)?;
     }
     Ok(notes)
+}
+
+/// The first values of the items with these numbers are sent, at most so many. Takes no memory.
+pub(crate) fn send_all(items: &mut Numbered, numbers: &BTreeSet<u32>, count: usize)
+    ensures { items.new ≡ (taken_of items.old count numbers.now.keys).items }
+{
+    let mut left = count;
+    for number in numbers {
+        if left == 0 {
+            break;
+        }
+        left = items.send_from(*number, left);
+    }
 }

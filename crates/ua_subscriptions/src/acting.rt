@@ -125,9 +125,11 @@ fn send_note(
     ensures exhausted { IfErr result (λ halt. halt ≡ Exhausted → round.old.message_count + 1 ≡ 2 ^ 64) }
 {
     round.count(subscription)?;
-    let notes = items.take_notes(alloc, round.own, subscription.notifications as usize)?;
+    let count = subscription.notifications as usize;
     let number = number_after(subscription.number);
+    let notes = items.notes(alloc, round.own, count)?;
     let bytes = data_message(alloc, number, round.clock, notes)?;
+    items.send(round.own, count);
     let message = bytes.clone()?;
     subscription.more = items.available(round.own);
     subscription.number = number;

@@ -6,10 +6,10 @@ ghost use Rattle.ua_subscriptions.specs.Messages.{data_message, keep_alive_messa
 use bytes::Bytes;
 use std::alloc::{AllocError, Global};
 use ua_binary::Wire;
-use ua_messages::{DiagnosticInfo, DiagnosticInfos, type_ids};
+use ua_messages::{DiagnosticInfo, type_ids};
 use ua_subscription_messages::{
-    DataChangeNotification, MonitoredItemNotification, NotificationMessage,
-    StatusChangeNotification, notification_message,
+    BorrowedDataChange, BorrowedNotification, NotificationMessage, StatusChangeNotification,
+    notification_message,
 };
 use ua_types::{Array, Moment, Status};
 
@@ -28,17 +28,14 @@ pub(crate) fn data_message(
     alloc: Global,
     number: u32,
     clock: Moment,
-    notes: Vec<MonitoredItemNotification>,
+    notes: Vec<BorrowedNotification<'_>>,
 ) -> Result<Bytes, AllocError>
-    ensures { IfOk result (λ bytes. bytes ≡ data_message number clock notes.items) }
+    ensures { IfOk result (λ bytes. bytes ≡ data_message number clock notes.entry.items) }
 {
     if notes.len() >= 1 << 31 {
         return Err(AllocError);
     }
-    let changes = DataChangeNotification {
-        monitored_items: Array::new(notes),
-        diagnostic_infos: DiagnosticInfos,
-    };
+    let changes = BorrowedDataChange::new(notes);
     let type_id = type_ids::DATA_CHANGE_NOTIFICATION;
     let mut bytes = notification_message(alloc, number, clock, type_id, &changes)?;
     // A message that is kept has no room to spare.

@@ -4,15 +4,9 @@ use Rattle.std.specs.Vec.Iter.{into_iter_items}
 use Rattle.ua_monitored_items.specs.Items.{ItemsState, mode_one, all_served}
 use Rattle.ua_monitored_items.specs.Preparing.{AreReady}
 use Rattle.ua_monitored_items.specs.declared.preparing.Prepared.{Prepared}
-use Rattle.ua_monitored_items.proofs.Readiness.{ready_fits, served_status, served_state, ready_kept}
+use Rattle.ua_monitored_items.proofs.Readiness.{served_status, served_state, ready_kept}
 use Rattle.ua_monitored_items.proofs.Serving.{results_then, state_then}
 use Rattle.ua_monitored_items.proofs.items.Items.mode_all.Goals as goal
-
-pub mode_one-requires : goal.mode_one-requires
-mode_one-requires c =
-    let nodes = c.args.space.now.nodes in
-    let ready = subst (AreReady nodes c.args.clock c.args.subscription c.args.mode c.loop-prepared.self) c.in-Some.ensures.steps.0 c.loop-prepared.invariant.ready in
-    ready_fits nodes c.args.clock c.args.mode _ c.in-Some.prepared.first ready.0
 
 pub loop-prepared-preserved : goal.loop-prepared-preserved
 loop-prepared-preserved c =
