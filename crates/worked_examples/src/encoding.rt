@@ -128,14 +128,14 @@ fn write_message_viewed<'a, V: Viewed<'a>>(
     write_both(taken.as_slice(), viewed.as_slice(), output)
 }
 
-// The structure of the type with this id in an object, and the object around it.
+// The structure that an object holds, and the object around it, or why it holds none.
 fn write_held<T: Wire + Debug>(
     alloc: Global,
     type_id: u32,
-    object: &ExtensionObject,
+    held: Result<T, StructureFault>,
     output: &mut Vec<u8>,
 ) -> io::Result<()> {
-    match structure::<T>(alloc, type_id, object) {
+    match held {
         Ok(value) => {
             let around = extension_object(alloc, type_id, &value)?;
             let mut again = Vec::new(alloc);
@@ -154,9 +154,46 @@ fn write_structure<T: Wire + Debug>(
     output: &mut Vec<u8>,
 ) -> io::Result<()> {
     match ExtensionObject::take(alloc, &mut Cursor::new(bytes)) {
-        Ok(object) => write_held::<T>(alloc, type_id, &object, output),
+        Ok(object) => write_held(
+            alloc,
+            type_id,
+            structure::<T>(alloc, type_id, &object),
+            output,
+        ),
         Err(fault) => write!(output, "{fault:?}\n"),
     }
+}
+
+// A copy of the structure of this type that an object holds, or why it holds none.
+fn held_copied<'a, V: Viewed<'a>>(
+    alloc: Global,
+    type_id: u32,
+    object: &ExtensionObjectView<'a>,
+) -> Result<Result<V::Value, StructureFault>, AllocError> {
+    match structure_view::<V>(type_id, object) {
+        Ok(view) => Ok(Ok(view.copied(alloc)?)),
+        Err(fault) => Ok(Err(fault)),
+    }
+}
+
+// As `write_structure`, where the structure has a view, which is to say the same.
+fn write_structure_viewed<'a, V: Viewed<'a>>(
+    alloc: Global,
+    type_id: u32,
+    bytes: &'a [u8],
+    output: &mut Vec<u8>,
+) -> io::Result<()> {
+    let mut taken = Vec::new(alloc);
+    write_structure::<V::Value>(alloc, type_id, bytes, &mut taken)?;
+    let mut viewed = Vec::new(alloc);
+    match ExtensionObjectView::view(&mut Cursor::new(bytes)) {
+        Ok(object) => {
+            let held = held_copied::<V>(alloc, type_id, &object)?;
+            write_held(alloc, type_id, held, &mut viewed)?;
+        }
+        Err(fault) => write!(viewed, "{fault:?}\n")?,
+    }
+    write_both(taken.as_slice(), viewed.as_slice(), output)
 }
 
 fn write_of_subscriptions(
@@ -409,7 +446,7 @@ fn write_of_services(
             bytes,
             output,
         ),
-        "ReadRawModifiedDetails" => write_structure::<ReadRawModifiedDetails>(
+        "ReadRawModifiedDetails" => write_structure_viewed::<ReadRawModifiedDetailsView>(
             alloc,
             READ_RAW_MODIFIED_DETAILS,
             bytes,
@@ -472,20 +509,20 @@ fn write_of_channels(
 
 fn write_named(alloc: Global, name: &str, bytes: &[u8], output: &mut Vec<u8>) -> io::Result<()> {
     match name {
-        "Boolean" => write_value::<bool>(alloc, bytes, output),
+        "Boolean" => write_viewed::<bool>(alloc, bytes, output),
         "SByte" => write_value::<i8>(alloc, bytes, output),
         "Byte" => write_value::<u8>(alloc, bytes, output),
         "Int16" => write_value::<i16>(alloc, bytes, output),
-        "UInt16" => write_value::<u16>(alloc, bytes, output),
+        "UInt16" => write_viewed::<u16>(alloc, bytes, output),
         "Int32" => write_value::<i32>(alloc, bytes, output),
-        "UInt32" => write_value::<u32>(alloc, bytes, output),
+        "UInt32" => write_viewed::<u32>(alloc, bytes, output),
         "Int64" => write_value::<i64>(alloc, bytes, output),
         "UInt64" => write_value::<u64>(alloc, bytes, output),
         "Float" => write_value::<Float>(alloc, bytes, output),
         "Double" => write_value::<Double>(alloc, bytes, output),
-        "DateTime" => write_value::<Moment>(alloc, bytes, output),
-        "StatusCode" => write_value::<Status>(alloc, bytes, output),
-        "Duration" => write_value::<Duration>(alloc, bytes, output),
+        "DateTime" => write_viewed::<Moment>(alloc, bytes, output),
+        "StatusCode" => write_viewed::<Status>(alloc, bytes, output),
+        "Duration" => write_viewed::<Duration>(alloc, bytes, output),
         "String" => write_viewed::<TextView>(alloc, bytes, output),
         "ByteString" => write_viewed::<ByteStringView>(alloc, bytes, output),
         "Guid" => write_value::<Guid>(alloc, bytes, output),

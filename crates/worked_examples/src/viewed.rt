@@ -5,15 +5,17 @@ use std::fmt::Debug;
 use ua_binary::Wire;
 use ua_messages::RequestHeader;
 use ua_service_messages::{
-    BrowseNextRequest, BrowseRequest, HistoryReadRequest, ReadRequest, WriteRequest,
+    BrowseNextRequest, BrowseRequest, HistoryReadRequest, ReadRawModifiedDetails, ReadRequest,
+    WriteRequest,
 };
 use ua_service_views::{
     BrowseDescriptionView, BrowseNextRequestView, BrowseRequestView, HistoryReadRequestView,
-    HistoryReadValueIdView, ReadRequestView, ReadValueIdView, RequestHeaderView, WriteRequestView,
-    WriteValueView,
+    HistoryReadValueIdView, ReadRawModifiedDetailsView, ReadRequestView, ReadValueIdView,
+    RequestHeaderView, WriteRequestView, WriteValueView,
 };
 use ua_types::{
-    Array, ByteString, ExpandedNodeId, ExtensionObject, LocalizedText, NodeId, QualifiedName, Text,
+    Array, ByteString, Duration, ExpandedNodeId, ExtensionObject, LocalizedText, Moment, NodeId,
+    QualifiedName, Status, Text,
 };
 use ua_values::{DataValue, Variant};
 use ua_views::{
@@ -69,6 +71,45 @@ viewed!(WriteValueView, ua_service_messages::WriteValue);
 viewed!(BrowseDescriptionView, ua_service_messages::BrowseDescription);
 
 viewed!(HistoryReadValueIdView, ua_service_messages::HistoryReadValueId);
+
+// Values that are views themselves.
+macro_rules! viewed_itself {
+    ($value:ty) => {
+        impl<'a> Viewed<'a> for $value {
+            type Value = $value;
+
+            fn copied(self, _alloc: Global) -> Result<$value, AllocError> {
+                Ok(self)
+            }
+        }
+    };
+}
+
+viewed_itself!(bool);
+
+viewed_itself!(u16);
+
+viewed_itself!(u32);
+
+viewed_itself!(Moment);
+
+viewed_itself!(Status);
+
+viewed_itself!(Duration);
+
+impl<'a> Viewed<'a> for ReadRawModifiedDetailsView {
+    type Value = ReadRawModifiedDetails;
+
+    fn copied(self, _alloc: Global) -> Result<ReadRawModifiedDetails, AllocError> {
+        Ok(ReadRawModifiedDetails {
+            is_read_modified: self.is_read_modified,
+            start_time: self.start_time,
+            end_time: self.end_time,
+            num_values_per_node: self.num_values_per_node,
+            return_bounds: self.return_bounds,
+        })
+    }
+}
 
 // The list of copies of the elements, or null.
 fn copies<'a, V: Viewed<'a>>(
