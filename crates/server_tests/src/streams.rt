@@ -1,6 +1,6 @@
 //! Streams that give and take a few bytes at a time, and fail.
 
-use crate::bytes_due::{ACKNOWLEDGE, HELLO};
+use crate::bytes_due::{ANSWERS, REQUESTS};
 use crate::events::{base_server, opened};
 use crate::holding::holds;
 use server_core::Server;
@@ -35,7 +35,7 @@ impl Read for Source {
     }
 }
 
-// Takes a few bytes at a time, those of an Acknowledge, and at one call fails or takes none. It knows how many it took, how
+// Takes a few bytes at a time, those of the answers, and at one call fails or takes none. It knows how many it took, how
 // many of them were flushed, and whether they were those.
 #[derive(Drop)]
 struct Sink {
@@ -59,7 +59,7 @@ impl Write for Sink {
         }
         let count = self.size.min(buf.len());
         let end = self.taken.saturating_add(count);
-        self.is_due = self.is_due && ACKNOWLEDGE.get(self.taken..end) == Some(&buf[..count]);
+        self.is_due = self.is_due && ANSWERS.get(self.taken..end) == Some(&buf[..count]);
         self.taken = end;
         Ok(count)
     }
@@ -72,7 +72,7 @@ impl Write for Sink {
 
 fn giving(size: usize, fails_at: u64, kind: ErrorKind) -> Source {
     Source {
-        rest: HELLO,
+        rest: REQUESTS,
         size,
         calls: 0,
         fails_at,
@@ -141,31 +141,45 @@ fn ends_on(
     Ok(ended == end && is_flushed && sink.is_due && sink.taken == count && counted == count as u128)
 }
 
-// Whether a Hello from this stream ends so, with so many bytes of its answer out there, which the pump counts, and which are
-// flushed at the end.
+// Whether the requests from this stream end so, with so many bytes of their answers out there, which the pump counts, and which
+// are flushed at the end.
 fn ends(alloc: Global, source: Source, sink: Sink, end: End, count: usize) -> Result<bool, Fail> {
     let mut server = base_server(alloc)?;
     ends_on(alloc, &mut server, source, sink, end, count)
+}
+
+// How many bytes answer the first so many bytes of the requests.
+fn answered(read: usize) -> usize {
+    if read < 56 {
+        0
+    } else if read < 188 {
+        28
+    } else if read < 257 {
+        163
+    } else {
+        486
+    }
 }
 
 #[test]
 fn a_few_bytes_at_a_time(rt: HostRuntime) -> Result<(), Fail> {
     for size in 1..8 {
         let source = giving(size, 0, ErrorKind::Other);
-        let is_so = ends(rt.alloc(), source, taking(size, 0, None), End::Done, 28)?;
-        holds(&rt, "acknowledged", is_so);
+        let is_so = ends(rt.alloc(), source, taking(size, 0, None), End::Done, 486)?;
+        holds(&rt, "answered", is_so);
     }
     Ok(())
 }
 
 #[test]
 fn a_read_fails(rt: HostRuntime) -> Result<(), Fail> {
-    for at in 1..4 {
-        let broken = giving(5, at, ErrorKind::Other);
-        let is_so = ends(rt.alloc(), broken, taking(5, 0, None), End::Read, 0)?;
+    for before in 0..63u64 {
+        let out = answered((before as usize) * 5);
+        let broken = giving(5, before + 1, ErrorKind::Other);
+        let is_so = ends(rt.alloc(), broken, taking(5, 0, None), End::Read, out)?;
         holds(&rt, "broken", is_so);
-        let interrupted = giving(5, at, ErrorKind::Interrupted);
-        let is_so = ends(rt.alloc(), interrupted, taking(5, 0, None), End::Done, 28)?;
+        let interrupted = giving(5, before + 1, ErrorKind::Interrupted);
+        let is_so = ends(rt.alloc(), interrupted, taking(5, 0, None), End::Done, 486)?;
         holds(&rt, "interrupted", is_so);
     }
     Ok(())
@@ -173,25 +187,17 @@ fn a_read_fails(rt: HostRuntime) -> Result<(), Fail> {
 
 #[test]
 fn a_write_fails(rt: HostRuntime) -> Result<(), Fail> {
-    for before in 0..6u64 {
-        let out = (before as usize) * 5;
-        let none = taking(5, before + 1, None);
-        let is_so = ends(
-            rt.alloc(),
-            giving(5, 0, ErrorKind::Other),
-            none,
-            End::Write,
-            out,
-        )?;
+    for before in 0..486u64 {
+        let out = before as usize;
+        // Each answer is written by itself.
+        let apart = giving(5, 0, ErrorKind::Other);
+        let none = taking(1, before + 1, None);
+        let is_so = ends(rt.alloc(), apart, none, End::Write, out)?;
         holds(&rt, "no byte is taken", is_so);
-        let broken = taking(5, before + 1, Some(ErrorKind::BrokenPipe));
-        let is_so = ends(
-            rt.alloc(),
-            giving(5, 0, ErrorKind::Other),
-            broken,
-            End::Write,
-            out,
-        )?;
+        // All are written at once.
+        let whole = giving(314, 0, ErrorKind::Other);
+        let broken = taking(1, before + 1, Some(ErrorKind::BrokenPipe));
+        let is_so = ends(rt.alloc(), whole, broken, End::Write, out)?;
         holds(&rt, "broken", is_so);
     }
     Ok(())

@@ -7,6 +7,7 @@ mod history;
 mod requests;
 mod space;
 
+pub(crate) use requests::{failed, plant};
 use std::io::{self, ErrorKind, Write};
 use std::process::ExitCode;
 use std::time::Instant;

@@ -36,12 +36,17 @@
 //! - `number HEX`: the number of the id that a body begins with, 0 where that is none of the standard's;
 //! - `node_id TEXT`: the id that a text says, and how it is written, or what is wrong with the text.
 //!
+//! Of want of memory, which none of the lines meets:
+//!
+//! - `again OBJECT`: what calls on it give, each of which is made again where memory ran out ([`again`]).
+//!
 //! And `benchmark NAME ROUNDS` ([`benchmarks`]), whose counts are printed; the times go to standard error.
 //!
 //! What is to be printed stands in `stdout`: written by hand from the standard's layouts and the state table, and never
 //! from what was printed. The names are put in by `scripts/name_messages.py`, which knows the standard and none of this code.
 #![tactic(auto)]
 
+mod again;
 mod behind;
 mod benchmarks;
 mod encoding;
@@ -53,6 +58,7 @@ mod runs;
 mod state_table;
 mod viewed;
 
+use again::write_again;
 use behind::{named, write_behind};
 use encoding::{write_compared, write_node_id, write_number, write_taken};
 use endings::write_end;
@@ -71,7 +77,13 @@ use std::{env, io};
 use stream_taps::Tap;
 
 // The files of lines, in the order in which they are printed.
-const FILES: [&str; 4] = ["examples", "encoding", "conversations", "plant_cases"];
+const FILES: [&str; 5] = [
+    "examples",
+    "encoding",
+    "conversations",
+    "plant_cases",
+    "again",
+];
 
 // Runs a command of the program, and gives what it prints.
 fn printed<R: Files + AllocGlobal + Net + RandomSource + Clock + Wait>(
@@ -149,6 +161,7 @@ fn write_command<R: Files + AllocGlobal + Net + RandomSource + Clock + Wait>(
     match words {
         ["uaserver"] => output.write_all(printed(rt, &[])?.as_slice()),
         ["state_table"] => write_table(output),
+        ["again", object] => write_again(rt, object, output),
         ["rows", nodes, scenario] => write_traced(rt, nodes, scenario, output),
         [part @ ("run" | "answers" | "last"), nodes, scenario] => {
             write_part(rt, part, nodes, scenario, output)

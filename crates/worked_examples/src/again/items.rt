@@ -1,0 +1,172 @@
+//! Monitored items.
+
+use super::TWICE;
+use crate::benchmarks::{failed, plant};
+use std::alloc::{AllocError, Global};
+use std::io::Write;
+use std::rt::Files;
+use std::{fs, io};
+use ua_binary::{Cursor, Wire, Written};
+use ua_monitored_items::Items;
+use ua_read_write::{Change, Timestamps};
+use ua_space::Space;
+use ua_subscription_messages::{
+    MonitoredItemCreateRequest, MonitoredItemCreateResult, MonitoredItemModifyRequest,
+    MonitoredItemNotification,
+};
+use ua_types::{Array, Moment, NodeId, Status};
+use ua_values::{Content, DataValue, Variant};
+
+// Two items, of Count and of Speed, which report up to three values each; and for both a queue of one value.
+const CREATED: &str =
+    "0200000001010b000d000000ffffffff0000ffffffff02000000010000000000000000000000000000030000000101010c000d000000ffffffff0000ffffffff020000000200000000000000000000000000000300000001";
+
+const MODIFIED: &str =
+    "02000000010000000100000000000000000000000000000100000001020000000200000000000000000000000000000100000001";
+
+// The entries of a request.
+fn entries<T: Wire + Drop>(alloc: Global, digits: &str) -> io::Result<Vec<T>> {
+    let Ok(bytes) = hex::decode(alloc, digits) else {
+        return Err(failed());
+    };
+    match Array::<T>::take(alloc, &mut Cursor::new(bytes.as_slice())) {
+        Ok(list) => Ok(list.into_vec().unwrap_or(Vec::new(alloc))),
+        Err(_) => Err(failed()),
+    }
+}
+
+fn create(
+    alloc: Global,
+    items: &mut Items,
+    space: &Space,
+) -> io::Result<Result<Vec<MonitoredItemCreateResult>, AllocError>> {
+    let requests = entries::<MonitoredItemCreateRequest>(alloc, CREATED)?;
+    let both = Timestamps::Both;
+    Ok(items.create(alloc, space, Moment(0), 1, both, requests))
+}
+
+// What becomes of the items that are made.
+fn write_created(
+    alloc: Global,
+    items: &mut Items,
+    space: &Space,
+    output: &mut Vec<u8>,
+) -> io::Result<()> {
+    let mut created = create(alloc, items, space)?;
+    if created.is_err() {
+        created = create(alloc, items, space)?;
+    }
+    let Ok(results) = created else {
+        return output.write_all(TWICE);
+    };
+    for made in results.as_slice() {
+        let status = made.status_code;
+        let size = made.revised_queue_size;
+        write!(output, "{status:?} {} {size}\n", made.monitored_item_id)?;
+    }
+    Ok(())
+}
+
+// What becomes of the items that are changed.
+fn write_modified(alloc: Global, items: &mut Items, output: &mut Vec<u8>) -> io::Result<()> {
+    let requests = entries::<MonitoredItemModifyRequest>(alloc, MODIFIED)?;
+    let requests = requests.as_slice();
+    let mut modified = items.modify(alloc, 1, Timestamps::Both, requests);
+    if modified.is_err() {
+        modified = items.modify(alloc, 1, Timestamps::Both, requests);
+    }
+    let Ok(results) = modified else {
+        return output.write_all(TWICE);
+    };
+    for given in results.as_slice() {
+        let status = given.status_code;
+        write!(output, "{status:?} {}\n", given.revised_queue_size)?;
+    }
+    Ok(())
+}
+
+// Takes what the items tell, a line for each value.
+fn write_notes(alloc: Global, items: &mut Items, output: &mut Vec<u8>) -> io::Result<()> {
+    let mut told = Vec::new(alloc);
+    let mut count = 0usize;
+    for note in items.notes(alloc, 1, 9)? {
+        note.write(&mut told)?;
+        count = count.saturating_add(1);
+    }
+    items.send(1, 9);
+    let mut cursor = Cursor::new(told.as_slice());
+    for _ in 0..count {
+        let Ok(note) = MonitoredItemNotification::take(alloc, &mut cursor) else {
+            return Err(failed());
+        };
+        write!(
+            output,
+            "item {} {:?}\n",
+            note.client_handle, note.value.value
+        )?;
+    }
+    Ok(())
+}
+
+fn changed(number: u32, value: Variant) -> Change {
+    Change {
+        node_id: NodeId::numeric(1, number),
+        value: DataValue {
+            value: Some(value),
+            status: Status::GOOD,
+            source_time: None,
+            server_time: None,
+        },
+    }
+}
+
+// Shows the items a value of each. At want of memory what was seen is told first, and all is shown again: what an item has
+// seen is no change then.
+fn show(
+    alloc: Global,
+    items: &mut Items,
+    count: u16,
+    speed: i32,
+    output: &mut Vec<u8>,
+) -> io::Result<()> {
+    let changes = [
+        changed(11, Variant::UInt16(Content::Scalar(count))),
+        changed(12, Variant::Int32(Content::Scalar(speed))),
+    ];
+    if items.sample(alloc, &changes).is_ok() {
+        return Ok(());
+    }
+    write_notes(alloc, items, output)?;
+    if items.sample(alloc, &changes).is_err() {
+        output.write_all(TWICE)?;
+    }
+    Ok(())
+}
+
+// All that is asked of the items, one after the other.
+fn write_all(
+    alloc: Global,
+    items: &mut Items,
+    space: &Space,
+    output: &mut Vec<u8>,
+) -> io::Result<()> {
+    write_created(alloc, items, space, output)?;
+    write_notes(alloc, items, output)?;
+    show(alloc, items, 7, 9, output)?;
+    write_notes(alloc, items, output)?;
+    for count in [8, 9] {
+        let change = changed(11, Variant::UInt16(Content::Scalar(count)));
+        items.sample(alloc, &[change])?;
+    }
+    write_modified(alloc, items, output)?;
+    write_notes(alloc, items, output)
+}
+
+/// Writes what becomes of two items that are made, what they tell at first and then of a value each; and what becomes of them as
+/// they get queues of one value, and what the first tells then, which had two.
+pub(super) fn write_items<R: Files + AllocGlobal>(rt: &R, output: &mut Vec<u8>) -> io::Result<()> {
+    let text = fs::read_to_string(rt, "sample.toml")?;
+    let (config, space) = plant(rt.alloc(), text.as_str())?;
+    let mut items = Items::new(rt.alloc(), &config);
+    write_all(rt.alloc(), &mut items, &space, output)
+}
