@@ -4,6 +4,9 @@
 use crate::bytes_due::{ACKNOWLEDGE, HELLO};
 use crate::events::base_server;
 use crate::holding::holds;
+use node_loader::{Loaded, load};
+use scenario_events::assemble;
+use server_core::{Event, Server};
 use socket_server::{Serve, Unobserved};
 use std::alloc::Global;
 use std::io::{ErrorKind, Read, Write};
@@ -11,6 +14,7 @@ use std::net::{SocketAddr, TcpStream};
 use std::sync::Wait;
 use std::test::*;
 use std::time::Clock;
+use ua_space::Space;
 
 // What a client says behind its Hello: an opening, GetEndpoints, and the end of the channel.
 const ASKED: &[u8] =
@@ -99,5 +103,125 @@ fn two_sockets(rt: HostRuntime) -> Result<(), Fail> {
     let alloc = rt.alloc();
     let mut serve = Serve::bind(&rt, alloc, 0)?;
     holds(&rt, "both", are_served(&rt, &rt, alloc, &mut serve)?);
+    Ok(())
+}
+
+// A node file of one variable, up to its text, whose server shows a time that the system's clock never does: nothing ends
+// before its time, and no timer goes off.
+const LABEL: &str = "version = 1
+[server]
+start = 1000000000000000000
+[[node]]
+id = \"ns=1;i=14\"
+class = \"Variable\"
+name = \"Label\"
+parent = \"i=85\"
+type = \"String\"
+access = 1
+value = \"";
+
+// A client makes a session with a subscription, and is gone. The first of two others asks six times for six times the text, and
+// the second one takes the session over.
+const ASKED_TOO_MUCH: &str =
+    "open 0 0000000000000000000000000000000000000000000000000000000000000000
+hel 0 \"opc.tcp://localhost:4840\"
+opn 0 issue
+session 0
+activate 0 1
+sub 0 1 0 0 0 0 on
+gone 0
+open 1 0000000000000000000000000000000000000000000000000000000000000000
+hel 1 \"opc.tcp://localhost:4840\"
+opn 1 issue
+activate 1 1
+read 1 1 3 ns=1;i=14 13 ns=1;i=14 13 ns=1;i=14 13 ns=1;i=14 13 ns=1;i=14 13 ns=1;i=14 13
+read 1 1 3 ns=1;i=14 13 ns=1;i=14 13 ns=1;i=14 13 ns=1;i=14 13 ns=1;i=14 13 ns=1;i=14 13
+read 1 1 3 ns=1;i=14 13 ns=1;i=14 13 ns=1;i=14 13 ns=1;i=14 13 ns=1;i=14 13 ns=1;i=14 13
+read 1 1 3 ns=1;i=14 13 ns=1;i=14 13 ns=1;i=14 13 ns=1;i=14 13 ns=1;i=14 13 ns=1;i=14 13
+read 1 1 3 ns=1;i=14 13 ns=1;i=14 13 ns=1;i=14 13 ns=1;i=14 13 ns=1;i=14 13 ns=1;i=14 13
+read 1 1 3 ns=1;i=14 13 ns=1;i=14 13 ns=1;i=14 13 ns=1;i=14 13 ns=1;i=14 13 ns=1;i=14 13
+open 2 0000000000000000000000000000000000000000000000000000000000000000
+hel 2 \"opc.tcp://localhost:4840\"
+opn 2 issue
+activate 2 1
+publish 2 1
+";
+
+// The end of what the second one reads: its Publish request, the third of its requests, has waited, since the session has its
+// subscription still, and is answered Bad_Shutdown. Then it is told that the server shuts down.
+const WAITED: &[u8] =
+    b"\x03\0\0\0\0\0\x0c\x80\0\xff\xff\xff\xff\0\0\0ERRF\x10\0\0\0\0\0\x0c\x80\xff\xff\xff\xff";
+
+// A server with that variable, whose text has 900,000 bytes.
+fn labelled_server(alloc: Global) -> Result<Server, Fail> {
+    let value = "a".repeat(alloc, 900_000)?;
+    let text = format!(in alloc; "{LABEL}{value}\"\n")?;
+    let Ok(loaded) = load(alloc, text.as_str()) else {
+        return Err(Fail::new("not loaded"));
+    };
+    let Loaded {
+        config,
+        nodes,
+        triples,
+    } = loaded;
+    let Ok(space) = Space::build(alloc, &config, nodes.into_vec(), triples.into_vec()) else {
+        return Err(Fail::new("not built"));
+    };
+    Ok(Server::new(alloc, config, space))
+}
+
+// Tells the server what happens before its sockets connect. What their clients say goes into these.
+fn say(
+    alloc: Global,
+    server: &mut Server,
+    one: &mut TcpStream,
+    two: &mut TcpStream,
+) -> Result<(), Fail> {
+    let Ok(events) = assemble(alloc, ASKED_TOO_MUCH) else {
+        return Err(Fail::new("not assembled"));
+    };
+    for event in events.as_slice() {
+        match event {
+            Event::Bytes { conn: 1, bytes } => one.write_all(bytes.as_slice())?,
+            Event::Bytes { conn: 2, bytes } => two.write_all(bytes.as_slice())?,
+            Event::Opened { conn: 1, key: _ } | Event::Opened { conn: 2, key: _ } => {}
+            _ => {
+                if server.step(alloc, event).is_err() {
+                    return Err(Fail::new("not answered"));
+                }
+            }
+        }
+    }
+    Ok(())
+}
+
+// Whether the first of two clients, which never reads, has lost its socket after a turn, and the second one has its own and
+// the session.
+fn is_one_dropped<R: Clock + Wait>(
+    host: &HostRuntime,
+    rt: &R,
+    alloc: Global,
+    serve: &mut Serve,
+    server: &mut Server,
+) -> Result<bool, Fail> {
+    let address = serve.address()?;
+    let mut one = client(host, address, &[])?;
+    let mut two = client(host, address, &[])?;
+    say(alloc, server, &mut one, &mut two)?;
+    let is_done = serve.run(rt, alloc, server, &mut Unobserved, 1).is_ok();
+    let told = waiting(alloc, &two)?;
+    Ok(is_done && serve.len() == 1 && told.as_slice().ends_with(WAITED))
+}
+
+#[test]
+fn a_client_that_never_reads(rt: HostRuntime) -> Result<(), Fail> {
+    let alloc = rt.alloc();
+    let mut serve = Serve::bind(&rt, alloc, 0)?;
+    let mut server = labelled_server(alloc)?;
+    holds(
+        &rt,
+        "dropped",
+        is_one_dropped(&rt, &rt, alloc, &mut serve, &mut server)?,
+    );
     Ok(())
 }

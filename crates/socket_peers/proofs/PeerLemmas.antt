@@ -1,14 +1,14 @@
 -- What goes out in one write, and in several.
-use Rattle.std.proofs.Common.{◌≡◌, ℕ, ◌+◌, ◌-◌, ◌<◌, ◌≤◌, ◌==◌, ◌||◌, nat_lt, Bool, true, false, List, [], ◌∷◌, ◌++◌, length, take, drop, Option, Some, None, refl, sym, ap, ◌∙◌, subst, slice_index_or, append-nil, append_assoc, take-append-drop, length-append, Bor, arith}
+use Rattle.std.proofs.Common.{◌≡◌, ℕ, ◌+◌, ◌-◌, ◌<◌, ◌≤◌, ◌==◌, ◌||◌, nat_lt, Bool, true, false, if◌then◌else◌, List, [], ◌∷◌, ◌++◌, length, take, drop, Option, Some, None, refl, sym, ap, ◌∙◌, subst, slice_index_or, append-nil, append_assoc, take-append-drop, length-append, Bor, arith}
 use lib.Seq.{drop-cons}
-use Rattle.std.proofs.lemmas.Bool.{true≢false, ltb-true}
+use Rattle.std.proofs.lemmas.Bool.{true≢false, ltb-true, ltb-false, le-ltb}
 use Rattle.std.proofs.Math.Seq.{take-append_seam, take-add}
 use Rattle.std.proofs.lemmas.List.{drop-drop, length-drop}
 use Rattle.std.specs.Io.KnownBytes.{Appends, Keeps}
 use Rattle.std.proofs.KnownBytes.{Appends-nil, Appends-trans, Keeps-refl}
 use Rattle.bytes.specs.Unread.{IsChunkOf, concat_slices}
 use Rattle.socket_peers.specs.Socket.{Calls}
-use Rattle.socket_peers.specs.Peer.{PeerState, is_settled, Tallies, Writes}
+use Rattle.socket_peers.specs.Peer.{PeerState, most_unsent, dropped, judged, is_settled, Tallies, Writes, Drains, Flushes}
 
 -- some bytes at the front
 pub front_part : (xs rest all : List ℕ) → all ≡ xs ++ rest → 0 < length xs → IsChunkOf xs all
@@ -77,6 +77,24 @@ settled_by false false n most h = let fits = h refl in empty_is n (omega arith)
 pub settled_at_end : {S : Type 0} (p : PeerState S) (most : ℕ) → ((p.is_full || p.has_failed) ≡ false → length p.owed + most ≤ most) → is_settled p ≡ true
 settled_at_end p most h = settled_by p.is_full p.has_failed (length p.owed) most h
 
+-- ---- what a flush leaves
+
+within_by : {S : Type 0} (is_over : Bool) (p : PeerState S) → nat_lt most_unsent (length p.owed) ≡ is_over
+    → length (if is_over then dropped p else p).owed ≤ most_unsent
+within_by true p e = omega arith
+within_by false p e = ltb-false most_unsent (length p.owed) e
+
+-- no more is owed than may stay unsent
+judged_within : {S : Type 0} (p : PeerState S) → length (judged p).owed ≤ 4194304
+judged_within p = within_by (nat_lt most_unsent (length p.owed)) p refl
+
+pub is_within : {S : Type 0} (written new : PeerState S) → new ≡ judged written → length new.owed ≤ 4194304
+is_within written new is = subst (λ p. length p.owed ≤ 4194304) (sym is) (judged_within written)
+
+-- a socket that is owed no more than that stays as it is
+spared : {S : Type 0} (p : PeerState S) → length p.owed ≤ 4194304 → judged p ≡ p
+spared p fits = ap (λ b. if b then dropped p else p) (le-ltb most_unsent (length p.owed) fits)
+
 module _ {S : Type 0} (remaining contents : S → Option (List ℕ)) (calls : S → Option Calls) where
   pub writes_none : (p : PeerState S) → Writes remaining contents calls p p 0
   writes_none p = record {
@@ -114,3 +132,14 @@ module _ {S : Type 0} (remaining contents : S → Option (List ℕ)) (calls : S 
         full = λ e. q.full (p.full e);
         tallies = tallies_trans a b c n (calls a.stream) (calls b.stream) (calls c.stream) p.tallies q.tallies;
       }
+
+  -- all that the stream takes was written, and the socket was judged
+  pub flushed : (old written new : PeerState S) → Drains remaining contents calls old written false → new ≡ judged written → Flushes remaining contents calls old new false
+  flushed old written new drains is = (written, drains, is)
+
+  -- what was owed no more before is not more after
+  pub drains_spared : (old written new : PeerState S) → Drains remaining contents calls old written false → new ≡ judged written → length old.owed ≤ 4194304
+      → Drains remaining contents calls old new false
+  drains_spared old written new (writes, settled) is fits =
+      let left : length written.owed ≡ length old.owed - writes.count = ap length writes.owed ∙ length-drop writes.count old.owed in
+      subst (λ p. Drains remaining contents calls old p false) (sym (is ∙ spared written (omega arith))) (writes, settled)

@@ -1,5 +1,5 @@
 -- One socket, and the bytes that it is owed.
-use Rattle.std.specs.Prelude.{◌≡◌, ◌⊎◌, ⊤, ℕ, ◌+◌, ◌<◌, ◌≤◌, ◌==◌, ◌&&◌, ◌||◌, Bool, true, false, not, nat_lt, List, [], ◌++◌, length, take, drop, Option, Some, None, refl}
+use Rattle.std.specs.Prelude.{◌≡◌, ◌⊎◌, ⊤, ℕ, ◌+◌, ◌<◌, ◌≤◌, ◌==◌, ◌&&◌, ◌||◌, Bool, true, false, not, nat_lt, List, [], ◌++◌, length, take, drop, Option, Some, None, if◌then◌else◌, refl}
 use Rattle.std.specs.Coded.{Coded, code_by, coded×, coded_ℕ, coded_bool, coded_list}
 use Rattle.std.specs.Io.KnownBytes.{Appends, Consumes, Keeps, IsAtEnd}
 use Rattle.socket_peers.specs.declared.peer.Heard.{Heard}
@@ -8,7 +8,7 @@ use Rattle.socket_peers.specs.declared.socket.Missed.TheVariants.{Waits, Interru
 use Rattle.socket_peers.specs.Socket.{Calls, NoneMissed, OneMissed}
 
 -- Its stream, the bytes that were sent to it and that the stream hasn't taken yet, whether nothing more is read from it, whether
--- its input is at its end, whether its stream failed, whether the server was told that its connection is no more, whether the stream
+-- its input is at its end, whether it has failed, whether the server was told that its connection is no more, whether the stream
 -- took less than there was and wasn't reported as writable since, and whether it stands on the list of those to be looked at
 pub record PeerState (S : Type 0) : Type 0 where
   pub stream : S
@@ -23,6 +23,10 @@ pub record PeerState (S : Type 0) : Type 0 where
 -- nothing is read from a socket that is owed more than this
 abbrev pub most_owed : ℕ
 most_owed = 1048576
+
+-- a socket that is owed more than this once it was flushed is dropped
+abbrev pub most_unsent : ℕ
+most_unsent = 4194304
 
 abbrev pub one_if : Bool → ℕ
 one_if true = 1
@@ -73,7 +77,7 @@ module _ {S : Type 0} where
   abbrev pub awake_if : Bool → PeerState S → PeerState S
   awake_if is_awake p = record p { is_awake = is_awake }
 
-  -- its stream failed, or it closes and has all that it was owed
+  -- it has failed, or it closes and has all that it was owed
   abbrev pub is_over : PeerState S → Bool
   is_over p = p.has_failed || (p.is_closing && (length p.owed == 0))
 
@@ -92,7 +96,19 @@ module _ {S : Type 0} where
   abbrev pub listens : PeerState S → Bool
   listens p = not p.is_closing && (not p.has_failed && not (nat_lt most_owed (length p.owed)))
 
-  -- it is owed nothing, its stream took less than there was, or failed: nothing is to be written now
+  -- it is owed more than may stay unsent
+  abbrev pub is_owed_too_much : PeerState S → Bool
+  is_owed_too_much p = nat_lt most_unsent (length p.owed)
+
+  -- it has failed, whatever its stream says, and all that it is owed is let go of
+  abbrev pub dropped : PeerState S → PeerState S
+  dropped p = record p { owed = []; has_failed = true }
+
+  -- a socket is dropped where it is owed more than may stay unsent, and stays as it is where it isn't
+  abbrev pub judged : PeerState S → PeerState S
+  judged p = if is_owed_too_much p then dropped p else p
+
+  -- it is owed nothing, its stream took less than there was, or it has failed: nothing is to be written now
   abbrev pub is_settled : PeerState S → Bool
   is_settled p = p.is_full || p.has_failed || (length p.owed == 0)
 
@@ -150,5 +166,11 @@ module _ {S : Type 0} where
       pub tallies : Tallies old new interrupted (calls old.stream) (calls new.stream)
 
     -- Bytes are written until nothing is to be written now, or a call is interrupted
+    abbrev pub Drains : PeerState S → PeerState S → Bool → Type 0
+    Drains old new is_interrupted = Writes old new (one_if is_interrupted) × (is_interrupted ≡ false → is_settled new ≡ true)
+
+    -- A flush: what the stream takes is written, and then the socket is judged by what it is owed still. Where a call was interrupted
+    -- it isn't judged yet, since it is to be flushed again
     abbrev pub Flushes : PeerState S → PeerState S → Bool → Type 0
-    Flushes old new is_interrupted = Writes old new (one_if is_interrupted) × (is_interrupted ≡ false → is_settled new ≡ true)
+    Flushes old new true = Drains old new true
+    Flushes old new false = (written : PeerState S) × Drains old written false × (new ≡ judged written)

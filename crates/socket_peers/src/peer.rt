@@ -1,8 +1,8 @@
 //! One socket, and the bytes that it is owed.
 
-ghost use Rattle.std.specs.Prelude.{◌≡◌, ◌<◌, ℕ, ◌||◌, true, false, [], nat_lt, take, OnOk, OnErr, length};
+ghost use Rattle.std.specs.Prelude.{◌≡◌, ◌<◌, ◌≤◌, ℕ, ◌||◌, true, false, [], nat_lt, take, OnOk, OnErr, length};
 ghost use Rattle.bytes.specs.Unread.{IsChunkOf, concat_slices};
-ghost use Rattle.socket_peers.specs.Peer.{fresh, owing, closing, writable, awake_if, is_over as is_over_spec, departs as departs_spec, departed, is_done as is_done_spec, listens as listens_spec, one_if, Reads, Writes, Flushes};
+ghost use Rattle.socket_peers.specs.Peer.{fresh, owing, closing, writable, awake_if, is_over as is_over_spec, departs as departs_spec, departed, is_done as is_done_spec, listens as listens_spec, judged, one_if, Reads, Writes, Drains, Flushes};
 
 use crate::socket::{Missed, Socket, why_missed};
 use bytes::{Buf, Bytes, BytesQueue};
@@ -11,6 +11,9 @@ use std::marker::Model;
 
 /// Nothing is read from a peer that is owed more than this many bytes, until it takes some.
 pub(crate) const MOST_OWED: usize = 1_048_576;
+
+/// A peer that is owed more than this many bytes once it was flushed is dropped: it has failed.
+pub(crate) const MOST_UNSENT: usize = 4_194_304;
 
 // The most bytes that are joined for one write, and the most frames.
 const MOST_JOINED: usize = 65_536;
@@ -42,6 +45,7 @@ pub struct Peer<S> {
     is_closing: bool,
     // Its input is at its end: its connection is no more, and what it is owed is still written.
     has_ended: bool,
+    // Its stream failed, or took too little of what it was owed.
     has_failed: bool,
     // The server was told that its connection is no more.
     is_gone: bool,
@@ -190,6 +194,16 @@ impl<S> Peer<S> {
         self.is_closing = true;
     }
 
+    // Lets go of what it is owed, and has failed, where that is more than may stay unsent.
+    fn judge(&mut self)
+        ensures { self.new ≡ judged self.old }
+    {
+        if self.owed.len() > MOST_UNSENT {
+            self.owed.clear();
+            self.has_failed = true;
+        }
+    }
+
     /// The socket was reported as ready to take bytes.
     pub fn set_writable(&mut self)
         ensures { self.new ≡ writable self.old }
@@ -268,11 +282,11 @@ impl<S: Socket> Peer<S> {
         false
     }
 
-    /// Writes what is owed, until all is out or the socket takes no more or fails. Says whether a write was
-    /// interrupted before that: it is then to be flushed again. `joint` is room for frames that are joined.
+    // Writes what is owed, until all is out or the socket takes no more or fails. Says whether a write was interrupted
+    // before that.
     #[tactic(auto, using(crate::proofs::PeerLemmas::writes_none, crate::proofs::PeerLemmas::writes_trans))]
-    pub fn flush(&mut self, joint: &mut Vec<u8>) -> bool
-        ensures { Flushes S.remaining S.contents S.calls self.old self.new result }
+    fn drain(&mut self, joint: &mut Vec<u8>) -> bool
+        ensures { Drains S.remaining S.contents S.calls self.old self.new result }
     {
         // Each write takes a byte at least.
         for _write in 0..self.owed.len() {
@@ -283,6 +297,24 @@ impl<S: Socket> Peer<S> {
                 return true;
             }
         }
+        false
+    }
+
+    /// Writes what is owed, until all is out or the socket takes no more or fails. A peer that is then still owed more than
+    /// 4,194,304 bytes has failed, and what it is owed is let go of, whether its connection is open or is no more.
+    ///
+    /// Says whether a write was interrupted before that: the peer is then to be flushed again, and nothing is judged yet.
+    /// `joint` is room for frames that are joined.
+    #[tactic(auto, using(crate::proofs::PeerLemmas::flushed, crate::proofs::PeerLemmas::is_within, crate::proofs::PeerLemmas::drains_spared))]
+    pub fn flush(&mut self, joint: &mut Vec<u8>) -> bool
+        ensures flushes { Flushes S.remaining S.contents S.calls self.old self.new result }
+        ensures within { result ≡ false → length self.new.owed ≤ 4194304 }
+        ensures spared { length self.old.owed ≤ 4194304 → Drains S.remaining S.contents S.calls self.old self.new result }
+    {
+        if self.drain(joint) {
+            return true;
+        }
+        self.judge();
         false
     }
 }

@@ -232,7 +232,7 @@ impl<S: Socket + Drop> Peers<S> {
     }
 
     /// Writes what was owed to sockets since this was done last. Those that are over now are to be looked
-    /// at, and those of which a write was interrupted.
+    /// at, as is one of which too much is left ([`Peer::flush`]), and those of which a write was interrupted.
     pub fn flush_touched(&mut self) -> Result<(), AllocError>
         ensures { OnOk result (FlushesAll S.remaining S.contents S.calls self.old self.new) }
     {

@@ -1,5 +1,5 @@
 -- The server is told of a connection that is no more in the turn in which that is seen.
-use Rattle.std.proofs.Common.{◌≡◌, ℕ, Bool, true, false, cond, List, [], ◌∷◌, Option, Some, None, Result, Ok, Err, MatchResult, OnOk, refl, sym, ap, ◌∙◌, subst, not, ◌&&◌, ◌||◌}
+use Rattle.std.proofs.Common.{◌≡◌, ℕ, Bool, true, false, cond, if◌then◌else◌, List, [], ◌∷◌, Option, Some, None, Result, Ok, Err, MatchResult, OnOk, refl, sym, ap, ◌∙◌, subst, not, ◌&&◌, ◌||◌}
 use Rattle.std.specs.Prelude.{⊤}
 use Rattle.std.specs.Ordering.{nat_cmp, eq_by_cmp}
 use Rattle.std.specs.Cmp.{nat_cmp_total}
@@ -10,7 +10,7 @@ use Rattle.server_messages.specs.declared.out.Out.TheVariants.{Send, Close}
 use Rattle.server_core.specs.declared.event.Event.{Event}
 use Rattle.server_core.specs.declared.event.Event.TheVariants.{Gone}
 use Rattle.socket_peers.specs.Socket.{Calls}
-use Rattle.socket_peers.specs.Peer.{PeerState, departs, departed, is_over}
+use Rattle.socket_peers.specs.Peer.{PeerState, departs, departed, dropped, is_owed_too_much, is_over, Flushes}
 use Rattle.socket_peers.specs.Peers.{PeersState, at, is_true_of, departs_at, with_departed, changed_by, touching_by, owed_out, owed_all, LetsGo, woken_if, FlushesBy, FlushesEach, FlushesAll}
 use Rattle.socket_server.specs.declared.serve_fault.ServeFault.{ServeFault}
 use Rattle.rand_core.specs.Stream.{Stream}
@@ -67,13 +67,22 @@ module _ {S : Type 0} (remaining contents : S → Option (List ℕ)) (calls : S 
   woken_keeps true x y e = e
   woken_keeps false x y e = e
 
+  judged_keeps : (is_dropped : Bool) (p : PeerState S) → (if is_dropped then dropped p else p).is_gone ≡ p.is_gone
+  judged_keeps true p = refl
+  judged_keeps false p = refl
+
+  flush_keeps : (old new : PeerState S) (is_interrupted : Bool) → Flushes remaining contents calls old new is_interrupted → new.is_gone ≡ old.is_gone
+  flush_keeps old new true drains = drains.0.gone
+  flush_keeps old new false (written, drains, is) =
+      ap (λ (p : PeerState S). p.is_gone) is ∙ judged_keeps (is_owed_too_much written) written ∙ drains.0.gone
+
   flushed_by : (number q : ℕ) (a b : PeersState S) (o : Option (PeerState S)) → at a number ≡ o → FlushesBy remaining contents calls o number a b → IsTold (at a q) → IsTold (at b q)
   flushed_by number q a b None is e h = subst (λ (p : PeersState S). IsTold (at p q)) (sym e) h
   flushed_by number q a b (Some peer) is (after, is_interrupted, flushes, e) h =
       let is_woken = is_interrupted || is_over after in
       subst (λ (p : PeersState S). IsTold (at p q)) (sym e)
       (subst IsTold (sym (get-insert nat_cmp_total a.connected number (woken_if is_woken after) q))
-      (put_there a.connected number q peer (woken_if is_woken after) (eq_by_cmp nat_cmp q number) refl is (woken_keeps is_woken peer after flushes.0.gone) h))
+      (put_there a.connected number q peer (woken_if is_woken after) (eq_by_cmp nat_cmp q number) refl is (woken_keeps is_woken peer after (flush_keeps peer after is_interrupted flushes)) h))
 
   each_told : (numbers : List ℕ) (q : ℕ) (a b : PeersState S) → FlushesEach remaining contents calls numbers a b → IsTold (at a q) → IsTold (at b q)
   each_told [] q a b e h = subst (λ (p : PeersState S). IsTold (at p q)) (sym e) h

@@ -50,7 +50,8 @@ Drawn stream old new key = IsNextKey (stream old) (stream new) key
 
 -- One thing that happens: a socket connects and gets this key; a socket is reported as ready, maybe to take bytes; the list of those to
 -- be looked at is taken; a socket on it is looked at, and written what it is owed; a piece comes from a socket; a read from one gives
--- nothing; sockets take some of what they are owed; a connection is no more; its socket is let go of; time passes
+-- nothing; sockets take some of what they are owed, and fail where too much is left; a connection is no more; its socket is let go
+-- of; time passes
 pub data Happening : Type 0 where
   Connects : List ℕ → Happening
   Reports : ℕ → Bool → Happening

@@ -9,4 +9,4 @@ returns g c =
     let back = given_back _ c.get_mut.result c.in-Some.peer c.in-Some.is (c.get_mut.follows.holds c.wake_if.new.peer) in
     both_ok _ _ _ c.wake_if.result c.wake_if.ensures.list c.wake_if.ensures.peer (λ list woken.
     flush_at g.S.Socket.remaining g.S.Socket.contents g.S.Socket.calls _ c.args.self.now c.args.number c.in-Some.peer.now c.flush-is_interrupted.new.self c.wake_if.new.peer c.flush-is_interrupted.result _ _
-    c.wake_if.new.awake.items c.self.view_is there c.flush-is_interrupted.ensures (search rules) back list woken)
+    c.wake_if.new.awake.items c.self.view_is there c.flush-is_interrupted.ensures.flushes (search rules) back list woken)

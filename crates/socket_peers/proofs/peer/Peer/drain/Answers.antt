@@ -1,7 +1,7 @@
 use Rattle.std.proofs.Common.{rules, ◌≡◌, ◌+◌, ◌≤◌, ◌||◌, true, nat_lt, length}
 use Rattle.socket_peers.specs.Peer.{Writes}
 use Rattle.socket_peers.proofs.PeerLemmas.{writes_trans, one_less}
-use Rattle.socket_peers.proofs.peer.Peer.flush.Goals as goal
+use Rattle.socket_peers.proofs.peer.Peer.drain.Goals as goal
 
 pub loop-write-preserved : goal.loop-write-preserved
 loop-write-preserved g c =

@@ -1,6 +1,6 @@
 use Rattle.std.proofs.Common.{◌≡◌, ◌+◌, ◌≤◌, ◌||◌, false, length}
 use Rattle.socket_peers.specs.Peer.{Writes}
-use Rattle.socket_peers.proofs.peer.Peer.flush.Given as goal
+use Rattle.socket_peers.proofs.peer.Peer.drain.Given as goal
 
 -- until the stream is full or failed, each write takes a byte at least
 abbrev pub invariant-loop-write : goal.invariant-loop-write
