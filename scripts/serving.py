@@ -91,9 +91,9 @@ class Program:
 class Server(Program):
     """A server that listens on 127.0.0.1."""
 
-    def __init__(self, program, nodes, *options):
+    def __init__(self, program, nodes, *options, **how):
         self.port = free_port()
-        super().__init__([program, 'serve', nodes, '--port', str(self.port), *options])
+        super().__init__([program, 'serve', nodes, '--port', str(self.port), *options], **how)
         if not self.wait_for(lambda lines: f'listening {self.port}' in lines):
             raise AssertionError(f'{program} serves nothing: {self.lines}')
 

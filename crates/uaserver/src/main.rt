@@ -9,6 +9,7 @@
 #![tactic(auto)]
 
 use std::env;
+use std::io::ErrorKind;
 use std::process::ExitCode;
 use stream_taps::Tap;
 
@@ -17,10 +18,16 @@ fn main(rt: HostRuntime) -> ExitCode {
     let mut input = Tap::new(rt.stdin());
     let mut output = Tap::new(rt.stdout());
     let mut errors = rt.stderr();
-    // Words that aren't UTF-8 name no command.
-    let Ok(args) = env::args(&rt) else {
-        let ended = commands::run(&rt, &["\u{fffd}"], &mut input, &mut output, &mut errors);
-        return ExitCode::from(ended.status.code());
+    let args = match env::args(&rt) {
+        Ok(args) => args,
+        Err(error) if error.kind() == ErrorKind::OutOfMemory => {
+            return ExitCode::from(commands::no_memory(&mut errors).code());
+        }
+        // Words that aren't UTF-8 name no command.
+        Err(_) => {
+            let ended = commands::run(&rt, &["\u{fffd}"], &mut input, &mut output, &mut errors);
+            return ExitCode::from(ended.status.code());
+        }
     };
     let Ok(args) = args.collect::<Vec<String>>(alloc) else {
         return ExitCode::from(commands::no_memory(&mut errors).code());
