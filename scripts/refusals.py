@@ -7,6 +7,7 @@ import collections
 import os
 import struct
 import subprocess
+import sys
 import tempfile
 
 FOLDER = os.path.dirname(os.path.realpath(__file__))
@@ -43,6 +44,15 @@ def compiled(folder):
     words = ["cc", "-O1", "-fno-omit-frame-pointer", "-Wall", "-shared", "-fPIC", "-o", library, os.path.join(FOLDER, "refusals.c"), "-ldl"]
     subprocess.run(words, check=True, timeout=PATIENCE)
     return library
+
+
+def leave_out_unless_fit(program, library, *marks):
+    """Ends well, and says why, where this program's growths can't be refused: a kit may build it without the functions that are taken over or counted."""
+    for mark in marks:
+        probe = run(program, library, ["check", "base_set.toml"], refuse="growths", one=10 ** 15, mark=mark)
+        if probe.status == 99:
+            print(f"{program} is left out: {probe.errors.decode(errors='replace').strip()}", file=sys.stderr)
+            sys.exit(0)
 
 
 class Names:
