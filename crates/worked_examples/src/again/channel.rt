@@ -46,8 +46,8 @@ fn fed(alloc: Global, framer: &mut Framer, piece: &[u8]) -> io::Result<Option<Li
 }
 
 // A body of so many bytes, behind four that say how many there are.
-fn body(alloc: Global, size: usize) -> Result<MessageBody, AllocError> {
-    let bytes = vec![in alloc; 7u8; size]?;
+fn body(alloc: Global, size: u16) -> Result<MessageBody, AllocError> {
+    let bytes = vec![in alloc; 7u8; usize::from(size)]?;
     let mut body = MessageBody::new(alloc)?;
     body.write(&ByteString::from_slice(alloc, bytes.as_slice())?)?;
     Ok(body)
@@ -57,7 +57,7 @@ fn body(alloc: Global, size: usize) -> Result<MessageBody, AllocError> {
 fn write_answer(
     alloc: Global,
     channel: &mut Channel,
-    size: usize,
+    size: u16,
     output: &mut Vec<u8>,
 ) -> io::Result<()> {
     let sent = match channel.send(alloc, 2, body(alloc, size)?) {
@@ -112,7 +112,7 @@ pub(super) fn write_channel(alloc: Global, output: &mut Vec<u8>) -> io::Result<(
         }
         rest = behind;
     }
-    for size in [1496, 2, 2] {
+    for size in [1496u16, 2, 2] {
         write_answer(alloc, &mut channel, size, output)?;
     }
     Ok(())
