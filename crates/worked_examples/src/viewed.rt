@@ -32,70 +32,168 @@ pub(crate) trait Viewed<'a>: View<'a> {
 }
 
 // Views with a copy of their own.
-macro_rules! viewed {
-    ($view:ident, $value:ty) => {
-        impl<'a> Viewed<'a> for $view<'a> {
-            type Value = $value;
 
-            fn copied(self, alloc: Global) -> Result<$value, AllocError> {
-                self.to_value(alloc)
-            }
-        }
-    };
+impl<'a> Viewed<'a> for TextView<'a> {
+    type Value = Text;
+
+    fn copied(self, alloc: Global) -> Result<Text, AllocError> {
+        self.to_value(alloc)
+    }
 }
 
-viewed!(TextView, Text);
+impl<'a> Viewed<'a> for ByteStringView<'a> {
+    type Value = ByteString;
 
-viewed!(ByteStringView, ByteString);
+    fn copied(self, alloc: Global) -> Result<ByteString, AllocError> {
+        self.to_value(alloc)
+    }
+}
 
-viewed!(NodeIdView, NodeId);
+impl<'a> Viewed<'a> for NodeIdView<'a> {
+    type Value = NodeId;
 
-viewed!(ExpandedNodeIdView, ExpandedNodeId);
+    fn copied(self, alloc: Global) -> Result<NodeId, AllocError> {
+        self.to_value(alloc)
+    }
+}
 
-viewed!(QualifiedNameView, QualifiedName);
+impl<'a> Viewed<'a> for ExpandedNodeIdView<'a> {
+    type Value = ExpandedNodeId;
 
-viewed!(LocalizedTextView, LocalizedText);
+    fn copied(self, alloc: Global) -> Result<ExpandedNodeId, AllocError> {
+        self.to_value(alloc)
+    }
+}
 
-viewed!(ExtensionObjectView, ExtensionObject);
+impl<'a> Viewed<'a> for QualifiedNameView<'a> {
+    type Value = QualifiedName;
 
-viewed!(VariantView, Variant);
+    fn copied(self, alloc: Global) -> Result<QualifiedName, AllocError> {
+        self.to_value(alloc)
+    }
+}
 
-viewed!(DataValueView, DataValue);
+impl<'a> Viewed<'a> for LocalizedTextView<'a> {
+    type Value = LocalizedText;
 
-viewed!(RequestHeaderView, RequestHeader);
+    fn copied(self, alloc: Global) -> Result<LocalizedText, AllocError> {
+        self.to_value(alloc)
+    }
+}
 
-viewed!(ReadValueIdView, ua_messages::ReadValueId);
+impl<'a> Viewed<'a> for ExtensionObjectView<'a> {
+    type Value = ExtensionObject;
 
-viewed!(WriteValueView, ua_service_messages::WriteValue);
+    fn copied(self, alloc: Global) -> Result<ExtensionObject, AllocError> {
+        self.to_value(alloc)
+    }
+}
 
-viewed!(BrowseDescriptionView, ua_service_messages::BrowseDescription);
+impl<'a> Viewed<'a> for VariantView<'a> {
+    type Value = Variant;
 
-viewed!(HistoryReadValueIdView, ua_service_messages::HistoryReadValueId);
+    fn copied(self, alloc: Global) -> Result<Variant, AllocError> {
+        self.to_value(alloc)
+    }
+}
+
+impl<'a> Viewed<'a> for DataValueView<'a> {
+    type Value = DataValue;
+
+    fn copied(self, alloc: Global) -> Result<DataValue, AllocError> {
+        self.to_value(alloc)
+    }
+}
+
+impl<'a> Viewed<'a> for RequestHeaderView<'a> {
+    type Value = RequestHeader;
+
+    fn copied(self, alloc: Global) -> Result<RequestHeader, AllocError> {
+        self.to_value(alloc)
+    }
+}
+
+impl<'a> Viewed<'a> for ReadValueIdView<'a> {
+    type Value = ua_messages::ReadValueId;
+
+    fn copied(self, alloc: Global) -> Result<ua_messages::ReadValueId, AllocError> {
+        self.to_value(alloc)
+    }
+}
+
+impl<'a> Viewed<'a> for WriteValueView<'a> {
+    type Value = ua_service_messages::WriteValue;
+
+    fn copied(self, alloc: Global) -> Result<ua_service_messages::WriteValue, AllocError> {
+        self.to_value(alloc)
+    }
+}
+
+impl<'a> Viewed<'a> for BrowseDescriptionView<'a> {
+    type Value = ua_service_messages::BrowseDescription;
+
+    fn copied(self, alloc: Global) -> Result<ua_service_messages::BrowseDescription, AllocError> {
+        self.to_value(alloc)
+    }
+}
+
+impl<'a> Viewed<'a> for HistoryReadValueIdView<'a> {
+    type Value = ua_service_messages::HistoryReadValueId;
+
+    fn copied(self, alloc: Global) -> Result<ua_service_messages::HistoryReadValueId, AllocError> {
+        self.to_value(alloc)
+    }
+}
 
 // Values that are views themselves.
-macro_rules! viewed_itself {
-    ($value:ty) => {
-        impl<'a> Viewed<'a> for $value {
-            type Value = $value;
 
-            fn copied(self, _alloc: Global) -> Result<$value, AllocError> {
-                Ok(self)
-            }
-        }
-    };
+impl<'a> Viewed<'a> for bool {
+    type Value = bool;
+
+    fn copied(self, _alloc: Global) -> Result<bool, AllocError> {
+        Ok(self)
+    }
 }
 
-viewed_itself!(bool);
+impl<'a> Viewed<'a> for u16 {
+    type Value = u16;
 
-viewed_itself!(u16);
+    fn copied(self, _alloc: Global) -> Result<u16, AllocError> {
+        Ok(self)
+    }
+}
 
-viewed_itself!(u32);
+impl<'a> Viewed<'a> for u32 {
+    type Value = u32;
 
-viewed_itself!(Moment);
+    fn copied(self, _alloc: Global) -> Result<u32, AllocError> {
+        Ok(self)
+    }
+}
 
-viewed_itself!(Status);
+impl<'a> Viewed<'a> for Moment {
+    type Value = Moment;
 
-viewed_itself!(Duration);
+    fn copied(self, _alloc: Global) -> Result<Moment, AllocError> {
+        Ok(self)
+    }
+}
+
+impl<'a> Viewed<'a> for Status {
+    type Value = Status;
+
+    fn copied(self, _alloc: Global) -> Result<Status, AllocError> {
+        Ok(self)
+    }
+}
+
+impl<'a> Viewed<'a> for Duration {
+    type Value = Duration;
+
+    fn copied(self, _alloc: Global) -> Result<Duration, AllocError> {
+        Ok(self)
+    }
+}
 
 impl<'a> Viewed<'a> for ReadRawModifiedDetailsView {
     type Value = ReadRawModifiedDetails;
