@@ -5,7 +5,8 @@
 
 PROGRAM is the built program, NODES a node file with the standard's limits, as crates/uaserver/data/line.toml. It tries:
 two sockets whose conversations go on at once, cut differently; 100 sockets opened and closed at once, and then one
-that is served; a client that sends nothing, and one that never reads; a port and an address that can't be had, and an
+that is served; a client that sends nothing, and one that never reads; one that ends what it sends while the server owes it
+more than the system holds, and reads then; a port and an address that can't be had, and an
 IPv6 address, where the machine has one; the lines of connections that come, go and are turned away, and the trace of a run
 without subscriptions. Nothing but Python's own library is needed.
 """
@@ -24,6 +25,12 @@ POLICY = struct.pack('<I', 47) + b'http://opcfoundation.org/UA/SecurityPolicy#No
 
 # How often a client asks that doesn't read its answers.
 REQUESTS = 10000
+
+ANSWER = 323  # the length of an answer to GetEndpoints
+
+# How often a client asks at a time that doesn't read until it has ended what it sends. Their answers together are less than what
+# a peer may be owed that is still read from.
+BATCH = 1000
 
 
 def opening():
@@ -156,7 +163,7 @@ def served_once(program, nodes, port):
     assert read_frame(sock)[:3] == b'ACK'
     channel = struct.unpack_from('<I', read_frame(sock), 8)[0]
     sock.sendall(get_endpoints(channel, 2))
-    assert len(read_frame(sock)) == 323
+    assert len(read_frame(sock)) == ANSWER
     sock.sendall(close(channel, 3))
     assert read_all(sock) == b''
     sock.close()
@@ -198,10 +205,57 @@ def silent_and_deaf(program, nodes, port):
             left = left[deaf.send(left[:65536]):]
         if readable:
             got += deaf.recv(1 << 20)
-            answers = len(got) // 323
-    assert len(got) == REQUESTS * 323
+            answers = len(got) // ANSWER
+    assert len(got) == REQUESTS * ANSWER
     silent.close()
     deaf.close()
+
+
+def held_by_system(port, other):
+    """How many bytes on their way from a port to another the system holds, in the queues of both sockets."""
+    held = 0
+    with open('/proc/net/tcp', encoding='ascii') as table:
+        for line in list(table)[1:]:
+            words = line.split()
+            ends = tuple(int(word.split(':')[1], 16) for word in words[1:3])
+            sent, received = (int(word, 16) for word in words[4].split(':'))
+            held += sent * (ends == (port, other)) + received * (ends == (other, port))
+    return held
+
+
+def steady(port, other):
+    """The same, once it doesn't change any more."""
+    held, since = -1, time.time()
+    while time.time() - since < 0.3:
+        now = held_by_system(port, other)
+        if now != held:
+            held, since = now, time.time()
+        time.sleep(0.02)
+    return held
+
+
+def hangs_up_and_reads_late(program, nodes, port):
+    # It takes little at a time, and asks without reading, until the server owes it more than the system holds.
+    sock = socket.socket()
+    sock.setsockopt(socket.SOL_SOCKET, socket.SO_RCVBUF, 4096)
+    sock.settimeout(PATIENCE)
+    sock.connect(('127.0.0.1', port))
+    sock.sendall(HELLO + opening())
+    assert read_frame(sock)[:3] == b'ACK'
+    channel = struct.unpack_from('<I', read_frame(sock), 8)[0]
+    asked, owed = 0, 0
+    while owed < 100 * ANSWER:
+        assert asked < 100 * BATCH, 'the system holds whatever the server sends'
+        sock.sendall(b''.join(get_endpoints(channel, 2 + asked + n) for n in range(BATCH)))
+        asked += BATCH
+        owed = asked * ANSWER - steady(port, sock.getsockname()[1])
+    # Its connection is no more, and what it is owed still comes.
+    sock.shutdown(socket.SHUT_WR)
+    time.sleep(0.5)
+    got = read_all(sock)
+    assert len(got) == asked * ANSWER, (len(got), asked * ANSWER, owed)
+    print(f'  {owed} bytes were owed beyond what the system held')
+    sock.close()
 
 
 def told(program, nodes):
@@ -250,7 +304,7 @@ def main():
     server = Server(program, nodes)
     port = server.port
     try:
-        for name, test in (('two at once', two_at_once), ('a hundred that vanish', hundred), ('silent and deaf', silent_and_deaf)):
+        for name, test in (('two at once', two_at_once), ('a hundred that vanish', hundred), ('silent and deaf', silent_and_deaf), ('hangs up and reads late', hangs_up_and_reads_late)):
             test(program, nodes, port)
             assert server.is_running(), server.lines
             print('ok', name, flush=True)
