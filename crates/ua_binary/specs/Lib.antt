@@ -15,3 +15,4 @@ pub mod Floats
 pub mod Variants
 pub mod Backing
 pub mod DataValues
+pub mod Borrowed

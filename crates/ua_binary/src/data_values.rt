@@ -1,6 +1,6 @@
 //! Values with their status and times.
 
-ghost use Rattle.std.specs.Prelude.{◌≡◌, ◌<◌, ◌++◌, is_some, ℕ, List, Ok, Err, OnOk, OnErr, option_map};
+ghost use Rattle.std.specs.Prelude.{◌≡◌, ◌<◌, ◌++◌, is_some, ℕ, List, Some, Ok, Err, OnOk, OnErr, option_map};
 ghost use Rattle.ua_binary.specs.declared.fault.TakeFault.TheVariants.{Memory};
 ghost use Rattle.ua_binary.specs.Reading.{Reads, ReadsInto, Extends};
 ghost use Rattle.ua_binary.specs.Backing.{IsBackedOrBoxed};
@@ -8,6 +8,7 @@ ghost use Rattle.ua_binary.specs.Parts.{flag};
 ghost use Rattle.ua_binary.specs.Variants.{variant_reading};
 ghost use Rattle.ua_binary.specs.DataValues.{optional_reading, optional_encoding, data_value_reading, data_value_encoding};
 
+use crate::borrowed::BorrowedVariant;
 use crate::cursor::Cursor;
 use crate::fault::TakeFault;
 use crate::variants::decode_variant;
@@ -22,19 +23,18 @@ use ua_values::{DataValue, Variant};
 /// copy, and with the times that an answer is to have. Contracts see it as the [`DataValue`].
 #[derive(Debug, Drop)]
 pub struct BorrowedDataValue<'a> {
-    value: Option<&'a Variant>,
+    value: Option<BorrowedVariant<'a>>,
     status: Status,
     source_time: Option<Moment>,
     server_time: Option<Moment>,
 }
 
 impl<'a> Model for BorrowedDataValue<'a> {
-    ghost use Rattle.std.specs.Prelude.{option_map};
     ghost use Rattle.ua_values.specs.declared.data_value.DataValue.{DataValue};
 
     ghost Value = { DataValue };
 
-    ghost view = { λ v. record { value = option_map (λ x. x.now) v.value; status = v.status; source_time = v.source_time; server_time = v.server_time } };
+    ghost view = { λ v. record { value = v.value; status = v.status; source_time = v.source_time; server_time = v.server_time } };
 }
 
 impl<'a> BorrowedDataValue<'a> {
@@ -48,7 +48,27 @@ impl<'a> BorrowedDataValue<'a> {
         ensures { result ≡ record { value = option_map (λ x. x.now) value.entry; status = status; source_time = source_time; server_time = server_time } }
     {
         BorrowedDataValue {
-            value,
+            value: match value {
+                None => None,
+                Some(value) => Some(BorrowedVariant::whole(value)),
+            },
+            status,
+            source_time,
+            server_time,
+        }
+    }
+
+    /// A data value of these parts, whose value may be a part of one that is stored.
+    pub fn of(
+        value: BorrowedVariant<'a>,
+        status: Status,
+        source_time: Option<Moment>,
+        server_time: Option<Moment>,
+    ) -> BorrowedDataValue<'a>
+        ensures { result ≡ record { value = Some value.entry; status = status; source_time = source_time; server_time = server_time } }
+    {
+        BorrowedDataValue {
+            value: Some(value),
             status,
             source_time,
             server_time,
@@ -103,7 +123,7 @@ fn bit<T>(part: Option<&T>) -> u8
 
 // Writes a part that is there.
 #[tactic(auto, unfolding(crate::specs::DataValues::optional_reading, crate::specs::DataValues::optional_encoding))]
-fn encode_if_some<T: Wire>(part: Option<&T>, out: &mut Vec<u8>) -> Result<(), AllocError>
+fn write_if_some<T: Written>(part: Option<&T>, out: &mut Vec<u8>) -> Result<(), AllocError>
     ensures ok { OnOk result (out.new.items ≡ out.old.items ++ optional_encoding T.encoding (option_map (λ p. p.now) part.entry)) }
     ensures err { OnErr result (Extends out.old.items out.new.items) }
     ensures again { OnOk result ((x : List ℕ) → optional_reading (flag (is_some part.entry)) T.reading (optional_encoding T.encoding (option_map (λ p. p.now) part.entry) ++ x) ≡ Ok (option_map (λ p. p.now) part.entry, x)) }
@@ -111,7 +131,7 @@ fn encode_if_some<T: Wire>(part: Option<&T>, out: &mut Vec<u8>) -> Result<(), Al
     match part {
         None => Ok(()),
         Some(part) => {
-            part.encode(out)?;
+            part.write(out)?;
             Ok(())
         }
     }
@@ -132,11 +152,12 @@ impl Written for BorrowedDataValue<'_> {
         let source_time = self.source_time.as_ref();
         let server_time = self.server_time.as_ref();
         let times = 4 * bit(source_time) + 8 * bit(server_time);
-        (bit(self.value) + 2 * bit(status) + times).encode(out)?;
-        encode_if_some(self.value, out)?;
-        encode_if_some(status, out)?;
-        encode_if_some(source_time, out)?;
-        encode_if_some(server_time, out)?;
+        let value = self.value.as_ref();
+        (bit(value) + 2 * bit(status) + times).encode(out)?;
+        write_if_some(value, out)?;
+        write_if_some(status, out)?;
+        write_if_some(source_time, out)?;
+        write_if_some(server_time, out)?;
         Ok(())
     }
 }

@@ -10,6 +10,8 @@
 //! - what was put is read again, whatever follows it;
 //! - a length (a *claim*) above the bytes or elements that are left takes no memory.
 //!
+//! What is stored elsewhere is written from there, whole or a part of a list ([`BorrowedDataValue`], [`BorrowedVariant`]).
+//!
 //! Nothing here knows messages, frames or sockets. Lists have one impl for every element type, and
 //! `variants` is the one place where a type is picked by its number.
 //!
@@ -17,6 +19,7 @@
 #![tactic(auto)]
 
 mod arrays;
+mod borrowed;
 mod cursor;
 mod data_values;
 mod enumerations;
@@ -38,6 +41,7 @@ mod wire;
 mod written;
 
 pub use arrays::write_list;
+pub use borrowed::BorrowedVariant;
 pub use cursor::Cursor;
 pub use data_values::BorrowedDataValue;
 pub use enumerations::Enumeration;

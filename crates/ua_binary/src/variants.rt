@@ -272,7 +272,7 @@ pub(crate) fn decode_variant(
 
 // Writes the first byte and what it announces.
 #[tactic(auto, using(crate::proofs::Extending::extends_more), unfolding(crate::specs::Variants::content_reading, crate::specs::Variants::content_encoding))]
-fn encode_typed<T: Wire>(
+pub(crate) fn encode_typed<T: Wire>(
     number: u8,
     content: &Content<T>,
     out: &mut Vec<u8>,

@@ -7,9 +7,10 @@ use crate::headers::RequestHeaderView;
 use std::alloc::{AllocError, Global};
 use std::marker::Model;
 use ua_binary::{Cursor, TakeFault};
-use ua_service_messages::{BrowseDescription, BrowseDirection};
+use ua_service_messages::{BrowseDescription, BrowseDirection, BrowseNextRequest, BrowseRequest};
 use ua_types::Moment;
 use ua_views::{ArrayView, ByteStringView, NodeIdView, Readable, View, look_enumeration};
+use ua_walks::Walk;
 
 /// A [`BrowseDescription`] in the bytes that it stands in.
 #[derive(Debug, Drop)]
@@ -66,6 +67,10 @@ impl<'a> View<'a> for BrowseDescriptionView<'a> {
             result_mask: u32::look(cursor)?,
         })
     }
+
+    fn pass(cursor: &mut Cursor<'a>) -> Result<(), TakeFault> {
+        BrowseDescription::skip(cursor)
+    }
 }
 
 /// A [`ua_service_messages::BrowseRequest`] in the bytes that it stands in.
@@ -107,6 +112,10 @@ impl<'a> View<'a> for BrowseRequestView<'a> {
             nodes_to_browse: ArrayView::<BrowseDescriptionView<'a>>::look(cursor)?,
         })
     }
+
+    fn pass(cursor: &mut Cursor<'a>) -> Result<(), TakeFault> {
+        BrowseRequest::skip(cursor)
+    }
 }
 
 /// A [`ua_service_messages::BrowseNextRequest`] in the bytes that it stands in.
@@ -138,5 +147,9 @@ impl<'a> View<'a> for BrowseNextRequestView<'a> {
             release_continuation_points: bool::look(cursor)?,
             continuation_points: ArrayView::<ByteStringView<'a>>::look(cursor)?,
         })
+    }
+
+    fn pass(cursor: &mut Cursor<'a>) -> Result<(), TakeFault> {
+        BrowseNextRequest::skip(cursor)
     }
 }

@@ -9,6 +9,7 @@ use ua_binary::{Cursor, TakeFault};
 use ua_messages::RequestHeader;
 use ua_types::Moment;
 use ua_views::{ExtensionObjectView, NodeIdView, Readable, TextView, View};
+use ua_walks::Walk;
 
 /// A [`RequestHeader`] in the bytes that it stands in.
 #[derive(Debug, Drop)]
@@ -70,5 +71,9 @@ impl<'a> View<'a> for RequestHeaderView<'a> {
             timeout_hint: u32::look(cursor)?,
             additional_header: ExtensionObjectView::look(cursor)?,
         })
+    }
+
+    fn pass(cursor: &mut Cursor<'a>) -> Result<(), TakeFault> {
+        RequestHeader::skip(cursor)
     }
 }

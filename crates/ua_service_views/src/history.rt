@@ -8,12 +8,13 @@ use std::alloc::{AllocError, Global};
 use std::marker::Model;
 use ua_binary::{Cursor, TakeFault};
 use ua_messages::TimestampsToReturn;
-use ua_service_messages::HistoryReadValueId;
+use ua_service_messages::{HistoryReadRequest, HistoryReadValueId, ReadRawModifiedDetails};
 use ua_types::Moment;
 use ua_views::{
     ArrayView, ByteStringView, ExtensionObjectView, NodeIdView, QualifiedNameView, Readable,
     TextView, View, look_enumeration,
 };
+use ua_walks::Walk;
 
 /// A [`ua_service_messages::ReadRawModifiedDetails`] in the bytes that it stands in.
 #[derive(Debug, Drop)]
@@ -52,6 +53,10 @@ impl<'a> View<'a> for ReadRawModifiedDetailsView {
             num_values_per_node: u32::look(cursor)?,
             return_bounds: bool::look(cursor)?,
         })
+    }
+
+    fn pass(cursor: &mut Cursor<'a>) -> Result<(), TakeFault> {
+        ReadRawModifiedDetails::skip(cursor)
     }
 }
 
@@ -103,6 +108,10 @@ impl<'a> View<'a> for HistoryReadValueIdView<'a> {
             continuation_point: ByteStringView::look(cursor)?,
         })
     }
+
+    fn pass(cursor: &mut Cursor<'a>) -> Result<(), TakeFault> {
+        HistoryReadValueId::skip(cursor)
+    }
 }
 
 /// A [`ua_service_messages::HistoryReadRequest`] in the bytes that it stands in.
@@ -139,5 +148,9 @@ impl<'a> View<'a> for HistoryReadRequestView<'a> {
             release_continuation_points: bool::look(cursor)?,
             nodes_to_read: ArrayView::<HistoryReadValueIdView<'a>>::look(cursor)?,
         })
+    }
+
+    fn pass(cursor: &mut Cursor<'a>) -> Result<(), TakeFault> {
+        HistoryReadRequest::skip(cursor)
     }
 }

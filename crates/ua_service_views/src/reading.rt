@@ -9,10 +9,12 @@ use std::alloc::{AllocError, Global};
 use std::marker::Model;
 use ua_binary::{Cursor, TakeFault};
 use ua_messages::{ReadValueId, TimestampsToReturn};
+use ua_service_messages::ReadRequest;
 use ua_types::Duration;
 use ua_views::{
     ArrayView, NodeIdView, QualifiedNameView, Readable, TextView, View, look_enumeration,
 };
+use ua_walks::Walk;
 
 /// A [`ReadValueId`] in the bytes that it stands in.
 #[derive(Debug, Drop)]
@@ -62,6 +64,10 @@ impl<'a> View<'a> for ReadValueIdView<'a> {
             data_encoding: QualifiedNameView::look(cursor)?,
         })
     }
+
+    fn pass(cursor: &mut Cursor<'a>) -> Result<(), TakeFault> {
+        ReadValueId::skip(cursor)
+    }
 }
 
 /// A [`ua_service_messages::ReadRequest`] in the bytes that it stands in.
@@ -95,5 +101,9 @@ impl<'a> View<'a> for ReadRequestView<'a> {
             timestamps_to_return: look_enumeration::<TimestampsToReturn>(cursor)?,
             nodes_to_read: ArrayView::<ReadValueIdView<'a>>::look(cursor)?,
         })
+    }
+
+    fn pass(cursor: &mut Cursor<'a>) -> Result<(), TakeFault> {
+        ReadRequest::skip(cursor)
     }
 }

@@ -7,8 +7,9 @@ use crate::headers::RequestHeaderView;
 use std::alloc::{AllocError, Global};
 use std::marker::Model;
 use ua_binary::{Cursor, TakeFault};
-use ua_service_messages::WriteValue;
+use ua_service_messages::{WriteRequest, WriteValue};
 use ua_views::{ArrayView, DataValueView, NodeIdView, Readable, TextView, View};
+use ua_walks::Walk;
 
 /// A [`WriteValue`] in the bytes that it stands in.
 #[derive(Debug, Drop)]
@@ -57,6 +58,10 @@ impl<'a> View<'a> for WriteValueView<'a> {
             value: DataValueView::look(cursor)?,
         })
     }
+
+    fn pass(cursor: &mut Cursor<'a>) -> Result<(), TakeFault> {
+        WriteValue::skip(cursor)
+    }
 }
 
 /// A [`ua_service_messages::WriteRequest`] in the bytes that it stands in.
@@ -85,5 +90,9 @@ impl<'a> View<'a> for WriteRequestView<'a> {
             request_header: RequestHeaderView::look(cursor)?,
             nodes_to_write: ArrayView::<WriteValueView<'a>>::look(cursor)?,
         })
+    }
+
+    fn pass(cursor: &mut Cursor<'a>) -> Result<(), TakeFault> {
+        WriteRequest::skip(cursor)
     }
 }

@@ -1,1 +1,3 @@
 mod Products
+pub mod Replacing
+pub mod Parting

@@ -4,3 +4,4 @@ pub mod Shapes
 pub mod Contents
 pub mod ValueTypes
 pub mod DataValues
+pub mod Parts

@@ -1,7 +1,8 @@
 //! What a value holds: one value, a list, or a list with dimensions.
 
-ghost use Rattle.std.specs.Prelude.{◌≡◌, option_map, refl};
+ghost use Rattle.std.specs.Prelude.{◌≡◌, ◌≤◌, ◌+◌, ◌++◌, take, drop, option_map, refl};
 ghost use Rattle.std.specs.Cmp.{partial_equiv_from_equiv, po};
+ghost use Rattle.std.specs.Vec.{vec_len};
 ghost use Rattle.std.specs.Ordering.{as_partial_cmp};
 ghost use Rattle.ua_values.specs.Contents.{place_of, scalar_of, elements_of, dimensions_of, same_content, content_cmp, same_content_equiv, content_cmp_total, content_ties};
 
@@ -10,6 +11,21 @@ use crate::shape::Shape;
 use std::alloc::{AllocError, Global};
 use std::cmp::Ordering;
 use ua_types::{Array, Copyable};
+
+// A list with others in the place of as many of its elements, from one on. They are moved, and those that stood there are dropped.
+fn replaced<T: Drop>(whole: Vec<T>, from: usize, part: Vec<T>) -> Vec<T>
+    requires { from + vec_len part ≤ vec_len whole }
+    ensures items { result.items ≡ take from whole.items ++ part.items ++ drop (from + vec_len part) whole.items }
+    ensures len { vec_len result ≡ vec_len whole }
+{
+    let mut elements = whole;
+    let mut at = from;
+    for element in part {
+        elements[at] = element;
+        at += 1;
+    }
+    elements
+}
 
 /// What a value of one type holds.
 ///
@@ -52,6 +68,49 @@ impl<T> Content<T> {
                 Some(elements) => (2, None, elements, &[]),
             },
             Content::Matrix(matrix) => (3, None, matrix.elements(), matrix.dimensions()),
+        }
+    }
+}
+
+impl<T: Drop> Content<T> {
+    ghost use Rattle.ua_values.specs.Parts.{list_len_in, flattened_in, with_part_in, HasRoom};
+
+    // A list with one dimension without it, and all else as it is.
+    pub(crate) fn flattened(self) -> Content<T>
+        ensures { result ≡ flattened_in self }
+    {
+        match self {
+            Content::Matrix(matrix) => {
+                if matrix.dimensions().len() == 1 {
+                    Content::Array(Array::new(matrix.into_elements()))
+                } else {
+                    Content::Matrix(matrix)
+                }
+            }
+            Content::Scalar(value) => Content::Scalar(value),
+            Content::Array(list) => Content::Array(list),
+        }
+    }
+
+    // A list with those of another list in the place of as many of its elements, from one on.
+    pub(crate) fn with_part(self, from: usize, part: Content<T>) -> Content<T>
+        requires { HasRoom from (list_len_in part) (list_len_in self) }
+        ensures { result ≡ with_part_in from part self }
+    {
+        match self {
+            Content::Scalar(_) => unreachable!(),
+            Content::Array(whole) => match part {
+                Content::Array(part) => match whole.into_vec() {
+                    None => Content::Array(Array::null()),
+                    Some(whole) => match part.into_vec() {
+                        None => Content::Array(Array::new(whole)),
+                        Some(part) => Content::Array(Array::new(replaced(whole, from, part))),
+                    },
+                },
+                Content::Scalar(_) => unreachable!(),
+                Content::Matrix(_) => unreachable!(),
+            },
+            Content::Matrix(_) => unreachable!(),
         }
     }
 }

@@ -5,6 +5,9 @@
 //! with its status and times. [`ValueType`] names those that a node file or a scenario can write. As in `ua_types`, everything is plain data: `ua_binary` reads and
 //! writes the bytes, and services give the values their meaning.
 //!
+//! Of a list its length can be told, its one dimension be dropped, and elements be replaced ([`Variant::list_len`],
+//! [`Variant::flattened`], [`Variant::with_part`]): what parts of lists are stands in `specs/Parts`.
+//!
 //! What a contract sees: the cases and fields themselves; of a `Matrix` its elements and its
 //! dimensions, which always fit each other (`IsShaped`).
 //!
@@ -15,6 +18,7 @@ mod content;
 mod data_value;
 mod float;
 mod matrix;
+mod parts;
 mod shape;
 mod value_type;
 mod variant;

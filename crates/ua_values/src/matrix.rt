@@ -68,6 +68,18 @@ impl<T> Matrix<T> {
         self.elements.as_slice()
     }
 
+    /// The elements themselves, with the last dimension running fastest.
+    pub fn into_elements(self) -> Vec<T>
+        ensures elements { result.items ≡ self.0 }
+        ensures short { vec_len result < 2 ^ 31 }
+    {
+        let Matrix {
+            elements,
+            dimensions: _,
+        } = self;
+        elements
+    }
+
     /// The dimensions, the slowest first.
     pub fn dimensions(&self) -> &[u32]
         ensures { result.now ≡ self.now.1 }

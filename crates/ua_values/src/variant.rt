@@ -1,6 +1,7 @@
 //! Values of any type.
 
-ghost use Rattle.std.specs.Prelude.{◌≡◌, ◌<◌};
+ghost use Rattle.std.specs.Prelude.{◌≡◌, ◌<◌, IfOk};
+ghost use Rattle.ua_values.specs.Parts.{list_len_in, flattened_in, with_part_in, list_len, flattened, with_part, HasRoom};
 ghost use Rattle.ua_values.specs.Variants.{type_number};
 ghost use Rattle.ua_values.specs.Shapes.{shape_of};
 
@@ -12,6 +13,29 @@ use ua_types::{
     Boxed, ByteString, Copyable, ExpandedNodeId, ExtensionObject, Guid, LocalizedText, Moment,
     NodeId, QualifiedName, Status, Text,
 };
+
+// The content of a block of its own, flattened, in another block.
+fn flattened_boxed<T: Drop>(
+    alloc: Global,
+    content: Boxed<Content<T>>,
+) -> Result<Boxed<Content<T>>, AllocError>
+    ensures { IfOk result (λ flat. flat ≡ flattened_in content) }
+{
+    Boxed::new(alloc, content.into_inner().flattened())
+}
+
+// A list in a block of its own with others in the place of some of its elements, in another block.
+fn boxed_with_part<T: Drop>(
+    alloc: Global,
+    whole: Boxed<Content<T>>,
+    from: usize,
+    part: Boxed<Content<T>>,
+) -> Result<Boxed<Content<T>>, AllocError>
+    requires { HasRoom from (list_len_in part) (list_len_in whole) }
+    ensures { IfOk result (λ list. list ≡ with_part_in from part whole) }
+{
+    Boxed::new(alloc, whole.into_inner().with_part(from, part.into_inner()))
+}
 
 /// A value of any built-in type (Variant, IEC 62541-6, 5.2.2.16), but for `DataValue`, `Variant` and
 /// `DiagnosticInfo`, which the server doesn't carry in one.
@@ -108,6 +132,152 @@ impl Variant {
             Variant::QualifiedName(content) => content.shape(),
             Variant::LocalizedText(content) => content.shape(),
             Variant::ExtensionObject(content) => content.shape(),
+        }
+    }
+
+    /// A list with exactly one dimension as the list without it, and everything else as it is.
+    pub fn flattened(self, alloc: Global) -> Result<Variant, AllocError>
+        ensures { IfOk result (λ value. value ≡ flattened self) }
+    {
+        match self {
+            Variant::Null => Ok(Variant::Null),
+            Variant::Boolean(content) => Ok(Variant::Boolean(content.flattened())),
+            Variant::SByte(content) => Ok(Variant::SByte(content.flattened())),
+            Variant::Byte(content) => Ok(Variant::Byte(content.flattened())),
+            Variant::Int16(content) => Ok(Variant::Int16(content.flattened())),
+            Variant::UInt16(content) => Ok(Variant::UInt16(content.flattened())),
+            Variant::Int32(content) => Ok(Variant::Int32(content.flattened())),
+            Variant::UInt32(content) => Ok(Variant::UInt32(content.flattened())),
+            Variant::Int64(content) => Ok(Variant::Int64(content.flattened())),
+            Variant::UInt64(content) => Ok(Variant::UInt64(content.flattened())),
+            Variant::Float(content) => Ok(Variant::Float(content.flattened())),
+            Variant::Double(content) => Ok(Variant::Double(content.flattened())),
+            Variant::String(content) => Ok(Variant::String(content.flattened())),
+            Variant::DateTime(content) => Ok(Variant::DateTime(content.flattened())),
+            Variant::Guid(content) => Ok(Variant::Guid(content.flattened())),
+            Variant::ByteString(content) => Ok(Variant::ByteString(content.flattened())),
+            Variant::XmlElement(content) => Ok(Variant::XmlElement(content.flattened())),
+            Variant::NodeId(content) => Ok(Variant::NodeId(content.flattened())),
+            Variant::ExpandedNodeId(content) => Ok(Variant::ExpandedNodeId(flattened_boxed(
+                alloc, content,
+            )?)),
+            Variant::StatusCode(content) => Ok(Variant::StatusCode(content.flattened())),
+            Variant::QualifiedName(content) => Ok(Variant::QualifiedName(content.flattened())),
+            Variant::LocalizedText(content) => Ok(Variant::LocalizedText(flattened_boxed(
+                alloc, content,
+            )?)),
+            Variant::ExtensionObject(content) => Ok(Variant::ExtensionObject(flattened_boxed(
+                alloc, content,
+            )?)),
+        }
+    }
+
+    /// A list with those of another list, of the same type, in the place of as many of its elements, from one on. They are
+    /// moved. Memory is wanted only for a type whose contents stand in blocks of their own.
+    #[tactic(auto, unfolding(crate::specs::Parts::with_part))]
+    pub fn with_part(self, alloc: Global, from: usize, part: Variant) -> Result<Variant, AllocError>
+        requires same_type { type_number part ≡ type_number self }
+        requires room { HasRoom from (list_len part) (list_len self) }
+        ensures { IfOk result (λ value. value ≡ with_part from part self) }
+    {
+        match self {
+            Variant::Null => Ok(Variant::Null),
+            Variant::Boolean(whole) => match part {
+                Variant::Boolean(part) => Ok(Variant::Boolean(whole.with_part(from, part))),
+                _ => unreachable!(),
+            },
+            Variant::SByte(whole) => match part {
+                Variant::SByte(part) => Ok(Variant::SByte(whole.with_part(from, part))),
+                _ => unreachable!(),
+            },
+            Variant::Byte(whole) => match part {
+                Variant::Byte(part) => Ok(Variant::Byte(whole.with_part(from, part))),
+                _ => unreachable!(),
+            },
+            Variant::Int16(whole) => match part {
+                Variant::Int16(part) => Ok(Variant::Int16(whole.with_part(from, part))),
+                _ => unreachable!(),
+            },
+            Variant::UInt16(whole) => match part {
+                Variant::UInt16(part) => Ok(Variant::UInt16(whole.with_part(from, part))),
+                _ => unreachable!(),
+            },
+            Variant::Int32(whole) => match part {
+                Variant::Int32(part) => Ok(Variant::Int32(whole.with_part(from, part))),
+                _ => unreachable!(),
+            },
+            Variant::UInt32(whole) => match part {
+                Variant::UInt32(part) => Ok(Variant::UInt32(whole.with_part(from, part))),
+                _ => unreachable!(),
+            },
+            Variant::Int64(whole) => match part {
+                Variant::Int64(part) => Ok(Variant::Int64(whole.with_part(from, part))),
+                _ => unreachable!(),
+            },
+            Variant::UInt64(whole) => match part {
+                Variant::UInt64(part) => Ok(Variant::UInt64(whole.with_part(from, part))),
+                _ => unreachable!(),
+            },
+            Variant::Float(whole) => match part {
+                Variant::Float(part) => Ok(Variant::Float(whole.with_part(from, part))),
+                _ => unreachable!(),
+            },
+            Variant::Double(whole) => match part {
+                Variant::Double(part) => Ok(Variant::Double(whole.with_part(from, part))),
+                _ => unreachable!(),
+            },
+            Variant::String(whole) => match part {
+                Variant::String(part) => Ok(Variant::String(whole.with_part(from, part))),
+                _ => unreachable!(),
+            },
+            Variant::DateTime(whole) => match part {
+                Variant::DateTime(part) => Ok(Variant::DateTime(whole.with_part(from, part))),
+                _ => unreachable!(),
+            },
+            Variant::Guid(whole) => match part {
+                Variant::Guid(part) => Ok(Variant::Guid(whole.with_part(from, part))),
+                _ => unreachable!(),
+            },
+            Variant::ByteString(whole) => match part {
+                Variant::ByteString(part) => Ok(Variant::ByteString(whole.with_part(from, part))),
+                _ => unreachable!(),
+            },
+            Variant::XmlElement(whole) => match part {
+                Variant::XmlElement(part) => Ok(Variant::XmlElement(whole.with_part(from, part))),
+                _ => unreachable!(),
+            },
+            Variant::NodeId(whole) => match part {
+                Variant::NodeId(part) => Ok(Variant::NodeId(whole.with_part(from, part))),
+                _ => unreachable!(),
+            },
+            Variant::ExpandedNodeId(whole) => match part {
+                Variant::ExpandedNodeId(part) => Ok(Variant::ExpandedNodeId(boxed_with_part(
+                    alloc, whole, from, part,
+                )?)),
+                _ => unreachable!(),
+            },
+            Variant::StatusCode(whole) => match part {
+                Variant::StatusCode(part) => Ok(Variant::StatusCode(whole.with_part(from, part))),
+                _ => unreachable!(),
+            },
+            Variant::QualifiedName(whole) => match part {
+                Variant::QualifiedName(part) => Ok(Variant::QualifiedName(whole.with_part(
+                    from, part,
+                ))),
+                _ => unreachable!(),
+            },
+            Variant::LocalizedText(whole) => match part {
+                Variant::LocalizedText(part) => Ok(Variant::LocalizedText(boxed_with_part(
+                    alloc, whole, from, part,
+                )?)),
+                _ => unreachable!(),
+            },
+            Variant::ExtensionObject(whole) => match part {
+                Variant::ExtensionObject(part) => Ok(Variant::ExtensionObject(boxed_with_part(
+                    alloc, whole, from, part,
+                )?)),
+                _ => unreachable!(),
+            },
         }
     }
 }

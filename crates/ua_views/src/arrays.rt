@@ -13,8 +13,8 @@ use ua_binary::{Cursor, TakeFault};
 
 /// A list in the bytes that it stands in, or null (arrays, IEC 62541-6, 5.2.5).
 ///
-/// Its elements are looked at one by one, and contracts see those that are left. All of them were looked at once as the
-/// list was, so none can be faulty.
+/// Its elements are looked at one by one, and contracts see those that are left. All of them were walked over once as the
+/// list was looked at, so none can be faulty.
 #[derive(Debug, Drop)]
 pub struct ArrayView<'a, T: Readable> {
     // How many elements are left, or None where the list is null. It falls by one with each.
@@ -35,22 +35,13 @@ impl<'a, T: Readable> Model for ArrayView<'a, T> {
     ghost invariant = { λ a. AreThere T.reading a.left a.at };
 }
 
-// Looks at an element, and doesn't keep it.
-fn look_past<'a, T: View<'a>>(cursor: &mut Cursor<'a>) -> Result<(), TakeFault>
-    ensures skips { Skips result cursor.new (T.reading cursor.old) }
-    ensures no_memory { result ≢ Err Memory }
-{
-    T::look(cursor)?;
-    Ok(())
-}
-
-// Looks at so many elements, and keeps none.
-fn look_past_all<'a, T: View<'a>>(count: u32, cursor: &mut Cursor<'a>) -> Result<(), TakeFault>
+// Moves past so many elements.
+fn pass_all<'a, T: View<'a>>(count: u32, cursor: &mut Cursor<'a>) -> Result<(), TakeFault>
     ensures skips { Skips result cursor.new (elements_reading T.reading count cursor.old) }
     ensures no_memory { result ≢ Err Memory }
 {
     for _ in 0..count {
-        look_past::<T>(cursor)?;
+        T::pass(cursor)?;
     }
     Ok(())
 }
@@ -128,11 +119,16 @@ impl<'a, T: View<'a>> View<'a> for ArrayView<'a, T> {
         if cursor.rest().len() < count as usize {
             return Err(TakeFault::Length);
         }
-        look_past_all::<T>(count, cursor)?;
+        pass_all::<T>(count, cursor)?;
         Ok(ArrayView {
             left: Some(count),
             at,
             element: PhantomData,
         })
+    }
+
+    fn pass(cursor: &mut Cursor<'a>) -> Result<(), TakeFault> {
+        Self::look(cursor)?;
+        Ok(())
     }
 }

@@ -12,6 +12,7 @@ use std::marker::Model;
 use ua_binary::{Cursor, TakeFault};
 use ua_types::{Moment, Status};
 use ua_values::DataValue;
+use ua_walks::Walk;
 
 /// A [`DataValue`] in the bytes that it stands in.
 #[derive(Debug)]
@@ -96,5 +97,9 @@ impl<'a> View<'a> for DataValueView<'a> {
             source_time,
             server_time,
         })
+    }
+
+    fn pass(cursor: &mut Cursor<'a>) -> Result<(), TakeFault> {
+        DataValue::skip(cursor)
     }
 }

@@ -11,6 +11,7 @@ ghost use Rattle.ua_binary.specs.Scalars.{moment_reading, status_reading, durati
 use crate::view::{Readable, View};
 use ua_binary::{Cursor, Enumeration, TakeFault};
 use ua_types::{Duration, Moment, Status};
+use ua_walks::Walk;
 
 impl Readable for bool {
     ghost reading = { boolean_reading };
@@ -22,6 +23,10 @@ impl<'a> View<'a> for bool {
         let byte = cursor.byte()?;
         Ok(byte != 0)
     }
+
+    fn pass(cursor: &mut Cursor<'a>) -> Result<(), TakeFault> {
+        bool::skip(cursor)
+    }
 }
 
 impl Readable for u16 {
@@ -32,6 +37,10 @@ impl<'a> View<'a> for u16 {
     fn look(cursor: &mut Cursor<'a>) -> Result<u16, TakeFault> {
         cursor.short_number()
     }
+
+    fn pass(cursor: &mut Cursor<'a>) -> Result<(), TakeFault> {
+        u16::skip(cursor)
+    }
 }
 
 impl Readable for u32 {
@@ -41,6 +50,10 @@ impl Readable for u32 {
 impl<'a> View<'a> for u32 {
     fn look(cursor: &mut Cursor<'a>) -> Result<u32, TakeFault> {
         cursor.number()
+    }
+
+    fn pass(cursor: &mut Cursor<'a>) -> Result<(), TakeFault> {
+        u32::skip(cursor)
     }
 }
 
@@ -54,6 +67,10 @@ impl<'a> View<'a> for Moment {
         let number = cursor.long_number()?;
         Ok(Moment(number.cast_signed()))
     }
+
+    fn pass(cursor: &mut Cursor<'a>) -> Result<(), TakeFault> {
+        Moment::skip(cursor)
+    }
 }
 
 impl Readable for Status {
@@ -65,6 +82,10 @@ impl<'a> View<'a> for Status {
     fn look(cursor: &mut Cursor<'a>) -> Result<Status, TakeFault> {
         Ok(Status(cursor.number()?))
     }
+
+    fn pass(cursor: &mut Cursor<'a>) -> Result<(), TakeFault> {
+        Status::skip(cursor)
+    }
 }
 
 impl Readable for Duration {
@@ -75,6 +96,10 @@ impl Readable for Duration {
 impl<'a> View<'a> for Duration {
     fn look(cursor: &mut Cursor<'a>) -> Result<Duration, TakeFault> {
         Ok(Duration(cursor.eight_octets()?))
+    }
+
+    fn pass(cursor: &mut Cursor<'a>) -> Result<(), TakeFault> {
+        Duration::skip(cursor)
     }
 }
 

@@ -16,6 +16,7 @@ use std::alloc::{AllocError, Global};
 use std::marker::Model;
 use ua_binary::{Cursor, TakeFault};
 use ua_types::{ExtensionObject, ExtensionObjectBody, LocalizedText, QualifiedName};
+use ua_walks::Walk;
 
 /// A [`QualifiedName`] in the bytes that it stands in.
 #[derive(Debug, Drop)]
@@ -56,6 +57,10 @@ impl<'a> View<'a> for QualifiedNameView<'a> {
             namespace: u16::look(cursor)?,
             name: TextView::look(cursor)?,
         })
+    }
+
+    fn pass(cursor: &mut Cursor<'a>) -> Result<(), TakeFault> {
+        QualifiedName::skip(cursor)
     }
 }
 
@@ -99,6 +104,10 @@ impl<'a> View<'a> for LocalizedTextView<'a> {
             locale: look_text_where_set(mask % 2, cursor)?,
             text: look_text_where_set(mask / 2 % 2, cursor)?,
         })
+    }
+
+    fn pass(cursor: &mut Cursor<'a>) -> Result<(), TakeFault> {
+        LocalizedText::skip(cursor)
     }
 }
 
@@ -197,5 +206,9 @@ impl<'a> View<'a> for ExtensionObjectView<'a> {
         let form = cursor.byte()?;
         let body = look_body(form, cursor)?;
         Ok(ExtensionObjectView { type_id, body })
+    }
+
+    fn pass(cursor: &mut Cursor<'a>) -> Result<(), TakeFault> {
+        ExtensionObject::skip(cursor)
     }
 }

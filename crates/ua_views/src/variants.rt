@@ -2,6 +2,7 @@
 
 ghost use Rattle.std.specs.Prelude.{◌≡◌, ◌%◌, IfOk};
 ghost use Rattle.ua_binary.specs.Variants.{variant_reading};
+ghost use Rattle.ua_values.specs.Parts.{flat_len};
 ghost use Rattle.ua_values.specs.Shapes.{shape_of};
 ghost use Rattle.ua_values.specs.Variants.{type_number};
 ghost use Rattle.ua_views.specs.VariantBytes.{shape_announced};
@@ -11,7 +12,7 @@ use std::alloc::{AllocError, Global};
 use std::marker::Model;
 use ua_binary::{Cursor, TakeFault, Wire};
 use ua_values::{Shape, Variant};
-use ua_walks::Walk;
+use ua_walks::{Walk, skip_variant};
 
 /// A [`Variant`] in the bytes that it stands in.
 ///
@@ -73,6 +74,17 @@ impl<'a> VariantView<'a> {
         }
     }
 
+    /// How many elements it has where it is a flat list: one that isn't null, and has no dimensions or exactly one. None of
+    /// everything else. Its content is walked over, without memory.
+    pub fn flat_len(&self) -> Option<u32>
+        ensures { result ≡ flat_len self.now }
+    {
+        match skip_variant(&mut Cursor::new(self.bytes)) {
+            Ok(len) => len,
+            Err(_) => unreachable!(),
+        }
+    }
+
     /// A copy to keep.
     pub fn to_value(&self, alloc: Global) -> Result<Variant, AllocError>
         ensures { IfOk result (λ value. value ≡ self.now) }
@@ -94,5 +106,9 @@ impl<'a> View<'a> for VariantView<'a> {
         let bytes = cursor.rest();
         Variant::skip(cursor)?;
         Ok(VariantView { bytes })
+    }
+
+    fn pass(cursor: &mut Cursor<'a>) -> Result<(), TakeFault> {
+        Variant::skip(cursor)
     }
 }

@@ -1,3 +1,4 @@
 pub mod Walking
 pub mod Elements
 pub mod Shapes
+pub mod Flat

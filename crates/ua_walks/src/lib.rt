@@ -22,4 +22,5 @@ mod texts;
 mod variants;
 mod walk;
 
+pub use variants::skip_variant;
 pub use walk::Walk;

@@ -3,12 +3,13 @@
 ghost use Rattle.std.specs.Prelude.{◌≡◌, ◌≢◌, ◌≤◌, Err};
 ghost use Rattle.std.specs.Int.{w32};
 ghost use Rattle.ua_values.specs.Matrices.{is_shape};
+ghost use Rattle.ua_values.specs.Parts.{flat_len_in, flat_len};
 ghost use Rattle.ua_binary.specs.declared.fault.TakeFault.TheVariants.{Memory};
 ghost use Rattle.ua_binary.specs.Numbers.{number_reading};
 ghost use Rattle.ua_binary.specs.Arrays.{array_reading, elements_reading};
-ghost use Rattle.ua_binary.specs.Variants.{or_empty, content_reading, typed_reading};
-ghost use Rattle.ua_walks.specs.Walks.{Skips, Tells};
-ghost use Rattle.ua_walks.specs.Shapes.{with_dimension as with_dimension_spec};
+ghost use Rattle.ua_binary.specs.Variants.{or_empty, content_reading, typed_reading, variant_reading};
+ghost use Rattle.ua_walks.specs.Walks.{Tells};
+ghost use Rattle.ua_walks.specs.Shapes.{with_dimension as with_dimension_spec, rank_where_shaped};
 
 use crate::arrays::skip_list;
 use crate::walk::Walk;
@@ -49,63 +50,70 @@ fn skip_shape(rank: u32, count: u32, cursor: &mut Cursor<'_>) -> Result<bool, Ta
     }
 }
 
-// Moves past a list of dimensions, and tells whether so many elements lie in them. A null list is as an empty one.
-#[tactic(auto, unfolding(ua_binary::specs::Arrays::array_reading))]
-fn skip_dimensions(count: u32, cursor: &mut Cursor<'_>) -> Result<bool, TakeFault>
-    ensures tells { Tells (λ dimensions. is_shape (or_empty dimensions) count) result cursor.new (array_reading (number_reading w32) cursor.old) }
+// Moves past a list of dimensions, and tells how many they are: None where so many elements don't lie in them. A null list
+// is as an empty one.
+#[tactic(auto, using(crate::proofs::Flat::ranked), unfolding(ua_binary::specs::Arrays::array_reading))]
+fn skip_dimensions(count: u32, cursor: &mut Cursor<'_>) -> Result<Option<u32>, TakeFault>
+    ensures tells { Tells (λ dimensions. rank_where_shaped (or_empty dimensions) count) result cursor.new (array_reading (number_reading w32) cursor.old) }
     ensures no_memory { result ≢ Err Memory }
 {
     let rank = cursor.number()?;
     if rank >= 1 << 31 {
-        return Ok(count == 1);
+        return Ok(if count == 1 { Some(0) } else { None });
     }
     if cursor.rest().len() < rank as usize {
         return Err(TakeFault::Length);
     }
-    skip_shape(rank, count, cursor)
+    if skip_shape(rank, count, cursor)? {
+        Ok(Some(rank))
+    } else {
+        Ok(None)
+    }
 }
 
+// What follows is moved past, and of a flat list it is told how many elements it has: of one that isn't null, and has no
+// dimensions or exactly one. None is told of everything else.
+
 // Moves past a list and its dimensions, in which it must lie.
-#[tactic(auto, unfolding(ua_binary::specs::Variants::content_reading))]
-fn skip_matrix<T: Walk>(cursor: &mut Cursor<'_>) -> Result<(), TakeFault>
-    ensures skips { Skips result cursor.new (content_reading T.reading 3 cursor.old) }
+#[tactic(auto, using(crate::proofs::Flat::of_one_dimension, crate::proofs::Flat::of_other_dimensions), unfolding(ua_binary::specs::Variants::content_reading))]
+fn skip_matrix<T: Walk>(cursor: &mut Cursor<'_>) -> Result<Option<u32>, TakeFault>
+    ensures tells { Tells flat_len_in result cursor.new (content_reading T.reading 3 cursor.old) }
     ensures no_memory { result ≢ Err Memory }
 {
     let Some(count) = skip_list::<T>(cursor)? else {
         skip_dimensions(0, cursor)?;
         return Err(TakeFault::Form);
     };
-    if !skip_dimensions(count, cursor)? {
-        return Err(TakeFault::Form);
+    match skip_dimensions(count, cursor)? {
+        None => Err(TakeFault::Form),
+        Some(1) => Ok(Some(count)),
+        Some(_) => Ok(None),
     }
-    Ok(())
 }
 
 // Moves past what follows these flags.
-#[tactic(auto, unfolding(ua_binary::specs::Variants::content_reading))]
-fn skip_content<T: Walk>(flags: u8, cursor: &mut Cursor<'_>) -> Result<(), TakeFault>
-    ensures skips { Skips result cursor.new (content_reading T.reading flags cursor.old) }
+#[tactic(auto, using(crate::proofs::Flat::list_told), unfolding(ua_binary::specs::Variants::content_reading))]
+fn skip_content<T: Walk>(flags: u8, cursor: &mut Cursor<'_>) -> Result<Option<u32>, TakeFault>
+    ensures tells { Tells flat_len_in result cursor.new (content_reading T.reading flags cursor.old) }
     ensures no_memory { result ≢ Err Memory }
 {
     match flags {
         0 => {
             T::skip(cursor)?;
+            Ok(None)
         }
-        2 => {
-            skip_list::<T>(cursor)?;
-        }
-        3 => skip_matrix::<T>(cursor)?,
-        _ => return Err(TakeFault::Form),
+        2 => skip_list::<T>(cursor),
+        3 => skip_matrix::<T>(cursor),
+        _ => Err(TakeFault::Form),
     }
-    Ok(())
 }
 
 // Moves past what follows a first byte with the number of a Boolean or an integer of up to 32 bits.
 #[tactic(auto, unfolding(ua_binary::specs::Variants::typed_reading))]
-fn skip_integer(number: u8, flags: u8, cursor: &mut Cursor<'_>) -> Result<(), TakeFault>
+fn skip_integer(number: u8, flags: u8, cursor: &mut Cursor<'_>) -> Result<Option<u32>, TakeFault>
     requires least { 1 ≤ number }
     requires most { number ≤ 7 }
-    ensures skips { Skips result cursor.new (typed_reading number flags cursor.old) }
+    ensures tells { Tells flat_len result cursor.new (typed_reading number flags cursor.old) }
     ensures no_memory { result ≢ Err Memory }
 {
     match number {
@@ -121,10 +129,10 @@ fn skip_integer(number: u8, flags: u8, cursor: &mut Cursor<'_>) -> Result<(), Ta
 
 // Moves past what follows a first byte with the number of a longer number.
 #[tactic(auto, unfolding(ua_binary::specs::Variants::typed_reading))]
-fn skip_number(number: u8, flags: u8, cursor: &mut Cursor<'_>) -> Result<(), TakeFault>
+fn skip_number(number: u8, flags: u8, cursor: &mut Cursor<'_>) -> Result<Option<u32>, TakeFault>
     requires least { 8 ≤ number }
     requires most { number ≤ 11 }
-    ensures skips { Skips result cursor.new (typed_reading number flags cursor.old) }
+    ensures tells { Tells flat_len result cursor.new (typed_reading number flags cursor.old) }
     ensures no_memory { result ≢ Err Memory }
 {
     match number {
@@ -137,10 +145,10 @@ fn skip_number(number: u8, flags: u8, cursor: &mut Cursor<'_>) -> Result<(), Tak
 
 // Moves past what follows a first byte with the number of a text, a moment, a Guid or bytes.
 #[tactic(auto, unfolding(ua_binary::specs::Variants::typed_reading))]
-fn skip_sized(number: u8, flags: u8, cursor: &mut Cursor<'_>) -> Result<(), TakeFault>
+fn skip_sized(number: u8, flags: u8, cursor: &mut Cursor<'_>) -> Result<Option<u32>, TakeFault>
     requires least { 12 ≤ number }
     requires most { number ≤ 16 }
-    ensures skips { Skips result cursor.new (typed_reading number flags cursor.old) }
+    ensures tells { Tells flat_len result cursor.new (typed_reading number flags cursor.old) }
     ensures no_memory { result ≢ Err Memory }
 {
     match number {
@@ -154,10 +162,10 @@ fn skip_sized(number: u8, flags: u8, cursor: &mut Cursor<'_>) -> Result<(), Take
 
 // Moves past what follows a first byte with the number of an id, a status, a name or a structure.
 #[tactic(auto, unfolding(ua_binary::specs::Variants::typed_reading))]
-fn skip_named(number: u8, flags: u8, cursor: &mut Cursor<'_>) -> Result<(), TakeFault>
+fn skip_named(number: u8, flags: u8, cursor: &mut Cursor<'_>) -> Result<Option<u32>, TakeFault>
     requires least { 17 ≤ number }
     requires most { number ≤ 22 }
-    ensures skips { Skips result cursor.new (typed_reading number flags cursor.old) }
+    ensures tells { Tells flat_len result cursor.new (typed_reading number flags cursor.old) }
     ensures no_memory { result ≢ Err Memory }
 {
     match number {
@@ -172,14 +180,14 @@ fn skip_named(number: u8, flags: u8, cursor: &mut Cursor<'_>) -> Result<(), Take
 
 // Moves past what follows a first byte with this number and these flags.
 #[tactic(auto, unfolding(ua_binary::specs::Variants::typed_reading))]
-fn skip_typed(number: u8, flags: u8, cursor: &mut Cursor<'_>) -> Result<(), TakeFault>
-    ensures skips { Skips result cursor.new (typed_reading number flags cursor.old) }
+fn skip_typed(number: u8, flags: u8, cursor: &mut Cursor<'_>) -> Result<Option<u32>, TakeFault>
+    ensures tells { Tells flat_len result cursor.new (typed_reading number flags cursor.old) }
     ensures no_memory { result ≢ Err Memory }
 {
     match number {
         0 => {
             if flags == 0 {
-                Ok(())
+                Ok(None)
             } else {
                 Err(TakeFault::Form)
             }
@@ -192,11 +200,22 @@ fn skip_typed(number: u8, flags: u8, cursor: &mut Cursor<'_>) -> Result<(), Take
     }
 }
 
+/// Moves past a Variant, and tells how many elements it has where it is a flat list: one that isn't null, and has no
+/// dimensions or exactly one. None of everything else.
+///
+/// At an `Err`, the first fault, the cursor stands where the fault is.
 #[tactic(auto, unfolding(ua_binary::specs::Variants::variant_reading))]
+pub fn skip_variant(cursor: &mut Cursor<'_>) -> Result<Option<u32>, TakeFault>
+    ensures tells { Tells flat_len result cursor.new (variant_reading cursor.old) }
+    ensures no_memory { result ≢ Err Memory }
+{
+    let first = cursor.byte()?;
+    skip_typed(first % 64, first / 64, cursor)
+}
+
 impl Walk for Variant {
     fn walk(cursor: &mut Cursor<'_>) -> Result<(), TakeFault> {
-        let first = cursor.byte()?;
-        skip_typed(first % 64, first / 64, cursor)?;
+        skip_variant(cursor)?;
         Ok(())
     }
 }

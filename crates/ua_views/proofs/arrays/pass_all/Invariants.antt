@@ -2,7 +2,7 @@ use Rattle.std.proofs.Common.{◌≡◌, ◌-◌}
 use Rattle.ua_binary.specs.Arrays.{elements_reading}
 use Rattle.ua_walks.proofs.Elements.{seen}
 use Rattle.ua_views.proofs.Looking.{unseen}
-use Rattle.ua_views.proofs.arrays.look_past_all.Given as goal
+use Rattle.ua_views.proofs.arrays.pass_all.Given as goal
 
 -- behind the elements to come stands what stands behind all of them
 abbrev pub invariant-loop : goal.invariant-loop
