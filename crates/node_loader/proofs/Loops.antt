@@ -12,7 +12,7 @@ use Rattle.ua_space.specs.declared.node.Node.{Node}
 use Rattle.ua_space.specs.declared.triple.Triple.{Triple}
 use Rattle.node_loader.specs.declared.fault.LoadFault.{LoadFault}
 use Rattle.node_loader.specs.declared.node.Entry.{Entry}
-use Rattle.node_loader.specs.declared.node.Setting.{Setting}
+use Rattle.node_loader.specs.declared.past.Setting.{Setting}
 use Rattle.node_loader.specs.File.{entries_of, nodes_of}
 use Rattle.node_loader.specs.Node.{triples_of}
 use Rattle.ua_types.specs.Answers.{◌>>=◌}

@@ -16,11 +16,11 @@ use Rattle.node_loader.specs.declared.fault.Cause.{Cause}
 use Rattle.node_loader.specs.declared.fault.LoadFault.{LoadFault}
 use Rattle.node_loader.specs.declared.node.Entry.{Entry}
 
-then_ok : {A B F : Type 0} (r : Result A F) (f : A → Result B F) (y : B) → (r >>= f) ≡ Ok y → (x : A) × (r ≡ Ok x) × (f x ≡ Ok y)
+pub then_ok : {A B F : Type 0} (r : Result A F) (f : A → Result B F) (y : B) → (r >>= f) ≡ Ok y → (x : A) × (r ≡ Ok x) × (f x ≡ Ok y)
 then_ok (Ok x) f y e = (x, refl, e)
 then_ok (Err fault) f y e = absurd cc
 
-ok_same : {A F : Type 0} (x y : A) → (let r : Result A F = Ok x in r) ≡ Ok y → x ≡ y
+pub ok_same : {A F : Type 0} (x y : A) → (let r : Result A F = Ok x in r) ≡ Ok y → x ≡ y
 ok_same x y e = cc
 
 some_same : {A : Type 0} (x y : A) → Some x ≡ Some y → x ≡ y
@@ -44,7 +44,7 @@ each_at {A} {F} f n (item d0 ds) xs e (suc k) d at =
     let place : n + 1 + k ≡ n + suc k = omega arith in
     (later.0, ap (λ m. f m d) (sym place) ∙ later.1, ap (λ ys. slice_get ys (suc k)) (sym is) ∙ later.2)
 
-without_part : (p : Part) (r : Result Entry Cause) (x : Entry) → in_part p r ≡ Ok x → r ≡ Ok x
+pub without_part : {A : Type 0} (p : Part) (r : Result A Cause) (x : A) → in_part p r ≡ Ok x → r ≡ Ok x
 without_part p (Ok y) x e = let same : y ≡ x = cc in ap Ok same
 without_part p (Err c) x e = absurd cc
 

@@ -1,7 +1,7 @@
 -- A whole node file: its version, its three parts, and what they say together.
 use Rattle.std.specs.Prelude.{◌≡◌, ◌≢◌, ℕ, ◌+◌, pos, List, [], ◌∷◌, ◌++◌, ◌==◌, map, length, codes, Option, Some, None, unwrap_or, Result, Ok, Err, if◌then◌else◌}
 use Rattle.std.specs.List.{flat_map}
-use Rattle.toml.specs.Data.{Data, integer, Items, no_items, Members, no_members, get_member, as_array, as_table}
+use Rattle.toml.specs.Data.{Data, integer, Items, Members, no_members, get_member, as_table}
 use Rattle.toml.specs.Parse.{parse_document}
 use Rattle.ua_types.specs.Configuration.{Configuration}
 use Rattle.ua_space.specs.declared.node.Node.{Node}
@@ -10,21 +10,23 @@ use Rattle.ua_space.specs.declared.triple.Part.TheVariants as part
 use Rattle.ua_space.specs.declared.triple.Triple.{Triple}
 use Rattle.ua_types.specs.Answers.{◌>>=◌}
 use Rattle.node_loader.specs.Lists.{each}
-use Rattle.node_loader.specs.Keys.{only, of_kind}
+use Rattle.node_loader.specs.Keys.{only, of_kind, list_at}
 use Rattle.node_loader.specs.Node.{entry_of, triples_of}
 use Rattle.node_loader.specs.Reference.{listed_reference_of}
 use Rattle.node_loader.specs.Server.{server_of}
 use Rattle.node_loader.specs.declared.fault.Cause.{Cause}
-use Rattle.node_loader.specs.declared.fault.Cause.TheVariants.{Toml, Version, Memory}
+use Rattle.node_loader.specs.declared.fault.Cause.TheVariants as causes
 use Rattle.node_loader.specs.declared.fault.LoadFault.{LoadFault}
 use Rattle.node_loader.specs.declared.file.Loaded.{Loaded}
 use Rattle.node_loader.specs.declared.node.Entry.{Entry}
-use Rattle.node_loader.specs.declared.node.Setting.{Setting}
+use Rattle.node_loader.specs.declared.past.Setting.{Setting}
+use Rattle.node_loader.specs.declared.version.Version.{Version}
+use Rattle.node_loader.specs.declared.version.Version.TheVariants.{One, Two}
 
--- `version = 1`
-abbrev pub version_of : Option Data → Result (Unit {0}) Cause
-version_of (Some (integer (pos n))) = if n == 1 then Ok tt else Err Version
-version_of _ = Err Version
+-- `version = 1` or `version = 2`
+abbrev pub version_of : Option Data → Result Version Cause
+version_of (Some (integer (pos n))) = if n == 1 then Ok One else if n == 2 then Ok Two else Err causes.Version
+version_of _ = Err causes.Version
 
 -- the table `server`, empty where there is none
 unfoldable pub table_at : List ℕ → Members → Result Members Cause
@@ -32,14 +34,9 @@ table_at key ms = do
   found ← of_kind as_table (get_member key ms)
   Ok (unwrap_or found no_members)
 
--- a list of entries, empty where there is none
-unfoldable pub list_at : List ℕ → Members → Result Items Cause
-list_at key ms = do
-  found ← of_kind as_array (get_member key ms)
-  Ok (unwrap_or found no_items)
-
 -- the parts of a file: its version is judged first, then its own keys, and then the kinds of its parts
 pub record Parts : Type 0 where
+  pub version : Version
   pub server : Members
   pub nodes : Items
   pub references : Items
@@ -51,7 +48,7 @@ parts_of ms = do
   server ← table_at (codes "server") ms
   nodes ← list_at (codes "node") ms
   references ← list_at (codes "reference") ms
-  Ok (record { server = server; nodes = nodes; references = references })
+  Ok (record { version = version; server = server; nodes = nodes; references = references })
 
 -- the fault of a part
 abbrev pub in_part : {A : Type 0} → Part → Result A Cause → Result A LoadFault
@@ -59,8 +56,8 @@ in_part p (Ok x) = Ok x
 in_part p (Err c) = Err (record { cause = c; part = p })
 
 -- what nodes depend on: besides the namespaces 0 and 1 there are those of the configuration
-abbrev pub setting_of : Configuration → Setting
-setting_of c = record { highest = 1 + length (unwrap_or c.namespaces []); start = c.start }
+abbrev pub setting_of : Version → Configuration → Setting
+setting_of version c = record { version = version; highest = 1 + length (unwrap_or c.namespaces []); start = c.start; history = c.history }
 
 -- the nodes of the list `node`, and the references that come with them
 abbrev pub entries_of : Setting → Items → Result (List Entry) LoadFault
@@ -79,14 +76,14 @@ references_of highest ds = each (λ n d. in_part (part.Reference n) (listed_refe
 unfoldable pub contents_of : Members → Result Loaded LoadFault
 contents_of ms = do
   parts ← in_part part.File (parts_of ms)
-  config ← in_part part.Server (server_of parts.server)
-  nodes ← nodes_of (setting_of config) parts.nodes
-  references ← references_of (setting_of config).highest parts.references
+  config ← in_part part.Server (server_of parts.version parts.server)
+  nodes ← nodes_of (setting_of parts.version config) parts.nodes
+  references ← references_of (setting_of parts.version config).highest parts.references
   Ok (record { config = config; nodes = nodes.0; triples = nodes.1 ++ references })
 
 -- a text that is no TOML
 abbrev pub read_of : Option Members → Result Loaded LoadFault
-read_of None = Err (record { cause = Toml; part = part.File })
+read_of None = Err (record { cause = causes.Toml; part = part.File })
 read_of (Some ms) = contents_of ms
 
 -- what a node file means, or its first fault
@@ -96,4 +93,4 @@ meaning_of text = read_of (parse_document text)
 -- what a call answers, seen by view, is what is said, unless memory ran out
 abbrev pub Loads : {X Y : Type 0} → (X → Y) → Result X LoadFault → Result Y LoadFault → Type 0
 Loads view (Ok x) said = said ≡ Ok (view x)
-Loads view (Err f) said = f.cause ≢ Memory → said ≡ Err f
+Loads view (Err f) said = f.cause ≢ causes.Memory → said ≡ Err f

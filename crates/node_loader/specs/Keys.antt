@@ -2,8 +2,9 @@
 use Rattle.std.specs.Prelude.{ℕ, ℤ, pos, negsuc, int_le, ◌^◌, List, Bool, true, false, ◌&&◌, nat_le, nat_lt, length, Option, Some, None, Result, Ok, Err, if◌then◌else◌, unwrap_or}
 use Rattle.std.specs.List.{list_any}
 use Rattle.std.specs.Str.{bytes_eq}
-use Rattle.toml.specs.Data.{Data, Members, no_members, member, get_member, as_str, as_integer, as_bool}
+use Rattle.toml.specs.Data.{Data, Members, no_members, member, get_member, as_str, as_integer, as_bool, as_array, Items, no_items}
 use Rattle.ua_types.specs.Answers.{◌>>=◌}
+use Rattle.ua_types.specs.declared.number_range.NumberRange.{NumberRange}
 use Rattle.node_loader.specs.declared.fault.Cause.{Cause}
 use Rattle.node_loader.specs.declared.fault.Cause.TheVariants.{MissingKey, WrongKind, UnknownKey, OutOfRange}
 
@@ -57,19 +58,23 @@ text_or key fallback ms = do
   found ← text_at key ms
   Ok (Some (unwrap_or found fallback))
 
+-- from 0 to this number
+abbrev pub up_to : ℕ → NumberRange
+up_to most = record { least = 0; most = most }
+
 -- an unsigned number within its range, or the default
-abbrev pub within : ℕ → ℕ → ℤ → Result ℕ Cause
-within low high (pos n) = if nat_le low n && nat_le n high then Ok n else Err OutOfRange
-within low high (negsuc n) = Err OutOfRange
+abbrev pub within : NumberRange → ℤ → Result ℕ Cause
+within range (pos n) = if nat_le range.least n && nat_le n range.most then Ok n else Err OutOfRange
+within range (negsuc n) = Err OutOfRange
 
-abbrev pub number_or : ℕ → ℕ → ℕ → Option ℤ → Result ℕ Cause
-number_or fallback low high None = Ok fallback
-number_or fallback low high (Some z) = within low high z
+abbrev pub number_or : ℕ → NumberRange → Option ℤ → Result ℕ Cause
+number_or fallback range None = Ok fallback
+number_or fallback range (Some z) = within range z
 
-unfoldable pub number_at : List ℕ → ℕ → ℕ → ℕ → Members → Result ℕ Cause
-number_at key fallback low high ms = do
+unfoldable pub number_at : List ℕ → ℕ → NumberRange → Members → Result ℕ Cause
+number_at key fallback range ms = do
   found ← integer_at key ms
-  number_or fallback low high found
+  number_or fallback range found
 
 -- characters that the part must have
 unfoldable pub required_word : List ℕ → Members → Result (List ℕ) Cause
@@ -101,14 +106,27 @@ required_integer key ms = do
   found ← integer_at key ms
   required found
 
--- an unsigned number that the part must have, up to the highest
-unfoldable pub unsigned_at : List ℕ → ℕ → Members → Result ℕ Cause
-unsigned_at key high ms = do
+-- an unsigned number that the part must have, within its range
+unfoldable pub required_number : List ℕ → NumberRange → Members → Result ℕ Cause
+required_number key range ms = do
   number ← required_integer key ms
-  within 0 high number
+  within range number
+
+-- up to the highest
+abbrev pub unsigned_at : List ℕ → ℕ → Members → Result ℕ Cause
+unsigned_at key high ms = required_number key (up_to high) ms
 
 -- a signed number that the part must have, within its range
+abbrev pub signed_within : ℤ → ℤ → ℤ → Result ℤ Cause
+signed_within low high number = if int_le low number && int_le number high then Ok number else Err OutOfRange
+
 unfoldable pub signed_at : List ℕ → ℤ → ℤ → Members → Result ℤ Cause
 signed_at key low high ms = do
   number ← required_integer key ms
-  if int_le low number && int_le number high then Ok number else Err OutOfRange
+  signed_within low high number
+
+-- a list, empty where there is none
+unfoldable pub list_at : List ℕ → Members → Result Items Cause
+list_at key ms = do
+  found ← of_kind as_array (get_member key ms)
+  Ok (unwrap_or found no_items)

@@ -1,10 +1,16 @@
 pub mod Lists
+pub mod Versions
 pub mod Keys
-pub mod Server
 pub mod Ids
+pub mod Elements
+pub mod Server
 pub mod Value
+pub mod Past
 pub mod Node
 pub mod Reference
 pub mod File
+pub mod VersionOne
+pub mod Kept
 pub mod Smallest
 pub mod Ordered
+pub mod Histories

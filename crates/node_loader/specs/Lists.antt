@@ -1,5 +1,5 @@
 -- What is read one after the other, up to the first fault.
-use Rattle.std.specs.Prelude.{ℕ, ◌+◌, List, [], ◌∷◌, ◌++◌, Result, Ok, Err}
+use Rattle.std.specs.Prelude.{ℕ, suc, ◌+◌, Bool, true, ◌&&◌, List, [], ◌∷◌, ◌++◌, Result, Ok, Err}
 use Rattle.toml.specs.Data.{Data, Items, no_items, item}
 use Rattle.ua_types.specs.Answers.{◌>>=◌}
 
@@ -10,6 +10,15 @@ each f n (item d ds) = do
   x ← f n d
   xs ← each f (n + 1) ds
   Ok (x ∷ xs)
+
+-- each item passes the test
+abbrev pub all_items : (Data → Bool) → Items → Bool
+all_items test no_items = true
+all_items test (item d ds) = test d && all_items test ds
+
+abbrev pub count : Items → ℕ
+count no_items = 0
+count (item d ds) = suc (count ds)
 
 -- what stands before, and what is said of the rest
 abbrev pub after : {A F : Type 0} → List A → Result (List A) F → Result (List A) F

@@ -7,7 +7,7 @@ use Rattle.ua_space.specs.declared.triple.Triple.{Triple}
 use Rattle.node_loader.specs.File.{nodes_of}
 use Rattle.node_loader.specs.Node.{entry_of}
 use Rattle.node_loader.specs.declared.node.Entry.{Entry}
-use Rattle.node_loader.specs.declared.node.Setting.{Setting}
+use Rattle.node_loader.specs.declared.past.Setting.{Setting}
 
 abbrev pub NodesAreInOrder : Type 0
 NodesAreInOrder = (setting : Setting) (list : Items) (nodes : List Node) (triples : List Triple) → nodes_of setting list ≡ Ok (nodes, triples)

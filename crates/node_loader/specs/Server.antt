@@ -1,15 +1,20 @@
 -- The table `server`: for each key its name, its default and its range.
-use Rattle.std.specs.Prelude.{ℕ, suc, pos, ◌^◌, ◌≤◌, List, [], ◌∷◌, Bool, true, ◌&&◌, codes, length, nat_le, nat_lt, Option, Some, None, is_some, IsSome, IfSome, Result, Ok, Err, if◌then◌else◌}
-use Rattle.toml.specs.Data.{Data, Items, no_items, item, Members, get_member, as_str, as_array}
+use Rattle.std.specs.Prelude.{ℕ, pos, ◌≤◌, List, [], ◌∷◌, codes, length, nat_le, Option, Some, None, is_some, IsSome, IfSome, Result, Ok, Err, if◌then◌else◌}
+use Rattle.toml.specs.Data.{Items, Members, get_member, as_str, as_array}
 use Rattle.hex.specs.Hex.{decode_sized}
 use Rattle.hex.specs.declared.error.FromHexError.{FromHexError}
-use Rattle.ua_types.specs.Configuration.{Configuration, IsWithin}
+use Rattle.ua_types.specs.Configuration.{Configuration, IsIn}
+use Rattle.ua_types.specs.declared.number_range.TheConstants.NumberRange as ranges
 use Rattle.ua_types.specs.declared.duration.Duration.{Duration}
 use Rattle.ua_types.specs.Answers.{◌>>=◌}
-use Rattle.node_loader.specs.Lists.{each}
+use Rattle.node_loader.specs.Elements.{elements, text_of}
+use Rattle.node_loader.specs.Lists.{all_items, count}
+use Rattle.node_loader.specs.Versions.{range_of}
+use Rattle.node_loader.specs.declared.version.TheConstants.{FIRST_CONNECTIONS, FIRST_HISTORY, FIRST_QUEUE, FIRST_SESSIONS}
+use Rattle.node_loader.specs.declared.version.Version.{Version}
 use Rattle.node_loader.specs.declared.fault.Cause.{Cause}
 use Rattle.node_loader.specs.declared.fault.Cause.TheVariants.{WrongKind, OutOfRange}
-use Rattle.node_loader.specs.Keys.{only, of_kind, word_at, text_or, number_at}
+use Rattle.node_loader.specs.Keys.{only, of_kind, word_at, text_or, number_at, up_to}
 use Rattle.node_loader.specs.declared.server.Names.{Names}
 use Rattle.node_loader.specs.declared.server.Sizes.{Sizes}
 use Rattle.node_loader.specs.declared.server.Tables.{Tables}
@@ -18,26 +23,10 @@ use Rattle.node_loader.specs.declared.server.Pages.{Pages}
 use Rattle.node_loader.specs.declared.server.Times.{Times}
 use Rattle.node_loader.specs.declared.server.Durations.{Durations}
 
--- an element of a list of texts
-abbrev pub text_or_fault : Option (List ℕ) → Result (Option (List ℕ)) Cause
-text_or_fault None = Err WrongKind
-text_or_fault (Some t) = if nat_lt (length t) (2 ^ 31) then Ok (Some t) else Err OutOfRange
-
-abbrev pub text_of : Data → Result (Option (List ℕ)) Cause
-text_of d = text_or_fault (as_str d)
-
-abbrev pub all_texts : Items → Bool
-all_texts no_items = true
-all_texts (item d ds) = is_some (as_str d) && all_texts ds
-
-abbrev pub count : Items → ℕ
-count no_items = 0
-count (item d ds) = suc (count ds)
-
 -- first that all are texts, then how many there are, then that each is short enough
 abbrev pub few_texts : ℕ → Items → Result (List (Option (List ℕ))) Cause
 few_texts most ds =
-    if all_texts ds then (if nat_le (count ds) most then each (λ _ d. text_of d) 1 ds else Err OutOfRange)
+    if all_items (λ d. is_some (as_str d)) ds then (if nat_le (count ds) most then elements text_of ds else Err OutOfRange)
     else Err WrongKind
 
 -- at most so many texts; none where the key is absent
@@ -76,46 +65,46 @@ names_of ms = do
 -- the sizes of frames and requests, and the lifetime of a channel's token
 unfoldable pub sizes_of : Members → Result Sizes Cause
 sizes_of ms = do
-  receive_size ← number_at (codes "receive_size") 65536 1024 1048576 ms
-  send_size ← number_at (codes "send_size") 65536 1024 1048576 ms
-  max_message ← number_at (codes "max_message") 1048576 1024 16777216 ms
-  max_chunks ← number_at (codes "max_chunks") 64 1 65535 ms
-  lifetime_ms ← number_at (codes "lifetime_ms") 3600000 1 4294967295 ms
+  receive_size ← number_at (codes "receive_size") 65536 ranges.RECEIVE_SIZE ms
+  send_size ← number_at (codes "send_size") 65536 ranges.SEND_SIZE ms
+  max_message ← number_at (codes "max_message") 1048576 ranges.MAX_MESSAGE ms
+  max_chunks ← number_at (codes "max_chunks") 64 ranges.MAX_CHUNKS ms
+  lifetime_ms ← number_at (codes "lifetime_ms") 3600000 ranges.LIFETIME_MS ms
   Ok (record { receive_size = receive_size; send_size = send_size; max_message = max_message; max_chunks = max_chunks; lifetime_ms = lifetime_ms })
 
 -- how much the server holds of each thing
-unfoldable pub tables_of : Members → Result Tables Cause
-tables_of ms = do
-  connections ← number_at (codes "connections") 100 1 10000 ms
-  sessions ← number_at (codes "sessions") 100 1 10000 ms
-  subscriptions ← number_at (codes "subscriptions") 100 1 100000 ms
-  items ← number_at (codes "items") 1000 1 100000 ms
-  queue ← number_at (codes "queue") 100 1 100000 ms
+unfoldable pub tables_of : Version → Members → Result Tables Cause
+tables_of version ms = do
+  connections ← number_at (codes "connections") 100 (range_of version FIRST_CONNECTIONS ranges.CONNECTIONS) ms
+  sessions ← number_at (codes "sessions") 100 (range_of version FIRST_SESSIONS ranges.SESSIONS) ms
+  subscriptions ← number_at (codes "subscriptions") 100 ranges.SUBSCRIPTIONS ms
+  items ← number_at (codes "items") 1000 ranges.ITEMS ms
+  queue ← number_at (codes "queue") 100 (range_of version FIRST_QUEUE ranges.QUEUE) ms
   Ok (record { connections = connections; sessions = sessions; subscriptions = subscriptions; items = items; queue = queue })
 
 -- what a session and a subscription hold
 unfoldable pub messages_of : Members → Result Messages Cause
 messages_of ms = do
-  publish_queue ← number_at (codes "publish_queue") 10 1 100000 ms
-  kept ← number_at (codes "kept") 100 1 100000 ms
-  notifications ← number_at (codes "notifications") 1000 1 100000 ms
-  points ← number_at (codes "points") 10 1 100000 ms
+  publish_queue ← number_at (codes "publish_queue") 10 ranges.PUBLISH_QUEUE ms
+  kept ← number_at (codes "kept") 100 ranges.KEPT ms
+  notifications ← number_at (codes "notifications") 1000 ranges.NOTIFICATIONS ms
+  points ← number_at (codes "points") 10 ranges.POINTS ms
   Ok (record { publish_queue = publish_queue; kept = kept; notifications = notifications; points = points })
 
 -- the sizes of pages, lists and histories
-unfoldable pub pages_of : Members → Result Pages Cause
-pages_of ms = do
-  references ← number_at (codes "references") 1000 1 100000 ms
-  operations ← number_at (codes "operations") 1000 1 100000 ms
-  history_page ← number_at (codes "history_page") 1000 1 100000 ms
-  history ← number_at (codes "history") 10000 1 1000000 ms
+unfoldable pub pages_of : Version → Members → Result Pages Cause
+pages_of version ms = do
+  references ← number_at (codes "references") 1000 ranges.REFERENCES ms
+  operations ← number_at (codes "operations") 1000 ranges.OPERATIONS ms
+  history_page ← number_at (codes "history_page") 1000 ranges.HISTORY_PAGE ms
+  history ← number_at (codes "history") 10000 (range_of version FIRST_HISTORY ranges.HISTORY) ms
   Ok (record { references = references; operations = operations; history_page = history_page; history = history })
 
 -- the two times, in steps of 100 ns
 unfoldable pub times_of : Members → Result Times Cause
 times_of ms = do
-  session_time ← number_at (codes "session_time") 600000000 1 1000000000000000 ms
-  publish_time ← number_at (codes "publish_time") 10000000 1 1000000000000000 ms
+  session_time ← number_at (codes "session_time") 600000000 ranges.SESSION_TIME ms
+  publish_time ← number_at (codes "publish_time") 10000000 ranges.PUBLISH_TIME ms
   Ok (record { session_time = session_time; publish_time = publish_time })
 
 -- the times as clients are told them
@@ -136,48 +125,52 @@ server_keys =
     codes "operations" ∷ codes "history_page" ∷ codes "history" ∷ codes "session_time" ∷ codes "publish_time" ∷
     codes "session_duration" ∷ codes "publish_duration" ∷ codes "sampling_duration" ∷ []
 
+-- the configuration of its parts
+abbrev pub configured : Names → ℕ → Sizes → Tables → Messages → Pages → Times → Durations → Configuration
+configured names start sizes tables messages pages times durations = record {
+  uri = names.uri;
+  name = names.name;
+  url = names.url;
+  namespaces = names.namespaces;
+  start = record { 0 = pos start };
+  receive_size = sizes.receive_size;
+  send_size = sizes.send_size;
+  max_message = sizes.max_message;
+  max_chunks = sizes.max_chunks;
+  lifetime_ms = sizes.lifetime_ms;
+  connections = tables.connections;
+  sessions = tables.sessions;
+  subscriptions = tables.subscriptions;
+  items = tables.items;
+  queue = tables.queue;
+  publish_queue = messages.publish_queue;
+  kept = messages.kept;
+  notifications = messages.notifications;
+  points = messages.points;
+  references = pages.references;
+  operations = pages.operations;
+  history_page = pages.history_page;
+  history = pages.history;
+  session_time = times.session_time;
+  publish_time = times.publish_time;
+  session_duration = durations.session_duration;
+  publish_duration = durations.publish_duration;
+  sampling_duration = durations.sampling_duration;
+}
+
 -- the configuration of the table, or its first fault
-unfoldable pub server_of : Members → Result Configuration Cause
-server_of ms = do
+unfoldable pub server_of : Version → Members → Result Configuration Cause
+server_of version ms = do
   known ← only server_keys ms
   names ← names_of ms
-  start ← number_at (codes "start") 0 0 9223372036854775807 ms
+  start ← number_at (codes "start") 0 (up_to 9223372036854775807) ms
   sizes ← sizes_of ms
-  tables ← tables_of ms
+  tables ← tables_of version ms
   messages ← messages_of ms
-  pages ← pages_of ms
+  pages ← pages_of version ms
   times ← times_of ms
   durations ← durations_of ms
-  Ok (record {
-    uri = names.uri;
-    name = names.name;
-    url = names.url;
-    namespaces = names.namespaces;
-    start = record { 0 = pos start };
-    receive_size = sizes.receive_size;
-    send_size = sizes.send_size;
-    max_message = sizes.max_message;
-    max_chunks = sizes.max_chunks;
-    lifetime_ms = sizes.lifetime_ms;
-    connections = tables.connections;
-    sessions = tables.sessions;
-    subscriptions = tables.subscriptions;
-    items = tables.items;
-    queue = tables.queue;
-    publish_queue = messages.publish_queue;
-    kept = messages.kept;
-    notifications = messages.notifications;
-    points = messages.points;
-    references = pages.references;
-    operations = pages.operations;
-    history_page = pages.history_page;
-    history = pages.history;
-    session_time = times.session_time;
-    publish_time = times.publish_time;
-    session_duration = durations.session_duration;
-    publish_duration = durations.publish_duration;
-    sampling_duration = durations.sampling_duration;
-  })
+  Ok (configured names start sizes tables messages pages times durations)
 
 -- the ranges, as the configuration wants them
 pub record AreNames (n : Names) : Type 0 where
@@ -187,31 +180,31 @@ pub record AreNames (n : Names) : Type 0 where
   pub namespaces : IfSome n.namespaces (λ texts. length texts ≤ 100)
 
 pub record AreSizes (s : Sizes) : Type 0 where
-  pub receive_size : IsWithin 1024 1048576 s.receive_size
-  pub send_size : IsWithin 1024 1048576 s.send_size
-  pub max_message : IsWithin 1024 16777216 s.max_message
-  pub max_chunks : IsWithin 1 65535 s.max_chunks
-  pub lifetime_ms : IsWithin 1 4294967295 s.lifetime_ms
+  pub receive_size : IsIn ranges.RECEIVE_SIZE s.receive_size
+  pub send_size : IsIn ranges.SEND_SIZE s.send_size
+  pub max_message : IsIn ranges.MAX_MESSAGE s.max_message
+  pub max_chunks : IsIn ranges.MAX_CHUNKS s.max_chunks
+  pub lifetime_ms : IsIn ranges.LIFETIME_MS s.lifetime_ms
 
 pub record AreTables (s : Tables) : Type 0 where
-  pub connections : IsWithin 1 10000 s.connections
-  pub sessions : IsWithin 1 10000 s.sessions
-  pub subscriptions : IsWithin 1 100000 s.subscriptions
-  pub items : IsWithin 1 100000 s.items
-  pub queue : IsWithin 1 100000 s.queue
+  pub connections : IsIn ranges.CONNECTIONS s.connections
+  pub sessions : IsIn ranges.SESSIONS s.sessions
+  pub subscriptions : IsIn ranges.SUBSCRIPTIONS s.subscriptions
+  pub items : IsIn ranges.ITEMS s.items
+  pub queue : IsIn ranges.QUEUE s.queue
 
 pub record AreMessages (s : Messages) : Type 0 where
-  pub publish_queue : IsWithin 1 100000 s.publish_queue
-  pub kept : IsWithin 1 100000 s.kept
-  pub notifications : IsWithin 1 100000 s.notifications
-  pub points : IsWithin 1 100000 s.points
+  pub publish_queue : IsIn ranges.PUBLISH_QUEUE s.publish_queue
+  pub kept : IsIn ranges.KEPT s.kept
+  pub notifications : IsIn ranges.NOTIFICATIONS s.notifications
+  pub points : IsIn ranges.POINTS s.points
 
 pub record ArePages (s : Pages) : Type 0 where
-  pub references : IsWithin 1 100000 s.references
-  pub operations : IsWithin 1 100000 s.operations
-  pub history_page : IsWithin 1 100000 s.history_page
-  pub history : IsWithin 1 1000000 s.history
+  pub references : IsIn ranges.REFERENCES s.references
+  pub operations : IsIn ranges.OPERATIONS s.operations
+  pub history_page : IsIn ranges.HISTORY_PAGE s.history_page
+  pub history : IsIn ranges.HISTORY s.history
 
 pub record AreTimes (s : Times) : Type 0 where
-  pub session_time : IsWithin 1 (10 ^ 15) s.session_time
-  pub publish_time : IsWithin 1 (10 ^ 15) s.publish_time
+  pub session_time : IsIn ranges.SESSION_TIME s.session_time
+  pub publish_time : IsIn ranges.PUBLISH_TIME s.publish_time

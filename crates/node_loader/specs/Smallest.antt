@@ -1,5 +1,5 @@
 -- The smallest node of each class: only the keys that it must have are said, so each other attribute is the default.
-use Rattle.std.specs.Prelude.{◌≡◌, ℕ, ◌^◌, nat_lt, List, codes, Bool, true, false, length, Option, Some, None, option_map, Ok}
+use Rattle.std.specs.Prelude.{◌≡◌, ℕ, ◌^◌, nat_lt, List, codes, [], Bool, true, false, length, Option, Some, None, option_map, Ok}
 use Rattle.toml.specs.Data.{Members, no_members, member, string, boolean}
 use Rattle.ua_types.specs.NodeIds.{numeric_id}
 use Rattle.ua_types.specs.declared.node_id.NodeId.{NodeId}
@@ -11,20 +11,21 @@ use Rattle.ua_space.specs.Variables.{is_of}
 use Rattle.ua_space.specs.declared.node.Node.{Node}
 use Rattle.ua_space.specs.declared.node.NodeDetails.{NodeDetails}
 use Rattle.ua_space.specs.declared.node.NodeDetails.TheVariants as details
+use Rattle.ua_space.specs.declared.node.ValueRank.{ValueRank}
 use Rattle.ua_space.specs.declared.node.ValueRank.TheVariants as ranks
 use Rattle.ua_space.specs.declared.triple.Part.{Part}
 use Rattle.node_loader.specs.Ids.{id_within}
 use Rattle.node_loader.specs.Node.{node_of, place_of}
-use Rattle.node_loader.specs.Value.{value_of}
+use Rattle.node_loader.specs.Value.{ranked_value}
 use Rattle.node_loader.specs.declared.node.Entry.{Entry}
-use Rattle.node_loader.specs.declared.node.Setting.{Setting}
+use Rattle.node_loader.specs.declared.past.Setting.{Setting}
 use Rattle.ua_values.specs.declared.value_type.ValueType.{ValueType}
 
 -- the keys that every node must have
 abbrev pub least : List ℕ → List ℕ → List ℕ → Members → Members
 least id class name more = member (codes "id") (string id) (member (codes "class") (string class) (member (codes "name") (string name) more))
 
--- named in the namespace of its id, displayed by its name, and not described
+-- named in the namespace of its id, displayed by its name, not described, and with no values from before
 abbrev pub plain_node : NodeId → List ℕ → NodeDetails → Node
 plain_node id name details = record {
   id = id;
@@ -32,6 +33,7 @@ plain_node id name details = record {
   display_name = record { locale = None; text = Some name };
   description = record { locale = None; text = None };
   details = details;
+  history = [];
 }
 
 -- with no parent, and of this type definition, if it has one
@@ -85,7 +87,7 @@ abbrev pub HangsByOrganizes : Type 0
 HangsByOrganizes = (highest : ℕ) (text : List ℕ) (id : NodeId) → id_within highest text ≡ Ok id
     → place_of highest (member (codes "parent") (string text) no_members) ≡ Ok (record { parent = Some id; via = numeric_id 0 35 })
 
--- a value is of its `type`, and no list
+-- a value is of its `type`, and a list where `list` says so
 abbrev pub ValuesHaveTheirType : Type 0
-ValuesHaveTheirType = (kind : ValueType) (highest : ℕ) (ms : Members) (value : Variant) → value_of kind highest ms ≡ Ok value
-    → is_of (type_number kind) ranks.Scalar value ≡ true
+ValuesHaveTheirType = (kind : ValueType) (rank : ValueRank) (highest : ℕ) (ms : Members) (value : Variant) → ranked_value kind rank highest ms ≡ Ok value
+    → is_of (type_number kind) rank value ≡ true

@@ -13,7 +13,7 @@ pub enum Cause {
     /// The file isn't TOML, or an integer in it needs more than 64 bits.
     #[error("Toml")]
     Toml,
-    /// There is no `version`, or it isn't 1.
+    /// There is no `version`, or it is neither 1 nor 2.
     #[error("Version")]
     Version,
     /// A key that the part must have is absent.

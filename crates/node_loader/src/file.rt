@@ -5,45 +5,34 @@ ghost use Rattle.std.specs.Result.{result_map_both};
 ghost use Rattle.toml.specs.Data.{get_member, no_members};
 ghost use Rattle.toml.specs.View.{items_view, table_view};
 ghost use Rattle.node_loader.specs.Lists.{after};
-ghost use Rattle.node_loader.specs.File.{Loads, version_of, table_at, list_at, parts_of, setting_of, nodes_of, references_of, contents_of, meaning_of};
+ghost use Rattle.node_loader.specs.File.{Loads, version_of, table_at, parts_of, setting_of, nodes_of, references_of, contents_of, meaning_of};
 ghost use Rattle.node_loader.specs.Keys.{only};
 ghost use Rattle.node_loader.specs.Node.{listed, triples_of};
 ghost use Rattle.node_loader.specs.Server.{server_keys};
 ghost use Rattle.ua_space.specs.declared.triple.Part.TheVariants as part;
 
 use crate::fault::{Cause, LoadFault};
-use crate::keys::{only, value_at};
-use crate::node::{Entry, Setting, entry_at};
+use crate::keys::{list_at, only, value_at};
+use crate::node::{Entry, entry_at};
+use crate::past::Setting;
 use crate::reference::reference;
 use crate::server::server;
+use crate::version::Version;
 use std::alloc::{AllocError, AllocFailed, Global};
 use toml::{Table, Value};
 use ua_space::{Node, Part, Triple};
 use ua_types::{Config, Listed};
 
-fn version(table: &Table) -> Result<(), Cause>
+fn version(table: &Table) -> Result<Version, Cause>
     ensures { result ≡ version_of (get_member (codes "version") (table_view table.now)) }
 {
     match value_at(table, "version") {
         None => Err(Cause::Version),
         Some(value) => match value.as_integer() {
-            Some(1) => Ok(()),
+            Some(1) => Ok(Version::One),
+            Some(2) => Ok(Version::Two),
             _ => Err(Cause::Version),
         },
-    }
-}
-
-// The entries of a list, none where the key is absent.
-#[tactic(auto, unfolding(crate::specs::File::list_at))]
-fn list_at<'a>(table: &'a Table, key: &str) -> Result<&'a [Value], Cause>
-    ensures { result_map_both (λ vs. items_view vs.now) (λ cause. cause) result ≡ list_at key.now (table_view table.now) }
-{
-    let Some(value) = value_at(table, key) else {
-        return Ok(&[]);
-    };
-    match value.as_array() {
-        Some(values) => Ok(values.as_slice()),
-        None => Err(Cause::WrongKind),
     }
 }
 
@@ -62,34 +51,36 @@ fn table_at<'a>(table: &'a Table, key: &str, empty: &'a Table) -> Result<&'a Tab
     }
 }
 
-// The table `server` and the lists `node` and `reference`.
+// The version, the table `server` and the lists `node` and `reference`.
 #[tactic(auto, unfolding(crate::specs::File::parts_of))]
 fn parts<'a>(
     table: &'a Table,
     empty: &'a Table,
-) -> Result<(&'a Table, &'a [Value], &'a [Value]), Cause>
+) -> Result<(Version, &'a Table, &'a [Value], &'a [Value]), Cause>
     requires { table_view empty.now ≡ no_members }
-    ensures { result_map_both (λ p. record { server = table_view p.0.now; nodes = items_view p.1.now; references = items_view p.2.now }) (λ cause. cause) result ≡ parts_of (table_view table.now) }
+    ensures { result_map_both (λ p. record { version = p.0; server = table_view p.1.now; nodes = items_view p.2.now; references = items_view p.3.now }) (λ cause. cause) result ≡ parts_of (table_view table.now) }
 {
-    version(table)?;
+    let version = version(table)?;
     only(&["version", "server", "node", "reference"], table)?;
     let server = table_at(table, "server", empty)?;
     let nodes = list_at(table, "node")?;
     let references = list_at(table, "reference")?;
-    Ok((server, nodes, references))
+    Ok((version, server, nodes, references))
 }
 
 // Besides the namespaces 0 and 1 there are those of the configuration.
-fn setting_of(config: &Config) -> Setting
-    ensures { result ≡ setting_of config.now }
+fn setting_of(version: Version, config: &Config) -> Setting
+    ensures { result ≡ setting_of version config.now }
 {
     let more = match config.namespaces.as_slice() {
         None => 0,
         Some(namespaces) => namespaces.len(),
     };
     Setting {
+        version,
         highest: 1 + more as u16,
         start: config.start,
+        history: config.history,
     }
 }
 
@@ -184,7 +175,7 @@ fn contents(alloc: Global, table: &Table) -> Result<Loaded, LoadFault>
     ensures keys { IfOk (parts_of (table_view table.now)) (λ parts. IfErr (only server_keys parts.server) (λ cause. result ≡ Err (record { cause = cause; part = part.Server }))) }
 {
     let empty = Table::new(alloc);
-    let (server_table, node_list, reference_list) = match parts(table, &empty) {
+    let (version, server_table, node_list, reference_list) = match parts(table, &empty) {
         Ok(parts) => parts,
         Err(cause) => {
             return Err(LoadFault {
@@ -193,7 +184,7 @@ fn contents(alloc: Global, table: &Table) -> Result<Loaded, LoadFault>
             });
         }
     };
-    let config = match server(alloc, server_table) {
+    let config = match server(alloc, version, server_table) {
         Ok(config) => config,
         Err(cause) => {
             return Err(LoadFault {
@@ -202,7 +193,7 @@ fn contents(alloc: Global, table: &Table) -> Result<Loaded, LoadFault>
             });
         }
     };
-    let setting = setting_of(&config);
+    let setting = setting_of(version, &config);
     let (nodes, own) = nodes(alloc, &setting, node_list)?;
     let triples = with_references(alloc, own, setting.highest, reference_list)?;
     Ok(Loaded {

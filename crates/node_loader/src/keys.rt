@@ -6,15 +6,16 @@ ghost use Rattle.std.specs.Map.{keys_of};
 ghost use Rattle.std.specs.Result.{result_map_both};
 ghost use Rattle.std.specs.Str.{bytes_eq};
 ghost use Rattle.toml.specs.Data.{get_member, as_bool};
-ghost use Rattle.toml.specs.View.{table_view, view};
+ghost use Rattle.toml.specs.View.{items_view, table_view, view};
 ghost use Rattle.ua_types.specs.Answers.{Gives};
+ghost use Rattle.ua_types.specs.Configuration.{IsIn};
 ghost use Rattle.node_loader.specs.declared.fault.Cause.TheVariants.{Memory};
-ghost use Rattle.node_loader.specs.Keys.{of_kind, required_word, required_text, required_boolean, boolean_at, required_integer, unsigned_at, signed_at, all_keys, word_at, text_at, integer_at, number_at, text_or};
+ghost use Rattle.node_loader.specs.Keys.{of_kind, required_word, required_text, required_boolean, boolean_at, required_integer, required_number, unsigned_at, up_to, within, signed_at, signed_within, all_keys, word_at, text_at, integer_at, list_at, number_at, text_or};
 
 use crate::fault::Cause;
 use std::alloc::Global;
 use toml::{Table, Value};
-use ua_types::Text;
+use ua_types::{NumberRange, Text};
 
 /// The value at a key.
 pub(crate) fn value_at<'a>(table: &'a Table, key: &str) -> Option<&'a Value>
@@ -67,29 +68,43 @@ pub(crate) fn integer_at(table: &Table, key: &str) -> Result<Option<i64>, Cause>
     }
 }
 
+/// The range from 0 to a number.
+pub(crate) fn up_to(most: u64) -> NumberRange
+    ensures { result ≡ up_to most }
+{
+    NumberRange { least: 0, most }
+}
+
+/// A number, where it lies within a range.
+pub(crate) fn within(range: NumberRange, number: i64) -> Result<u64, Cause>
+    ensures given { result ≡ within range number }
+    ensures range { IfOk result (λ n. IsIn range n) }
+{
+    if number < 0 {
+        return Err(Cause::OutOfRange);
+    }
+    let number = number as u64;
+    if range.least <= number && number <= range.most {
+        Ok(number)
+    } else {
+        Err(Cause::OutOfRange)
+    }
+}
+
 /// The number at a key within its range, or the default.
 #[tactic(auto, unfolding(crate::specs::Keys::number_at))]
 pub(crate) fn number_at(
     table: &Table,
     key: &str,
     fallback: u64,
-    low: u64,
-    high: u64,
+    range: NumberRange,
 ) -> Result<u64, Cause>
-    ensures given { result ≡ number_at key.now fallback low high (table_view table.now) }
-    ensures range { low ≤ fallback → fallback ≤ high → IfOk result (λ n. (low ≤ n) × (n ≤ high)) }
+    ensures given { result ≡ number_at key.now fallback range (table_view table.now) }
+    ensures range { IsIn range fallback → IfOk result (λ n. IsIn range n) }
 {
-    let Some(number) = integer_at(table, key)? else {
-        return Ok(fallback);
-    };
-    if number < 0 {
-        return Err(Cause::OutOfRange);
-    }
-    let number = number as u64;
-    if low <= number && number <= high {
-        Ok(number)
-    } else {
-        Err(Cause::OutOfRange)
+    match integer_at(table, key)? {
+        None => Ok(fallback),
+        Some(number) => within(range, number),
     }
 }
 
@@ -213,18 +228,30 @@ pub(crate) fn required_integer(table: &Table, key: &str) -> Result<i64, Cause>
     }
 }
 
+/// The number at a key that the part must have, within its range.
+#[tactic(auto, unfolding(crate::specs::Keys::required_number))]
+pub(crate) fn required_number(table: &Table, key: &str, range: NumberRange) -> Result<u64, Cause>
+    ensures given { result ≡ required_number key.now range (table_view table.now) }
+    ensures range { IfOk result (λ n. IsIn range n) }
+{
+    let number = required_integer(table, key)?;
+    within(range, number)
+}
+
 /// The number at a key that the part must have, up to the highest.
-#[tactic(auto, unfolding(crate::specs::Keys::unsigned_at))]
 pub(crate) fn unsigned_at(table: &Table, key: &str, high: u64) -> Result<u64, Cause>
     ensures given { result ≡ unsigned_at key.now high (table_view table.now) }
     ensures range { IfOk result (λ n. n ≤ high) }
 {
-    let number = required_integer(table, key)?;
-    if number < 0 {
-        return Err(Cause::OutOfRange);
-    }
-    let number = number as u64;
-    if number <= high {
+    required_number(table, key, up_to(high))
+}
+
+/// A number, where it lies within a range.
+pub(crate) fn signed_within(low: i64, high: i64, number: i64) -> Result<i64, Cause>
+    ensures given { result ≡ signed_within low high number }
+    ensures range { IfOk result (λ n. (low ≤ℤ n) × (n ≤ℤ high)) }
+{
+    if low <= number && number <= high {
         Ok(number)
     } else {
         Err(Cause::OutOfRange)
@@ -238,9 +265,19 @@ pub(crate) fn signed_at(table: &Table, key: &str, low: i64, high: i64) -> Result
     ensures range { IfOk result (λ n. (low ≤ℤ n) × (n ≤ℤ high)) }
 {
     let number = required_integer(table, key)?;
-    if low <= number && number <= high {
-        Ok(number)
-    } else {
-        Err(Cause::OutOfRange)
+    signed_within(low, high, number)
+}
+
+/// The entries of a list, none where the key is absent.
+#[tactic(auto, unfolding(crate::specs::Keys::list_at))]
+pub(crate) fn list_at<'a>(table: &'a Table, key: &str) -> Result<&'a [Value], Cause>
+    ensures { result_map_both (λ vs. items_view vs.now) (λ cause. cause) result ≡ list_at key.now (table_view table.now) }
+{
+    let Some(value) = value_at(table, key) else {
+        return Ok(&[]);
+    };
+    match value.as_array() {
+        Some(values) => Ok(values.as_slice()),
+        None => Err(Cause::WrongKind),
     }
 }

@@ -4,6 +4,8 @@ ghost use Rattle.std.specs.Prelude.{◌≡◌, pos, codes, [], Ok};
 ghost use Rattle.toml.specs.Data.{integer, member, no_members};
 ghost use Rattle.ua_types.specs.Configuration.{standard};
 ghost use Rattle.node_loader.specs.File.{contents_of};
+ghost use Rattle.node_loader.specs.Histories.{NodesHaveHistories};
+ghost use Rattle.node_loader.specs.Kept.{VersionOneIsKept, VersionTwoAgrees};
 ghost use Rattle.node_loader.specs.Ordered.{NodesAreInOrder};
 ghost use Rattle.node_loader.specs.Smallest.{SmallestObject, SmallestVariable, SmallestObjectType, SmallestVariableType, SmallestReferenceType, SmallestDataType, HangsByOrganizes, ValuesHaveTheirType};
 
@@ -25,7 +27,7 @@ pub fn smallest_nodes()
     ensures hangs { HangsByOrganizes }
 {}
 
-/// A value is of the type that its node names, and is no list.
+/// A value is of the type that its node names, and is a list where the node says so.
 pub fn values_have_their_type()
     ensures { ValuesHaveTheirType }
 {}
@@ -33,4 +35,22 @@ pub fn values_have_their_type()
 /// The nodes of a file stand in its order: at each place the one that the entry there means.
 pub fn nodes_are_in_order()
     ensures { NodesAreInOrder }
+{}
+
+/// A file whose `version` is 1 means what it meant before there was a second version (`specs/VersionOne`), or
+/// has the fault that it had.
+pub fn version_one_is_kept()
+    ensures { VersionOneIsKept }
+{}
+
+/// What version 1 accepted is the same as a file of version 2: the nodes, with no values from before, the
+/// references and the configuration.
+pub fn version_two_agrees()
+    ensures { VersionTwoAgrees }
+{}
+
+/// The values from before that a node of a file has are a history: only a variable whose history is kept has
+/// any, and their source times rise. So the space finds no fault with them.
+pub fn nodes_have_histories()
+    ensures { NodesHaveHistories }
 {}

@@ -13,15 +13,18 @@
 //! Read docs/NODES.md first, and then `specs/File.antt`.
 #![tactic(auto)]
 
+mod element;
 mod fault;
 mod file;
 mod ids;
 mod keys;
 pub mod laws;
 mod node;
+mod past;
 mod reference;
 mod server;
 mod value;
+mod version;
 
 pub use fault::{Cause, LoadFault};
 pub use file::{Loaded, load};

@@ -4,35 +4,30 @@ ghost use Rattle.std.specs.Prelude.{◌≡◌, ◌≤◌, true, codes, None, Err
 ghost use Rattle.toml.specs.Data.{as_table};
 ghost use Rattle.toml.specs.View.{table_view, view};
 ghost use Rattle.ua_space.specs.Variables.{is_of};
-ghost use Rattle.ua_space.specs.declared.node.ValueRank.TheVariants as ranks;
+ghost use Rattle.ua_types.specs.declared.node_class.NodeClass.TheVariants as classes;
 ghost use Rattle.ua_types.specs.Answers.{Gives};
 ghost use Rattle.node_loader.specs.declared.fault.Cause.TheVariants as Cause;
 ghost use Rattle.node_loader.specs.declared.fault.Cause.TheVariants.{Memory};
 ghost use Rattle.node_loader.specs.Keys.{only, required_word};
 ghost use Rattle.ua_values.specs.DataValues.{value_since};
 ghost use Rattle.ua_values.specs.ValueTypes.{type_number};
-ghost use Rattle.node_loader.specs.Node.{class_of, keys_of, names_of, place_of, parent_triple, definition_triple, entry_from, type_at, variable_with, variable_of, object_of, variable_node_of, object_type_of, variable_type_of, reference_type_of, data_type_of, kind_of, rest_of, node_of, entry_of};
+ghost use Rattle.node_loader.specs.Node.{class_of, keys_of, names_of, place_of, parent_triple, definition_triple, entry_from, type_at, rank_of, form_of, plain_kind, variable_with, variable_of, object_of, variable_node_of, object_type_of, variable_type_of, reference_type_of, data_type_of, kind_of, rest_of, node_of, entry_of};
 
 use crate::fault::Cause;
 use crate::ids::{id_at, id_if_any, id_or, standard_id};
 use crate::keys::{
     boolean_at, number_at, only, required_text, required_word, text_or, text_or_null,
 };
-use crate::value::{type_of, value_of};
+use crate::past::{Setting, history};
+use crate::value::{Form, ranked_value, type_of};
+use crate::version::Version;
 use std::alloc::{AllocError, Global};
 use toml::{Table, Value};
 use ua_space::{Node, NodeDetails, Part, Triple, ValueRank, Variable};
-use ua_types::{Copyable, LocalizedText, Moment, NodeClass, NodeId, QualifiedName, Text};
+use ua_types::{
+    Copyable, Listed, LocalizedText, Moment, NodeClass, NodeId, NumberRange, QualifiedName, Text,
+};
 use ua_values::{DataValue, ValueType, Variant};
-
-/// What the server's table says that nodes depend on.
-#[derive(Clone, Copy, Debug)]
-pub(crate) struct Setting {
-    /// The highest namespace that the server has.
-    pub highest: u16,
-    /// The moment that values have.
-    pub start: Moment,
-}
 
 // The class that a word names.
 #[tactic(auto, unfolding(crate::specs::Node::class_of))]
@@ -60,26 +55,11 @@ fn class_of(word: &str) -> Result<NodeClass, Cause>
     Err(Cause::OutOfRange)
 }
 
-// The part has no other keys than those of its class.
-fn known(class: NodeClass, table: &Table) -> Result<(), Cause>
-    ensures { result ≡ only (keys_of class) (table_view table.now) }
+fn variable_known(version: Version, table: &Table) -> Result<(), Cause>
+    ensures { result ≡ only (keys_of version classes.Variable) (table_view table.now) }
 {
-    match class {
-        NodeClass::Object => only(
-            &[
-                "id",
-                "class",
-                "name",
-                "name_ns",
-                "display",
-                "description",
-                "parent",
-                "via",
-                "definition",
-            ],
-            table,
-        ),
-        NodeClass::Variable => only(
+    match version {
+        Version::One => only(
             &[
                 "id",
                 "class",
@@ -97,7 +77,7 @@ fn known(class: NodeClass, table: &Table) -> Result<(), Cause>
             ],
             table,
         ),
-        NodeClass::ObjectType => only(
+        Version::Two => only(
             &[
                 "id",
                 "class",
@@ -107,11 +87,24 @@ fn known(class: NodeClass, table: &Table) -> Result<(), Cause>
                 "description",
                 "parent",
                 "via",
-                "abstract",
+                "definition",
+                "type",
+                "list",
+                "value",
+                "access",
+                "historizing",
+                "history",
             ],
             table,
         ),
-        NodeClass::VariableType => only(
+    }
+}
+
+fn variable_type_known(version: Version, table: &Table) -> Result<(), Cause>
+    ensures { result ≡ only (keys_of version classes.VariableType) (table_view table.now) }
+{
+    match version {
+        Version::One => only(
             &[
                 "id",
                 "class",
@@ -126,6 +119,60 @@ fn known(class: NodeClass, table: &Table) -> Result<(), Cause>
             ],
             table,
         ),
+        Version::Two => only(
+            &[
+                "id",
+                "class",
+                "name",
+                "name_ns",
+                "display",
+                "description",
+                "parent",
+                "via",
+                "type",
+                "list",
+                "abstract",
+            ],
+            table,
+        ),
+    }
+}
+
+// The part has no other keys than those of its class.
+fn known(version: Version, class: NodeClass, table: &Table) -> Result<(), Cause>
+    ensures { result ≡ only (keys_of version class) (table_view table.now) }
+{
+    match class {
+        NodeClass::Object => only(
+            &[
+                "id",
+                "class",
+                "name",
+                "name_ns",
+                "display",
+                "description",
+                "parent",
+                "via",
+                "definition",
+            ],
+            table,
+        ),
+        NodeClass::Variable => variable_known(version, table),
+        NodeClass::ObjectType => only(
+            &[
+                "id",
+                "class",
+                "name",
+                "name_ns",
+                "display",
+                "description",
+                "parent",
+                "via",
+                "abstract",
+            ],
+            table,
+        ),
+        NodeClass::VariableType => variable_type_known(version, table),
         NodeClass::ReferenceType => only(
             &[
                 "id",
@@ -173,7 +220,11 @@ fn names_in(alloc: Global, highest: u16, namespace: u16, table: &Table) -> Resul
     ensures { Gives Memory result (names_of highest namespace (table_view table.now)) }
 {
     let name = required_text(table, "name")?;
-    let name_ns = number_at(table, "name_ns", namespace as u64, 0, highest as u64)?;
+    let served = NumberRange {
+        least: 0,
+        most: highest as u64,
+    };
+    let name_ns = number_at(table, "name_ns", namespace as u64, served)?;
     let display = text_or(alloc, table, "display", name)?;
     let description = text_or_null(alloc, table, "description")?;
     let name = Text::from_str(alloc, name)?;
@@ -209,11 +260,23 @@ fn place_in(alloc: Global, highest: u16, table: &Table) -> Result<Place, Cause>
     Ok(Place { parent, via })
 }
 
-// The attributes of a class, and the type definition where the class has one.
+// The attributes of a class, the type definition where the class has one, and the values from before.
 #[derive(Drop)]
 struct Kind {
     details: NodeDetails,
     definition: Option<NodeId>,
+    history: Listed<DataValue>,
+}
+
+// A kind without values from before.
+fn plain_kind(alloc: Global, details: NodeDetails, definition: Option<NodeId>) -> Kind
+    ensures { result ≡ plain_kind details definition }
+{
+    Kind {
+        details,
+        definition,
+        history: Listed::new(alloc),
+    }
 }
 
 #[tactic(auto, unfolding(crate::specs::Node::type_at))]
@@ -224,36 +287,66 @@ fn type_at(table: &Table) -> Result<ValueType, Cause>
     type_of(word)
 }
 
-// A variable with a value of its type, which is good since the start.
+// One value, or a list.
+fn rank_of(is_list: bool) -> ValueRank
+    ensures { result ≡ rank_of is_list }
+{
+    if is_list {
+        ValueRank::List
+    } else {
+        ValueRank::Scalar
+    }
+}
+
+#[tactic(auto, unfolding(crate::specs::Node::form_of))]
+fn form_in(table: &Table) -> Result<Form, Cause>
+    ensures { result ≡ form_of (table_view table.now) }
+{
+    let value_type = type_at(table)?;
+    let is_list = boolean_at(table, "list")?;
+    Ok(Form {
+        value_type,
+        rank: rank_of(is_list),
+    })
+}
+
+// A variable with a value of its form, which is good since the start.
 fn variable_with(
-    value_type: ValueType,
+    form: Form,
     value: Variant,
     start: Moment,
     access: u64,
     historizing: bool,
 ) -> Variable
-    requires typed { is_of (type_number value_type) ranks.Scalar value ≡ true }
+    requires typed { is_of (type_number form.value_type) form.rank value ≡ true }
     requires access { access ≤ 15 }
-    ensures { result ≡ variable_with value_type value start access historizing }
+    ensures { result ≡ variable_with form value start access historizing }
 {
     Variable {
-        data_type: value_type.number(),
-        value_rank: ValueRank::Scalar,
+        data_type: form.value_type.number(),
+        value_rank: form.rank,
         value: DataValue::since(start, value),
         access: access as u8,
         historizing,
     }
 }
 
+// All four bits of an AccessLevel.
+const ACCESS: NumberRange = NumberRange { least: 0, most: 15 };
+
 #[tactic(auto, unfolding(crate::specs::Node::variable_of))]
-fn variable_in(alloc: Global, setting: &Setting, table: &Table) -> Result<Variable, Cause>
-    ensures { Gives Memory result (variable_of setting.now (table_view table.now)) }
+fn variable_in(
+    alloc: Global,
+    setting: &Setting,
+    form: Form,
+    table: &Table,
+) -> Result<Variable, Cause>
+    ensures { Gives Memory result (variable_of setting.now form (table_view table.now)) }
 {
-    let value_type = type_at(table)?;
-    let value = value_of(alloc, value_type, setting.highest, table)?;
-    let access = number_at(table, "access", 1, 0, 15)?;
+    let value = ranked_value(alloc, form.value_type, form.rank, setting.highest, table)?;
+    let access = number_at(table, "access", 1, ACCESS)?;
     let historizing = boolean_at(table, "historizing")?;
-    Ok(variable_with(value_type, value, setting.start, access, historizing))
+    Ok(variable_with(form, value, setting.start, access, historizing))
 }
 
 #[tactic(auto, unfolding(crate::specs::Node::object_of))]
@@ -261,10 +354,7 @@ fn object_in(alloc: Global, setting: &Setting, table: &Table) -> Result<Kind, Ca
     ensures { Gives Memory result (object_of setting.now (table_view table.now)) }
 {
     let definition = id_or(alloc, setting.highest, table, "definition", 58)?;
-    Ok(Kind {
-        details: NodeDetails::Object,
-        definition: Some(definition),
-    })
+    Ok(plain_kind(alloc, NodeDetails::Object, Some(definition)))
 }
 
 #[tactic(auto, unfolding(crate::specs::Node::variable_node_of))]
@@ -272,38 +362,36 @@ fn variable_node_in(alloc: Global, setting: &Setting, table: &Table) -> Result<K
     ensures { Gives Memory result (variable_node_of setting.now (table_view table.now)) }
 {
     let definition = id_or(alloc, setting.highest, table, "definition", 63)?;
-    let variable = variable_in(alloc, setting, table)?;
+    let form = form_in(table)?;
+    let variable = variable_in(alloc, setting, form, table)?;
+    let history = history(alloc, setting, form, variable.historizing, table)?;
     Ok(Kind {
         details: NodeDetails::Variable(variable),
         definition: Some(definition),
+        history,
     })
 }
 
 #[tactic(auto, unfolding(crate::specs::Node::object_type_of))]
-fn object_type_in(table: &Table) -> Result<Kind, Cause>
+fn object_type_in(alloc: Global, table: &Table) -> Result<Kind, Cause>
     ensures { result ≡ object_type_of (table_view table.now) }
 {
     let is_abstract = boolean_at(table, "abstract")?;
-    Ok(Kind {
-        details: NodeDetails::ObjectType { is_abstract },
-        definition: None,
-    })
+    Ok(plain_kind(alloc, NodeDetails::ObjectType { is_abstract }, None))
 }
 
 #[tactic(auto, unfolding(crate::specs::Node::variable_type_of))]
-fn variable_type_in(table: &Table) -> Result<Kind, Cause>
+fn variable_type_in(alloc: Global, table: &Table) -> Result<Kind, Cause>
     ensures { result ≡ variable_type_of (table_view table.now) }
 {
-    let value_type = type_at(table)?;
+    let form = form_in(table)?;
     let is_abstract = boolean_at(table, "abstract")?;
-    Ok(Kind {
-        details: NodeDetails::VariableType {
-            data_type: value_type.number(),
-            value_rank: ValueRank::Scalar,
-            is_abstract,
-        },
-        definition: None,
-    })
+    let details = NodeDetails::VariableType {
+        data_type: form.value_type.number(),
+        value_rank: form.rank,
+        is_abstract,
+    };
+    Ok(plain_kind(alloc, details, None))
 }
 
 #[tactic(auto, unfolding(crate::specs::Node::reference_type_of))]
@@ -313,28 +401,23 @@ fn reference_type_in(alloc: Global, table: &Table) -> Result<Kind, Cause>
     let is_abstract = boolean_at(table, "abstract")?;
     let symmetric = boolean_at(table, "symmetric")?;
     let inverse = text_or_null(alloc, table, "inverse")?;
-    Ok(Kind {
-        details: NodeDetails::ReferenceType {
-            is_abstract,
-            symmetric,
-            inverse_name: LocalizedText {
-                locale: Text::null(),
-                text: inverse,
-            },
+    let details = NodeDetails::ReferenceType {
+        is_abstract,
+        symmetric,
+        inverse_name: LocalizedText {
+            locale: Text::null(),
+            text: inverse,
         },
-        definition: None,
-    })
+    };
+    Ok(plain_kind(alloc, details, None))
 }
 
 #[tactic(auto, unfolding(crate::specs::Node::data_type_of))]
-fn data_type_in(table: &Table) -> Result<Kind, Cause>
+fn data_type_in(alloc: Global, table: &Table) -> Result<Kind, Cause>
     ensures { result ≡ data_type_of (table_view table.now) }
 {
     let is_abstract = boolean_at(table, "abstract")?;
-    Ok(Kind {
-        details: NodeDetails::DataType { is_abstract },
-        definition: None,
-    })
+    Ok(plain_kind(alloc, NodeDetails::DataType { is_abstract }, None))
 }
 
 // What the class has beside the names.
@@ -344,10 +427,10 @@ fn kind_in(alloc: Global, class: NodeClass, setting: &Setting, table: &Table) ->
     match class {
         NodeClass::Object => object_in(alloc, setting, table),
         NodeClass::Variable => variable_node_in(alloc, setting, table),
-        NodeClass::ObjectType => object_type_in(table),
-        NodeClass::VariableType => variable_type_in(table),
+        NodeClass::ObjectType => object_type_in(alloc, table),
+        NodeClass::VariableType => variable_type_in(alloc, table),
         NodeClass::ReferenceType => reference_type_in(alloc, table),
-        NodeClass::DataType => data_type_in(table),
+        NodeClass::DataType => data_type_in(alloc, table),
     }
 }
 
@@ -415,6 +498,7 @@ fn entry_from(
     let Kind {
         details,
         definition,
+        history,
     } = kind;
     let definition = definition_triple(alloc, part, definition, &id)?;
     let Names {
@@ -429,6 +513,7 @@ fn entry_from(
             display_name,
             description,
             details,
+            history,
         },
         parent,
         definition,
@@ -447,9 +532,9 @@ fn rest_in(
 ) -> Result<Entry, Cause>
     requires { id.namespace ≤ setting.now.highest }
     ensures given { Gives Memory result (rest_of setting.now part id class (table_view table.now)) }
-    ensures refused { IfErr (only (keys_of class) (table_view table.now)) (λ cause. result ≡ Err cause) }
+    ensures refused { IfErr (only (keys_of setting.now.version class) (table_view table.now)) (λ cause. result ≡ Err cause) }
 {
-    known(class, table)?;
+    known(setting.version, class, table)?;
     let names = names_in(alloc, setting.highest, id.namespace, table)?;
     let place = place_in(alloc, setting.highest, table)?;
     let kind = kind_in(alloc, class, setting, table)?;

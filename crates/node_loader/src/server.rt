@@ -1,52 +1,25 @@
 //! The table `server`: the configuration, key by key.
 
-ghost use Rattle.std.specs.Prelude.{◌≡◌, ◌≤◌, length, is_some, Err, IfOk, IfErr};
+ghost use Rattle.std.specs.Prelude.{◌≡◌, ◌≤◌, is_some, Err, IfOk, IfErr};
 ghost use Rattle.std.specs.List.{list_all};
 ghost use Rattle.toml.specs.Data.{as_str};
 ghost use Rattle.std.specs.Vec.{vec_len};
 ghost use Rattle.toml.specs.View.{items_view, table_view, view};
 ghost use Rattle.ua_types.specs.Answers.{Gives, GivesAs};
-ghost use Rattle.node_loader.specs.Lists.{each};
+ghost use Rattle.ua_types.specs.Configuration.{IsIn};
 ghost use Rattle.node_loader.specs.declared.fault.Cause.TheVariants.{Memory};
-ghost use Rattle.node_loader.specs.Server.{text_of, few_texts, texts_at, duration_at, names_of, durations_of, server_of, server_keys, AreNames, sizes_of, AreSizes, tables_of, AreTables, messages_of, AreMessages, pages_of, ArePages, times_of, AreTimes};
-ghost use Rattle.node_loader.specs.Keys.{only};
+ghost use Rattle.node_loader.specs.Server.{few_texts, texts_at, duration_at, names_of, durations_of, server_of, server_keys, AreNames, sizes_of, AreSizes, tables_of, AreTables, messages_of, AreMessages, pages_of, ArePages, times_of, AreTimes};
+ghost use Rattle.node_loader.specs.Keys.{number_at, only};
+ghost use Rattle.node_loader.specs.Versions.{IsPartOf, range_of};
 
+use crate::element::elements;
 use crate::fault::Cause;
 use crate::keys::{number_at, only, text_or, value_at, word_at};
+use crate::version::{FIRST_CONNECTIONS, FIRST_HISTORY, FIRST_QUEUE, FIRST_SESSIONS, Version};
 use hex::FromHex;
 use std::alloc::Global;
 use toml::{Table, Value};
-use ua_types::{Array, Config, Duration, Moment, Text};
-
-// An element of a list of texts.
-fn text_of(alloc: Global, value: &Value) -> Result<Text, Cause>
-    ensures { Gives Memory result (text_of (view value.now)) }
-{
-    match value.as_str() {
-        None => Err(Cause::WrongKind),
-        Some(text) => {
-            if text.len() < 1 << 31 {
-                Ok(Text::from_str(alloc, text)?)
-            } else {
-                Err(Cause::OutOfRange)
-            }
-        }
-    }
-}
-
-fn texts_of(alloc: Global, values: &[Value]) -> Result<Vec<Text>, Cause>
-    ensures given { GivesAs Memory (λ ts. ts.items) result (each (λ _ d. text_of d) 1 (items_view values.now)) }
-    ensures count { IfOk result (λ ts. vec_len ts ≡ length values.now) }
-{
-    let mut texts = Vec::new(alloc);
-    for value in values {
-        match text_of(alloc, value) {
-            Ok(text) => texts.push(text)?,
-            Err(cause) => return Err(cause),
-        }
-    }
-    Ok(texts)
-}
+use ua_types::{Array, Config, Duration, Moment, NumberRange, Text};
 
 fn all_texts(values: &[Value]) -> bool
     ensures { result ≡ list_all (λ v. is_some (as_str (view v))) values.now }
@@ -55,7 +28,7 @@ fn all_texts(values: &[Value]) -> bool
 }
 
 // At most so many texts.
-#[tactic(auto, using(crate::proofs::Tables::all_texts_are, crate::proofs::Tables::count_is))]
+#[tactic(auto, using(crate::proofs::Tables::all_items_are, crate::proofs::Tables::count_is))]
 fn few_texts(alloc: Global, values: &[Value], most: usize) -> Result<Vec<Text>, Cause>
     ensures given { GivesAs Memory (λ ts. ts.items) result (few_texts most (items_view values.now)) }
     ensures few { IfOk result (λ ts. vec_len ts ≤ most) }
@@ -66,7 +39,7 @@ fn few_texts(alloc: Global, values: &[Value], most: usize) -> Result<Vec<Text>, 
     if values.len() > most {
         return Err(Cause::OutOfRange);
     }
-    texts_of(alloc, values)
+    elements(alloc, 0, values)
 }
 
 // At most so many texts, none where the key is absent.
@@ -139,11 +112,11 @@ fn sizes_in(table: &Table) -> Result<Sizes, Cause>
     ensures given { result ≡ sizes_of (table_view table.now) }
     ensures ranges { IfOk result (λ s. AreSizes s) }
 {
-    let receive_size = number_at(table, "receive_size", 65536, 1024, 1048576)? as u32;
-    let send_size = number_at(table, "send_size", 65536, 1024, 1048576)? as u32;
-    let max_message = number_at(table, "max_message", 1048576, 1024, 16777216)? as u32;
-    let max_chunks = number_at(table, "max_chunks", 64, 1, 65535)? as u32;
-    let lifetime_ms = number_at(table, "lifetime_ms", 3600000, 1, 4294967295)? as u32;
+    let receive_size = number_at(table, "receive_size", 65536, NumberRange::RECEIVE_SIZE)? as u32;
+    let send_size = number_at(table, "send_size", 65536, NumberRange::SEND_SIZE)? as u32;
+    let max_message = number_at(table, "max_message", 1048576, NumberRange::MAX_MESSAGE)? as u32;
+    let max_chunks = number_at(table, "max_chunks", 64, NumberRange::MAX_CHUNKS)? as u32;
+    let lifetime_ms = number_at(table, "lifetime_ms", 3600000, NumberRange::LIFETIME_MS)? as u32;
     Ok(Sizes {
         receive_size,
         send_size,
@@ -151,6 +124,23 @@ fn sizes_in(table: &Table) -> Result<Sizes, Cause>
         max_chunks,
         lifetime_ms,
     })
+}
+
+// The number at a key, or the default, where version 1 has a part of the later range.
+fn widened_at(
+    version: Version,
+    table: &Table,
+    key: &str,
+    fallback: u64,
+    first: NumberRange,
+    later: NumberRange,
+) -> Result<u64, Cause>
+    requires part { IsPartOf first later }
+    requires fallback { IsIn first fallback }
+    ensures given { result ≡ number_at key.now fallback (range_of version first later) (table_view table.now) }
+    ensures range { IfOk result (λ n. IsIn later n) }
+{
+    number_at(table, key, fallback, version.range(first, later))
 }
 
 // How much the server holds of each thing.
@@ -164,15 +154,36 @@ struct Tables {
 }
 
 #[tactic(auto, unfolding(crate::specs::Server::tables_of))]
-fn tables_in(table: &Table) -> Result<Tables, Cause>
-    ensures given { result ≡ tables_of (table_view table.now) }
+fn tables_in(version: Version, table: &Table) -> Result<Tables, Cause>
+    ensures given { result ≡ tables_of version (table_view table.now) }
     ensures ranges { IfOk result (λ s. AreTables s) }
 {
-    let connections = number_at(table, "connections", 100, 1, 10000)? as u32;
-    let sessions = number_at(table, "sessions", 100, 1, 10000)? as u32;
-    let subscriptions = number_at(table, "subscriptions", 100, 1, 100000)? as u32;
-    let items = number_at(table, "items", 1000, 1, 100000)? as u32;
-    let queue = number_at(table, "queue", 100, 1, 100000)? as u32;
+    let connections = widened_at(
+        version,
+        table,
+        "connections",
+        100,
+        FIRST_CONNECTIONS,
+        NumberRange::CONNECTIONS,
+    )? as u32;
+    let sessions = widened_at(
+        version,
+        table,
+        "sessions",
+        100,
+        FIRST_SESSIONS,
+        NumberRange::SESSIONS,
+    )? as u32;
+    let subscriptions = number_at(table, "subscriptions", 100, NumberRange::SUBSCRIPTIONS)? as u32;
+    let items = number_at(table, "items", 1000, NumberRange::ITEMS)? as u32;
+    let queue = widened_at(
+        version,
+        table,
+        "queue",
+        100,
+        FIRST_QUEUE,
+        NumberRange::QUEUE,
+    )? as u32;
     Ok(Tables {
         connections,
         sessions,
@@ -196,10 +207,10 @@ fn messages_in(table: &Table) -> Result<Messages, Cause>
     ensures given { result ≡ messages_of (table_view table.now) }
     ensures ranges { IfOk result (λ s. AreMessages s) }
 {
-    let publish_queue = number_at(table, "publish_queue", 10, 1, 100000)? as u32;
-    let kept = number_at(table, "kept", 100, 1, 100000)? as u32;
-    let notifications = number_at(table, "notifications", 1000, 1, 100000)? as u32;
-    let points = number_at(table, "points", 10, 1, 100000)? as u32;
+    let publish_queue = number_at(table, "publish_queue", 10, NumberRange::PUBLISH_QUEUE)? as u32;
+    let kept = number_at(table, "kept", 100, NumberRange::KEPT)? as u32;
+    let notifications = number_at(table, "notifications", 1000, NumberRange::NOTIFICATIONS)? as u32;
+    let points = number_at(table, "points", 10, NumberRange::POINTS)? as u32;
     Ok(Messages {
         publish_queue,
         kept,
@@ -218,14 +229,21 @@ struct Pages {
 }
 
 #[tactic(auto, unfolding(crate::specs::Server::pages_of))]
-fn pages_in(table: &Table) -> Result<Pages, Cause>
-    ensures given { result ≡ pages_of (table_view table.now) }
+fn pages_in(version: Version, table: &Table) -> Result<Pages, Cause>
+    ensures given { result ≡ pages_of version (table_view table.now) }
     ensures ranges { IfOk result (λ s. ArePages s) }
 {
-    let references = number_at(table, "references", 1000, 1, 100000)? as u32;
-    let operations = number_at(table, "operations", 1000, 1, 100000)? as u32;
-    let history_page = number_at(table, "history_page", 1000, 1, 100000)? as u32;
-    let history = number_at(table, "history", 10000, 1, 1000000)? as u32;
+    let references = number_at(table, "references", 1000, NumberRange::REFERENCES)? as u32;
+    let operations = number_at(table, "operations", 1000, NumberRange::OPERATIONS)? as u32;
+    let history_page = number_at(table, "history_page", 1000, NumberRange::HISTORY_PAGE)? as u32;
+    let history = widened_at(
+        version,
+        table,
+        "history",
+        10000,
+        FIRST_HISTORY,
+        NumberRange::HISTORY,
+    )? as u32;
     Ok(Pages {
         references,
         operations,
@@ -246,8 +264,8 @@ fn times_in(table: &Table) -> Result<Times, Cause>
     ensures given { result ≡ times_of (table_view table.now) }
     ensures ranges { IfOk result (λ s. AreTimes s) }
 {
-    let session_time = number_at(table, "session_time", 600000000, 1, 1000000000000000)?;
-    let publish_time = number_at(table, "publish_time", 10000000, 1, 1000000000000000)?;
+    let session_time = number_at(table, "session_time", 600000000, NumberRange::SESSION_TIME)?;
+    let publish_time = number_at(table, "publish_time", 10000000, NumberRange::PUBLISH_TIME)?;
     Ok(Times {
         session_time,
         publish_time,
@@ -284,19 +302,25 @@ fn durations_in(table: &Table) -> Result<Durations, Cause>
     })
 }
 
+// From 1601 to the last moment that a DateTime has.
+const STARTS: NumberRange = NumberRange {
+    least: 0,
+    most: 9223372036854775807,
+};
+
 /// The configuration that the table `server` says.
 #[tactic(auto, unfolding(crate::specs::Server::server_of))]
-pub(crate) fn server(alloc: Global, table: &Table) -> Result<Config, Cause>
-    ensures given { Gives Memory result (server_of (table_view table.now)) }
+pub(crate) fn server(alloc: Global, version: Version, table: &Table) -> Result<Config, Cause>
+    ensures given { Gives Memory result (server_of version (table_view table.now)) }
     ensures refused { IfErr (only server_keys (table_view table.now)) (λ cause. result ≡ Err cause) }
 {
     known(table)?;
     let names = names_in(alloc, table)?;
-    let start = number_at(table, "start", 0, 0, 9223372036854775807)?;
+    let start = number_at(table, "start", 0, STARTS)?;
     let sizes = sizes_in(table)?;
-    let tables = tables_in(table)?;
+    let tables = tables_in(version, table)?;
     let messages = messages_in(table)?;
-    let pages = pages_in(table)?;
+    let pages = pages_in(version, table)?;
     let times = times_in(table)?;
     let durations = durations_in(table)?;
     Ok(Config {

@@ -1,3 +1,5 @@
 pub mod Keeping
 pub mod Between
 pub mod PagingLemmas
+pub mod Begun
+pub mod Beginning

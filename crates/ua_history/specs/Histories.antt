@@ -1,5 +1,6 @@
 -- What is kept of the values that variables had: of each node a plain list, by rising time of the source.
 use Rattle.std.specs.Prelude.{ℕ, ℤ, nat_lt, List, [], length, drop, Option, Some, None, unwrap_or, if◌then◌else◌}
+use Rattle.std.specs.List.{fold}
 use Rattle.std.specs.BTreeMap.{is_at, insert_entry}
 use Rattle.std.specs.Map.{lookup, set_value}
 use Rattle.std.specs.Ordering.{int_cmp}
@@ -8,6 +9,8 @@ use Rattle.ua_types.specs.NodeIdOrder.{id_cmp}
 use Rattle.ua_types.specs.declared.moment.Moment.{Moment}
 use Rattle.ua_types.specs.declared.node_id.NodeId.{NodeId}
 use Rattle.ua_values.specs.declared.data_value.DataValue.{DataValue}
+use Rattle.ua_space.specs.Nodes.{Nodes}
+use Rattle.ua_space.specs.declared.node.Node.{Node}
 
 -- times and the values at them
 abbrev pub Values : Type 0
@@ -53,3 +56,22 @@ kept_at h id value (Some time) = with_one h id time.0 value (lookup (is_at (id_c
 -- a value is kept by the time of its source
 abbrev pub kept : HistoryState → NodeId → DataValue → HistoryState
 kept h id value = kept_at h id value value.source_time
+
+-- ---- what a server begins with
+
+-- the values that a node had before, kept one after the other
+abbrev pub with_all : HistoryState → NodeId → List DataValue → HistoryState
+with_all h id values = fold (λ (h : HistoryState) (value : DataValue). kept h id value) h values
+
+abbrev pub with_node : HistoryState → NodeId × Node → HistoryState
+with_node h e = with_all h e.1.id e.1.history
+
+-- those of each node, in the order of ids
+abbrev pub histories_begun : Configuration → Nodes → HistoryState
+histories_begun config nodes = fold with_node (no_histories config) nodes
+
+-- ---- words of the contracts
+
+abbrev pub with_node_if : HistoryState → Option (NodeId × Node) → HistoryState
+with_node_if h None = h
+with_node_if h (Some e) = with_node h e

@@ -1,12 +1,16 @@
 -- What follows from the definitions of keeping and of reading.
-use Rattle.std.specs.Prelude.{◌≡◌, ◌<◌, ◌≤◌, ℕ, zero, suc, ℤ, int_lt, Bool, true, [], ◌++◌, length, drop, Option, Some, None, if◌then◌else◌}
+use Rattle.std.specs.Prelude.{◌≡◌, ◌<◌, ◌≤◌, ◌-◌, ℕ, zero, suc, ℤ, pos, int_lt, Bool, true, false, List, [], ◌++◌, length, map, drop, Option, Some, None, unwrap_or, if◌then◌else◌}
+use Rattle.std.specs.BTreeMap.{is_at}
 use Rattle.std.specs.List.{AllByRecursion}
 use Rattle.std.specs.List.Sorted.{IsStrictlySortedBy}
 use Rattle.std.specs.Map.{keys_of}
 use Rattle.std.specs.Ordering.{int_cmp}
+use Rattle.ua_types.specs.NodeIdOrder.{id_cmp}
 use Rattle.ua_types.specs.declared.moment.Moment.{Moment}
+use Rattle.ua_types.specs.declared.node_id.NodeId.{NodeId}
 use Rattle.ua_values.specs.declared.data_value.DataValue.{DataValue}
-use Rattle.ua_history.specs.Histories.{Values, kept_in}
+use Rattle.ua_space.specs.Histories.{rises}
+use Rattle.ua_history.specs.Histories.{Values, HistoryState, history_of, kept_in, with_all}
 use Rattle.ua_history.specs.Intervals.{past, raw}
 use Rattle.ua_history.specs.Pages.{shown_of, last_given}
 use Rattle.ua_history.specs.declared.intervals.Interval.{Interval}
@@ -52,3 +56,21 @@ joined values i size (suc pages) given =
 abbrev pub PagesJoinToAll : Type 0
 PagesJoinToAll = (values : Values) (i : Interval) (size pages : ℕ) (given : Option Moment) → IsByTime values →
     0 < size → length (left_past values i given) < pages → joined values i size pages given ≡ left_past values i given
+
+-- a value's time, where it has one
+abbrev pub time_of : DataValue → ℤ
+time_of value = (unwrap_or value.source_time (record { 0 = pos 0 })).0
+
+-- values under their times
+abbrev pub timed : List DataValue → Values
+timed values = map (λ value. (time_of value, value)) values
+
+-- The history of a node that begins with values by rising time has the last of them, as many as may be kept
+abbrev pub BeginsWithTheLast : Type 0
+BeginsWithTheLast = (h : HistoryState) (id : NodeId) (values : List DataValue) → history_of id h ≡ [] → rises values ≡ true
+    → history_of id (with_all h id values) ≡ drop (length values - h.most) (timed values)
+
+-- What one node begins with is kept of no other
+abbrev pub BeginsApart : Type 0
+BeginsApart = (h : HistoryState) (id other : NodeId) (values : List DataValue) → is_at (id_cmp other) id ≡ false → is_at (id_cmp id) other ≡ false
+    → history_of other (with_all h id values) ≡ history_of other h

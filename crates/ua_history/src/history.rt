@@ -1,11 +1,12 @@
 //! The histories of nodes.
 
-ghost use Rattle.std.specs.Prelude.{◌≡◌, [], length, None, IfOk, IsOk, OnOk, OnErr};
+ghost use Rattle.std.specs.Prelude.{◌≡◌, ◌<◌, [], length, slice_get, None, IfOk, IsOk, OnOk, OnErr};
 ghost use Rattle.std.specs.Option.{option_copied};
 ghost use Rattle.ua_history.specs.HistoryLaws.{IsByTime};
 ghost use Rattle.ua_history.specs.Intervals.{raw};
 ghost use Rattle.ua_history.specs.Pages.{IsCut};
-ghost use Rattle.ua_history.specs.Histories.{no_histories, kept, kept_in, history_of, value_at as value_at_spec};
+ghost use Rattle.ua_history.specs.Histories.{no_histories, kept, kept_in, history_of, with_all, with_node_if, histories_begun, value_at as value_at_spec};
+ghost use Rattle.ua_space.specs.Histories.{history_in, without_history_in, without_histories};
 
 use crate::intervals::Interval;
 use crate::pages::{Cut, page};
@@ -13,6 +14,7 @@ use std::alloc::{AllocError, Global};
 use std::collections::BTreeMap;
 use std::marker::Model;
 use time_segments::Segments;
+use ua_space::Space;
 use ua_types::{Config, Copyable, Listed, Moment, NodeId};
 use ua_values::DataValue;
 
@@ -118,6 +120,62 @@ impl History {
         values.keep(alloc, self.most, time.0, value)?;
         self.nodes.insert(node.copy(alloc)?, values)?;
         Ok(())
+    }
+
+    // Keeps the values that a node had before, one after the other.
+    fn keep_all(
+        &mut self,
+        alloc: Global,
+        node: &NodeId,
+        values: Listed<DataValue>,
+    ) -> Result<(), AllocError>
+        ensures all { OnOk result (self.new ≡ with_all self.old node.now values) }
+        ensures memory { values ≡ [] → IsOk result }
+    {
+        for value in values.into_vec() {
+            self.keep(alloc, node, value)?;
+        }
+        Ok(())
+    }
+
+    // Keeps the values that the node at a place had before. They are moved out of the space.
+    fn begin_with(
+        &mut self,
+        alloc: Global,
+        space: &mut Space,
+        place: usize,
+    ) -> Result<(), AllocError>
+        requires { place < length space.old.nodes }
+        ensures history { OnOk result (self.new ≡ with_node_if self.old (slice_get space.old.nodes place)) }
+        ensures memory { history_in (slice_get space.old.nodes place) ≡ [] → IsOk result }
+        ensures nodes { space.new.nodes ≡ without_history_in place space.old.nodes }
+        ensures triples { space.new.triples ≡ space.old.triples }
+    {
+        let values = space.take_history(place, alloc);
+        match space.node_in_order(place) {
+            None => Ok(()),
+            Some(node) => self.keep_all(alloc, &node.id, values),
+        }
+    }
+
+    /// The histories with which a server over this space begins: of each node the values that it had before
+    /// ([`ua_space::Node::history`]), at most as many as the configuration lets be kept. They are moved out of the space. Takes
+    /// no memory where no node has any. At an `Err` nothing is known of the space's values from before.
+    pub fn beginning(
+        alloc: Global,
+        config: &Config,
+        space: &mut Space,
+    ) -> Result<History, AllocError>
+        ensures histories { IfOk result (λ history. history ≡ histories_begun config.now space.old.nodes) }
+        ensures memory { without_histories space.old.nodes ≡ space.old.nodes → IsOk result }
+        ensures nodes { OnOk result (space.new.nodes ≡ without_histories space.old.nodes) }
+        ensures triples { space.new.triples ≡ space.old.triples }
+    {
+        let mut history = History::new(alloc, config);
+        for place in 0..space.node_count() {
+            history.begin_with(alloc, space, place)?;
+        }
+        Ok(history)
     }
 
     /// Says that the times of a node's history rise. It does nothing.

@@ -1,6 +1,6 @@
 //! What follows from the definitions of keeping and of reading. The laws have no code: their contracts state them.
 
-ghost use Rattle.ua_history.specs.HistoryLaws.{KeepsWithinBounds, GoesPastTheLast, NextIsWhatFollows, PagesJoinToAll};
+ghost use Rattle.ua_history.specs.HistoryLaws.{KeepsWithinBounds, GoesPastTheLast, NextIsWhatFollows, PagesJoinToAll, BeginsWithTheLast, BeginsApart};
 
 /// No more values of a node are kept than may be.
 #[tactic(auto, using(crate::proofs::Keeping::keeps_within_bounds))]
@@ -24,4 +24,11 @@ pub fn next_is_what_follows()
 #[tactic(auto, using(crate::proofs::PagingLemmas::pages_join_to_all))]
 pub fn pages_join_to_all()
     ensures { PagesJoinToAll }
+{}
+
+/// A history that begins with values whose times rise has the last of them, as many as may be kept, and no other node's has any.
+#[tactic(auto, using(crate::proofs::Beginning::begins_with_the_last, crate::proofs::Beginning::begins_apart))]
+pub fn begins_with_the_last()
+    ensures last { BeginsWithTheLast }
+    ensures apart { BeginsApart }
 {}

@@ -10,7 +10,8 @@ use Rattle.ua_space.specs.declared.node.Node.{Node}
 use Rattle.ua_space.specs.declared.triple.Triple.{Triple}
 use Rattle.ua_space.specs.declared.triple.Part.TheVariants as part
 use Rattle.ua_space.specs.declared.fault.SpaceFault.{SpaceFault}
-use Rattle.ua_space.specs.declared.fault.SpaceFault.TheVariants.{Duplicate, DanglingReference}
+use Rattle.ua_space.specs.declared.fault.SpaceFault.TheVariants.{Duplicate, DanglingReference, History}
+use Rattle.ua_space.specs.Histories.{is_history}
 use Rattle.ua_space.specs.Nodes.{Nodes, node_at}
 use Rattle.ua_space.specs.TripleOrder.{same_triple, triple_cmp, same_triple_equiv, triple_ties}
 use Rattle.ua_space.specs.Build.{linked, named, all_named}
@@ -87,11 +88,16 @@ pub named_twice : (n : ℕ) (known : Nodes) (left rest : List Node) (node : Node
 unfolding named
 named_twice n known left rest node total step twice so_far = sym so_far ∙ rw (step, twice) refl
 
-pub named_once : (n : ℕ) (known : Nodes) (left rest : List Node) (node : Node) (total : Result Nodes SpaceFault) → left ≡ node ∷ rest → is_some (node_at node.id known) ≡ false
+pub named_badly : (n : ℕ) (known : Nodes) (left rest : List Node) (node : Node) (total : Result Nodes SpaceFault) → left ≡ node ∷ rest → is_some (node_at node.id known) ≡ false → is_history node ≡ false
+    → named n known left ≡ total → total ≡ Err (History (part.Node n))
+unfolding named
+named_badly n known left rest node total step once bad so_far = sym so_far ∙ rw (step, once, bad) refl
+
+pub named_once : (n : ℕ) (known : Nodes) (left rest : List Node) (node : Node) (total : Result Nodes SpaceFault) → left ≡ node ∷ rest → is_some (node_at node.id known) ≡ false → is_history node ≡ true
     → named n known left ≡ total → named (n + 1) (insert_entry id_cmp known node.id node) rest ≡ total
 unfolding named
-named_once n known left rest node total step once so_far =
-    let one : named n known left ≡ named (n + 1) (insert_entry id_cmp known node.id node) rest = rw (step, once) refl in
+named_once n known left rest node total step once good so_far =
+    let one : named n known left ≡ named (n + 1) (insert_entry id_cmp known node.id node) rest = rw (step, once, good) refl in
     sym one ∙ so_far
 
 pub nodes_end : (n : ℕ) (known : Nodes) (left : List Node) (total : Result Nodes SpaceFault) → length left ≡ 0 → named n known left ≡ total → total ≡ Ok known

@@ -1,11 +1,14 @@
 pub mod Building
+pub mod Histories
 pub mod Chains
 pub mod Indexing
 pub mod Places
 pub mod Counting
 pub mod Ranking
 pub mod Marking
+pub mod Bits
 pub mod Soundness
+pub mod Emptying
 pub mod Searching
 pub mod Walking
 pub mod Referring

@@ -16,6 +16,7 @@ use Rattle.ua_space.specs.BaseNodes.{base_nodes, base_triples}
 use Rattle.ua_types.specs.Answers.{◌>>=◌}
 use Rattle.ua_space.specs.Build.{within_limits, named, all_named, linked, no_loop, space_of}
 use Rattle.ua_space.specs.Made.{IsMadeOf, SpacesAreMade}
+use Rattle.ua_space.specs.Histories.{is_history}
 use Rattle.ua_space.specs.Nodes.{Nodes, SpaceState, node_at}
 use Rattle.ua_space.specs.Subtypes.{lies_on_loop}
 use Rattle.ua_space.proofs.Soundness.{tied, bind_ok}
@@ -110,15 +111,19 @@ all_given n known made (node ∷ nodes) e =
     elim (cases_Bool (is_some (node_at node.id known))) [
       | inl twice ↦ absurd (let none : Err _ ≡ Ok made = rw twice at e in cc)
       | inr once ↦
-          let rest = all_given (n + 1) (insert_entry id_cmp known node.id node) made nodes (rw once at e) in
-          record {
-            kept = λ q x at. rest.kept q x (there known node.id q node x once at);
-            given = λ other h. elim (let g : (node ≡ other) ⊎ In nodes other = h in g) [
-              | inl is ↦ let P : Node → Type 0 = λ y. node_at y.id made ≡ Some y in subst P is (rest.kept node.id node (here known node.id node))
-              | inr later ↦ rest.given other later
-            ];
-            count = omega (arith, rest.count, more known node.id node once);
-          }
+          elim (cases_Bool (is_history node)) [
+            | inr bad ↦ absurd (let none : Err _ ≡ Ok made = rw (once, bad) at e in cc)
+            | inl good ↦
+                let rest = all_given (n + 1) (insert_entry id_cmp known node.id node) made nodes (rw (once, good) at e) in
+                record {
+                  kept = λ q x at. rest.kept q x (there known node.id q node x once at);
+                  given = λ other h. elim (let g : (node ≡ other) ⊎ In nodes other = h in g) [
+                    | inl is ↦ let P : Node → Type 0 = λ y. node_at y.id made ≡ Some y in subst P is (rest.kept node.id node (here known node.id node))
+                    | inr later ↦ rest.given other later
+                  ];
+                  count = omega (arith, rest.count, more known node.id node once);
+                }
+          ]
     ]
 
 pub spaces_made : SpacesAreMade

@@ -20,6 +20,7 @@ use Rattle.ua_space.specs.declared.node.NodeDetails.{NodeDetails}
 use Rattle.ua_space.specs.declared.node.NodeDetails.TheVariants as details
 use Rattle.ua_space.specs.declared.triple.Triple.{Triple}
 use Rattle.ua_space.specs.declared.fault.SpaceFault.{SpaceFault}
+use Rattle.ua_space.specs.Histories.{is_history}
 use Rattle.ua_space.specs.Nodes.{Nodes, node_at}
 use Rattle.ua_space.specs.Values.{holding, put, with_value}
 use Rattle.ua_space.specs.Spaces.{most_nodes, most_triples, fits, has_reference_details, is_reference_type, IsSpace, HasNoLoop, AreDistinct, StandUnderTheirIds}
@@ -86,8 +87,12 @@ named_sound n known made (node ∷ nodes) own e =
     elim (cases_Bool (is_some (node_at node.id known))) [
       | inl twice ↦ absurd (let none : Err _ ≡ Ok made = rw twice at e in cc)
       | inr once ↦
-          let rest = named_sound (n + 1) (insert_entry id_cmp known node.id node) made nodes (own_more known node own) (rw once at e) in
-          (rest.0, omega (arith, rest.1, one_more known node.id node))
+          elim (cases_Bool (is_history node)) [
+            | inr bad ↦ absurd (let none : Err _ ≡ Ok made = rw (once, bad) at e in cc)
+            | inl good ↦
+                let rest = named_sound (n + 1) (insert_entry id_cmp known node.id node) made nodes (own_more known node own) (rw (once, good) at e) in
+                (rest.0, omega (arith, rest.1, one_more known node.id node))
+          ]
     ]
 
 pub bind_ok : {A B : Type 0} (r : Result A SpaceFault) (f : A → Result B SpaceFault) (y : B) → (r >>= f) ≡ Ok y → (x : A) × (r ≡ Ok x) × (f x ≡ Ok y)

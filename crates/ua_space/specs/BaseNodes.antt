@@ -20,7 +20,7 @@ use Rattle.ua_space.specs.declared.triple.Part.TheVariants.{File}
 
 -- ---- nodes
 
--- a node of namespace 0 that is displayed by its name
+-- a node of namespace 0 that is displayed by its name, with no history
 abbrev pub standard_node : ℕ → List ℕ → NodeDetails → Node
 standard_node number name details = record {
   id = numeric_id 0 number;
@@ -28,6 +28,7 @@ standard_node number name details = record {
   display_name = record { locale = None; text = Some name };
   description = record { locale = None; text = None };
   details = details;
+  history = [];
 }
 
 -- a variable that may be read, and whose history isn't kept

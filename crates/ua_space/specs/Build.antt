@@ -9,7 +9,8 @@ use Rattle.ua_space.specs.declared.node.Node.{Node}
 use Rattle.ua_space.specs.declared.triple.Triple.{Triple}
 use Rattle.ua_space.specs.declared.triple.Part.TheVariants as part
 use Rattle.ua_space.specs.declared.fault.SpaceFault.{SpaceFault}
-use Rattle.ua_space.specs.declared.fault.SpaceFault.TheVariants.{Duplicate, DanglingReference, SubtypeLoop, Limit}
+use Rattle.ua_space.specs.declared.fault.SpaceFault.TheVariants.{Duplicate, DanglingReference, SubtypeLoop, Limit, History}
+use Rattle.ua_space.specs.Histories.{is_history}
 use Rattle.ua_space.specs.Nodes.{Nodes, SpaceState, node_at}
 use Rattle.ua_space.specs.TripleOrder.{same_triple}
 use Rattle.ua_space.specs.Spaces.{most_nodes, most_triples, fits}
@@ -24,11 +25,12 @@ abbrev pub within_limits : List Node → List Node → List Triple → Result (U
 within_limits base nodes triples =
     if is_too_much most_nodes (length base) (length nodes) || is_too_much most_triples (length base_triples) (length triples) then Err Limit else Ok tt
 
--- each node under its id, up to the first whose id is there already; the nodes count from n
+-- each node under its id, up to the first whose id is there already, or whose history is none; the nodes count from n
 unfoldable pub named : ℕ → Nodes → List Node → Result Nodes SpaceFault
 named n known [] = Ok known
 named n known (node ∷ nodes) =
     if is_some (node_at node.id known) then Err (Duplicate (part.Node n))
+    else if not (is_history node) then Err (History (part.Node n))
     else named (n + 1) (insert_entry id_cmp known node.id node) nodes
 
 -- the base nodes, whose ids are distinct, and then the given ones

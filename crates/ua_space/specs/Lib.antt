@@ -7,6 +7,7 @@ pub mod References
 pub mod Spaces
 pub mod TripleOrder
 pub mod Subtypes
+pub mod Histories
 pub mod BaseNodes
 pub mod Build
 pub mod Indexes

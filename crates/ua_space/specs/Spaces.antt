@@ -1,6 +1,7 @@
 -- What every space keeps.
 use Rattle.std.specs.Prelude.{◌≡◌, ℕ, suc, ◌≤◌, Bool, true, false, ◌&&◌, List, length, Option, Some, None, is_some, Contains, AllPairs}
 use Rattle.ua_types.specs.declared.node_id.NodeId.{NodeId}
+use Rattle.ua_space.specs.declared.build.TheConstants.{MAX_NODES, MAX_TRIPLES}
 use Rattle.ua_space.specs.declared.node.Node.{Node}
 use Rattle.ua_space.specs.declared.node.NodeDetails.{NodeDetails}
 use Rattle.ua_space.specs.declared.node.NodeDetails.TheVariants as details
@@ -11,10 +12,10 @@ use Rattle.ua_space.specs.TripleOrder.{same_triple}
 
 -- the most nodes and references of a space, those of the base set included
 abbrev pub most_nodes : ℕ
-most_nodes = 100000
+most_nodes = MAX_NODES
 
 abbrev pub most_triples : ℕ
-most_triples = 400000
+most_triples = MAX_TRIPLES
 
 abbrev pub has_reference_details : NodeDetails → Bool
 has_reference_details (details.ReferenceType a s i) = true

@@ -3,6 +3,7 @@
 ghost use Rattle.std.specs.Prelude.{◌≡◌, ◌≤◌, ◌<◌, ◌^◌, ◌++◌, ◌∷◌, [], length, map, IfOk, OnOk, true, vec_len};
 ghost use Rattle.std.specs.List.{All};
 ghost use Rattle.ua_space.specs.BaseNodes.{standard_node, readable, details_of, server_array, namespaces, namespace_array, state, base_nodes, base_triple, base_triples, base_objects, base_variables, base_object_types, base_variable_types, base_reference_types};
+ghost use Rattle.ua_space.specs.Spaces.{most_triples};
 ghost use Rattle.ua_space.specs.Variables.{is_of};
 ghost use Rattle.ua_values.specs.DataValues.{value_since};
 ghost use Rattle.ua_values.specs.declared.content.Content.TheVariants as content;
@@ -12,11 +13,11 @@ use crate::node::{Node, NodeDetails, ValueRank, Variable};
 use crate::triple::{Part, Triple};
 use std::alloc::{AllocError, Global};
 use ua_types::{
-    Array, Config, Copyable, LocalizedText, Moment, NodeId, QualifiedName, Status, Text,
+    Array, Config, Copyable, Listed, LocalizedText, Moment, NodeId, QualifiedName, Status, Text,
 };
 use ua_values::{Content, DataValue, Variant};
 
-// A node of namespace 0 that is displayed by its name.
+// A node of namespace 0 that is displayed by its name, with no history.
 fn standard_node(
     alloc: Global,
     number: u32,
@@ -41,6 +42,7 @@ fn standard_node(
             text: Text::null(),
         },
         details,
+        history: Listed::new(alloc),
     })
 }
 
@@ -117,7 +119,7 @@ fn triples_of(
     more: usize,
 ) -> Result<Vec<Triple>, AllocError>
     requires table { length table.now < 100 }
-    requires more { more < 400000 }
+    requires more { more < most_triples }
     ensures items { IfOk result (λ triples. triples.items ≡ map base_triple table.now) }
     ensures len { IfOk result (λ triples. vec_len triples ≡ length table.now) }
 {
@@ -169,7 +171,7 @@ pub(crate) const TRIPLES: [(u32, u32, u32); 29] = [
 /// The base references, and room for more.
 #[tactic(auto, unfolding(crate::specs::BaseNodes::base_triples))]
 pub(crate) fn base_triples(alloc: Global, more: usize) -> Result<Vec<Triple>, AllocError>
-    requires { more < 400000 }
+    requires { more < most_triples }
     ensures items { IfOk result (λ triples. triples.items ≡ base_triples) }
     ensures len { IfOk result (λ triples. vec_len triples ≡ 29) }
 {

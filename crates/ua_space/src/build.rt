@@ -4,12 +4,13 @@ ghost use Rattle.std.specs.Prelude.{◌≡◌, ◌≤◌, ◌<◌, ◌^◌, ◌+
 ghost use Rattle.ua_space.specs.BaseNodes.{base_triples};
 ghost use Rattle.ua_types.specs.Answers.{Gives, GivesAs};
 ghost use Rattle.ua_space.specs.Build.{is_too_much, within_limits, named, all_named, linked};
-ghost use Rattle.ua_space.specs.Spaces.{fits};
+ghost use Rattle.ua_space.specs.Spaces.{fits, most_triples};
 ghost use Rattle.ua_space.specs.declared.fault.SpaceFault.TheVariants.{Memory};
 
 use crate::base::{TRIPLES, base_nodes, base_triples};
 use crate::fault::SpaceFault;
 use crate::hints::Hints;
+use crate::history::is_history;
 use crate::index::Indexes;
 use crate::loops::no_loop;
 use crate::node::{Node, NodeDetails};
@@ -22,9 +23,9 @@ use std::collections::{BTreeMap, BTreeSet};
 use ua_types::{Config, Copyable, NodeId};
 
 /// The most nodes of a space, those of the base set included.
-const MAX_NODES: usize = 100_000;
+pub(crate) const MAX_NODES: usize = 1_000_000;
 /// The most references of a space, those of the base set included.
-const MAX_TRIPLES: usize = 400_000;
+pub(crate) const MAX_TRIPLES: usize = 4_000_000;
 
 // Whether so many are too many beside those of the base set.
 fn is_too_much(most: usize, base: usize, given: usize) -> bool
@@ -39,7 +40,7 @@ fn within_limits(base: &[Node], nodes: &[Node], triples: &[Triple]) -> Result<()
     requires { length base.now ≤ 22 }
     ensures limits { result ≡ within_limits base.now nodes.now triples.now }
     ensures few_nodes { OnOk result (length nodes.now < 2 ^ 32) }
-    ensures few_triples { OnOk result (length triples.now < 400000) }
+    ensures few_triples { OnOk result (length triples.now < most_triples) }
 {
     if is_too_much(MAX_NODES, base.len(), nodes.len())
         || is_too_much(MAX_TRIPLES, TRIPLES.len(), triples.len())
@@ -49,7 +50,7 @@ fn within_limits(base: &[Node], nodes: &[Node], triples: &[Triple]) -> Result<()
     Ok(())
 }
 
-// Each node under its id. The nodes count from `first`.
+// Each node under its id, with a history as it may have one. The nodes count from `first`.
 fn named(
     alloc: Global,
     known: BTreeMap<NodeId, Node>,
@@ -64,6 +65,9 @@ fn named(
     for node in nodes {
         if known.contains_key(&node.id) {
             return Err(SpaceFault::Duplicate(Part::Node(number)));
+        }
+        if !is_history(&node) {
+            return Err(SpaceFault::History(Part::Node(number)));
         }
         let id = node.id.copy(alloc)?;
         known.insert(id, node)?;
@@ -106,7 +110,7 @@ fn linked(
 
 // The base references, and then the given ones.
 fn with_base(alloc: Global, triples: Vec<Triple>) -> Result<Vec<Triple>, SpaceFault>
-    requires { vec_len triples < 400000 }
+    requires { vec_len triples < most_triples }
     ensures all { IfOk result (λ all. all.items ≡ base_triples ++ triples.items) }
     ensures len { IfOk result (λ all. vec_len all < 2 ^ 32) }
     ensures fault { IfErr result (λ e. e ≡ Memory) }

@@ -19,12 +19,16 @@ pub enum SpaceFault {
     /// A reference lies on a loop of HasSubtype references.
     #[error("SubtypeLoop {0}")]
     SubtypeLoop(Part),
-    /// More than 100,000 nodes or 400,000 references, the base set included.
+    /// More than 1,000,000 nodes or 4,000,000 references, the base set included.
     #[error("Limit file 0")]
     Limit,
     /// An allocation failed. Nothing is said of the nodes and references.
     #[error("Memory")]
     Memory,
+    /// What this node had before the server began is no history: a value has no source time, the source
+    /// times don't rise, or the node is no Variable whose history is kept.
+    #[error("History {0}")]
+    History(Part),
 }
 
 impl From<AllocError> for SpaceFault {

@@ -5,7 +5,7 @@ ghost use Rattle.ua_space.specs.NodeClasses.{class_of};
 ghost use Rattle.ua_space.specs.Variables.{has_rank, takes, takes_if_any};
 
 use std::marker::Model;
-use ua_types::{LocalizedText, NodeClass, NodeId, QualifiedName};
+use ua_types::{Listed, LocalizedText, NodeClass, NodeId, QualifiedName};
 use ua_values::{DataValue, Shape, Variant};
 
 /// Whether a variable holds one value or a list (ValueRank, IEC 62541-3, 5.6.2), with the standard's
@@ -144,6 +144,9 @@ pub struct Node {
     /// What the node is, for people; null texts where nothing is said.
     pub description: LocalizedText,
     pub details: NodeDetails,
+    /// The values that the variable had before the server began, by rising source time; empty for all
+    /// other nodes.
+    pub history: Listed<DataValue>,
 }
 
 impl Node {

@@ -1,8 +1,9 @@
 //! The nodes of a space in the order of their ids, found by binary search.
 
-ghost use Rattle.std.specs.Prelude.{◌≡◌, length, true, IfOk, slice_get};
+ghost use Rattle.std.specs.Prelude.{◌≡◌, length, true, IfOk, option_map, slice_get};
 ghost use Rattle.std.specs.Option.{option_copied};
 ghost use Rattle.ua_types.specs.declared.node_id.NodeId.{NodeId};
+ghost use Rattle.ua_space.specs.Histories.{history_in, without_history_in};
 ghost use Rattle.ua_space.specs.Nodes.{node_at};
 ghost use Rattle.ua_space.specs.NodePlaces.{IsPlaceOf, takes_in, with_value_in};
 ghost use Rattle.ua_space.specs.Values.{takes_at, with_value};
@@ -11,7 +12,8 @@ use crate::node::{Node, NodeDetails};
 use std::alloc::{AllocError, Global};
 use std::collections::BTreeMap;
 use std::marker::Model;
-use ua_types::NodeId;
+use std::mem;
+use ua_types::{Listed, NodeId};
 use ua_values::DataValue;
 use ua_views::{NodeIdView, compare};
 
@@ -49,6 +51,17 @@ fn set_in(entries: &mut Vec<(NodeId, Node)>, place: usize, value: DataValue)
             NodeDetails::Variable(variable) => variable.set(value),
             _ => {}
         },
+    }
+}
+
+// Moves out what the node at this place has from before.
+fn take_in(entries: &mut Vec<(NodeId, Node)>, place: usize, alloc: Global) -> Listed<DataValue>
+    ensures taken { result ≡ history_in (slice_get entries.old.items place) }
+    ensures left { entries.new.items ≡ without_history_in place entries.old.items }
+{
+    match entries.get_mut(place) {
+        None => Listed::new(alloc),
+        Some(entry) => mem::replace(&mut entry.1.history, Listed::new(alloc)),
     }
 }
 
@@ -97,6 +110,24 @@ impl NodeTable {
             Err(_) => {}
             Ok(place) => set_in(&mut self.entries, place, value),
         }
+    }
+
+    /// The node at a place in the order of ids.
+    pub(crate) fn node_in_order(&self, place: usize) -> Option<&Node>
+        ensures { option_copied result ≡ option_map (λ e. e.1) (slice_get self.now place) }
+    {
+        match self.entries.get(place) {
+            None => None,
+            Some(entry) => Some(&entry.1),
+        }
+    }
+
+    /// Moves out what the node at a place has from before.
+    pub(crate) fn take_history(&mut self, place: usize, alloc: Global) -> Listed<DataValue>
+        ensures taken { result ≡ history_in (slice_get self.old place) }
+        ensures left { self.new ≡ without_history_in place self.old }
+    {
+        take_in(&mut self.entries, place, alloc)
     }
 
     /// How many nodes there are.

@@ -10,7 +10,7 @@ use crate::subtypes::is_subtype;
 use crate::triple::Triple;
 use std::alloc::{AllocError, Global};
 use std::marker::Model;
-use ua_types::NodeId;
+use ua_types::{Listed, NodeId};
 use ua_values::DataValue;
 use ua_views::NodeIdView;
 
@@ -18,7 +18,7 @@ use ua_views::NodeIdView;
 ///
 /// It is built by [`Space::build`]. Later only values of variables change. So each node stands under its
 /// own id, each reference's ends are nodes and its type is a ReferenceType node, none is there twice, no
-/// chain of HasSubtype references comes back, and there are at most 100,000 nodes and 400,000
+/// chain of HasSubtype references comes back, and there are at most 1,000,000 nodes and 4,000,000
 /// references (`IsSpace`).
 #[derive(Drop)]
 pub struct Space {
@@ -51,11 +51,12 @@ impl Model for Space {
 }
 
 impl Space {
-    ghost use Rattle.std.specs.Prelude.{◌≡◌, length, true, IsTrue, ◌↔◌, IfOk, IfSome};
+    ghost use Rattle.std.specs.Prelude.{◌≡◌, ◌<◌, length, true, IsTrue, ◌↔◌, IfOk, IfSome, option_map, slice_get};
     ghost use Rattle.std.specs.List.{list_any};
     ghost use Rattle.ua_types.specs.NodeIdOrder.{same_id};
     ghost use Rattle.ua_types.specs.declared.node_id.NodeId.{NodeId};
     ghost use Rattle.std.specs.Option.{option_copied};
+    ghost use Rattle.ua_space.specs.Histories.{history_in, without_history_in};
     ghost use Rattle.ua_space.specs.Nodes.{node_at};
     ghost use Rattle.ua_space.specs.Values.{variable_at, value_at, takes_at, with_value};
     ghost use Rattle.ua_space.specs.References.{references_of, type_definition_of};
@@ -152,6 +153,26 @@ impl Space {
         self.nodes.set_value(id, value);
     }
 
+    /// The node at a place in the order of ids; None past the last.
+    pub fn node_in_order(&self, place: usize) -> Option<&Node>
+        ensures { option_copied result ≡ option_map (λ e. e.1) (slice_get self.now.nodes place) }
+    {
+        self.nodes.node_in_order(place)
+    }
+
+    /// Moves out the values that the node at a place in the order of ids had before the server began. The
+    /// node has none from then on.
+    ///
+    /// Nothing else changes, and no value is copied. Takes no memory.
+    pub fn take_history(&mut self, place: usize, alloc: Global) -> Listed<DataValue>
+        requires { place < length self.old.nodes }
+        ensures taken { result ≡ history_in (slice_get self.old.nodes place) }
+        ensures nodes { self.new.nodes ≡ without_history_in place self.old.nodes }
+        ensures triples { self.new.triples ≡ self.old.triples }
+    {
+        self.nodes.take_history(place, alloc)
+    }
+
     /// How many nodes there are, the base set included.
     pub fn node_count(&self) -> usize
         ensures { result ≡ length self.now.nodes }
@@ -207,7 +228,7 @@ impl Space {
 
     /// Whether the one type is the other or one of its subtypes. A type is a subtype of itself.
     ///
-    /// Takes no memory, but 100 KB of the stack. Its time grows with the number of the space's types and
+    /// Takes no memory, but 125 KB of the stack. Its time grows with the number of the space's types and
     /// with that of the HasSubtype references above `lower`, not with that of the ways which they make.
     #[tactic(auto, using(crate::proofs::Chains::subtype_found, crate::proofs::Chains::subtype_walked))]
     pub fn is_subtype(&self, lower: &NodeId, upper: &NodeId) -> bool

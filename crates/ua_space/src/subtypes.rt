@@ -15,14 +15,12 @@ ghost use Rattle.ua_space.specs.Spaces.{most_nodes};
 ghost use Rattle.ua_space.specs.Subtypes.{is_subtype};
 
 use crate::index::{Index, places_at};
+use crate::marks::Marks;
 use crate::numbering::Numbering;
 use crate::references::TripleList;
 use crate::triple::Triple;
 use std::collections::BTreeMap;
 use ua_types::NodeId;
-
-// The most types that can be marked: as many as a space has nodes.
-const MAX_TYPES: usize = 100_000;
 
 // The HasSubtype references that lead to a type.
 fn above<'a>(triples: &'a [Triple], supertypes: &'a Index, lower: &NodeId) -> TripleList<'a>
@@ -37,7 +35,7 @@ fn above<'a>(triples: &'a [Triple], supertypes: &'a Index, lower: &NodeId) -> Tr
 fn mark(
     numbers: &BTreeMap<NodeId, usize>,
     list: &TripleList<'_>,
-    marks: &mut [bool],
+    marks: &mut Marks,
     next: usize,
 ) -> usize
     requires { (id : NodeId) (n : ℕ) → number_at numbers.now.entries id ≡ Some n → n < length marks.old }
@@ -50,8 +48,8 @@ fn mark(
             Some(triple) => match numbers.get(&triple.source) {
                 None => {}
                 Some(number) => {
-                    if !marks[*number] {
-                        marks[*number] = true;
+                    if !marks.has(*number) {
+                        marks.add(*number);
                         next = next.max(*number + 1);
                     }
                 }
@@ -67,7 +65,7 @@ fn walk_up(
     triples: &[Triple],
     supertypes: &Index,
     numbering: &Numbering,
-    marks: &mut [bool],
+    marks: &mut Marks,
     lower: &NodeId,
     upper: usize,
 ) -> bool
@@ -84,14 +82,14 @@ fn walk_up(
         marks,
         0,
     );
-    while next > 0 && !marks[upper] {
+    while next > 0 && !marks.has(upper) {
         next -= 1;
-        if marks[next] {
+        if marks.has(next) {
             let list = above(triples, supertypes, &numbering.types[next]);
             next = mark(&numbering.numbers, &list, marks, next);
         }
     }
-    marks[upper]
+    marks.has(upper)
 }
 
 // Whether a walk up from a type reaches another. The marks lie on the stack and are made here, so that a
@@ -109,7 +107,7 @@ fn reaches(
     requires upper { upper < length numbering.now.types.items }
     ensures { (id : NodeId) → number_at numbering.now.numbers.entries id ≡ Some upper → (lower.now ≡ id → ⊥) → result ≡ is_subtype triples.now lower.now id }
 {
-    let mut marks = [false; MAX_TYPES];
+    let mut marks = Marks::none();
     walk_up(triples, supertypes, numbering, &mut marks, lower, upper)
 }
 

@@ -1,7 +1,9 @@
 -- The server's configuration: its fields, the ranges of its numbers, and the standard one.
-use Rattle.std.specs.Prelude.{ℕ, pos, ◌≤ℤ◌, ◌≤◌, ◌^◌, List, [], ◌∷◌, length, codes, Option, Some, IsSome, IfSome}
+use Rattle.std.specs.Prelude.{ℕ, pos, ◌≤ℤ◌, ◌≤◌, List, [], ◌∷◌, length, codes, Option, Some, IsSome, IfSome}
 use Rattle.ua_types.specs.declared.moment.Moment.{Moment}
 use Rattle.ua_types.specs.declared.duration.Duration.{Duration}
+use Rattle.ua_types.specs.declared.number_range.NumberRange.{NumberRange}
+use Rattle.ua_types.specs.declared.number_range.TheConstants.NumberRange as ranges
 
 pub record Configuration : Type 0 where
   pub uri : Option (List ℕ)
@@ -36,6 +38,10 @@ pub record Configuration : Type 0 where
 abbrev pub IsWithin : ℕ → ℕ → ℕ → Type 0
 IsWithin low high n = (low ≤ n) × (n ≤ high)
 
+-- a number lies in a range
+abbrev pub IsIn : NumberRange → ℕ → Type 0
+IsIn range n = IsWithin range.least range.most n
+
 -- the server's names are given, there are at most 100 namespaces, and each number lies in its range
 pub record IsConfigured (c : Configuration) : Type 0 where
   pub uri : IsSome c.uri
@@ -43,26 +49,26 @@ pub record IsConfigured (c : Configuration) : Type 0 where
   pub url : IsSome c.url
   pub namespaces : IfSome c.namespaces (λ texts. length texts ≤ 100)
   pub start : pos 0 ≤ℤ c.start.0
-  pub receive_size : IsWithin 1024 1048576 c.receive_size
-  pub send_size : IsWithin 1024 1048576 c.send_size
-  pub max_message : IsWithin 1024 16777216 c.max_message
-  pub max_chunks : IsWithin 1 65535 c.max_chunks
-  pub lifetime_ms : IsWithin 1 4294967295 c.lifetime_ms
-  pub connections : IsWithin 1 10000 c.connections
-  pub sessions : IsWithin 1 10000 c.sessions
-  pub subscriptions : IsWithin 1 100000 c.subscriptions
-  pub items : IsWithin 1 100000 c.items
-  pub queue : IsWithin 1 100000 c.queue
-  pub publish_queue : IsWithin 1 100000 c.publish_queue
-  pub kept : IsWithin 1 100000 c.kept
-  pub notifications : IsWithin 1 100000 c.notifications
-  pub points : IsWithin 1 100000 c.points
-  pub references : IsWithin 1 100000 c.references
-  pub operations : IsWithin 1 100000 c.operations
-  pub history_page : IsWithin 1 100000 c.history_page
-  pub history : IsWithin 1 1000000 c.history
-  pub session_time : IsWithin 1 (10 ^ 15) c.session_time
-  pub publish_time : IsWithin 1 (10 ^ 15) c.publish_time
+  pub receive_size : IsIn ranges.RECEIVE_SIZE c.receive_size
+  pub send_size : IsIn ranges.SEND_SIZE c.send_size
+  pub max_message : IsIn ranges.MAX_MESSAGE c.max_message
+  pub max_chunks : IsIn ranges.MAX_CHUNKS c.max_chunks
+  pub lifetime_ms : IsIn ranges.LIFETIME_MS c.lifetime_ms
+  pub connections : IsIn ranges.CONNECTIONS c.connections
+  pub sessions : IsIn ranges.SESSIONS c.sessions
+  pub subscriptions : IsIn ranges.SUBSCRIPTIONS c.subscriptions
+  pub items : IsIn ranges.ITEMS c.items
+  pub queue : IsIn ranges.QUEUE c.queue
+  pub publish_queue : IsIn ranges.PUBLISH_QUEUE c.publish_queue
+  pub kept : IsIn ranges.KEPT c.kept
+  pub notifications : IsIn ranges.NOTIFICATIONS c.notifications
+  pub points : IsIn ranges.POINTS c.points
+  pub references : IsIn ranges.REFERENCES c.references
+  pub operations : IsIn ranges.OPERATIONS c.operations
+  pub history_page : IsIn ranges.HISTORY_PAGE c.history_page
+  pub history : IsIn ranges.HISTORY c.history
+  pub session_time : IsIn ranges.SESSION_TIME c.session_time
+  pub publish_time : IsIn ranges.PUBLISH_TIME c.publish_time
 
 -- what holds where nothing else is said
 unfoldable pub standard : Configuration

@@ -11,8 +11,8 @@ use crate::text::Text;
 use std::alloc::{AllocError, Global};
 use std::marker::Model;
 
-/// What the server is told about itself. Each number always lies in its range, and the server's
-/// URI, name and URL are given.
+/// What the server is told about itself. Each number always lies in its range, the constant of
+/// [`NumberRange`](crate::NumberRange) with its name, and the server's URI, name and URL are given.
 #[derive(Debug, Drop)]
 pub struct Config {
     /// The application's URI, which is also the URI of namespace 1.
@@ -25,45 +25,45 @@ pub struct Config {
     pub namespaces: Array<Text>,
     /// What the clock shows before the first tick, not before 1601.
     pub start: Moment,
-    /// The largest frame that is read, in bytes: 1024 to 1048576.
+    /// The largest frame that is read, in bytes.
     pub receive_size: u32,
-    /// The largest frame that is sent, in bytes: 1024 to 1048576.
+    /// The largest frame that is sent, in bytes.
     pub send_size: u32,
-    /// The largest request that is put together, in bytes: 1024 to 16777216.
+    /// The largest request that is put together, in bytes.
     pub max_message: u32,
-    /// The most chunks of a request: 1 to 65535.
+    /// The most chunks of a request.
     pub max_chunks: u32,
-    /// The lifetime of a channel's token that clients are told, in milliseconds, from 1 on.
+    /// The lifetime of a channel's token that clients are told, in milliseconds.
     pub lifetime_ms: u32,
-    /// The most connections that are open at once: 1 to 10000.
+    /// The most connections that are open at once.
     pub connections: u32,
-    /// The most sessions: 1 to 10000.
+    /// The most sessions.
     pub sessions: u32,
-    /// The most subscriptions of a session: 1 to 100000.
+    /// The most subscriptions of a session.
     pub subscriptions: u32,
-    /// The most monitored items of a subscription: 1 to 100000.
+    /// The most monitored items of a subscription.
     pub items: u32,
-    /// The most values that wait in a monitored item: 1 to 100000.
+    /// The most values that wait in a monitored item.
     pub queue: u32,
-    /// The most Publish requests that wait in a session: 1 to 100000.
+    /// The most Publish requests that wait in a session.
     pub publish_queue: u32,
-    /// The most sent messages that a subscription keeps for Republish: 1 to 100000.
+    /// The most sent messages that a subscription keeps for Republish.
     pub kept: u32,
-    /// The most notifications of a message: 1 to 100000.
+    /// The most notifications of a message.
     pub notifications: u32,
-    /// The most continuation points of a session: 1 to 100000.
+    /// The most continuation points of a session.
     pub points: u32,
-    /// The most references of a page of Browse: 1 to 100000.
+    /// The most references of a page of Browse.
     pub references: u32,
-    /// The most entries of a request's list: 1 to 100000.
+    /// The most entries of a request's list.
     pub operations: u32,
-    /// The most values of a page of raw history: 1 to 100000.
+    /// The most values of a page of raw history.
     pub history_page: u32,
-    /// The most values that a node's history keeps: 1 to 1000000.
+    /// The most values that a node's history keeps.
     pub history: u32,
-    /// How long a session lasts without a request, in steps of 100 ns: 1 to 10^15.
+    /// How long a session lasts without a request, in steps of 100 ns.
     pub session_time: u64,
-    /// The time between two publishing timers of a subscription, in steps of 100 ns: 1 to 10^15.
+    /// The time between two publishing timers of a subscription, in steps of 100 ns.
     pub publish_time: u64,
     /// `session_time` as clients are told it.
     pub session_duration: Duration,

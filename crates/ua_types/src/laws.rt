@@ -2,6 +2,7 @@
 
 ghost use Rattle.std.specs.Prelude.{◌≡◌};
 ghost use Rattle.ua_types.specs.IdOrder.{IdsGoByNamespace};
+ghost use Rattle.ua_types.specs.declared.number_range.TheConstants.NumberRange as ranges;
 ghost use Rattle.ua_types.specs.declared.status.TheConstants.Status as status;
 
 /// Each status has the code of the standard (IEC 62541-6, Annex A).
@@ -64,4 +65,28 @@ pub fn statuses_have_the_standards_codes()
 #[tactic(auto, using(crate::proofs::IdOrders::ids_go_by_namespace))]
 pub fn ids_go_by_namespace()
     ensures { IdsGoByNamespace }
+{}
+
+/// The numbers of a configuration have these ranges.
+pub fn ranges_are_these()
+    ensures receive_size { ranges.RECEIVE_SIZE ≡ record { least = 1024; most = 1048576 } }
+    ensures send_size { ranges.SEND_SIZE ≡ record { least = 1024; most = 1048576 } }
+    ensures max_message { ranges.MAX_MESSAGE ≡ record { least = 1024; most = 16777216 } }
+    ensures max_chunks { ranges.MAX_CHUNKS ≡ record { least = 1; most = 65535 } }
+    ensures lifetime_ms { ranges.LIFETIME_MS ≡ record { least = 1; most = 4294967295 } }
+    ensures connections { ranges.CONNECTIONS ≡ record { least = 1; most = 100000 } }
+    ensures sessions { ranges.SESSIONS ≡ record { least = 1; most = 100000 } }
+    ensures subscriptions { ranges.SUBSCRIPTIONS ≡ record { least = 1; most = 100000 } }
+    ensures items { ranges.ITEMS ≡ record { least = 1; most = 100000 } }
+    ensures queue { ranges.QUEUE ≡ record { least = 1; most = 1000000 } }
+    ensures publish_queue { ranges.PUBLISH_QUEUE ≡ record { least = 1; most = 100000 } }
+    ensures kept { ranges.KEPT ≡ record { least = 1; most = 100000 } }
+    ensures notifications { ranges.NOTIFICATIONS ≡ record { least = 1; most = 100000 } }
+    ensures points { ranges.POINTS ≡ record { least = 1; most = 100000 } }
+    ensures references { ranges.REFERENCES ≡ record { least = 1; most = 100000 } }
+    ensures operations { ranges.OPERATIONS ≡ record { least = 1; most = 100000 } }
+    ensures history_page { ranges.HISTORY_PAGE ≡ record { least = 1; most = 100000 } }
+    ensures history { ranges.HISTORY ≡ record { least = 1; most = 10000000 } }
+    ensures session_time { ranges.SESSION_TIME ≡ record { least = 1; most = 1000000000000000 } }
+    ensures publish_time { ranges.PUBLISH_TIME ≡ record { least = 1; most = 1000000000000000 } }
 {}

@@ -10,7 +10,7 @@
 //! - the text of a node id is read by a grammar and written in one way ([`NodeId::parse`], [`write_id`]);
 //! - `Listed` is a list, whatever room it has, `Boxed` the value in its block, and `Numbered` a finite
 //!   map from numbers;
-//! - `Config` is a record whose numbers always lie in their ranges (`IsConfigured`).
+//! - `Config` is a record whose numbers always lie in their ranges (`IsConfigured`), which [`NumberRange`] has.
 //!
 //! Memory is always taken from an allocator that is passed in, and a refusal is answered as
 //! [`Memory`]. A value that holds texts or lists isn't `Clone`: it is copied by [`Copyable`].
@@ -33,6 +33,7 @@ mod localized_text;
 mod moment;
 mod node_class;
 mod node_id;
+mod number_range;
 mod numbered;
 mod parsing;
 mod qualified_name;
@@ -54,6 +55,7 @@ pub use localized_text::LocalizedText;
 pub use moment::Moment;
 pub use node_class::NodeClass;
 pub use node_id::{ExpandedNodeId, Identifier, NodeId};
+pub use number_range::NumberRange;
 pub use numbered::Numbered;
 pub use parsing::{behind, decimal_up_to};
 pub use qualified_name::QualifiedName;

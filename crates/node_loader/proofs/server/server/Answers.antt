@@ -54,4 +54,4 @@ returns-in_err-durations-clause-given c =
 
 pub returns-clause-given : goal.returns-clause-given
 unfolding server_of
-returns-clause-given c = rw (← c.in_ok-known.ensures, c.in_ok-names.ensures.given, ← c.in_ok-start.ensures.given, ← c.in_ok-sizes.ensures.given, ← c.in_ok-tables.ensures.given, ← c.in_ok-messages.ensures.given, ← c.in_ok-pages.ensures.given, ← c.in_ok-times.ensures.given, ← c.in_ok-durations.ensures, to_z_pos w64 c.in_ok-start.start (omega (arith, c.in_ok-start.ensures.range))) refl
+returns-clause-given c = rw (← c.in_ok-known.ensures, c.in_ok-names.ensures.given, ← c.in_ok-start.ensures.given, ← c.in_ok-sizes.ensures.given, ← c.in_ok-tables.ensures.given, ← c.in_ok-messages.ensures.given, ← c.in_ok-pages.ensures.given, ← c.in_ok-times.ensures.given, ← c.in_ok-durations.ensures, to_z_pos w64 c.in_ok-start.start (let range = c.in_ok-start.ensures.range (omega arith, omega arith) in omega (arith, range))) refl
