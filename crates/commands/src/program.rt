@@ -232,7 +232,7 @@ fn check_at<R: Files + AllocGlobal, O: Write, E: Write>(
 fn opened_server(alloc: Global, config: Config, space: Space) -> Result<Server, StepFault>
     ensures { IfOk result (λ server. world_of server ≡ opened (config, space)) }
 {
-    let mut server = Server::new(alloc, config, space);
+    let mut server = Server::new(alloc, config, space)?;
     let opening = Event::Opened {
         conn: CONNECTION,
         key: [0; 32],
@@ -496,8 +496,10 @@ pub fn serve<R: Net + RandomSource + Clock + Wait, O: Write, E: Write>(
     ensures { ServesBy (place O.contents output.old) (place O.contents output.new) listening (config, space) result }
 {
     tell_served(&config, &space, listening.port, errors);
-    let mut server = Server::new(alloc, config, space);
-    serve_on(rt, alloc, &mut server, listening, output, errors)
+    match Server::new(alloc, config, space) {
+        Ok(mut server) => serve_on(rt, alloc, &mut server, listening, output, errors),
+        Err(_) => no_memory(errors),
+    }
 }
 
 // `serve` of what was made.

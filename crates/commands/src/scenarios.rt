@@ -113,7 +113,9 @@ fn run<O: Write, E: Write>(
 {
     match events_in(alloc, text, errors) {
         Ok(events) => {
-            let mut server = Server::new(alloc, config, space);
+            let Ok(mut server) = Server::new(alloc, config, space) else {
+                return no_memory(errors);
+            };
             let ran = print_run(alloc, lines, &mut server, events.as_slice(), output);
             told(ran, errors)
         }

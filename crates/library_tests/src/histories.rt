@@ -1,10 +1,12 @@
-//! Histories, where no Write and no HistoryRead of a client leads: a value without a time of the source, and all times.
+//! Histories, where no Write, no HistoryRead and no node file leads: a value without a time of the source, all times, and more
+//! values from before the server began than are kept.
 
 use crate::holding::holds;
 use std::alloc::{AllocError, Global};
 use std::test::*;
 use ua_history::{History, Interval, Kept};
-use ua_types::{Config, Moment, NodeId, Status};
+use ua_space::{Node, NodeDetails, Space, ValueRank, Variable};
+use ua_types::{Config, Listed, LocalizedText, Moment, NodeId, QualifiedName, Status, Text};
 use ua_values::{Content, DataValue, Variant};
 
 fn counted(number: u16, source_time: Option<Moment>) -> DataValue {
@@ -70,5 +72,66 @@ fn three_values_are_kept(rt: HostRuntime) -> Result<(), Fail> {
     let all = Interval::new(Moment(0), Moment(0));
     let cut = history.read(alloc, &node, all, 9)?;
     holds(&rt, "all times", digits(cut.values.as_slice()) == 284);
+    Ok(())
+}
+
+fn no_words() -> LocalizedText {
+    LocalizedText {
+        locale: Text::null(),
+        text: Text::null(),
+    }
+}
+
+// A counter whose history is kept, which had the values 1, 2 and 3 at 100 to 300 before.
+#[tactic(auto, unfolding(ua_space::specs::Variables::has_rank))]
+fn counter(alloc: Global) -> Result<Node, AllocError> {
+    let mut history = Listed::new(alloc);
+    for (number, time) in [(1, 100), (2, 200), (3, 300)] {
+        history.push(counted(number, Some(Moment(time))))?;
+    }
+    Ok(Node {
+        id: NodeId::numeric(1, 11),
+        browse_name: QualifiedName {
+            namespace: 1,
+            name: Text::null(),
+        },
+        display_name: no_words(),
+        description: no_words(),
+        details: NodeDetails::Variable(Variable {
+            data_type: 5,
+            value_rank: ValueRank::Scalar,
+            value: DataValue {
+                value: Some(Variant::UInt16(Content::Scalar(0))),
+                status: Status::GOOD,
+                source_time: None,
+                server_time: Some(Moment(0)),
+            },
+            access: 5,
+            historizing: true,
+        }),
+        history,
+    })
+}
+
+#[test]
+fn the_last_values_of_before_are_kept(rt: HostRuntime) -> Result<(), Fail> {
+    let alloc = rt.alloc();
+    let node = NodeId::numeric(1, 11);
+    let mut config = Config::standard(alloc)?;
+    config.history = 2;
+    let nodes = vec![in alloc; counter(alloc)?]?;
+    let Ok(mut space) = Space::build(alloc, &config, nodes, Vec::new(alloc)) else {
+        return Err(Fail::new("not built"));
+    };
+    let history = History::beginning(alloc, &config, &mut space)?;
+    holds(&rt, "two", history.len(&node) == 2);
+    for (time, number) in [(100, 0), (200, 2), (300, 3)] {
+        let found = history.value_at(&node, Moment(time));
+        holds(&rt, "the last", number_of(found) == number);
+    }
+    let left = space
+        .node(&node)
+        .map(|found| found.history.as_slice().len());
+    holds(&rt, "moved out", left == Some(0));
     Ok(())
 }

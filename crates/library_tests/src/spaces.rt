@@ -8,7 +8,7 @@ use ua_messages::ReadValueId;
 use ua_read_write::{Timestamps, read};
 use ua_service_views::ReadValueIdView;
 use ua_space::*;
-use ua_types::{Config, LocalizedText, Moment, NodeId, QualifiedName, Text};
+use ua_types::{Config, Listed, LocalizedText, Moment, NodeId, QualifiedName, Text};
 use ua_views::View as _;
 
 fn no_words() -> LocalizedText {
@@ -26,20 +26,22 @@ fn no_name() -> QualifiedName {
 }
 
 // A node of namespace 1 without names.
-fn node(number: u32, details: NodeDetails) -> Node {
+fn node(alloc: Global, number: u32, details: NodeDetails) -> Node {
     Node {
         id: NodeId::numeric(1, number),
         browse_name: no_name(),
         display_name: no_words(),
         description: no_words(),
         details,
+        history: Listed::new(alloc),
     }
 }
 
-fn objects(alloc: Global, count: u32) -> Result<Vec<Node>, AllocError> {
+// So many objects with the same id.
+fn alike(alloc: Global, count: u32) -> Result<Vec<Node>, AllocError> {
     let mut nodes = Vec::new(alloc);
-    for number in 0..count {
-        nodes.push(node(number, NodeDetails::Object))?;
+    for _ in 0..count {
+        nodes.push(node(alloc, 0, NodeDetails::Object))?;
     }
     Ok(nodes)
 }
@@ -71,25 +73,26 @@ fn fault(
     }
 }
 
-// 100,000 nodes with the 22 that every server has.
+// 1,000,000 nodes with the 22 that every server has.
 #[test]
 fn most_nodes(rt: HostRuntime) -> Result<(), Fail> {
     let alloc = rt.alloc();
-    let most = fault(alloc, objects(alloc, 99_978)?, Vec::new(alloc))?;
-    holds(&rt, "100,000 nodes", most.is_none());
-    let more = fault(alloc, objects(alloc, 99_979)?, Vec::new(alloc))?;
+    let most = fault(alloc, alike(alloc, 999_978)?, Vec::new(alloc))?;
+    let is_judged = matches!(most, Some(SpaceFault::Duplicate(Part::Node(2))));
+    holds(&rt, "1,000,000 nodes", is_judged);
+    let more = fault(alloc, alike(alloc, 999_979)?, Vec::new(alloc))?;
     holds(&rt, "one more", matches!(more, Some(SpaceFault::Limit)));
     Ok(())
 }
 
-// 400,000 references with the 29 that every server has.
+// 4,000,000 references with the 29 that every server has.
 #[test]
 fn most_references(rt: HostRuntime) -> Result<(), Fail> {
     let alloc = rt.alloc();
-    let most = fault(alloc, Vec::new(alloc), again(alloc, 399_971)?)?;
+    let most = fault(alloc, Vec::new(alloc), again(alloc, 3_999_971)?)?;
     let is_judged = matches!(most, Some(SpaceFault::Duplicate(Part::Reference(0))));
-    holds(&rt, "400,000 references", is_judged);
-    let more = fault(alloc, Vec::new(alloc), again(alloc, 399_972)?)?;
+    holds(&rt, "4,000,000 references", is_judged);
+    let more = fault(alloc, Vec::new(alloc), again(alloc, 3_999_972)?)?;
     holds(&rt, "one more", matches!(more, Some(SpaceFault::Limit)));
     Ok(())
 }
@@ -106,6 +109,7 @@ fn texts_of_faults(rt: HostRuntime) -> Result<(), Fail> {
         (SpaceFault::Duplicate(Part::Server), "Duplicate server 0"),
         (SpaceFault::Limit, "Limit file 0"),
         (SpaceFault::Memory, "Memory"),
+        (SpaceFault::History(Part::Node(3)), "History node 3"),
     ] {
         holds(&rt, text, is_shown(alloc, fault, text)?);
     }
@@ -158,7 +162,7 @@ fn list_space(alloc: Global) -> Result<Option<Space>, AllocError> {
         value_rank: ValueRank::List,
         is_abstract: false,
     };
-    let nodes = vec![in alloc; node(21, details)]?;
+    let nodes = vec![in alloc; node(alloc, 21, details)]?;
     let config = Config::standard(alloc)?;
     Ok(Space::build(alloc, &config, nodes, Vec::new(alloc)).ok())
 }

@@ -7,7 +7,7 @@
 //! numbers: bytes, moments and keys come in as values. A loop that drives it:
 //!
 //! ```text
-//! let mut server = Server::new(alloc, config, space);
+//! let mut server = Server::new(alloc, config, space)?;
 //! while let Some(event) = sockets.next_event() {
 //!     let step = server.step(alloc, &event)?;
 //!     for out in step.outs.as_slice() {

@@ -31,13 +31,14 @@ pub struct Server {
 
 impl Server {
     /// A server of this configuration and address space, whose clock shows the configured start. It
-    /// knows no connection. Takes no memory.
-    pub fn new(alloc: Global, config: Config, space: Space) -> Server
-        ensures { world_of result ≡ Some (opening config space) }
+    /// knows no connection. Its histories begin with the values that the nodes had before, of each the last ones that the
+    /// configuration lets be kept; where there are none, it takes no memory.
+    pub fn new(alloc: Global, config: Config, space: Space) -> Result<Server, AllocError>
+        ensures { IfOk result (λ server. world_of server ≡ Some (opening config space)) }
     {
         let clock = config.start;
-        let services = Services::new(alloc, &config, space);
-        Server {
+        let services = Services::new(alloc, &config, space)?;
+        Ok(Server {
             world: Some(World {
                 framers: Numbered::new(alloc),
                 core: Core {
@@ -47,7 +48,7 @@ impl Server {
                     is_shut: false,
                 },
             }),
-        }
+        })
     }
 
     /// Takes an event, and says what is to be done about it. `specs/Stepping` defines both the answer

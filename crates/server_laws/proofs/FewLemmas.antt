@@ -17,7 +17,7 @@ use Rattle.ua_types.specs.declared.node_id.NodeId.{NodeId}
 use Rattle.ua_types.specs.declared.status.TheConstants.Status as status
 use Rattle.ua_values.specs.declared.data_value.DataValue.{DataValue}
 use Rattle.ua_read_write.specs.declared.writing.Change.{Change}
-use Rattle.ua_history.specs.Histories.{HistoryState, Values, kept_in, with_one, kept_at, kept}
+use Rattle.ua_history.specs.Histories.{HistoryState, Values, no_histories, kept_in, with_one, kept_at, kept, with_all, with_node}
 use Rattle.ua_history.proofs.Keeping.{keeps_within_bounds}
 use Rattle.ua_session.specs.Points.{PointsState, no_points}
 use Rattle.ua_session.specs.Sessions as sessions
@@ -229,6 +229,14 @@ module _ (config : Configuration) where
   all_kept_few nodes [] h f = f
   all_kept_few nodes (change ∷ changes) h f = all_kept_few nodes changes (with_change nodes h change) (change_few (is_historizing (variable_at change.node_id nodes)) h change f)
 
+  all_values_few : (id : NodeId) (values : List DataValue) (h : HistoryState) → HistoriesFew h → HistoriesFew (with_all h id values)
+  all_values_few id [] h f = f
+  all_values_few id (value ∷ values) h f = all_values_few id values (kept h id value) (kept_few h id value value.source_time f)
+
+  begun_few : (nodes : Nodes) (h : HistoryState) → HistoriesFew h → HistoriesFew (fold with_node h nodes)
+  begun_few [] h f = f
+  begun_few (e ∷ nodes) h f = begun_few nodes (with_node h e) (all_values_few e.1.id e.1.history h f)
+
   -- ---- whatever happens
 
   kept_within : (clock : Moment) → AreKept (SessionsFew clock) HistoriesFew
@@ -264,7 +272,7 @@ module _ (config : Configuration) where
     Runs world = Holds config SessionsFew HistoriesFew kept_within tick_few world.core
 
     runs : IfRuns Runs (reached config space events).server
-    runs = all_hold config SessionsFew HistoriesFew kept_within tick_few space events (record { config_is = refl; sessions = start_few; history = record { most = refl; each = tt } })
+    runs = all_hold config SessionsFew HistoriesFew kept_within tick_few space events (record { config_is = refl; sessions = start_few; history = begun_few space.nodes (no_histories config) (record { most = refl; each = tt }) })
 
     pub sessions_few : IfRuns (SessionsAreFew config) (reached config space events).server
     sessions_few = if_runs Runs (SessionsAreFew config) (λ world h. h.sessions.few) (reached config space events).server runs

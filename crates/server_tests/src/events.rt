@@ -12,7 +12,7 @@ use ua_types::{Config, Moment};
 pub(crate) fn base_server(alloc: Global) -> Result<Server, Fail> {
     let config = Config::standard(alloc)?;
     let space = Space::build(alloc, &config, Vec::new(alloc), Vec::new(alloc))?;
-    Ok(Server::new(alloc, config, space))
+    Ok(Server::new(alloc, config, space)?)
 }
 
 /// The event that a connection opens.

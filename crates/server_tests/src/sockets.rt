@@ -167,7 +167,7 @@ fn labelled_server(alloc: Global) -> Result<Server, Fail> {
     let Ok(space) = Space::build(alloc, &config, nodes.into_vec(), triples.into_vec()) else {
         return Err(Fail::new("not built"));
     };
-    Ok(Server::new(alloc, config, space))
+    Ok(Server::new(alloc, config, space)?)
 }
 
 // Tells the server what happens before its sockets connect. What their clients say goes into these.

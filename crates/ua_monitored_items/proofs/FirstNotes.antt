@@ -1,5 +1,5 @@
 -- What a message takes is the first of all that there is to tell.
-use Rattle.std.proofs.Common.{◌≡◌, ℕ, zero, suc, ◌-◌, ◌≤◌, arith, Bool, true, false, cond, leb, List, [], ◌∷◌, ◌++◌, length, take, Option, Some, None, refl, sym, ap, ◌∙◌, append_assoc, append-nil}
+use Rattle.std.proofs.Common.{◌≡◌, ℕ, zero, suc, ◌-◌, ◌≤◌, arith, Bool, true, false, cond, leb, List, [], ◌∷◌, ◌++◌, length, length-append, take, Option, Some, None, ◌⊎◌, inl, inr, refl, sym, ap, ◌∙◌, append_assoc, append-nil}
 use Rattle.std.proofs.lemmas.Bool.{leb-true, leb-false}
 use Rattle.std.proofs.lemmas.List.{length-map, take_all}
 use Rattle.std.specs.Prelude.{⊤, fold}
@@ -88,6 +88,22 @@ tells_more items front left number numbers rest is =
     append_assoc front (take left (told_at (item_at number items))) (take (left - length (told_at (item_at number items))) (told_by items numbers))
     ∙ ap (λ (ns : Notes). front ++ ns) (sym (take_split left (told_at (item_at number items)) (told_by items numbers)))
     ∙ ap (λ (ks : List ℕ). front ++ take left (told_by items ks)) (sym is)
+
+-- how many are left once the first of them told, and then the others
+pub left_more : (items : NumberedItems) (left : ℕ) (number : ℕ) (numbers rest : List ℕ) → rest ≡ number ∷ numbers
+    → (left - length (told_at (item_at number items))) - length (told_by items numbers) ≡ left - length (told_by items rest)
+left_more items left number numbers rest is =
+    let both = length-append (told_at (item_at number items)) (told_by items numbers) in
+    let all = ap (λ (ks : List ℕ). length (told_by items ks)) is in
+    omega (arith, both, all)
+
+-- so many were counted of so many, once none is left to be counted
+pub counted : (most left total rest : ℕ) → left - rest ≡ most - total → left ≤ most → (left ≡ 0) ⊎ (rest ≡ 0) → most - left ≡ nat_least most total
+counted most left total rest is few done = by (leb most total) refl
+  where
+    by : (b : Bool) → leb most total ≡ b → most - left ≡ cond b most total
+    by true e = let fits = leb-true most total e in elim done [ inl none ↦ omega (arith, none) | inr none ↦ omega (arith, is, few, none, fits) ]
+    by false e = let over = leb-false most total e in elim done [ inl none ↦ omega (arith, is, none, over) | inr none ↦ omega (arith, is, few, none, over) ]
 
 -- nothing is wanted any more, or nobody is left
 pub tells_end : (items : NumberedItems) (front all : Notes) (left : ℕ) (rest : List ℕ) → front ++ take left (told_by items rest) ≡ all → take left (told_by items rest) ≡ [] → front ≡ all

@@ -2,7 +2,7 @@
 
 ghost use Rattle.std.specs.Prelude.{◌≡◌, ◌++◌, ◌-◌, length, take, OnOk, IfOk};
 ghost use Rattle.ua_monitored_items.specs.ItemTables.{item_at};
-ghost use Rattle.ua_monitored_items.specs.Items.{taken_of};
+ghost use Rattle.ua_monitored_items.specs.Items.{nat_least, taken_of};
 ghost use Rattle.ua_monitored_items.specs.Taking.{told_at, told_by};
 
 use crate::numbered::Numbered;
@@ -10,18 +10,29 @@ use std::alloc::{AllocError, Global};
 use std::collections::BTreeSet;
 use ua_subscription_messages::BorrowedNotification;
 
+// How many of so many values are left once the item with this number has told what it has to tell.
+#[tactic(auto, using(crate::proofs::FirstNotes::told_rest))]
+fn left_after(items: &Numbered, number: u32, left: usize) -> usize
+    ensures { result ≡ left - length (told_at (item_at number items.now)) }
+{
+    match items.get(number) {
+        None => left,
+        Some(item) => left - left.min(item.waiting()),
+    }
+}
+
 // How many values the items with these numbers have to tell, at most so many.
-fn count_of(items: &Numbered, numbers: &BTreeSet<u32>, most: usize) -> usize {
-    let mut count = 0usize;
+fn count_of(items: &Numbered, numbers: &BTreeSet<u32>, most: usize) -> usize
+    ensures { result ≡ nat_least most (length (told_by items.now numbers.now.keys)) }
+{
+    let mut left = most;
     for number in numbers {
-        if count >= most {
+        if left == 0 {
             break;
         }
-        if let Some(item) = items.get(*number) {
-            count = count.saturating_add(item.waiting());
-        }
+        left = left_after(items, *number, left);
     }
-    count.min(most)
+    most - left
 }
 
 // Tells of the values of the item with this number, at most so many, behind what is there. Answers how many more are wanted.

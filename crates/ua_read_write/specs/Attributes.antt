@@ -1,9 +1,10 @@
 -- The attributes of nodes: which class has which, and what each is (IEC 62541-3, 5.2 to 5.8).
-use Rattle.std.specs.Prelude.{ℕ, ℤ, pos, negsuc, Bool, Option, Some, None}
+use Rattle.std.specs.Prelude.{ℕ, ℤ, pos, negsuc, Bool, Option, Some, None, option_map}
 use Rattle.ua_types.specs.NodeIds.{numeric_id}
 use Rattle.ua_values.specs.declared.content.Content.TheVariants.{Scalar}
 use Rattle.ua_values.specs.declared.variant.Variant.{Variant}
 use Rattle.ua_values.specs.declared.variant.Variant.TheVariants as variants
+use Rattle.ua_values.specs.Parts.{part_of}
 use Rattle.ua_space.specs.NodeClasses.{class_of}
 use Rattle.ua_space.specs.Variables.{VariableAttributes}
 use Rattle.ua_space.specs.declared.node.Node.{Node}
@@ -17,6 +18,7 @@ use Rattle.ua_read_write.specs.declared.attributes.AttributeId.{AttributeId}
 use Rattle.ua_read_write.specs.declared.attributes.AttributeId.TheVariants as ids
 use Rattle.ua_read_write.specs.declared.attributes.Attribute.{Attribute}
 use Rattle.ua_read_write.specs.declared.attributes.Attribute.TheVariants as attributes
+use Rattle.ua_read_write.specs.declared.index_range.IndexRange.{IndexRange}
 
 -- an attribute of a node: the value of a variable, which has a status and times, or one that is a value and nothing else
 pub data Attributed : Type 0 where
@@ -98,11 +100,16 @@ attribute_by node (Some id) = attribute_of node id
 abbrev pub attribute_at : Node → ℕ → Option Attributed
 attribute_at node number = attribute_by node (attribute_numbered number)
 
+-- a variable whose value is a part of a list
+abbrev pub with_part_alone : IndexRange → VariableAttributes → VariableAttributes
+with_part_alone range v = record v { value = record v.value { value = option_map (part_of range.first range.count) v.value.value } }
+
 -- ---- words of the contracts
 
 -- an attribute of the code, where it stands
 abbrev pub seen : Attribute → Attributed
 seen (attributes.Value v) = ValueOf v.now
+seen (attributes.Part v range) = ValueOf (with_part_alone range v.now)
 seen (attributes.Id id) = Plain (variants.NodeId (Scalar id.now))
 seen (attributes.Name name) = Plain (variants.QualifiedName (Scalar name.now))
 seen (attributes.Words words) = Plain (variants.LocalizedText (Scalar words.now))
@@ -112,4 +119,7 @@ seen (attributes.Byte number) = byte number
 seen (attributes.Int32 number) = int32 number
 seen (attributes.UInt32 number) = uint32 number
 
--- ---- what both services ask for
+-- an attribute that isn't a part of one
+abbrev pub IsWhole : Attribute → Type 0
+IsWhole (attributes.Part v range) = ⊥
+IsWhole other = Unit {0}

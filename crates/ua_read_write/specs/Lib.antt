@@ -1,7 +1,9 @@
 pub mod Timestamps
 pub mod AttributeIds
+pub mod IndexRanges
 pub mod Attributes
 pub mod Reading
 pub mod Answers
 pub mod Writing
+pub mod Judging
 pub mod WritingLaws

@@ -6,14 +6,16 @@ ghost use Rattle.ua_binary.specs.Parts.{flag};
 ghost use Rattle.ua_binary.specs.Reading.{Extends, IsReadAgain};
 ghost use Rattle.ua_binary.specs.Scalars.{moment_reading, moment_encoding};
 ghost use Rattle.ua_read_write.specs.Answers.{scalar_encoding};
-ghost use Rattle.ua_read_write.specs.Attributes.{seen};
+ghost use Rattle.ua_read_write.specs.Attributes.{seen, with_part_alone};
 ghost use Rattle.ua_read_write.specs.Reading.{dated as dated_spec, refused as refused_spec, source_time_of, server_time_of};
 
 use crate::attributes::Attribute;
+use crate::copied_parts::copied_part;
+use crate::index_range::IndexRange;
 use crate::timestamps::Timestamps;
 use std::alloc::{AllocError, Global};
 use std::marker::Model;
-use ua_binary::{BorrowedDataValue, Wire, Written};
+use ua_binary::{BorrowedDataValue, BorrowedVariant, Wire, Written};
 use ua_space::Variable;
 use ua_types::{Boxed, Copyable, Moment, NodeId, Status};
 use ua_values::{Content, DataValue, Variant};
@@ -105,6 +107,25 @@ fn write_scalar<T: Wire>(
     Ok(())
 }
 
+// These elements of a variable's list, with the value's status and with these times.
+fn part_of_value<'a>(
+    variable: &'a Variable,
+    range: IndexRange,
+    source_time: Option<Moment>,
+    server_time: Option<Moment>,
+) -> BorrowedDataValue<'a>
+    ensures { result ≡ record { value = (with_part_alone range variable.entry.now).value.value; status = variable.entry.now.value.status; source_time = source_time; server_time = server_time } }
+{
+    let status = variable.value.status;
+    match &variable.value.value {
+        None => BorrowedDataValue::new(None, status, source_time, server_time),
+        Some(value) => {
+            let part = BorrowedVariant::part(value, range.first as usize, range.count as usize);
+            BorrowedDataValue::of(part, status, source_time, server_time)
+        }
+    }
+}
+
 #[tactic(auto, using(crate::proofs::Plain::plain_answers))]
 fn write_attribute(
     attribute: Attribute<'_>,
@@ -122,6 +143,13 @@ fn write_attribute(
         Attribute::Value(variable) => BorrowedDataValue::new(
             variable.value.value.as_ref(),
             variable.value.status,
+            source_time(variable, timestamps),
+            server_time,
+        )
+        .write(out),
+        Attribute::Part(variable, range) => part_of_value(
+            variable,
+            range,
             source_time(variable, timestamps),
             server_time,
         )
@@ -180,6 +208,18 @@ pub(crate) fn copied(
             value.source_time = source_time(variable, timestamps);
             value.server_time = server_time;
             return Ok(value);
+        }
+        Attribute::Part(variable, range) => {
+            let value = match &variable.value.value {
+                None => None,
+                Some(value) => Some(copied_part(alloc, value, range)?),
+            };
+            return Ok(DataValue {
+                value,
+                status: variable.value.status,
+                source_time: source_time(variable, timestamps),
+                server_time,
+            });
         }
         Attribute::Id(id) => Variant::NodeId(Content::Scalar(id.copy(alloc)?)),
         Attribute::Name(name) => Variant::QualifiedName(Content::Scalar(name.copy(alloc)?)),

@@ -1,9 +1,10 @@
 //! The attributes of nodes: their numbers, and what each is.
 
-ghost use Rattle.std.specs.Prelude.{◌≡◌, option_map};
+ghost use Rattle.std.specs.Prelude.{◌≡◌, option_map, IfSome};
 ghost use Rattle.ua_read_write.specs.AttributeIds.{attribute_numbered};
-ghost use Rattle.ua_read_write.specs.Attributes.{seen, own_attribute, variable_attribute, attribute_of, attribute_at, rank_number};
+ghost use Rattle.ua_read_write.specs.Attributes.{seen, own_attribute, variable_attribute, attribute_of, attribute_at, rank_number, IsWhole};
 
+use crate::index_range::IndexRange;
 use ua_space::{Node, NodeDetails, ValueRank, Variable};
 use ua_types::{LocalizedText, NodeId, QualifiedName, Text};
 
@@ -65,6 +66,8 @@ impl AttributeId {
 pub(crate) enum Attribute<'a> {
     /// The value of this variable.
     Value(&'a Variable),
+    /// The value of this variable, and of its list these elements alone.
+    Part(&'a Variable, IndexRange),
     Id(&'a NodeId),
     Name(&'a QualifiedName),
     Words(&'a LocalizedText),
@@ -86,7 +89,8 @@ fn rank_number(rank: ValueRank) -> i32
 }
 
 fn variable_attribute(variable: &Variable, id: AttributeId) -> Option<Attribute<'_>>
-    ensures { option_map seen result ≡ variable_attribute variable.now id }
+    ensures attribute { option_map seen result ≡ variable_attribute variable.now id }
+    ensures whole { IfSome result IsWhole }
 {
     match id {
         AttributeId::Value => Some(Attribute::Value(variable)),
@@ -102,7 +106,8 @@ fn variable_attribute(variable: &Variable, id: AttributeId) -> Option<Attribute<
 
 // An attribute that not all classes have.
 fn own_attribute(details: &NodeDetails, id: AttributeId) -> Option<Attribute<'_>>
-    ensures { option_map seen result ≡ own_attribute details.now id }
+    ensures attribute { option_map seen result ≡ own_attribute details.now id }
+    ensures whole { IfSome result IsWhole }
 {
     match details {
         NodeDetails::Object => match id {
@@ -141,7 +146,8 @@ fn own_attribute(details: &NodeDetails, id: AttributeId) -> Option<Attribute<'_>
 
 // An attribute of a node, where its class has it.
 fn attribute_of(node: &Node, id: AttributeId) -> Option<Attribute<'_>>
-    ensures { option_map seen result ≡ attribute_of node.now id }
+    ensures attribute { option_map seen result ≡ attribute_of node.now id }
+    ensures whole { IfSome result IsWhole }
 {
     match id {
         AttributeId::NodeId => Some(Attribute::Id(&node.id)),
@@ -156,7 +162,8 @@ fn attribute_of(node: &Node, id: AttributeId) -> Option<Attribute<'_>>
 
 /// The attribute with this number, where the node's class has it.
 pub(crate) fn attribute_at(node: &Node, number: u32) -> Option<Attribute<'_>>
-    ensures { option_map seen result ≡ attribute_at node.now number }
+    ensures attribute { option_map seen result ≡ attribute_at node.now number }
+    ensures whole { IfSome result IsWhole }
 {
     attribute_of(node, AttributeId::numbered(number)?)
 }

@@ -1,21 +1,21 @@
 //! The service Read.
 
 ghost use Rattle.std.specs.Option.{option_copied};
-ghost use Rattle.std.specs.Prelude.{◌≡◌, ◌++◌, ℕ, List, Option, Some, None, IfErr, IfOk, IsOk, OnOk};
+ghost use Rattle.std.specs.Prelude.{◌≡◌, ◌++◌, Some, None, option_map, IfErr, IfOk, IsOk, OnOk};
 ghost use Rattle.std.specs.Result.{result_map_both};
 ghost use Rattle.ua_binary.specs.Arrays.{array_encoding};
 ghost use Rattle.ua_binary.specs.DataValues.{data_value_encoding};
 ghost use Rattle.ua_messages.specs.Bodies.{body_encoding};
 ghost use Rattle.ua_messages.specs.declared.type_ids.TheConstants.{READ_RESPONSE};
 ghost use Rattle.ua_messages.specs.ResultLists.{results_encoding, results_of};
-ghost use Rattle.ua_read_write.specs.Attributes.{seen};
-ghost use Rattle.ua_read_write.specs.Reading.{is_readable, readable, readable_of, refusal_in, attribute_read, read_of, all_read};
+ghost use Rattle.ua_read_write.specs.Attributes.{seen, IsWhole};
+ghost use Rattle.ua_read_write.specs.Reading.{is_readable, readable, refusal_in, attribute_read, ranged, told_of, read_of, all_read};
 ghost use Rattle.ua_read_write.specs.declared.timestamps.Timestamps.TheVariants as timestamp_choices;
-ghost use Rattle.ua_types.specs.Given.{is_given};
 ghost use Rattle.ua_views.specs.Views.{or_none};
 
 use crate::answer::{Answer, copied, refused};
 use crate::attributes::{Attribute, attribute_at};
+use crate::index_range::{IndexRange, asked_range};
 use crate::timestamps::Timestamps;
 use std::alloc::{AllocError, Global};
 use ua_messages::{DiagnosticInfos, MessageBody, ReadValueId, ResponseHeader, type_ids};
@@ -30,31 +30,12 @@ fn is_readable(attribute: Attribute<'_>) -> bool
     ensures { result ≡ is_readable (seen attribute.entry) }
 {
     match attribute {
-        Attribute::Value(variable) => variable.access % 2 == 1,
+        Attribute::Value(variable) | Attribute::Part(variable, _) => variable.access % 2 == 1,
         _ => true,
     }
 }
 
-// An attribute of the node that was looked up, or why it can't be read, where an index range is given or isn't.
-fn readable_in(node: Option<&Node>, number: u32, is_ranged: bool) -> Result<Attribute<'_>, Status>
-    ensures { (index_range : Option (List ℕ)) → is_given index_range ≡ is_ranged → result_map_both seen (λ code. code) result ≡ readable_of number index_range (option_copied node.entry) }
-{
-    let Some(node) = node else {
-        return Err(Status::BAD_NODE_ID_UNKNOWN);
-    };
-    let Some(attribute) = attribute_at(node, number) else {
-        return Err(Status::BAD_ATTRIBUTE_ID_INVALID);
-    };
-    if is_ranged {
-        return Err(Status::BAD_INDEX_RANGE_INVALID);
-    }
-    if !is_readable(attribute) {
-        return Err(Status::BAD_NOT_READABLE);
-    }
-    Ok(attribute)
-}
-
-// An attribute of a node, or why it can't be read.
+// A whole attribute of a node, or why it can't be read, where no index range is served.
 #[tactic(auto, unfolding(crate::specs::Reading::readable))]
 fn readable<'a>(
     space: &'a Space,
@@ -64,16 +45,72 @@ fn readable<'a>(
 ) -> Result<Attribute<'a>, Status>
     ensures { result_map_both seen (λ code. code) result ≡ readable space.now.nodes id.now number index_range.now }
 {
-    readable_in(space.node(id), number, index_range.is_given())
+    let Some(node) = space.node(id) else {
+        return Err(Status::BAD_NODE_ID_UNKNOWN);
+    };
+    let Some(attribute) = attribute_at(node, number) else {
+        return Err(Status::BAD_ATTRIBUTE_ID_INVALID);
+    };
+    if index_range.is_given() {
+        return Err(Status::BAD_INDEX_RANGE_INVALID);
+    }
+    if !is_readable(attribute) {
+        return Err(Status::BAD_NOT_READABLE);
+    }
+    Ok(attribute)
+}
+
+// These elements of an attribute, where it is a list that has the first of them.
+fn part(attribute: Attribute<'_>, range: IndexRange) -> Result<Attribute<'_>, Status>
+    ensures { IsWhole attribute.entry → result_map_both seen (λ code. code) result ≡ ranged (Some range) (seen attribute.entry) }
+{
+    let Attribute::Value(variable) = attribute else {
+        return Err(Status::BAD_INDEX_RANGE_NO_DATA);
+    };
+    let Some(value) = &variable.value.value else {
+        return Err(Status::BAD_INDEX_RANGE_NO_DATA);
+    };
+    let Some(len) = value.list_len() else {
+        return Err(Status::BAD_INDEX_RANGE_NO_DATA);
+    };
+    if range.first as usize >= len {
+        return Err(Status::BAD_INDEX_RANGE_NO_DATA);
+    }
+    Ok(Attribute::Part(variable, range))
+}
+
+// An attribute of the node that was looked up, or the part of it that is asked for, or why it isn't told.
+fn told<'a>(
+    node: Option<&'a Node>,
+    number: u32,
+    index_range: Option<&str>,
+) -> Result<Attribute<'a>, Status>
+    ensures { result_map_both seen (λ code. code) result ≡ told_of number (option_map (λ t. t.now) index_range.entry) (option_copied node.entry) }
+{
+    let Some(node) = node else {
+        return Err(Status::BAD_NODE_ID_UNKNOWN);
+    };
+    let Some(attribute) = attribute_at(node, number) else {
+        return Err(Status::BAD_ATTRIBUTE_ID_INVALID);
+    };
+    let range = asked_range(index_range)?;
+    if !is_readable(attribute) {
+        return Err(Status::BAD_NOT_READABLE);
+    }
+    match range {
+        None => Ok(attribute),
+        Some(range) => part(attribute, range),
+    }
 }
 
 /// What the service Read answers to one of its requests at this clock (IEC 62541-4, "Read"). Takes no
 /// memory.
 ///
 /// It refuses in this order: no node has the id, `BAD_NODE_ID_UNKNOWN`; the node's class doesn't have the
-/// attribute, `BAD_ATTRIBUTE_ID_INVALID`; an index range is given, `BAD_INDEX_RANGE_INVALID`; it is the
-/// value, and AccessLevel doesn't let it be read, `BAD_NOT_READABLE`.
-#[tactic(auto, unfolding(crate::specs::Reading::readable))]
+/// attribute, `BAD_ATTRIBUTE_ID_INVALID`; an index range is given that can't be read, `BAD_INDEX_RANGE_INVALID`; it is the
+/// value, and AccessLevel doesn't let it be read, `BAD_NOT_READABLE`; an index range is given, and it isn't the value, the
+/// value isn't a list, or the list ends before the range begins, `BAD_INDEX_RANGE_NO_DATA`.
+#[tactic(auto, unfolding(crate::specs::Reading::told))]
 pub fn read<'a>(
     space: &'a Space,
     clock: Moment,
@@ -83,12 +120,14 @@ pub fn read<'a>(
     ensures { result ≡ read_of space.now.nodes clock timestamps request.now }
 {
     let node = space.find(&request.node_id);
-    let is_ranged = request.index_range.is_given();
-    let attribute = readable_in(node, request.attribute_id, is_ranged);
+    let attribute = told(node, request.attribute_id, request.index_range.as_str());
     Answer::new(attribute, clock, timestamps)
 }
 
-/// Why [`read`] refuses one of its requests, if it does. Takes no memory.
+/// Why [`sample`] refuses what a request names, or that it gives an index range, if it does: items watch whole attributes.
+/// Takes no memory.
+///
+/// It refuses as [`read`] does, but that each index range that is given is `BAD_INDEX_RANGE_INVALID`.
 pub fn refusal(space: &Space, request: &ReadValueId) -> Option<Status>
     ensures { result ≡ refusal_in (readable space.now.nodes request.now.node_id request.now.attribute_id request.now.index_range) }
 {

@@ -1,20 +1,19 @@
 //! The service Write.
 
-ghost use Rattle.std.specs.Prelude.{◌≡◌, ◌⊎◌, ◌++◌, true, length, Ok, Err, IfErr, IfOk, IsOk, OnOk, OnErr};
-ghost use Rattle.ua_read_write.specs.Writing.{stored_of, is_writable, judged, accepted_of, status_of, nodes_after, changes_of, write_of, WroteSome};
+ghost use Rattle.std.specs.Prelude.{◌≡◌, ◌⊎◌, ◌++◌, true, length, Some, Ok, Err, IfErr, IfOk, IsOk, OnOk, OnErr};
+ghost use Rattle.ua_read_write.specs.Writing.{stored_of, judged, accepted_of, status_of, nodes_after, changes_of, write_of, WroteSome};
 ghost use Rattle.ua_space.specs.Values.{takes_at};
-ghost use Rattle.ua_space.specs.Variables.{shape_has_rank, takes};
 ghost use Rattle.ua_types.specs.Refusals.{GivesOrRefuses};
 ghost use Rattle.ua_types.specs.declared.refusal.Refusal.TheVariants.{Memory};
 ghost use Rattle.ua_views.specs.Views.{or_none};
 
-use crate::attributes::{Attribute, attribute_at};
+use crate::judging::{judged, made};
 use std::alloc::{AllocError, Global};
 use ua_service_views::WriteValueView;
-use ua_space::{Space, ValueRank, Variable};
+use ua_space::Space;
 use ua_types::{Copyable, Listed, Moment, NodeId, Refusal, Status};
-use ua_values::{DataValue, Shape};
-use ua_views::{ArrayView, VariantView};
+use ua_values::{DataValue, Variant};
+use ua_views::{ArrayView, DataValueView};
 
 /// A variable that was written.
 #[derive(Debug, Drop)]
@@ -34,71 +33,14 @@ pub struct Written {
     pub changed: Listed<Change>,
 }
 
-fn is_writable(variable: &Variable) -> bool
-    ensures { result ≡ is_writable variable.now }
+// What a variable is to hold, as it is stored.
+fn stored(value: Variant, written: &DataValueView<'_>, clock: Moment) -> DataValue
+    ensures { result ≡ stored_of clock (record written.now { value = Some value }) }
 {
-    variable.access / 2 % 2 == 1
-}
-
-// Whether it is one value, or a list without dimensions, as the rank says.
-fn has_rank(shape: Shape, rank: ValueRank) -> bool
-    ensures { result ≡ shape_has_rank rank shape }
-{
-    match shape {
-        Shape::Scalar => rank == ValueRank::Scalar,
-        Shape::List => rank == ValueRank::List,
-        Shape::Null | Shape::Matrix => false,
-    }
-}
-
-// Whether a variable may have this value, by its type and shape alone, as `Variable::takes` says it of a value that is there.
-#[tactic(auto, unfolding(ua_space::specs::Variables::has_rank))]
-fn takes(variable: &Variable, value: &VariantView<'_>) -> bool
-    ensures { result ≡ takes variable.now value.now }
-{
-    value.type_number() == variable.data_type && has_rank(value.shape(), variable.value_rank)
-}
-
-// Whether a value is accepted, or why not.
-#[tactic(auto, unfolding(crate::specs::Writing::judged))]
-fn judged(space: &Space, write: &WriteValueView<'_>) -> Result<(), Status>
-    ensures judged { result ≡ judged space.now.nodes write.now }
-    ensures taken { OnOk result (takes_at write.now.node_id write.now.value space.now.nodes ≡ true) }
-{
-    let Some(node) = space.find(&write.node_id) else {
-        return Err(Status::BAD_NODE_ID_UNKNOWN);
-    };
-    let Some(attribute) = attribute_at(node, write.attribute_id) else {
-        return Err(Status::BAD_ATTRIBUTE_ID_INVALID);
-    };
-    let Attribute::Value(variable) = attribute else {
-        return Err(Status::BAD_NOT_WRITABLE);
-    };
-    if write.index_range.is_given() {
-        return Err(Status::BAD_INDEX_RANGE_INVALID);
-    }
-    let Some(value) = &write.value.value else {
-        return Err(Status::BAD_WRITE_NOT_SUPPORTED);
-    };
-    if !is_writable(variable) {
-        return Err(Status::BAD_NOT_WRITABLE);
-    }
-    if !takes(variable, value) {
-        return Err(Status::BAD_TYPE_MISMATCH);
-    }
-    Ok(())
-}
-
-// A value as it is stored.
-fn stored(value: DataValue, clock: Moment) -> DataValue
-    ensures { result ≡ stored_of clock value }
-{
-    let status = value.status;
-    let source_time = value.source_time.unwrap_or(clock);
     DataValue {
-        value: value.into_value(),
-        status,
-        source_time: Some(source_time),
+        value: Some(value),
+        status: written.status,
+        source_time: Some(written.source_time.unwrap_or(clock)),
         server_time: Some(clock),
     }
 }
@@ -107,7 +49,8 @@ fn stored(value: DataValue, clock: Moment) -> DataValue
 /// himself ([`Space::set_value`]), and looks at each before.
 ///
 /// It is judged where it stands in the request's bytes, and refused as [`write`] says. Only what is accepted is copied,
-/// once, so a refusal takes no memory. It is never refused as exhausted.
+/// once, so a refusal takes no memory; where an index range is given, so is the list as it stands, which the change has
+/// whole. It is never refused as exhausted.
 pub fn accepted<'a>(
     alloc: Global,
     space: &Space,
@@ -118,12 +61,12 @@ pub fn accepted<'a>(
     ensures memory { result ≡ Err Memory → IsOk (judged space.now.nodes write.now) }
     ensures taken { IfOk result (λ change. takes_at change.node_id change.value space.now.nodes ≡ true) }
 {
-    judged(space, write)?;
+    let new = judged(space, write)?;
     let node_id = write.node_id.to_value(alloc)?;
-    let value = write.value.to_value(alloc)?;
+    let value = made(alloc, new)?;
     Ok(Change {
         node_id,
-        value: stored(value, clock),
+        value: stored(value, &write.value, clock),
     })
 }
 
@@ -159,9 +102,13 @@ fn write_one<'a>(
 ///
 /// A value is refused in this order: no node has the id, `BAD_NODE_ID_UNKNOWN`; the node's class doesn't
 /// have the attribute, `BAD_ATTRIBUTE_ID_INVALID`; it isn't the value, `BAD_NOT_WRITABLE`; an index range is
-/// given, `BAD_INDEX_RANGE_INVALID`; there is no value, `BAD_WRITE_NOT_SUPPORTED`; AccessLevel doesn't let it
-/// be written, `BAD_NOT_WRITABLE`; it isn't of the variable's type and rank, `BAD_TYPE_MISMATCH`. The others
-/// are good. They are stored with the clock as the server's time, and as the source's where none was written.
+/// given that can't be read, `BAD_INDEX_RANGE_INVALID`; there is no value, `BAD_WRITE_NOT_SUPPORTED`; AccessLevel doesn't
+/// let it be written, `BAD_NOT_WRITABLE`. Then, without an index range: it isn't of the variable's type and rank,
+/// `BAD_TYPE_MISMATCH`; a list has to be flat, which is one that isn't null and has no dimensions or exactly one. With
+/// one: the variable's value isn't a list that has all these elements, `BAD_INDEX_RANGE_NO_DATA`; what is written isn't a
+/// flat list of the variable's type, `BAD_TYPE_MISMATCH`; it has another number of elements, `BAD_INDEX_RANGE_INVALID`.
+/// The others are good. They are stored with the clock as the server's time, and as the source's where none was written; a
+/// list is stored without dimensions, and elements that were written stand in the list in the place of others.
 ///
 /// Where memory runs out, some of the values were written, from the first on.
 pub fn write<'a>(

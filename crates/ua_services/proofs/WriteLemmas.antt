@@ -9,6 +9,7 @@ use Rattle.ua_types.specs.declared.moment.Moment.{Moment}
 use Rattle.ua_types.specs.declared.node_id.NodeId.{NodeId}
 use Rattle.ua_types.specs.declared.status.Status.{Status}
 use Rattle.ua_values.specs.declared.data_value.DataValue.{DataValue}
+use Rattle.ua_values.specs.declared.variant.Variant.{Variant}
 use Rattle.ua_service_messages.specs.declared.writing.WriteValue.{WriteValue}
 use Rattle.ua_space.specs.Nodes.{Nodes, node_at}
 use Rattle.ua_space.specs.Values.{variable_of, variable_in, variable_at, holding, put, with_value}
@@ -19,7 +20,7 @@ use Rattle.ua_history.specs.Histories.{HistoryState, kept}
 use Rattle.ua_monitored_items.specs.ItemTables.{NumberedItems}
 use Rattle.ua_monitored_items.specs.Items.{ItemsState}
 use Rattle.ua_monitored_items.specs.Releases.{shown_one}
-use Rattle.ua_read_write.specs.Writing.{Writing, stored_of, judged, accepted_of, status_of, nodes_after, changes_of, with_one, nothing_written, write_of}
+use Rattle.ua_read_write.specs.Writing.{Writing, holding_of, judged, accepted_of, status_of, nodes_after, changes_of, with_one, nothing_written, write_of}
 use Rattle.ua_read_write.specs.declared.writing.Change.{Change}
 use Rattle.ua_services.specs.ServicesState.{Services}
 use Rattle.ua_services.specs.Write.{is_historizing, with_change, all_kept, sampled, with_written, with_accepted, with_judged}
@@ -81,22 +82,22 @@ module _ (clock : Moment) (state : Services) (before : Writing) (w : WriteValue)
   kept_more nodes c same =
       sym (same_kept nodes before.nodes same state.history (before.changed ++ c ∷ []) ∙ fold-append (with_change before.nodes) state.history before.changed (c ∷ []))
 
-  abbrev after : Result (Unit {0}) Status → Writing
+  abbrev after : Result Variant Status → Writing
   after verdict = record {
     nodes = nodes_after clock w verdict before.nodes;
     statuses = before.statuses ++ status_of verdict ∷ [];
     changed = before.changed ++ changes_of clock w verdict;
   }
 
-  judged_more : (verdict : Result (Unit {0}) Status) → with_judged (with_written state before) (accepted_of clock w verdict) ≡ with_written state (after verdict)
+  judged_more : (verdict : Result Variant Status) → with_judged (with_written state before) (accepted_of clock w verdict) ≡ with_written state (after verdict)
   judged_more (Err code) = ap (λ (cs : List Change). with_written state (record (after (Err code)) { changed = cs })) (sym (append-nil before.changed))
-  judged_more (Ok done) =
-      let c : Change = record { node_id = w.node_id; value = stored_of clock w.value } in
+  judged_more (Ok value) =
+      let c : Change = record { node_id = w.node_id; value = holding_of clock w value } in
       let nodes = with_value c.node_id c.value before.nodes in
       let kept = kept_more nodes c (λ q. same_historizing c.node_id q c.value before.nodes) in
       let seen = sym (sampled_more state.items before.changed c) in
       ap (λ (h : HistoryState). record (with_accepted (with_written state before) c) { history = h }) kept
-      ∙ ap (λ (items : ItemsState). record (with_written state (after (Ok done))) { items = items }) seen
+      ∙ ap (λ (items : ItemsState). record (with_written state (after (Ok value))) { items = items }) seen
 
 pub written_more : (clock : Moment) (state : Services) (values : List WriteValue) (w : WriteValue)
     → with_judged (with_written state (write_of clock state.space.nodes values)) (accepted_of clock w (judged (write_of clock state.space.nodes values).nodes w))

@@ -1,6 +1,6 @@
 //! What is served.
 
-ghost use Rattle.std.specs.Prelude.{◌≡◌, true, IsOk};
+ghost use Rattle.std.specs.Prelude.{◌≡◌, true, IsOk, IfOk};
 ghost use Rattle.ua_services.specs.Serving.{Answers, Serves};
 ghost use Rattle.ua_services.specs.ServicesState.{no_services_used};
 ghost use Rattle.ua_services.specs.Services.{serving_of, picked, ticking_of, is_idle, shutting_of, forgotten};
@@ -32,7 +32,7 @@ use crate::unserved::Unserved;
 use crate::viewed_service::ViewedService;
 use crate::write::Write;
 use server_messages::{Halt, Request, Served, Setting};
-use std::alloc::Global;
+use std::alloc::{AllocError, Global};
 use ua_history::History;
 use ua_messages::{message_id, type_ids};
 use ua_monitored_items::Items;
@@ -65,17 +65,19 @@ pub struct Services {
 }
 
 impl Services {
-    /// Nothing was served yet, over this address space. Takes no memory.
-    pub fn new(alloc: Global, config: &Config, space: Space) -> Services
-        ensures { result ≡ no_services_used config.now space }
+    /// Nothing was served yet, over this address space. The values that its nodes had before are moved into the histories,
+    /// which takes no memory where there are none.
+    pub fn new(alloc: Global, config: &Config, mut space: Space) -> Result<Services, AllocError>
+        ensures { IfOk result (λ services. services ≡ no_services_used config.now space) }
     {
-        Services {
+        let history = History::beginning(alloc, config, &mut space)?;
+        Ok(Services {
             space,
             sessions: Sessions::new(alloc, config),
-            history: History::new(alloc, config),
+            history,
             items: Items::new(alloc, config),
             subs: Subscriptions::new(alloc, config),
-        }
+        })
     }
 
     /// Does what a request asks for. The replies may be for it and for others that waited.

@@ -11,5 +11,5 @@ use Rattle.commands.proofs.program.opened_server.Goals as goal
 pub returns-in-Ok : goal.returns-in-Ok
 unfolding opened
 returns-in-Ok c =
-    stepped (world_of c.new-server.result) (world_of c.step.new.self) c.in-Ok.field-0 _ c.in-Ok.ensures.step
-    ∙ ap (λ (s : State). (run_of s (Opened 1 (replicate 32 0) ∷ [])).server) c.new-server.ensures
+    stepped (world_of c.in_ok-server.server) (world_of c.step.new.self) c.in-Ok.field-0 _ c.in-Ok.ensures.step
+    ∙ ap (λ (s : State). (run_of s (Opened 1 (replicate 32 0) ∷ [])).server) c.in_ok-server.ensures

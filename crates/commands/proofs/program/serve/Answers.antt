@@ -4,8 +4,8 @@ use Rattle.stream_server.specs.Pumped.{State}
 use Rattle.commands.specs.Commands.{ServesOn}
 use Rattle.commands.proofs.program.serve.Goals as goal
 
-pub returns : goal.returns
-returns g c =
+pub returns-in-Ok : goal.returns-in-Ok
+returns-in-Ok g c =
     subst (λ (server : State). ServesOn (place g.O.Write.contents c.args.output.now) (place g.O.Write.contents c.serve_on.new.output) c.args.listening server c.serve_on.result)
-    c.new-server.ensures
+    c.in-Ok.ensures
     c.serve_on.ensures
