@@ -262,8 +262,12 @@ class Writer:
         return self
 
     def variant(self, number, value):
-        """A Variant with one value of the built-in type of this number."""
-        self.byte(number)
+        """A Variant with one value of the built-in type of this number, or with a list of them."""
+        if isinstance(value, list):
+            return self.byte(number + 0x80).array(value, lambda out, one: out.of_type(number, one))
+        return self.byte(number).of_type(number, value)
+
+    def of_type(self, number, value):
         if number == 1:
             return self.boolean(value)
         if number in NUMBERS:
@@ -807,17 +811,17 @@ class Session:
 
     # -- services
 
-    def read(self, nodes, attribute=VALUE):
+    def read(self, nodes, attribute=VALUE, index_range=None):
         def write(out):
-            out.double(0.0).uint32(2).array(nodes, lambda out, node: read_value_id(out, node, attribute))
+            out.double(0.0).uint32(2).array(nodes, lambda out, node: read_value_id(out, node, attribute, index_range))
 
         read = self.call('Read', write)
         return read.array(read.data_value)
 
-    def write(self, node, kind, values):
+    def write(self, node, kind, values, index_range=None):
         """Writes values, one after the other, in one request."""
         def one(out, value):
-            out.node_id(node).uint32(VALUE).string(None).byte(1).variant(kind, value)
+            out.node_id(node).uint32(VALUE).string(index_range).byte(1).variant(kind, value)
 
         read = self.call('Write', lambda out: out.array(values, one))
         return read.array(read.uint32)
@@ -864,8 +868,8 @@ class Session:
                 return
 
 
-def read_value_id(out, node, attribute=VALUE):
-    return out.node_id(node).uint32(attribute).string(None).qualified_name(0, None)
+def read_value_id(out, node, attribute=VALUE, index_range=None):
+    return out.node_id(node).uint32(attribute).string(index_range).qualified_name(0, None)
 
 
 class Reference:
@@ -926,7 +930,7 @@ def browse(arguments):
 def read(arguments):
     session = Session(arguments.url, arguments.verbose)
     try:
-        values = session.read(arguments.nodes)
+        values = session.read(arguments.nodes, index_range=arguments.range)
     finally:
         session.close()
     for node, value in zip(arguments.nodes, values):
@@ -964,12 +968,12 @@ def parsed(kind, text):
     raise ValueError(f'this client writes no {TYPES.get(kind, kind)}')
 
 
-def type_of_variable(session, node):
-    """The number of the type of a variable's value: that of what it holds, or else of its DataType."""
+def type_of_variable(session, node, is_list):
+    """The number of the type of a variable's value, or of its elements: that of what it holds, or else of its DataType."""
     value = session.read([node])[0]
     if value.status >> 30 != 2 and value.kind != 0:
-        if isinstance(value.value, list):
-            raise ValueError(f'{node} holds an array, and this client writes none')
+        if isinstance(value.value, list) and not is_list:
+            raise ValueError(f'{node} holds a list: write all of it by --list, or elements by --range')
         return value.kind
     declared = session.read([node], DATA_TYPE)[0]
     if declared.status >> 30 == 2:
@@ -982,12 +986,16 @@ def type_of_variable(session, node):
 def write(arguments):
     session = Session(arguments.url, arguments.verbose)
     try:
-        kind = arguments.type or type_of_variable(session, arguments.node)
+        is_list = arguments.list or arguments.range is not None
+        kind = arguments.type or type_of_variable(session, arguments.node, is_list)
         values = [parsed(kind, text) for text in arguments.values]
-        statuses = session.write(arguments.node, kind, values)
+        texts = arguments.values
+        if is_list:
+            values, texts = [values], ['[' + ', '.join(texts) + ']']
+        statuses = session.write(arguments.node, kind, values, arguments.range)
     finally:
         session.close()
-    for text, status in zip(arguments.values, statuses):
+    for text, status in zip(texts, statuses):
         print(f'{arguments.node} {TYPES[kind]} {text} {status_name(status)}')
     return 1 if any(status >> 30 == 2 for status in statuses) else 0
 
@@ -1197,11 +1205,14 @@ def command_line():
 
     one = command(read, 'the values of nodes')
     one.add_argument('nodes', type=node, nargs='+', metavar='ID')
+    one.add_argument('--range', metavar='N:M', help='of lists the elements from N to M, or the one at N; the first is 0')
 
     one = command(write, 'gives a variable a value, or several one after the other in one request')
     one.add_argument('node', type=node, metavar='ID')
     one.add_argument('values', nargs='+', metavar='VALUE')
     one.add_argument('--type', type=type_number, help='the built-in type of the value (that of the variable)')
+    one.add_argument('--list', action='store_true', help='the values are the elements of one list')
+    one.add_argument('--range', metavar='N:M', help='the values are those of a list from N to M, or the one at N; the first is 0')
 
     one = command(history, 'the values that a variable had')
     one.add_argument('node', type=node, metavar='ID')

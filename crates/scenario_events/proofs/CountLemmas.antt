@@ -138,6 +138,7 @@ assembled_counted a (statements.Raw connection bytes) w = w
 assembled_counted a (statements.Cut size) w = record { clients = w.clients; channels = w.channels }
 assembled_counted a (statements.Chunk size) w = record { clients = w.clients; channels = w.channels }
 assembled_counted a statements.Abort w = record { clients = w.clients; channels = w.channels }
+assembled_counted a (statements.Range range) w = w
 assembled_counted a (statements.GetEndpoints connection) w = assembled_service_counted a connection _ w
 assembled_counted a (statements.CreateSession connection) w = assembled_service_counted (with_session a connection) connection _ (record { clients = w.clients; channels = w.channels })
 assembled_counted a (statements.Ask connection session request) w = assembled_service_counted a connection _ w

@@ -208,6 +208,7 @@ line_happens a (statements.Raw connection bytes) w read = λ others tail rest. g
 line_happens a (statements.Cut size) w read = λ others tail rest. rest
 line_happens a (statements.Chunk size) w read = λ others tail rest. rest
 line_happens a statements.Abort w read = λ others tail rest. rest
+line_happens a (statements.Range range) w read = λ others tail rest. rest
 line_happens a (statements.GetEndpoints connection) w read = service_happens a a.sessions connection Endpoints _ w refl read
 line_happens a (statements.CreateSession connection) w read = service_happens a (with_session a connection).sessions connection NewSession _ w refl read
 line_happens a (statements.Ask connection session request) w read = service_happens a a.sessions connection (Service session request) _ w refl (ask_read a connection session request read)

@@ -39,6 +39,7 @@ line_limit a (statements.Raw connection bytes) = tt
 line_limit a (statements.Cut size) = tt
 line_limit a (statements.Chunk size) = tt
 line_limit a statements.Abort = tt
+line_limit a (statements.Range range) = tt
 line_limit a (statements.GetEndpoints connection) = sent_or_limit _ _ _ _ _
 line_limit a (statements.CreateSession connection) = sent_or_limit _ _ _ _ _
 line_limit a (statements.Ask connection session request) = sent_or_limit _ _ _ _ _

@@ -62,6 +62,7 @@ happens_by m (statements.Raw connection bytes) others = with_happening m (Unread
 happens_by m (statements.Cut size) others = others (record m { cut = size })
 happens_by m (statements.Chunk size) others = others (record m { chunk = size })
 happens_by m statements.Abort others = others (record m { is_aborting = true })
+happens_by m (statements.Range range) others = others m
 happens_by m (statements.GetEndpoints connection) others = with_happening m (Asked connection m.is_aborting Endpoints) (others (after_asking m))
 happens_by m (statements.CreateSession connection) others = with_happening m (Asked connection m.is_aborting NewSession) (others (after_asking m))
 happens_by m (statements.Ask connection session request) others = with_happening m (Asked connection m.is_aborting (Service session request)) (others (after_asking m))

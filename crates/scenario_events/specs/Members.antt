@@ -89,6 +89,7 @@ assembled_of a (statements.Raw connection bytes) = Ok (Stream connection bytes, 
 assembled_of a (statements.Cut size) = Ok (Nothing, record a { cut = size })
 assembled_of a (statements.Chunk size) = Ok (Nothing, record a { chunk = size })
 assembled_of a statements.Abort = Ok (Nothing, record a { is_aborting = true })
+assembled_of a (statements.Range range) = Ok (Nothing, a)
 assembled_of a (statements.GetEndpoints connection) =
     assembled_service a connection (endpoints_body (plain_request (numeric_id 0 0) (client_of a connection).request_id))
 assembled_of a (statements.CreateSession connection) =

@@ -259,6 +259,8 @@ impl Assembler {
                 self.is_aborting = true;
                 Ok(Member::Nothing)
             }
+            // The read or the write behind it has the range already.
+            Statement::Range { range: _ } => Ok(Member::Nothing),
             Statement::GetEndpoints { connection } => self.endpoints(alloc, connection),
             Statement::CreateSession { connection } => self.create_session(alloc, connection),
             Statement::Ask {

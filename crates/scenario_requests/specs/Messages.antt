@@ -1,5 +1,5 @@
 -- What each statement asks, as a message: fields that no word says are null or 0.
-use Rattle.std.specs.Prelude.{ℕ, ℤ, pos, Bool, true, false, List, [], ◌∷◌, map, Some, None}
+use Rattle.std.specs.Prelude.{ℕ, ℤ, pos, Bool, true, false, List, [], ◌∷◌, map, Option, Some, None}
 use Rattle.ua_types.specs.NodeIds.{numeric_id}
 use Rattle.ua_messages.specs.Bodies.{body_encoding}
 use Rattle.ua_messages.specs.Structures.{object_around}
@@ -57,25 +57,25 @@ use Rattle.scenario_requests.specs.Structures.{no_duration, no_time, no_object, 
 
 -- ---- what sessions ask
 
-abbrev pub read_message : RequestHeader → ℤ → List Attribute → ReadRequest
-read_message header timestamps attributes = record {
+abbrev pub read_message : RequestHeader → ℤ → List Attribute → Option (List ℕ) → ReadRequest
+read_message header timestamps attributes range = record {
   request_header = header;
   max_age = no_duration;
   timestamps_to_return = record { 0 = timestamps };
-  nodes_to_read = Some (map attribute_sent attributes);
+  nodes_to_read = Some (map (attribute_sent range) attributes);
 }
 
-unfoldable pub read_body : RequestHeader → ℤ → List Attribute → List ℕ
-read_body header timestamps attributes = body_encoding read_request_encoding READ_REQUEST (read_message header timestamps attributes)
+unfoldable pub read_body : RequestHeader → ℤ → List Attribute → Option (List ℕ) → List ℕ
+read_body header timestamps attributes range = body_encoding read_request_encoding READ_REQUEST (read_message header timestamps attributes range)
 
-abbrev pub write_message : RequestHeader → List NewValue → WriteRequest
-write_message header values = record {
+abbrev pub write_message : RequestHeader → List NewValue → Option (List ℕ) → WriteRequest
+write_message header values range = record {
   request_header = header;
-  nodes_to_write = Some (map value_sent values);
+  nodes_to_write = Some (map (value_sent range) values);
 }
 
-unfoldable pub write_body : RequestHeader → List NewValue → List ℕ
-write_body header values = body_encoding write_request_encoding WRITE_REQUEST (write_message header values)
+unfoldable pub write_body : RequestHeader → List NewValue → Option (List ℕ) → List ℕ
+write_body header values range = body_encoding write_request_encoding WRITE_REQUEST (write_message header values range)
 
 abbrev pub browse_message : RequestHeader → References → BrowseRequest
 browse_message header references = record {
@@ -260,8 +260,8 @@ delete_subscriptions_body header subscriptions = body_encoding delete_subscripti
 unfoldable pub request_body : RequestHeader → Request → List ℕ
 request_body header requests.ActivateSession = activate_session_body header
 request_body header (requests.CloseSession subscriptions) = close_session_body header subscriptions
-request_body header (requests.Read timestamps attributes) = read_body header timestamps attributes
-request_body header (requests.Write values) = write_body header values
+request_body header (requests.Read timestamps attributes range) = read_body header timestamps attributes range
+request_body header (requests.Write values range) = write_body header values range
 request_body header (requests.Browse references) = browse_body header references
 request_body header (requests.BrowseNext points) = browse_next_body header false points
 request_body header (requests.ReleasePoints points) = browse_next_body header true points
@@ -282,8 +282,8 @@ request_body header (requests.DeleteSubscriptions subscriptions) = delete_subscr
 abbrev pub IsServiceBody : RequestHeader → Request → List ℕ → Type 0
 IsServiceBody header requests.ActivateSession body = IsWholeBody activate_session_request_reading ACTIVATE_SESSION_REQUEST (activate_session_message header) body
 IsServiceBody header (requests.CloseSession subscriptions) body = IsWholeBody close_session_request_reading CLOSE_SESSION_REQUEST (close_session_message header subscriptions) body
-IsServiceBody header (requests.Read timestamps attributes) body = IsWholeBody read_request_reading READ_REQUEST (read_message header timestamps attributes) body
-IsServiceBody header (requests.Write values) body = IsWholeBody write_request_reading WRITE_REQUEST (write_message header values) body
+IsServiceBody header (requests.Read timestamps attributes range) body = IsWholeBody read_request_reading READ_REQUEST (read_message header timestamps attributes range) body
+IsServiceBody header (requests.Write values range) body = IsWholeBody write_request_reading WRITE_REQUEST (write_message header values range) body
 IsServiceBody header (requests.Browse references) body = IsWholeBody browse_request_reading BROWSE_REQUEST (browse_message header references) body
 IsServiceBody header (requests.BrowseNext points) body = IsWholeBody browse_next_request_reading BROWSE_NEXT_REQUEST (browse_next_message header false points) body
 IsServiceBody header (requests.ReleasePoints points) body = IsWholeBody browse_next_request_reading BROWSE_NEXT_REQUEST (browse_next_message header true points) body

@@ -104,15 +104,16 @@ abbrev pub request_type : ChannelRequest → SecurityTokenRequestType
 request_type Issue = record { 0 = pos 0 }
 request_type Renew = record { 0 = pos 1 }
 
-abbrev pub attribute_sent : Attribute → ReadValueId
-attribute_sent a = record { node_id = a.node_id; attribute_id = a.attribute_id; index_range = None; data_encoding = no_name }
+-- within a range of indices, or the whole value where it is null
+abbrev pub attribute_sent : Option (List ℕ) → Attribute → ReadValueId
+attribute_sent range a = record { node_id = a.node_id; attribute_id = a.attribute_id; index_range = range; data_encoding = no_name }
 
--- a value for the attribute Value, 13, whose status is Good
-abbrev pub value_sent : NewValue → WriteValue
-value_sent v = record {
+-- a value for a range of indices of the attribute Value, 13, or for all of it where the range is null; its status is Good
+abbrev pub value_sent : Option (List ℕ) → NewValue → WriteValue
+value_sent range v = record {
   node_id = v.node_id;
   attribute_id = 13;
-  index_range = None;
+  index_range = range;
   value = record { value = Some v.value; status = record { 0 = 0 }; source_time = v.source_time; server_time = None };
 }
 
@@ -160,7 +161,7 @@ parameters_sent m = record {
 
 abbrev pub new_item_sent : NewItem → MonitoredItemCreateRequest
 new_item_sent i = record {
-  item_to_monitor = attribute_sent i.attribute;
+  item_to_monitor = attribute_sent None i.attribute;
   monitoring_mode = record { 0 = i.mode };
   requested_parameters = parameters_sent i.monitoring;
 }

@@ -1,7 +1,7 @@
 //! The requests of scenarios: what each statement asks, as the body of a message (IEC 62541-4).
 //!
-//! What a word of the statement says stands in its field, and every other field is null or 0. A list
-//! without entries is written with length 0. Nothing here knows chunks, channels or connections.
+//! What a word of the statement says stands in its field, and every other field is null or 0. The index
+//! range of a read or a write stands in each of its entries. A list without entries is written with length 0. Nothing here knows chunks, channels or connections.
 //!
 //! Each body says, beside its bytes, that it is read again as its structure, and that nothing is behind it.
 //!

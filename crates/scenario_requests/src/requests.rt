@@ -16,7 +16,7 @@ ghost use Rattle.ua_subscription_messages.specs.Triggering.{set_triggering_reque
 ghost use Rattle.ua_messages.specs.declared.type_ids.TheConstants.{ACTIVATE_SESSION_REQUEST, BROWSE_NEXT_REQUEST, BROWSE_REQUEST, CLOSE_SESSION_REQUEST, CREATE_MONITORED_ITEMS_REQUEST, CREATE_SUBSCRIPTION_REQUEST, DELETE_MONITORED_ITEMS_REQUEST, DELETE_SUBSCRIPTIONS_REQUEST, HISTORY_READ_REQUEST, MODIFY_MONITORED_ITEMS_REQUEST, MODIFY_SUBSCRIPTION_REQUEST, PUBLISH_REQUEST, READ_REQUEST, REPUBLISH_REQUEST, SET_MONITORING_MODE_REQUEST, SET_PUBLISHING_MODE_REQUEST, SET_TRIGGERING_REQUEST, WRITE_REQUEST};
 
 use crate::bodies::whole_body;
-use crate::sent::{Sent, held, list, one};
+use crate::sent::{Ranged, held, list, one, ranged_list};
 use crate::structures::{
     NO_DURATION, history_details, is_delete, is_on, last_point, no_name, no_object, no_signature,
     parameters,
@@ -45,15 +45,16 @@ fn read_body(
     header: RequestHeader,
     timestamps: i32,
     attributes: Listed<Attribute>,
+    range: Text,
 ) -> Result<Vec<u8>, AllocError>
-    ensures ok { IfOk result (λ bytes. bytes.items ≡ read_body header timestamps attributes) }
-    ensures again { IfOk result (λ bytes. IsWholeBody read_request_reading READ_REQUEST (read_message header timestamps attributes) bytes.items) }
+    ensures ok { IfOk result (λ bytes. bytes.items ≡ read_body header timestamps attributes range) }
+    ensures again { IfOk result (λ bytes. IsWholeBody read_request_reading READ_REQUEST (read_message header timestamps attributes range) bytes.items) }
 {
     let message = ReadRequest {
         request_header: header,
         max_age: NO_DURATION,
         timestamps_to_return: TimestampsToReturn(timestamps),
-        nodes_to_read: list(alloc, attributes)?,
+        nodes_to_read: ranged_list(alloc, &range, attributes)?,
     };
     whole_body(alloc, type_ids::READ_REQUEST, &message)
 }
@@ -63,13 +64,14 @@ fn write_body(
     alloc: Global,
     header: RequestHeader,
     values: Listed<NewValue>,
+    range: Text,
 ) -> Result<Vec<u8>, AllocError>
-    ensures ok { IfOk result (λ bytes. bytes.items ≡ write_body header values) }
-    ensures again { IfOk result (λ bytes. IsWholeBody write_request_reading WRITE_REQUEST (write_message header values) bytes.items) }
+    ensures ok { IfOk result (λ bytes. bytes.items ≡ write_body header values range) }
+    ensures again { IfOk result (λ bytes. IsWholeBody write_request_reading WRITE_REQUEST (write_message header values range) bytes.items) }
 {
     let message = WriteRequest {
         request_header: header,
-        nodes_to_write: list(alloc, values)?,
+        nodes_to_write: ranged_list(alloc, &range, values)?,
     };
     whole_body(alloc, type_ids::WRITE_REQUEST, &message)
 }
@@ -274,7 +276,7 @@ fn create_item_body(
         monitoring,
     } = item;
     let create = MonitoredItemCreateRequest {
-        item_to_monitor: attribute.sent(alloc)?,
+        item_to_monitor: attribute.ranged(Text::null()),
         monitoring_mode: MonitoringMode(mode),
         requested_parameters: parameters(alloc, monitoring)?,
     };
@@ -450,8 +452,9 @@ pub fn request_body(
         Request::Read {
             timestamps,
             attributes,
-        } => read_body(alloc, header, timestamps, attributes),
-        Request::Write { values } => write_body(alloc, header, values),
+            range,
+        } => read_body(alloc, header, timestamps, attributes, range),
+        Request::Write { values, range } => write_body(alloc, header, values, range),
         Request::Browse { references } => browse_body(alloc, header, references),
         Request::BrowseNext { points } => browse_next_body(alloc, header, false, points),
         Request::ReleasePoints { points } => browse_next_body(alloc, header, true, points),

@@ -1,9 +1,9 @@
 //! Lists as they are sent.
 
-ghost use Rattle.std.specs.Prelude.{◌≡◌, Some, IfOk, map, [], ◌∷◌};
+ghost use Rattle.std.specs.Prelude.{◌≡◌, ℕ, List, Option, Some, IfOk, map, [], ◌∷◌};
 
 use std::alloc::{AllocError, Global};
-use ua_types::{Array, Listed};
+use ua_types::{Array, Copyable, Listed, Text};
 
 /// What is sent in another form than it is read from a line.
 pub trait Sent: Drop {
@@ -28,6 +28,18 @@ pub(crate) fn held<T: Drop>(items: Vec<T>) -> Result<Array<T>, AllocError>
     Ok(Array::new(items))
 }
 
+/// What is sent with an index range, the same for all entries of its list.
+pub(crate) trait Ranged: Drop {
+    type Form: Drop;
+
+    /// The form in which it is sent with a range, which may be null.
+    ghost form: { Option (List ℕ) → Self → Self.Form };
+
+    /// It in the form in which it is sent with this range.
+    fn ranged(self, range: Text) -> Self::Form
+        ensures { result ≡ form range self };
+}
+
 fn all_sent<S: Sent>(alloc: Global, entries: Vec<S>) -> Result<Vec<S::Form>, AllocError>
     ensures { IfOk result (λ v. v.items ≡ map S.form entries.items) }
 {
@@ -44,6 +56,32 @@ pub(crate) fn list<S: Sent>(alloc: Global, entries: Listed<S>) -> Result<Array<S
     ensures { IfOk result (λ a. a ≡ Some (map S.form entries)) }
 {
     held(all_sent(alloc, entries.into_vec())?)
+}
+
+fn all_ranged<S: Ranged>(
+    alloc: Global,
+    range: &Text,
+    entries: Vec<S>,
+) -> Result<Vec<S::Form>, AllocError>
+    ensures { IfOk result (λ v. v.items ≡ map (S.form range.now) entries.items) }
+{
+    let mut items = Vec::new(alloc);
+    for entry in entries {
+        let item = entry.ranged(range.copy(alloc)?);
+        items.push(item)?;
+    }
+    Ok(items)
+}
+
+/// A list of elements in the form in which they are sent, each with this range.
+pub(crate) fn ranged_list<S: Ranged>(
+    alloc: Global,
+    range: &Text,
+    entries: Listed<S>,
+) -> Result<Array<S::Form>, AllocError>
+    ensures { IfOk result (λ a. a ≡ Some (map (S.form range.now) entries)) }
+{
+    held(all_ranged(alloc, range, entries.into_vec())?)
 }
 
 /// A list of one element.

@@ -7,7 +7,7 @@ ghost use Rattle.ua_messages.specs.declared.type_ids.TheConstants.{READ_RAW_MODI
 ghost use Rattle.ua_service_messages.specs.History.{read_raw_modified_details_encoding};
 ghost use Rattle.scenario_requests.specs.Structures.{no_object, no_name, no_signature, no_application, plain_request, is_delete as is_delete_spec, is_on as is_on_spec, is_oldest, request_type as request_type_spec, attribute_sent, value_sent, point_sent, last_point_sent, acknowledgement_sent, details_of, filter_sent, parameters_sent};
 
-use crate::sent::Sent;
+use crate::sent::{Ranged, Sent};
 use scenario_text::{
     Acknowledgement, Attribute, ChannelRequest, Discard, Monitoring, NewValue, Publishing,
     Subscriptions,
@@ -129,47 +129,47 @@ pub(crate) fn request_type(request: ChannelRequest) -> SecurityTokenRequestType
     }
 }
 
-impl Sent for Attribute {
+impl Ranged for Attribute {
     type Form = ReadValueId;
 
     ghost form = { attribute_sent };
 
-    fn sent(self, _alloc: Global) -> Result<ReadValueId, AllocError> {
+    fn ranged(self, range: Text) -> ReadValueId {
         let Attribute {
             node_id,
             attribute_id,
         } = self;
-        Ok(ReadValueId {
+        ReadValueId {
             node_id,
             attribute_id,
-            index_range: Text::null(),
+            index_range: range,
             data_encoding: no_name(),
-        })
+        }
     }
 }
 
-impl Sent for NewValue {
+impl Ranged for NewValue {
     type Form = WriteValue;
 
     ghost form = { value_sent };
 
-    fn sent(self, _alloc: Global) -> Result<WriteValue, AllocError> {
+    fn ranged(self, range: Text) -> WriteValue {
         let NewValue {
             node_id,
             value,
             source_time,
         } = self;
-        Ok(WriteValue {
+        WriteValue {
             node_id,
             attribute_id: VALUE,
-            index_range: Text::null(),
+            index_range: range,
             value: DataValue {
                 value: Some(value),
                 status: Status::GOOD,
                 source_time,
                 server_time: None,
             },
-        })
+        }
     }
 }
 

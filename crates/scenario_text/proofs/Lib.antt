@@ -2,3 +2,4 @@ pub mod Spaces
 pub mod Entries
 pub mod Lines
 pub mod Fronts
+pub mod ElementLists

@@ -13,7 +13,7 @@ use Rattle.scenario_text.specs.Statements.{statement_of, after_line}
 abbrev pub from_place : ℕ → List (Bor (List ℕ)) → List (List ℕ)
 from_place i ts = map (λ t. t.now) (drop i ts)
 
-next_place : (ts : List (Bor (List ℕ))) (i : ℕ) (d : Bor (List ℕ)) → i < length ts → from_place i ts ≡ (get_or ts i d).now ∷ from_place (i + 1) ts
+pub next_place : (ts : List (Bor (List ℕ))) (i : ℕ) (d : Bor (List ℕ)) → i < length ts → from_place i ts ≡ (get_or ts i d).now ∷ from_place (i + 1) ts
 next_place ts i d lt = ap (map (λ x. x.now)) (drop-cons ts i d lt) ∙ rw add-one refl
 
 regroup : (front more : List Line) (others : Scenario) → preceded front (preceded more others) ≡ preceded (front ++ more) others

@@ -3,6 +3,7 @@ pub mod Words
 pub mod Entries
 pub mod Numbers
 pub mod Choices
+pub mod Elements
 pub mod Values
 pub mod Requests
 pub mod Verbs

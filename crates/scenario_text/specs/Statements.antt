@@ -6,7 +6,7 @@ use Rattle.scenario_text.specs.Entries.{entries_reading, while_more}
 use Rattle.scenario_text.specs.Numbers.{number_reading, long_number_reading, signed_number_reading, moment_reading}
 use Rattle.scenario_text.specs.Readings.{Reading, ◌>>=◌, done, judged}
 use Rattle.scenario_text.specs.Requests.{attribute_reading, new_value_reading, references_reading, raw_values_reading, counts_reading, new_item_reading, changed_item_reading, link_change_reading, acknowledgement_reading}
-use Rattle.scenario_text.specs.Values.{text_reading, key_reading, octets_reading}
+use Rattle.scenario_text.specs.Values.{text_reading, range_reading, key_reading, octets_reading}
 use Rattle.scenario_text.specs.Verbs.{verb_of}
 use Rattle.scenario_text.specs.Words.{word, end_of_line}
 use Rattle.scenario_text.specs.declared.fault.Cause.{Cause}
@@ -24,7 +24,7 @@ use Rattle.scenario_text.specs.declared.verbs.Verb.TheVariants as verbs
 -- ---- what is known
 
 abbrev pub nothing_known : Known
-nothing_known = record { connections = empty; greatest = None; sessions = 0 }
+nothing_known = record { connections = empty; greatest = None; sessions = 0; range = None }
 
 -- whether the number is above those of all connections before
 abbrev pub is_above_all : ℕ → Option ℕ → Bool
@@ -59,6 +59,7 @@ asker_reading known verbs.Shutdown = done tt
 asker_reading known verbs.Cut = done tt
 asker_reading known verbs.Chunk = done tt
 asker_reading known verbs.Abort = done tt
+asker_reading known verbs.Range = done tt
 asker_reading known (verbs.Ask verb) = do
   connection ← connection_reading known
   session ← session_reading known
@@ -79,70 +80,71 @@ front_reading known = while_more (front known) tt
 
 -- ---- what a line says
 
-unfoldable pub request_reading : RequestVerb → Reading Request
-request_reading asked.ActivateSession = done requests.ActivateSession
-request_reading asked.CloseSession = do
+-- what a session asks, where this range is set for the next read or write
+unfoldable pub request_reading : Option (List ℕ) → RequestVerb → Reading Request
+request_reading range asked.ActivateSession = done requests.ActivateSession
+request_reading range asked.CloseSession = do
   subscriptions ← subscriptions_reading
   done (requests.CloseSession subscriptions)
-request_reading asked.Read = do
+request_reading range asked.Read = do
   timestamps ← signed_number_reading
   attributes ← entries_reading attribute_reading
-  done (requests.Read timestamps attributes)
-request_reading asked.Write = do
+  done (requests.Read timestamps attributes range)
+request_reading range asked.Write = do
   values ← entries_reading new_value_reading
-  done (requests.Write values)
-request_reading asked.Browse = do
+  done (requests.Write values range)
+request_reading range asked.Browse = do
   references ← references_reading
   done (requests.Browse references)
-request_reading asked.BrowseNext = do
+request_reading range asked.BrowseNext = do
   points ← entries_reading long_number_reading
   done (requests.BrowseNext points)
-request_reading asked.ReleasePoints = do
+request_reading range asked.ReleasePoints = do
   points ← entries_reading long_number_reading
   done (requests.ReleasePoints points)
-request_reading asked.ReadHistory = do
+request_reading range asked.ReadHistory = do
   values ← raw_values_reading
   done (requests.ReadHistory values)
-request_reading asked.CreateSubscription = do
+request_reading range asked.CreateSubscription = do
   counts ← counts_reading
   publishing ← publishing_reading
   done (requests.CreateSubscription counts publishing)
-request_reading asked.ModifySubscription = do
+request_reading range asked.ModifySubscription = do
   subscription ← number_reading
   counts ← counts_reading
   done (requests.ModifySubscription subscription counts)
-request_reading asked.SetPublishing = do
+request_reading range asked.SetPublishing = do
   publishing ← publishing_reading
   subscriptions ← entries_reading number_reading
   done (requests.SetPublishing publishing subscriptions)
-request_reading asked.CreateItem = do
+request_reading range asked.CreateItem = do
   item ← new_item_reading
   done (requests.CreateItem item)
-request_reading asked.ModifyItem = do
+request_reading range asked.ModifyItem = do
   item ← changed_item_reading
   done (requests.ModifyItem item)
-request_reading asked.SetItemMode = do
+request_reading range asked.SetItemMode = do
   subscription ← number_reading
   mode ← signed_number_reading
   items ← entries_reading number_reading
   done (requests.SetItemMode subscription mode items)
-request_reading asked.SetTriggering = do
+request_reading range asked.SetTriggering = do
   subscription ← number_reading
   triggering ← number_reading
   changes ← entries_reading link_change_reading
   done (requests.SetTriggering subscription triggering changes)
-request_reading asked.DeleteItems = do
+request_reading range asked.DeleteItems = do
   subscription ← number_reading
   items ← entries_reading number_reading
   done (requests.DeleteItems subscription items)
-request_reading asked.Publish = do
+request_reading range asked.Publish = do
   acknowledgements ← entries_reading acknowledgement_reading
   done (requests.Publish acknowledgements)
-request_reading asked.Republish = do
+request_reading range asked.Republish = do
   subscription ← number_reading
   sequence_number ← number_reading
   done (requests.Republish subscription sequence_number)
-request_reading asked.DeleteSubscriptions = do
+request_reading range asked.DeleteSubscriptions = do
   subscriptions ← entries_reading number_reading
   done (requests.DeleteSubscriptions subscriptions)
 
@@ -180,6 +182,9 @@ statement_reading known verbs.Chunk = do
   size ← long_number_reading
   done (statements.Chunk size)
 statement_reading known verbs.Abort = done statements.Abort
+statement_reading known verbs.Range = do
+  range ← range_reading
+  done (statements.Range range)
 statement_reading known verbs.GetEndpoints = do
   connection ← connection_reading known
   done (statements.GetEndpoints connection)
@@ -189,7 +194,7 @@ statement_reading known verbs.CreateSession = do
 statement_reading known (verbs.Ask verb) = do
   connection ← connection_reading known
   session ← session_reading known
-  request ← request_reading verb
+  request ← request_reading known.range verb
   done (statements.Ask connection session request)
 
 -- the statements without texts, bytes and lists
@@ -236,10 +241,18 @@ statement_of known line = without_rest (line_reading known line)
 
 -- ---- what is known after it
 
+-- a read or a write uses the range up that was set for it
+abbrev pub uses_range : Request → Bool
+uses_range (requests.Read timestamps attributes range) = true
+uses_range (requests.Write values range) = true
+uses_range _ = false
+
 abbrev pub after : Known → Statement → Known
 after known (statements.Open connection key) = record known { connections = insert known.connections connection tt; greatest = Some connection }
 after known (statements.Gone connection) = record known { connections = remove known.connections connection }
 after known (statements.CreateSession connection) = record known { sessions = min (known.sessions + 1) (2 ^ 64 - 1) }
+after known (statements.Range range) = record known { range = range }
+after known (statements.Ask connection session request) = if uses_range request then record known { range = None } else known
 after known _ = known
 
 abbrev pub after_line : Known → Option Statement → Known

@@ -53,6 +53,7 @@ sent_verb_of t =
     if bytes_eq t (codes "cut") then Ok verbs.Cut else
     if bytes_eq t (codes "chunk") then Ok verbs.Chunk else
     if bytes_eq t (codes "abort") then Ok verbs.Abort else
+    if bytes_eq t (codes "range") then Ok verbs.Range else
     if bytes_eq t (codes "endpoints") then Ok verbs.GetEndpoints else
     if bytes_eq t (codes "session") then Ok verbs.CreateSession else
     asking (request_verb_of t)

@@ -1,10 +1,10 @@
-//! What the lines before a line have opened and made.
+//! What the lines before a line have opened, made and set.
 
 ghost use Rattle.std.specs.Prelude.{◌≡◌, true, Err, IfErr, OnOk, OnErr};
 ghost use Rattle.ua_types.specs.Answers.{Gives};
 ghost use Rattle.scenario_text.specs.Readings.{Finds, Reads};
 ghost use Rattle.scenario_text.specs.declared.fault.Cause.TheVariants.{Memory};
-ghost use Rattle.scenario_text.specs.Statements.{nothing_known, is_above_all, connection_reading, new_connection_reading, session_reading, asker_reading, front_reading, takes_no_memory, is_spared, request_reading, statement_reading, line_reading, statement_of, after, after_line};
+ghost use Rattle.scenario_text.specs.Statements.{nothing_known, is_above_all, connection_reading, new_connection_reading, session_reading, asker_reading, front_reading, takes_no_memory, is_spared, request_reading, statement_reading, line_reading, statement_of, uses_range, after};
 
 use crate::choices::{ChannelRequest, Publishing, Subscriptions};
 use crate::fault::Cause;
@@ -16,14 +16,14 @@ use crate::requests::{
     References,
 };
 use crate::statement::{Request, Statement};
-use crate::values::{key, octets};
+use crate::values::{key, octets, range};
 use crate::verbs::{RequestVerb, Verb, verb_of};
 use crate::words::Words;
 use std::alloc::{AllocError, Global};
-use ua_types::{Listed, Text};
+use ua_types::{Copyable, Listed, Text};
 
 /// What the words of a line are judged against: which connections are open there, and which sessions
-/// were made.
+/// were made. And what earlier lines have set for it.
 #[derive(Debug, Drop)]
 pub struct Known {
     /// The connections that were opened and aren't gone.
@@ -32,12 +32,19 @@ pub struct Known {
     pub greatest: Option<u64>,
     /// How many sessions were made. It stays at its last value.
     pub sessions: u64,
+    /// The index range of the next read or write, or null. A `range` sets it, and a read or a write uses it up.
+    pub range: Text,
 }
 
-// What a session asks.
+// What a session asks, where this range is set for the next read or write.
 #[tactic(auto, unfolding(crate::specs::Statements::request_reading))]
-fn request(alloc: Global, verb: RequestVerb, words: &mut Words<'_>) -> Result<Request, Cause>
-    ensures { Reads result words.new (request_reading verb words.old) }
+fn request(
+    alloc: Global,
+    range: &Text,
+    verb: RequestVerb,
+    words: &mut Words<'_>,
+) -> Result<Request, Cause>
+    ensures { Reads result words.new (request_reading range.now verb words.old) }
 {
     match verb {
         RequestVerb::ActivateSession => Ok(Request::ActivateSession),
@@ -47,9 +54,11 @@ fn request(alloc: Global, verb: RequestVerb, words: &mut Words<'_>) -> Result<Re
         RequestVerb::Read => Ok(Request::Read {
             timestamps: i32::read(alloc, words)?,
             attributes: Listed::<Attribute>::read(alloc, words)?,
+            range: range.copy(alloc)?,
         }),
         RequestVerb::Write => Ok(Request::Write {
             values: Listed::<NewValue>::read(alloc, words)?,
+            range: range.copy(alloc)?,
         }),
         RequestVerb::Browse => Ok(Request::Browse {
             references: References::read(alloc, words)?,
@@ -108,6 +117,17 @@ fn request(alloc: Global, verb: RequestVerb, words: &mut Words<'_>) -> Result<Re
     }
 }
 
+// Whether it is a read or a write, which uses the range up that was set for it.
+fn uses_range(request: &Request) -> bool
+    ensures { result ≡ uses_range request.now }
+{
+    match request {
+        Request::Read { .. } => true,
+        Request::Write { .. } => true,
+        _ => false,
+    }
+}
+
 impl Known {
     /// Before the first line. Takes no memory.
     pub fn new(alloc: Global) -> Known
@@ -117,6 +137,7 @@ impl Known {
             connections: OpenConnections::new(alloc),
             greatest: None,
             sessions: 0,
+            range: Text::null(),
         }
     }
 
@@ -214,6 +235,9 @@ impl Known {
                 size: long_number(words)?,
             }),
             Verb::Abort => Ok(Statement::Abort),
+            Verb::Range => Ok(Statement::Range {
+                range: range(alloc, words)?,
+            }),
             Verb::GetEndpoints => Ok(Statement::GetEndpoints {
                 connection: self.connection(words)?,
             }),
@@ -223,7 +247,7 @@ impl Known {
             Verb::Ask(verb) => Ok(Statement::Ask {
                 connection: self.connection(words)?,
                 session: self.session(words)?,
-                request: request(alloc, verb, words)?,
+                request: request(alloc, &self.range, verb, words)?,
             }),
         }
     }
@@ -258,8 +282,8 @@ impl Known {
         self.line(alloc, &mut words)
     }
 
-    /// Knows what a statement has opened, ended or made. At an `Err` nothing has changed.
-    pub fn note(&mut self, statement: &Statement) -> Result<(), AllocError>
+    /// Knows what a statement has opened, ended, made, set or used up. At an `Err` nothing has changed.
+    pub fn note(&mut self, alloc: Global, statement: &Statement) -> Result<(), AllocError>
         ensures ok { OnOk result (self.new ≡ after self.old statement.now) }
         ensures err { OnErr result (self.new ≡ self.old) }
     {
@@ -275,6 +299,20 @@ impl Known {
             }
             Statement::CreateSession { connection: _ } => {
                 self.sessions = self.sessions.saturating_add(1);
+                Ok(())
+            }
+            Statement::Range { range } => {
+                self.range = range.copy(alloc)?;
+                Ok(())
+            }
+            Statement::Ask {
+                connection: _,
+                session: _,
+                request,
+            } => {
+                if uses_range(request) {
+                    self.range = Text::null();
+                }
                 Ok(())
             }
             _ => Ok(()),

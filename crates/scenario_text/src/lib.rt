@@ -7,13 +7,14 @@
 //!
 //! What a text means is a definition in `specs/`, over its bytes alone: `Words` for the words of a line,
 //! `Statements` for what a line says, with one clause a statement whose words stand in their order, and for
-//! what is known after it, and `Scenarios` for the whole. `Numbers`, `Choices`, `Values` and `Requests` have
-//! what a word or some words say.
+//! what is known after it, and `Scenarios` for the whole. `Numbers`, `Choices`, `Elements`, `Values` and `Requests`
+//! have what a word or some words say.
 //!
 //! Read docs/SCENARIOS.md first, then [`Statement`].
 #![tactic(auto)]
 
 mod choices;
+mod elements;
 mod fault;
 mod known;
 mod numbers;

@@ -38,6 +38,7 @@ fn lines_of(alloc: Global, text: &str) -> Result<Vec<&str>, AllocError>
 
 // Knows what a line said, and lists it.
 fn keep(
+    alloc: Global,
     known: &mut Known,
     lines: &mut Vec<Line>,
     number: u64,
@@ -49,7 +50,7 @@ fn keep(
     match said {
         None => Ok(()),
         Some(statement) => {
-            known.note(&statement)?;
+            known.note(alloc, &statement)?;
             match lines.push(Line { number, statement }) {
                 Ok(()) => Ok(()),
                 Err(e) => Err(AllocError::from(e)),
@@ -82,7 +83,7 @@ pub fn readable(alloc: Global, text: &str) -> Result<Scenario, AllocError>
     for (place, text) in texts.iter().enumerate() {
         let number = place as u64 + 1;
         match known.read(alloc, text) {
-            Ok(said) => keep(&mut known, &mut lines, number, said)?,
+            Ok(said) => keep(alloc, &mut known, &mut lines, number, said)?,
             Err(cause) => {
                 let fault = fault_at(number, cause)?;
                 return Ok(Scenario {

@@ -21,10 +21,14 @@ pub enum Request {
         /// 0 is the source's time, 1 the server's, 2 both and 3 neither.
         timestamps: i32,
         attributes: Listed<Attribute>,
+        /// Which elements of each value are wanted: the text of the `range` before it, or null.
+        range: Text,
     },
     /// `write c s (ID TYPE VALUE TIME)..`
     Write {
         values: Listed<NewValue>,
+        /// Which elements of each node's value are written: the text of the `range` before it, or null.
+        range: Text,
     },
     /// `browse c s MAX ID DIR REF true|false CLASSES RESULT`
     Browse {
@@ -146,6 +150,10 @@ pub enum Statement {
     },
     /// `abort`: the next request is begun and given up.
     Abort,
+    /// `range RANGE`: the next read or write has this index range in all its entries (NumericRange, IEC 62541-4, section 7).
+    Range {
+        range: Text,
+    },
     /// `endpoints c`: GetEndpoints.
     GetEndpoints {
         connection: u64,

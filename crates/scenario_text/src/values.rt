@@ -1,30 +1,19 @@
 //! Keys, bytes, texts and values to write.
 
 ghost use Rattle.std.specs.Prelude.{◌≡◌, Some, Ok};
-ghost use Rattle.hex.specs.Hex.{decode_of, decode_sized};
-ghost use Rattle.ua_types.specs.Answers.{Gives, GivesAs};
-ghost use Rattle.scenario_text.specs.Readings.{Finds, ReadsAs};
-ghost use Rattle.scenario_text.specs.declared.fault.Cause.TheVariants.{Memory, Value};
-ghost use Rattle.scenario_text.specs.Values.{key_of, key_reading, octets_of, octets_reading, text_reading, value_of, value_reading};
+ghost use Rattle.hex.specs.Hex.{decode_sized};
+ghost use Rattle.ua_types.specs.Answers.{Gives};
+ghost use Rattle.scenario_text.specs.Readings.{Finds, Reads, ReadsAs};
+ghost use Rattle.scenario_text.specs.declared.fault.Cause.TheVariants.{Memory};
+ghost use Rattle.scenario_text.specs.Values.{key_of, key_reading, octets_reading, text_reading, range_reading, quoted_value, value_of, element_type, bracketed, named_type, value_reading};
 
+use crate::elements::{content, octets_of};
 use crate::fault::Cause;
-use crate::numbers::{named_id, signed, truth};
 use crate::phrases::Phrase;
 use crate::words::Words;
 use std::alloc::Global;
-use ua_types::{ByteString, Guid, Moment, Status, Text, decimal_up_to};
+use ua_types::{ByteString, Guid, Moment, NodeId, Status, Text, behind};
 use ua_values::{Content, ValueType, Variant};
-
-// The bytes that hex digits stand for.
-fn octets_of(alloc: Global, digits: &str) -> Result<Vec<u8>, Cause>
-    ensures { GivesAs Memory (λ v. v.items) result (octets_of (decode_of digits.now)) }
-{
-    match hex::decode(alloc, digits) {
-        Ok(bytes) => Ok(bytes),
-        Err(hex::FromHexError::OutOfMemory) => Err(Cause::Memory),
-        Err(_) => Err(Cause::Value),
-    }
-}
 
 /// The next word as bytes in hex digits.
 #[tactic(auto, unfolding(crate::specs::Values::octets_reading))]
@@ -63,15 +52,6 @@ fn held(alloc: Global, text: &str) -> Result<Text, Cause>
     Ok(Text::from_str(alloc, text)?)
 }
 
-fn held_octets(bytes: Vec<u8>) -> Result<ByteString, Cause>
-    ensures { Gives Memory result (Ok (Some bytes.items)) }
-{
-    if bytes.len() >= 1 << 31 {
-        return Err(Cause::Memory);
-    }
-    Ok(ByteString::new(bytes))
-}
-
 impl Phrase for Text {
     ghost reading = { text_reading };
 
@@ -81,86 +61,107 @@ impl Phrase for Text {
     }
 }
 
-// The value of a type that a word says, which may stand in quotes.
-#[tactic(auto, unfolding(crate::specs::Values::value_of))]
-fn value_of(alloc: Global, kind: ValueType, text: &str, quoted: bool) -> Result<Variant, Cause>
-    ensures { Gives Memory result (value_of kind (text.now, quoted)) }
+/// Any word as a text, quoted or not: an index range, which nothing here judges.
+#[tactic(auto, unfolding(crate::specs::Values::range_reading))]
+pub(crate) fn range(alloc: Global, words: &mut Words<'_>) -> Result<Text, Cause>
+    ensures { Reads result words.new (range_reading words.old) }
 {
-    match kind {
-        ValueType::Boolean => {
-            let truth = truth(text).ok_or(Cause::Value)?;
-            Ok(Variant::Boolean(Content::Scalar(truth)))
-        }
-        ValueType::SByte => {
-            let number = signed(0x80, 0x7f, text).ok_or(Cause::Value)?;
-            Ok(Variant::SByte(Content::Scalar(number as i8)))
-        }
-        ValueType::Byte => {
-            let number = decimal_up_to(0xff, text).ok_or(Cause::Value)?;
-            Ok(Variant::Byte(Content::Scalar(number as u8)))
-        }
-        ValueType::Int16 => {
-            let number = signed(0x8000, 0x7fff, text).ok_or(Cause::Value)?;
-            Ok(Variant::Int16(Content::Scalar(number as i16)))
-        }
-        ValueType::UInt16 => {
-            let number = decimal_up_to(0xffff, text).ok_or(Cause::Value)?;
-            Ok(Variant::UInt16(Content::Scalar(number as u16)))
-        }
-        ValueType::Int32 => {
-            let number = signed(0x8000_0000, 0x7fff_ffff, text).ok_or(Cause::Value)?;
-            Ok(Variant::Int32(Content::Scalar(number as i32)))
-        }
-        ValueType::UInt32 => {
-            let number = decimal_up_to(0xffff_ffff, text).ok_or(Cause::Value)?;
-            Ok(Variant::UInt32(Content::Scalar(number as u32)))
-        }
-        ValueType::Int64 => {
-            let number = signed(1 << 63, (1 << 63) - 1, text).ok_or(Cause::Value)?;
-            Ok(Variant::Int64(Content::Scalar(number)))
-        }
-        ValueType::UInt64 => {
-            let number = decimal_up_to(u64::MAX, text).ok_or(Cause::Value)?;
-            Ok(Variant::UInt64(Content::Scalar(number)))
-        }
-        ValueType::String => {
-            if !quoted {
-                return Err(Cause::Value);
-            }
-            let text = held(alloc, text)?;
-            Ok(Variant::String(Content::Scalar(text)))
-        }
-        ValueType::DateTime => {
-            let steps = signed(1 << 63, (1 << 63) - 1, text).ok_or(Cause::Value)?;
-            Ok(Variant::DateTime(Content::Scalar(Moment(steps))))
-        }
-        ValueType::Guid => {
-            let guid = Guid::parse(text).ok_or(Cause::Value)?;
-            Ok(Variant::Guid(Content::Scalar(guid)))
-        }
-        ValueType::ByteString => {
-            let bytes = held_octets(octets_of(alloc, text)?)?;
-            Ok(Variant::ByteString(Content::Scalar(bytes)))
-        }
-        ValueType::NodeId => {
-            let id = named_id(alloc, Cause::Value, text)?;
-            Ok(Variant::NodeId(Content::Scalar(id)))
-        }
-        ValueType::StatusCode => {
-            let code = decimal_up_to(0xffff_ffff, text).ok_or(Cause::Value)?;
-            Ok(Variant::StatusCode(Content::Scalar(Status(code as u32))))
-        }
+    held(alloc, words.word()?)
+}
+
+// A text, which has to stand in quotes.
+fn quoted_value(alloc: Global, text: &str, quoted: bool) -> Result<Variant, Cause>
+    ensures { Gives Memory result (quoted_value (text.now, quoted)) }
+{
+    if quoted {
+        Ok(Variant::String(Content::Scalar(held(alloc, text)?)))
+    } else {
+        Err(Cause::Value)
     }
 }
 
-/// A word that names a type, and a value of the type.
+// The value of a type that a word says, which may stand in quotes, or a list of values.
+#[tactic(auto, unfolding(crate::specs::Values::value_of))]
+fn value_of(
+    alloc: Global,
+    kind: ValueType,
+    is_list: bool,
+    text: &str,
+    quoted: bool,
+) -> Result<Variant, Cause>
+    ensures { Gives Memory result (value_of kind is_list (text.now, quoted)) }
+{
+    match kind {
+        ValueType::Boolean => Ok(Variant::Boolean(content::<bool>(alloc, is_list, text)?)),
+        ValueType::SByte => Ok(Variant::SByte(content::<i8>(alloc, is_list, text)?)),
+        ValueType::Byte => Ok(Variant::Byte(content::<u8>(alloc, is_list, text)?)),
+        ValueType::Int16 => Ok(Variant::Int16(content::<i16>(alloc, is_list, text)?)),
+        ValueType::UInt16 => Ok(Variant::UInt16(content::<u16>(alloc, is_list, text)?)),
+        ValueType::Int32 => Ok(Variant::Int32(content::<i32>(alloc, is_list, text)?)),
+        ValueType::UInt32 => Ok(Variant::UInt32(content::<u32>(alloc, is_list, text)?)),
+        ValueType::Int64 => Ok(Variant::Int64(content::<i64>(alloc, is_list, text)?)),
+        ValueType::UInt64 => Ok(Variant::UInt64(content::<u64>(alloc, is_list, text)?)),
+        ValueType::String => quoted_value(alloc, text, quoted),
+        ValueType::DateTime => Ok(Variant::DateTime(content::<Moment>(alloc, is_list, text)?)),
+        ValueType::Guid => Ok(Variant::Guid(content::<Guid>(alloc, is_list, text)?)),
+        ValueType::ByteString => Ok(Variant::ByteString(content::<ByteString>(
+            alloc, is_list, text,
+        )?)),
+        ValueType::NodeId => Ok(Variant::NodeId(content::<NodeId>(alloc, is_list, text)?)),
+        ValueType::StatusCode => Ok(Variant::StatusCode(content::<Status>(alloc, is_list, text)?)),
+    }
+}
+
+// The type of a list's elements; a String isn't one.
+fn element_type(kind: Option<ValueType>) -> Result<(ValueType, bool), Cause>
+    ensures { result ≡ element_type kind }
+{
+    match kind {
+        None => Err(Cause::Word),
+        Some(ValueType::String) => Err(Cause::Word),
+        Some(kind) => Ok((kind, true)),
+    }
+}
+
+// A type behind a bracket, up to the closing one at the end.
+#[tactic(auto, unfolding(crate::specs::Values::bracketed))]
+fn bracketed(text: &str) -> Result<(ValueType, bool), Cause>
+    ensures { result ≡ bracketed text.now }
+{
+    match text.split_once(']') {
+        Some((name, rest)) => {
+            if rest.is_empty() {
+                element_type(ValueType::named(name))
+            } else {
+                Err(Cause::Word)
+            }
+        }
+        None => Err(Cause::Word),
+    }
+}
+
+// The type that a word names, and whether it stands in brackets, for a list.
+#[tactic(auto, unfolding(crate::specs::Values::named_type))]
+fn named_type(word: &str) -> Result<(ValueType, bool), Cause>
+    ensures { result ≡ named_type word.now }
+{
+    match behind(word, "[") {
+        Some(text) => bracketed(text),
+        None => match ValueType::named(word) {
+            Some(kind) => Ok((kind, false)),
+            None => Err(Cause::Word),
+        },
+    }
+}
+
+/// A word that names a type, and a value of the type or a list of such values.
 impl Phrase for Variant {
     ghost reading = { value_reading };
 
     #[tactic(auto, unfolding(crate::specs::Values::value_reading))]
     fn read(alloc: Global, words: &mut Words<'_>) -> Result<Variant, Cause> {
-        let kind = ValueType::named(words.word()?).ok_or(Cause::Word)?;
+        let (kind, is_list) = named_type(words.word()?)?;
         let (text, quoted) = words.spelled()?;
-        value_of(alloc, kind, text, quoted)
+        value_of(alloc, kind, is_list, text, quoted)
     }
 }

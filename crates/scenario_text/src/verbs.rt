@@ -43,6 +43,7 @@ pub(crate) enum Verb {
     Cut,
     Chunk,
     Abort,
+    Range,
     GetEndpoints,
     CreateSession,
     Ask(RequestVerb),
@@ -144,6 +145,9 @@ fn sent_verb_of(word: &str) -> Result<Verb, Cause>
     }
     if word == "abort" {
         return Ok(Verb::Abort);
+    }
+    if word == "range" {
+        return Ok(Verb::Range);
     }
     if word == "endpoints" {
         return Ok(Verb::GetEndpoints);

@@ -2,6 +2,7 @@
 //! error.
 
 mod browse;
+mod connections;
 mod encoding;
 mod history;
 mod requests;
@@ -26,7 +27,8 @@ fn elapsed(rt: &HostRuntime, start: io::Result<Instant>) -> u128 {
 // - `requests`: requests are handed to a whole server; how many are answered in a second;
 // - `browse`: Browse of a node of 3 references, and, once, of one of 99,000 by pages of 1,000;
 // - `history`: a variable is written 100,000 times, whose history is kept, and the history is read by pages of 1,000, once;
-// - `space`: the largest address space is built and asked, once.
+// - `space`: an address space of so many tenths of the largest is built and asked, once;
+// - `connections`: clients come, are served and go, beside so many that stay; the time of one.
 pub(crate) fn run(rt: &HostRuntime, line: &str) -> io::Result<()> {
     let (name, rounds) = line.split_once(' ').unwrap_or((line, "1"));
     let rounds = rounds.parse::<u32>().unwrap_or(1);
@@ -35,7 +37,8 @@ pub(crate) fn run(rt: &HostRuntime, line: &str) -> io::Result<()> {
         "requests" => requests::run(rt, rounds),
         "browse" => browse::run(rt, rounds),
         "history" => history::run(rt),
-        "space" => space::run(rt),
+        "space" => space::run(rt, rounds),
+        "connections" => connections::run(rt, rounds),
         _ => Err(io::Error::from(ErrorKind::InvalidInput)),
     }
 }

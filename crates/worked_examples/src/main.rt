@@ -25,12 +25,12 @@
 //! lines of `run` have them too, as in `send 1 Error Bad_TcpMessageTypeInvalid 45525246..`. A frame that is a part of a
 //! message is an `intermediate chunk`, or the `final chunk`, where the names are those of the whole message.
 //!
-//! Of the encoding:
+//! Of the encoding ([`encoding_examples`]):
 //!
 //! - `take TYPE HEX`: what the bytes mean as a value of this type, how it is written again, and how many bytes are left,
 //!   or why they mean none, and how many are then left. Where the type is a message, they are its body, whose number
 //!   precedes the value; where it is the structure in an ExtensionObject, they are that object. No rest is told of these.
-//!   Where [`viewed`] has a view of the type, it has to say the same of the same bytes: what it says else is printed too;
+//!   Where the type has a view, it has to say the same of the same bytes: what it says else is printed too;
 //! - `compare TYPE HEX HEX`: how the first of two values is ordered beside the second, whether they are equal, and a copy
 //!   of the first;
 //! - `number HEX`: the number of the id that a body begins with, 0 where that is none of the standard's;
@@ -49,18 +49,16 @@
 mod again;
 mod behind;
 mod benchmarks;
-mod encoding;
 mod endings;
 mod messages;
 mod names;
 mod node_files;
 mod runs;
 mod state_table;
-mod viewed;
 
 use again::write_again;
 use behind::{named, write_behind};
-use encoding::{write_compared, write_node_id, write_number, write_taken};
+use encoding_examples::write_encoding;
 use endings::write_end;
 use node_files::write_nodes;
 use runs::{write_answers, write_last, write_rows, write_run};
@@ -102,20 +100,6 @@ fn printed<R: Files + AllocGlobal + Net + RandomSource + Clock + Wait>(
 
 fn text_of(bytes: &[u8]) -> &str {
     std::str::from_utf8(bytes).unwrap_or("")
-}
-
-// A line of the encoding, or what is no such line.
-fn write_encoding(alloc: Global, words: &[&str], output: &mut Vec<u8>) -> Option<io::Result<()>> {
-    match words {
-        ["take", name, digits] => Some(write_taken(alloc, name, digits, output)),
-        ["compare", name, first, second] => {
-            Some(write_compared(alloc, name, first, second, output))
-        }
-        ["number", digits] => Some(write_number(alloc, digits, output)),
-        ["node_id", text] => Some(write_node_id(alloc, text, output)),
-        ["node_id"] => Some(write_node_id(alloc, "", output)),
-        _ => None,
-    }
 }
 
 // What a run sends: all of it, the bodies of its messages, or the last of these.

@@ -130,7 +130,7 @@ pub(super) fn write_steps<R: Files + AllocGlobal>(rt: &R, output: &mut Vec<u8>) 
     };
     let nodes = fs::read_to_string(rt, "sample.toml")?;
     let (config, space) = plant(alloc, nodes.as_str())?;
-    let mut server = Server::new(alloc, config, space);
+    let mut server = Server::new(alloc, config, space)?;
     let so = are_answered(alloc, &mut server, events.as_slice());
     write!(
         output,

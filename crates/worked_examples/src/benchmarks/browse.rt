@@ -7,7 +7,7 @@ use std::alloc::{AllocError, Global};
 use std::io::{self, Write};
 use std::time::Instant;
 use ua_space::{Node, NodeDetails, Part, Space, Triple};
-use ua_types::{Config, LocalizedText, NodeId, QualifiedName, Text};
+use ua_types::{Config, Listed, LocalizedText, NodeId, QualifiedName, Text};
 
 /// How many objects stand below the folder.
 const MANY: u32 = 99_000;
@@ -47,6 +47,7 @@ fn object(alloc: Global, number: u32) -> Result<Node, AllocError> {
             text: Text::null(),
         },
         details: NodeDetails::Object,
+        history: Listed::new(alloc),
     })
 }
 
@@ -140,6 +141,6 @@ fn time_all(rt: &HostRuntime, server: &mut Server, rounds: u32) -> io::Result<()
 pub(crate) fn run(rt: &HostRuntime, rounds: u32) -> io::Result<()> {
     let alloc = rt.alloc();
     let (config, space) = plant(alloc)?;
-    let mut server = Server::new(alloc, config, space);
+    let mut server = Server::new(alloc, config, space)?;
     time_all(rt, &mut server, rounds.min(1_000_000_000))
 }

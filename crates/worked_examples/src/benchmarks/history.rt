@@ -121,6 +121,6 @@ fn time_all(rt: &HostRuntime, server: &mut Server) -> io::Result<()> {
 pub(crate) fn run(rt: &HostRuntime) -> io::Result<()> {
     let alloc = rt.alloc();
     let (config, space) = plant(alloc, NODES)?;
-    let mut server = Server::new(alloc, config, space);
+    let mut server = Server::new(alloc, config, space)?;
     time_all(rt, &mut server)
 }

@@ -1,4 +1,4 @@
-//! Requests to a whole server, handed in as the bytes of one connection.
+//! Requests to a whole server, handed in as the bytes of a connection.
 
 use super::elapsed;
 use bytes::Bytes;
@@ -36,7 +36,7 @@ const CREATE: [u8; 4] = [0x01, 0x00, 0xcd, 0x01];
 
 const ACTIVATE: [u8; 4] = [0x01, 0x00, 0xd3, 0x01];
 
-const READ: [u8; 4] = [0x01, 0x00, 0x77, 0x02];
+pub(crate) const READ: [u8; 4] = [0x01, 0x00, 0x77, 0x02];
 
 const WRITE: [u8; 4] = [0x01, 0x00, 0xa1, 0x02];
 
@@ -56,7 +56,7 @@ const NO_USER: &[u8] =
     b"\xff\xff\xff\xff\xff\xff\xff\xff\xff\xff\xff\xff\xff\xff\xff\xff\0\0\0\xff\xff\xff\xff\xff\xff\xff\xff";
 
 // A Read without times, up to its list; the variable's value, to be read; and the same, to be written with the number 258.
-const NO_TIMES: &[u8] = b"\0\0\0\0\0\0\0\0\x03\0\0\0";
+pub(crate) const NO_TIMES: &[u8] = b"\0\0\0\0\0\0\0\0\x03\0\0\0";
 
 const VALUE: &[u8] = b"\x01\x01\x01\0\x0d\0\0\0\xff\xff\xff\xff\0\0\xff\xff\xff\xff";
 
@@ -77,18 +77,33 @@ pub(crate) fn joined(alloc: Global, parts: &[&[u8]]) -> Result<Vec<u8>, AllocErr
     Ok(out)
 }
 
-// Hands bytes to the server.
-fn step(alloc: Global, server: &mut Server, bytes: Vec<u8>) -> io::Result<Step> {
-    let bytes = Bytes::from_vec(bytes)?;
-    match server.step(alloc, &Event::Bytes { conn: 1, bytes }) {
+/// Tells the server what happens.
+pub(crate) fn tell(alloc: Global, server: &mut Server, event: &Event) -> io::Result<Step> {
+    match server.step(alloc, event) {
         Ok(step) => Ok(step),
         Err(_) => Err(failed()),
     }
 }
 
-// Hands bytes to the server, and says how many it sends.
+// Hands bytes of a connection to the server.
+fn step(alloc: Global, server: &mut Server, conn: u64, bytes: Vec<u8>) -> io::Result<Step> {
+    let bytes = Bytes::from_vec(bytes)?;
+    tell(alloc, server, &Event::Bytes { conn, bytes })
+}
+
+/// Hands bytes of the first connection to the server, and says how many it sends.
 pub(crate) fn hand_in(alloc: Global, server: &mut Server, bytes: Vec<u8>) -> io::Result<usize> {
-    let step = step(alloc, server, bytes)?;
+    hand_in_on(alloc, server, 1, bytes)
+}
+
+/// Hands bytes of a connection to the server, and says how many it sends.
+pub(crate) fn hand_in_on(
+    alloc: Global,
+    server: &mut Server,
+    conn: u64,
+    bytes: Vec<u8>,
+) -> io::Result<usize> {
+    let step = step(alloc, server, conn, bytes)?;
     let mut sent = 0usize;
     for out in step.outs.as_slice() {
         match out {
@@ -102,7 +117,7 @@ pub(crate) fn hand_in(alloc: Global, server: &mut Server, bytes: Vec<u8>) -> io:
 // Hands bytes to the server, and writes the bodies of what it sends.
 fn write_answers(rt: &HostRuntime, server: &mut Server, bytes: Vec<u8>) -> io::Result<()> {
     let alloc = rt.alloc();
-    let step = step(alloc, server, bytes)?;
+    let step = step(alloc, server, 1, bytes)?;
     let mut output = rt.stdout();
     for out in step.outs.as_slice() {
         match out {
@@ -117,9 +132,21 @@ fn write_answers(rt: &HostRuntime, server: &mut Server, bytes: Vec<u8>) -> io::R
     Ok(())
 }
 
-// A request in one chunk of the first channel.
+/// A request in one chunk of the first channel.
 pub(crate) fn request(
     alloc: Global,
+    number: u32,
+    type_id: &[u8; 4],
+    token: &[u8],
+    fields: &[u8],
+) -> Result<Vec<u8>, AllocError> {
+    request_on(alloc, 1, number, type_id, token, fields)
+}
+
+/// A request in one chunk of a channel.
+pub(crate) fn request_on(
+    alloc: Global,
+    channel: u32,
     number: u32,
     type_id: &[u8; 4],
     token: &[u8],
@@ -130,7 +157,8 @@ pub(crate) fn request(
     let mut out = Vec::new(alloc);
     out.extend_from_slice(b"MSGF".as_slice())?;
     out.extend_from_slice(size.to_le_bytes().as_slice())?;
-    out.extend_from_slice(b"\x01\0\0\0\x01\0\0\0".as_slice())?;
+    out.extend_from_slice(channel.to_le_bytes().as_slice())?;
+    out.extend_from_slice(b"\x01\0\0\0".as_slice())?;
     out.extend_from_slice(number.to_le_bytes().as_slice())?;
     out.extend_from_slice(number.to_le_bytes().as_slice())?;
     out.extend_from_slice(type_id.as_slice())?;
@@ -154,21 +182,34 @@ pub(crate) fn plant(alloc: Global, text: &str) -> io::Result<(Config, Space)> {
     }
 }
 
-// Opens the connection with its channel, and a session on it, by two requests.
+/// Opens the first connection with its channel, and a session on it, by two requests.
 pub(crate) fn greet(alloc: Global, server: &mut Server) -> io::Result<()> {
-    let opened = Event::Opened {
-        conn: 1,
-        key: [0; 32],
-    };
-    if server.step(alloc, &opened).is_err() {
-        return Err(failed());
-    }
-    hand_in(alloc, server, joined(alloc, &[HELLO, OPEN])?)?;
-    let create = request(alloc, 2, &CREATE, NO_TOKEN, NO_CLIENT)?;
-    hand_in(alloc, server, create)?;
-    let activate = request(alloc, 3, &ACTIVATE, TOKEN, NO_USER)?;
-    hand_in(alloc, server, activate)?;
+    greet_on(alloc, server, 1, TOKEN)?;
     Ok(())
+}
+
+/// Opens the connection with this number, the channel with the same number, and a session on it, which gets this token, by
+/// two requests. Says how many bytes the server sends.
+pub(crate) fn greet_on(
+    alloc: Global,
+    server: &mut Server,
+    number: u32,
+    token: &[u8],
+) -> io::Result<usize> {
+    let conn = u64::from(number);
+    let opened = Event::Opened { conn, key: [0; 32] };
+    tell(alloc, server, &opened)?;
+    let opening = joined(alloc, &[HELLO, OPEN])?;
+    let acknowledged = hand_in_on(alloc, server, conn, opening)?;
+    let create = request_on(alloc, number, 2, &CREATE, NO_TOKEN, NO_CLIENT)?;
+    let created = hand_in_on(alloc, server, conn, create)?;
+    let activate = request_on(alloc, number, 3, &ACTIVATE, token, NO_USER)?;
+    let activated = hand_in_on(alloc, server, conn, activate)?;
+    Ok(
+        acknowledged
+            .saturating_add(created)
+            .saturating_add(activated),
+    )
 }
 
 // Hands in a request so many times, and tells how many are answered in a second, and how long an answer is.
@@ -285,6 +326,6 @@ fn cut_short(rt: &HostRuntime, server: &mut Server, number: u32) -> io::Result<(
 pub(crate) fn run(rt: &HostRuntime, rounds: u32) -> io::Result<()> {
     let alloc = rt.alloc();
     let (config, space) = plant(alloc, NODES)?;
-    let mut server = Server::new(alloc, config, space);
+    let mut server = Server::new(alloc, config, space)?;
     time_all(rt, &mut server, rounds.min(1_000_000_000))
 }

@@ -1,8 +1,9 @@
-//! A space of the largest size, built and asked: 100,000 nodes and 400,000 references, with a comb and a ladder among them.
-//! The comb is a chain of 50,000 types, each of which has a second supertype beside the one above it. The ladder has 10,000
-//! steps with two types each, both of them subtypes of both types of the step above, so there are 2^9,999 ways down.
+//! A space of so many tenths of the largest size, built and asked. A tenth are 100,000 nodes and 400,000 references, with a
+//! comb and a ladder among them. The comb of a tenth is a chain of 50,000 types, each of which has a second supertype beside the
+//! one above it. Its ladder has 10,000 steps with two types each, both of them subtypes of both types of the step above, so
+//! there are 2^9,999 ways down.
 
-ghost use Rattle.std.specs.Prelude.{◌<◌};
+ghost use Rattle.std.specs.Prelude.{◌≤◌};
 
 use super::elapsed;
 use super::requests::failed;
@@ -10,20 +11,60 @@ use std::alloc::{AllocError, Global};
 use std::io::{self, Write};
 use std::time::Instant;
 use ua_space::{Node, NodeDetails, Part, Space, SpaceFault, Triple};
-use ua_types::{Config, LocalizedText, NodeId, QualifiedName, Text};
+use ua_types::{Config, Listed, LocalizedText, NodeId, QualifiedName, Text};
+use ua_values::DataValue;
 
+// What a tenth has: the types of the comb, the steps of the ladder, its nodes and its references.
 const TYPES: u32 = 50_000;
 
 const STEPS: u32 = 10_000;
 
-// The first of the ladder's types, and the first object.
-const LADDER: u32 = TYPES;
+const NODES: u32 = 100_000;
 
-const FIRST: u32 = LADDER + 2 * STEPS;
+const TRIPLES: u32 = 400_000;
 
-const OBJECTS: u32 = 29_978;
+// What the base set has.
+const BASE_NODES: u32 = 22;
 
-const TRIPLES: usize = 399_971;
+const BASE_TRIPLES: u32 = 29;
+
+// How many types the comb has, how many steps the ladder, how many objects there are, and how many references.
+#[derive(Clone, Copy)]
+struct Size {
+    types: u32,
+    steps: u32,
+    objects: u32,
+    triples: usize,
+}
+
+impl Size {
+    fn of(tenths: u32) -> Size
+        requires most { tenths ≤ 10 }
+        requires least { 1 ≤ tenths }
+    {
+        Size {
+            types: TYPES * tenths,
+            steps: STEPS * tenths,
+            objects: (NODES - TYPES - 2 * STEPS) * tenths - BASE_NODES,
+            triples: (TRIPLES * tenths - BASE_TRIPLES) as usize,
+        }
+    }
+
+    fn ladder(self) -> u32 {
+        self.types
+    }
+
+    fn first_object(self) -> u32 {
+        self.types.saturating_add(self.steps.saturating_mul(2))
+    }
+
+    // A type of a step of the ladder: the first or the second.
+    fn rung(self, step: u32, which: u32) -> u32 {
+        self.types
+            .saturating_add(step.saturating_mul(2))
+            .saturating_add(which)
+    }
+}
 
 fn no_text() -> LocalizedText {
     LocalizedText {
@@ -32,7 +73,7 @@ fn no_text() -> LocalizedText {
     }
 }
 
-fn node(number: u32, details: NodeDetails) -> Node {
+fn node(number: u32, details: NodeDetails, history: Listed<DataValue>) -> Node {
     Node {
         id: NodeId::numeric(1, number),
         browse_name: QualifiedName {
@@ -42,6 +83,7 @@ fn node(number: u32, details: NodeDetails) -> Node {
         display_name: no_text(),
         description: no_text(),
         details,
+        history,
     }
 }
 
@@ -54,13 +96,14 @@ fn reference_type() -> NodeDetails {
 }
 
 // The types of the comb and of the ladder, and then objects.
-fn nodes(alloc: Global) -> Result<Vec<Node>, AllocError> {
+fn nodes(alloc: Global, size: Size) -> Result<Vec<Node>, AllocError> {
     let mut nodes = Vec::new(alloc);
-    for number in 0..FIRST {
-        nodes.push(node(number, reference_type()))?;
+    let first = size.first_object();
+    for number in 0..first {
+        nodes.push(node(number, reference_type(), Listed::new(alloc)))?;
     }
-    for number in FIRST..FIRST + OBJECTS {
-        nodes.push(node(number, NodeDetails::Object))?;
+    for number in first..first.saturating_add(size.objects) {
+        nodes.push(node(number, NodeDetails::Object, Listed::new(alloc)))?;
     }
     Ok(nodes)
 }
@@ -76,13 +119,14 @@ fn triple(source: NodeId, kind: u32, target: NodeId, place: u64) -> Triple {
 
 // The comb's references, the lowest type first. The second supertype is the ladder's first type; it is
 // declared before the other one at each second type.
-fn add_comb(triples: &mut Vec<Triple>) -> Result<(), AllocError> {
-    for number in (1..TYPES).rev() {
+fn add_comb(triples: &mut Vec<Triple>, size: Size) -> Result<(), AllocError> {
+    let ladder = size.ladder();
+    for number in (1..size.types).rev() {
         let place = triples.len() as u64;
         let (one, two) = if number % 2 == 0 {
-            (LADDER, number - 1)
+            (ladder, number.saturating_sub(1))
         } else {
-            (number - 1, LADDER)
+            (number.saturating_sub(1), ladder)
         };
         for upper in [one, two] {
             let source = NodeId::numeric(1, upper);
@@ -94,13 +138,13 @@ fn add_comb(triples: &mut Vec<Triple>) -> Result<(), AllocError> {
 }
 
 // The ladder's references, each step's four.
-fn add_ladder(triples: &mut Vec<Triple>) -> Result<(), AllocError> {
-    for step in 1..STEPS {
+fn add_ladder(triples: &mut Vec<Triple>, size: Size) -> Result<(), AllocError> {
+    for step in 1..size.steps {
         for upper in 0..2u32 {
             for lower in 0..2u32 {
                 let place = triples.len() as u64;
-                let source = NodeId::numeric(1, LADDER + 2 * (step - 1) + upper);
-                let target = NodeId::numeric(1, LADDER + 2 * step + lower);
+                let source = NodeId::numeric(1, size.rung(step.saturating_sub(1), upper));
+                let target = NodeId::numeric(1, size.rung(step, lower));
                 triples.push(triple(source, 45, target, place))?;
             }
         }
@@ -109,29 +153,31 @@ fn add_ladder(triples: &mut Vec<Triple>) -> Result<(), AllocError> {
 }
 
 // The comb, the ladder, and then each object organizes those after it.
-fn triples(alloc: Global) -> Result<Vec<Triple>, AllocError> {
+fn triples(alloc: Global, size: Size) -> Result<Vec<Triple>, AllocError> {
     let mut triples = Vec::new(alloc);
-    add_comb(&mut triples)?;
-    add_ladder(&mut triples)?;
+    add_comb(&mut triples, size)?;
+    add_ladder(&mut triples, size)?;
+    let first = size.first_object();
     for step in 1..12u32 {
-        for number in 0..OBJECTS {
-            if triples.len() == TRIPLES {
+        for number in 0..size.objects {
+            if triples.len() == size.triples {
                 return Ok(triples);
             }
             let place = triples.len() as u64;
-            let source = NodeId::numeric(1, FIRST + number);
-            let target = NodeId::numeric(1, FIRST + (number + step) % OBJECTS);
+            let other = number.saturating_add(step) % size.objects.max(1);
+            let source = NodeId::numeric(1, first.saturating_add(number));
+            let target = NodeId::numeric(1, first.saturating_add(other));
             triples.push(triple(source, 35, target, place))?;
         }
     }
     Ok(triples)
 }
 
-fn build(rt: &HostRuntime) -> Result<Space, SpaceFault> {
+fn build(rt: &HostRuntime, size: Size) -> Result<Space, SpaceFault> {
     let alloc = rt.alloc();
     let config = Config::standard(alloc)?;
-    let nodes = nodes(alloc)?;
-    let triples = triples(alloc)?;
+    let nodes = nodes(alloc, size)?;
+    let triples = triples(alloc, size)?;
     let start = Instant::now(rt);
     let space = Space::build(alloc, &config, nodes, triples);
     report(rt, "build", start);
@@ -145,26 +191,26 @@ fn report(rt: &HostRuntime, name: &str, start: io::Result<Instant>) {
 }
 
 // How many of the ladder's types are the first type of a step or a subtype of it.
-fn below(rt: &HostRuntime, space: &Space, step: u32) -> Result<usize, AllocError>
-    requires { step < 10000 }
-{
-    let upper = NodeId::numeric(1, LADDER + 2 * step);
+fn below(rt: &HostRuntime, space: &Space, size: Size, step: u32) -> Result<usize, AllocError> {
+    let upper = NodeId::numeric(1, size.rung(step, 0));
     let start = Instant::now(rt);
     let types = space.subtypes(rt.alloc(), &upper)?;
     report(rt, "subtypes", start);
     let start = Instant::now(rt);
     let mut count = 0usize;
-    for number in LADDER..FIRST {
+    for number in size.ladder()..size.first_object() {
         if types.contains(&NodeId::numeric(1, number)) {
             count = count.saturating_add(1);
         }
     }
-    report(rt, "20,000 questions about them", start);
+    report(rt, "as many questions as the ladder has types", start);
     Ok(count)
 }
 
-fn ladder(rt: &HostRuntime, space: &Space) -> Result<(usize, usize), AllocError> {
-    Ok((below(rt, space, 0)?, below(rt, space, STEPS / 2)?))
+fn ladder(rt: &HostRuntime, space: &Space, size: Size) -> Result<(usize, usize), AllocError> {
+    let all = below(rt, space, size, 0)?;
+    let half = below(rt, space, size, size.steps / 2)?;
+    Ok((all, half))
 }
 
 // Whether the one type is a subtype of the other, asked once.
@@ -193,29 +239,33 @@ fn short(rt: &HostRuntime, space: &Space) -> usize {
     count
 }
 
-fn ask(rt: &HostRuntime, space: &Space) -> io::Result<()> {
+fn ask(rt: &HostRuntime, space: &Space, size: Size) -> io::Result<()> {
     let nodes = space.node_count();
     let triples = space.triple_count();
     let mut out = rt.stdout();
     writeln!(out, "{nodes} nodes, {triples} references")?;
-    let up = asked(rt, space, "is_subtype up the comb", TYPES - 1, 0);
-    let aside = asked(rt, space, "is_subtype, comb aside", TYPES - 1, LADDER + 1);
+    let low = size.types.saturating_sub(1);
+    let beside = size.rung(0, 1);
+    let up = asked(rt, space, "is_subtype up the comb", low, 0);
+    let aside = asked(rt, space, "is_subtype, comb aside", low, beside);
     writeln!(out, "comb: {up} and {aside}")?;
-    let up = asked(rt, space, "is_subtype up the ladder", FIRST - 1, LADDER);
-    let aside = asked(rt, space, "is_subtype, ladder aside", FIRST - 1, 1);
+    let low = size.first_object().saturating_sub(1);
+    let up = asked(rt, space, "is_subtype up the ladder", low, size.ladder());
+    let aside = asked(rt, space, "is_subtype, ladder aside", low, 1);
     writeln!(out, "ladder: {up} and {aside}")?;
     let count = short(rt, space);
     writeln!(out, "one step: {count}")?;
-    match ladder(rt, space) {
+    match ladder(rt, space, size) {
         Ok((all, half)) => writeln!(out, "{all} and {half} subtypes"),
         Err(_) => writeln!(out, "memory"),
     }
 }
 
-/// Builds it, and asks it for subtypes.
-pub(crate) fn run(rt: &HostRuntime) -> io::Result<()> {
-    match build(rt) {
-        Ok(space) => ask(rt, &space),
+/// Builds a space of so many tenths of the largest, at most all, and asks it for subtypes.
+pub(crate) fn run(rt: &HostRuntime, tenths: u32) -> io::Result<()> {
+    let size = Size::of(tenths.clamp(1, 10));
+    match build(rt, size) {
+        Ok(space) => ask(rt, &space, size),
         Err(_) => Err(failed()),
     }
 }

@@ -1,5 +1,4 @@
-//! Lines that tell the encoding of OPC UA: what bytes mean, how it is written again, how values are ordered, and what a
-//! text says of a node id.
+//! What comes of each line.
 
 use crate::viewed::Viewed;
 use std::alloc::{AllocError, Global};
@@ -576,21 +575,16 @@ fn write_order_named(
     }
 }
 
-/// What the bytes of a type mean, and how it is written again.
-pub(crate) fn write_taken(
-    alloc: Global,
-    name: &str,
-    digits: &str,
-    output: &mut Vec<u8>,
-) -> io::Result<()> {
+// What the bytes of a type mean, and how it is written again.
+fn write_taken(alloc: Global, name: &str, digits: &str, output: &mut Vec<u8>) -> io::Result<()> {
     match hex::decode(alloc, digits) {
         Ok(bytes) => write_named(alloc, name, bytes.as_slice(), output),
         Err(_) => output.write_all(b"no hex digits\n".as_slice()),
     }
 }
 
-/// How two values of a type are ordered, whether they are equal, and a copy of the first.
-pub(crate) fn write_compared(
+// How two values of a type are ordered, whether they are equal, and a copy of the first.
+fn write_compared(
     alloc: Global,
     name: &str,
     first: &str,
@@ -605,8 +599,8 @@ pub(crate) fn write_compared(
     }
 }
 
-/// The number of the id that a body begins with, or why it has none.
-pub(crate) fn write_number(alloc: Global, digits: &str, output: &mut Vec<u8>) -> io::Result<()> {
+// The number of the id that a body begins with, or why it has none.
+fn write_number(alloc: Global, digits: &str, output: &mut Vec<u8>) -> io::Result<()> {
     let Ok(bytes) = hex::decode(alloc, digits) else {
         return output.write_all(b"no hex digits\n".as_slice());
     };
@@ -616,13 +610,32 @@ pub(crate) fn write_number(alloc: Global, digits: &str, output: &mut Vec<u8>) ->
     }
 }
 
-/// The id that a text says, and its text as it is written, or why it says none.
-pub(crate) fn write_node_id(alloc: Global, text: &str, output: &mut Vec<u8>) -> io::Result<()> {
+// The id that a text says, and its text as it is written, or why it says none.
+fn write_node_id(alloc: Global, text: &str, output: &mut Vec<u8>) -> io::Result<()> {
     match NodeId::parse(alloc, text) {
         Ok(id) => {
             let again = write_id(alloc, &id)?;
             write!(output, "{id:?}\n{again}\n")
         }
         Err(fault) => write!(output, "{fault:?}: {fault}\n"),
+    }
+}
+
+/// Writes what comes of a line of the encoding with these words: `take TYPE HEX`, `compare TYPE HEX HEX`, `number HEX` or
+/// `node_id TEXT`. None where they are no such line.
+pub fn write_encoding(
+    alloc: Global,
+    words: &[&str],
+    output: &mut Vec<u8>,
+) -> Option<io::Result<()>> {
+    match words {
+        ["take", name, digits] => Some(write_taken(alloc, name, digits, output)),
+        ["compare", name, first, second] => {
+            Some(write_compared(alloc, name, first, second, output))
+        }
+        ["number", digits] => Some(write_number(alloc, digits, output)),
+        ["node_id", text] => Some(write_node_id(alloc, text, output)),
+        ["node_id"] => Some(write_node_id(alloc, "", output)),
+        _ => None,
     }
 }
