@@ -23,7 +23,7 @@ module _ {A : Type 0} (element : Reading A) where
   next n (Err e) h = tt
 
   -- so many are read
-  counted : (n : ℕ) (bytes : List ℕ) → IfOk (elements_reading element n bytes) (λ v. length v.0 ≡ n)
+  pub counted : (n : ℕ) (bytes : List ℕ) → IfOk (elements_reading element n bytes) (λ v. length v.0 ≡ n)
   unfolding elements_reading
   counted zero bytes = refl
   counted (suc n) bytes = next n (element bytes) (counted n)

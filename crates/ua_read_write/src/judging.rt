@@ -1,9 +1,7 @@
 //! Which values a Write stores, and why it refuses others.
 
-ghost use Rattle.std.specs.Option.{option_copied};
 ghost use Rattle.std.specs.Prelude.{◌≡◌, true, Some, IfOk};
 ghost use Rattle.std.specs.Result.{result_map_both};
-ghost use Rattle.ua_read_write.specs.IndexRanges.{asked_range as asked_range_spec};
 ghost use Rattle.ua_read_write.specs.Judging.{new_value, IsReady};
 ghost use Rattle.ua_read_write.specs.Writing.{is_writable, has_elements, whole_judged, part_judged, content_judged, judged};
 ghost use Rattle.ua_space.specs.Values.{variable_at, variable_takes};

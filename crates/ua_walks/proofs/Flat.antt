@@ -1,34 +1,15 @@
 -- How many elements a flat list has, told by its length and by the number of its dimensions.
-use Rattle.std.proofs.Common.{◌≡◌, ◌≢◌, ℕ, zero, suc, List, [], ◌∷◌, Bool, true, length, Option, Some, None, Result, Ok, Err, refl, sym, ap, arith}
-use Rattle.std.specs.Prelude.{IfOk, option_map}
+use Rattle.std.proofs.Common.{◌≡◌, ◌≢◌, ℕ, List, [], ◌∷◌, Bool, true, length, Option, Some, None, Ok, refl, sym, arith}
+use Rattle.std.specs.Prelude.{option_map}
 use Rattle.std.specs.Int.{w32}
 use Rattle.std.proofs.lemmas.Result.{IfOk-at_ok}
 use Rattle.ua_values.specs.Matrices.{is_shape}
 use Rattle.ua_values.specs.Parts.{flat_len_of, flat_len_in}
 use Rattle.ua_values.specs.declared.content.Content.TheVariants.{Array}
-use Rattle.ua_binary.specs.declared.fault.TakeFault.{TakeFault}
-use Rattle.ua_binary.specs.Reading.{Reading, go_on}
 use Rattle.ua_binary.specs.Numbers.{number_reading}
 use Rattle.ua_binary.specs.Arrays.{elements_reading}
+use Rattle.ua_binary.proofs.Counts.{counted}
 use Rattle.ua_walks.specs.Shapes.{rank_where_shaped}
-
--- ---- so many elements are read
-
-module _ {A : Type 0} (element : Reading A) where
-  one_more : (n : ℕ) (x : A) (r : Result (List A × List ℕ) TakeFault) → IfOk r (λ v. length v.0 ≡ n)
-      → IfOk (go_on r (λ xs rest. Ok (x ∷ xs, rest))) (λ v. length v.0 ≡ suc n)
-  one_more n x (Ok v) h = ap suc h
-  one_more n x (Err e) h = tt
-
-  next : (n : ℕ) (r : Result (A × List ℕ) TakeFault) → ((bytes : List ℕ) → IfOk (elements_reading element n bytes) (λ v. length v.0 ≡ n))
-      → IfOk (go_on r (λ x rest. go_on (elements_reading element n rest) (λ xs rest. Ok (x ∷ xs, rest)))) (λ v. length v.0 ≡ suc n)
-  next n (Ok v) h = one_more n v.0 (elements_reading element n v.1) (h v.1)
-  next n (Err e) h = tt
-
-  counted : (n : ℕ) (bytes : List ℕ) → IfOk (elements_reading element n bytes) (λ v. length v.0 ≡ n)
-  unfolding elements_reading
-  counted zero bytes = refl
-  counted (suc n) bytes = next n (element bytes) (counted n)
 
 -- ---- dimensions, by their number
 
