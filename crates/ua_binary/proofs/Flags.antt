@@ -3,7 +3,7 @@ use Rattle.std.proofs.Common.{◌≡◌, ℕ, ◌+◌, ◌*◌, ◌/◌, ◌%◌
 use Rattle.std.proofs.lemmas.Bool.{cases_eq, ne_eqb}
 use Rattle.std.specs.Prelude.{is_some, IfSome, not}
 use Rattle.std.specs.Int.{w32}
-use Rattle.ua_types.specs.declared.node_id.ExpandedNodeId.{ExpandedNodeId}
+use Rattle.ua_types.specs.declared.node_id.NodeId.{NodeId}
 use Rattle.ua_binary.specs.Reading.{IsReadAgain}
 use Rattle.ua_binary.specs.Numbers.{number_reading}
 use Rattle.ua_binary.specs.Texts.{text_reading}
@@ -31,23 +31,23 @@ number_part n x lt =
       | inr other ↦ rw (ne_eqb n 0 other) (number32_again n x lt)
     ]
 
-pub expanded_again : (v : ExpandedNodeId)
-    → form_of v.node_id.namespace v.node_id.identifier < 6
-    → ((y : List ℕ) → after_form_reading (form_of v.node_id.namespace v.node_id.identifier) (after_form_encoding v.node_id.namespace v.node_id.identifier ++ y) ≡ Ok (v.node_id, y))
-    → IfSome v.namespace_uri (λ _. (y : List ℕ) → text_reading (text_unless_null v.namespace_uri ++ y) ≡ Ok (v.namespace_uri, y))
-    → v.server_index < 2 ^ 32 → IsReadAgain expanded_node_id_reading expanded_node_id_encoding v
+pub expanded_again : (id : NodeId) (uri : Option (List ℕ)) (server : ℕ)
+    → form_of id.namespace id.identifier < 6
+    → ((y : List ℕ) → after_form_reading (form_of id.namespace id.identifier) (after_form_encoding id.namespace id.identifier ++ y) ≡ Ok (id, y))
+    → IfSome uri (λ _. (y : List ℕ) → text_reading (text_unless_null uri ++ y) ≡ Ok (uri, y))
+    → server < 2 ^ 32 → IsReadAgain expanded_node_id_reading expanded_node_id_encoding (record { node_id = id; namespace_uri = uri; server_index = server })
 unfolding expanded_node_id_reading expanded_node_id_encoding
-expanded_again v small node uri server x =
-    let f = form_of v.node_id.namespace v.node_id.identifier in
-    let a = flag (not (eqb v.server_index 0)) in
-    let b = flag (is_some v.namespace_uri) in
-    let a_small : a < 2 = flag_small (not (eqb v.server_index 0)) in
-    let b_small : b < 2 = flag_small (is_some v.namespace_uri) in
+expanded_again id uri server small node named numbered x =
+    let f = form_of id.namespace id.identifier in
+    let a = flag (not (eqb server 0)) in
+    let b = flag (is_some uri) in
+    let a_small : a < 2 = flag_small (not (eqb server 0)) in
+    let b_small : b < 2 = flag_small (is_some uri) in
     let form_is : (f + 64 * a + 128 * b) % 64 ≡ f = omega arith in
     let uri_is : (f + 64 * a + 128 * b) / 128 ≡ b = omega arith in
     let server_is : (f + 64 * a + 128 * b) / 64 % 2 ≡ a = omega arith in
-    let after = after_form_encoding v.node_id.namespace v.node_id.identifier in
-    let u = text_unless_null v.namespace_uri in
-    let s = number_unless_0 v.server_index in
+    let after = after_form_encoding id.namespace id.identifier in
+    let u = text_unless_null uri in
+    let s = number_unless_0 server in
     let regrouped : ((after ++ u) ++ s) ++ x ≡ after ++ (u ++ (s ++ x)) = append_assoc (after ++ u) s x ∙ append_assoc after u (s ++ x) in
-    ap (λ (r : List ℕ). expanded_node_id_reading ((f + 64 * a + 128 * b) ∷ r)) regrouped ∙ (rw (form_is, uri_is, server_is, node, text_part v.namespace_uri _ uri, number_part v.server_index x server) refl)
+    ap (λ (r : List ℕ). expanded_node_id_reading ((f + 64 * a + 128 * b) ∷ r)) regrouped ∙ (rw (form_is, uri_is, server_is, node, text_part uri _ named, number_part server x numbered) refl)

@@ -4,6 +4,7 @@
 use Rattle.std.specs.Prelude.{ℕ, not, ◌*◌, ◌+◌, ◌/◌, ◌%◌, List, ◌++◌, None, ◌==◌, is_some}
 use Rattle.std.specs.Int.{w32}
 use Rattle.ua_types.specs.declared.node_id.ExpandedNodeId.{ExpandedNodeId}
+use Rattle.ua_types.specs.declared.node_id.NodeId.{NodeId}
 use Rattle.ua_binary.specs.Reading.{Reading, ◌>>=◌, done}
 use Rattle.ua_binary.specs.Numbers.{number_reading, byte_reading, byte_encoding}
 use Rattle.ua_binary.specs.Texts.{text_reading}
@@ -22,3 +23,7 @@ unfoldable pub expanded_node_id_encoding : ExpandedNodeId → List ℕ
 expanded_node_id_encoding v =
     byte_encoding (form_of v.node_id.namespace v.node_id.identifier + 64 * flag (not (v.server_index == 0)) + 128 * flag (is_some v.namespace_uri))
     ++ after_form_encoding v.node_id.namespace v.node_id.identifier ++ text_unless_null v.namespace_uri ++ number_unless_0 v.server_index
+
+-- the id of a node of this server
+abbrev pub local_id : NodeId → ExpandedNodeId
+local_id id = record { node_id = id; namespace_uri = None; server_index = 0 }

@@ -38,6 +38,18 @@ fn encode_null(out: &mut Vec<u8>) -> Result<(), AllocError>
     NULL_LENGTH.encode(out)
 }
 
+/// Writes a text that isn't null, as [`Text`] is written. At an `Err` a part of it is written.
+#[tactic(auto, using(crate::proofs::Again::text_again))]
+pub fn write_text(text: &str, out: &mut Vec<u8>) -> Result<(), AllocError>
+    requires { length text.now < 2 ^ 31 }
+    ensures ok { OnOk result (out.new.items ≡ out.old.items ++ text_encoding (Some text.now)) }
+    ensures err { OnErr result (Extends out.old.items out.new.items) }
+    ensures again { OnOk result (IsReadAgain text_reading text_encoding (Some text.now)) }
+    ensures some { OnOk result (0 < length (text_encoding (Some text.now))) }
+{
+    encode_sized(text.as_bytes(), out)
+}
+
 #[tactic(auto, using(crate::proofs::Again::text_again, crate::proofs::Again::overclaim_is_short), unfolding(crate::specs::Texts::text_reading))]
 impl Wire for Text {
     ghost reading = { text_reading };
@@ -59,7 +71,7 @@ impl Wire for Text {
     fn encode(&self, out: &mut Vec<u8>) -> Result<(), AllocError> {
         match self.as_str() {
             None => encode_null(out),
-            Some(text) => encode_sized(text.as_bytes(), out),
+            Some(text) => write_text(text, out),
         }
     }
 }

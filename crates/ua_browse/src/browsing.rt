@@ -9,19 +9,20 @@ ghost use Rattle.ua_browse.specs.Browsing.{page_size as page_size_spec, page_of,
 ghost use Rattle.ua_browse.specs.Wanted.{judged as judged_spec};
 
 use crate::asked::Asked;
+use crate::describing::Described;
 use crate::pages::page_from;
 use crate::wanted::judged;
 use std::alloc::Global;
-use ua_service_messages::ReferenceDescription;
 use ua_service_views::BrowseDescriptionView;
 use ua_session::{BrowsePoint, Point, Points};
 use ua_space::Space;
 use ua_types::{Array, NodeId, Refusal, Status};
 
 /// References of a node, and the serial of the point by which BrowseNext gives more of them.
-#[derive(Debug, Drop)]
-pub struct Page {
-    pub references: Array<ReferenceDescription>,
+#[derive(Drop)]
+pub struct Page<'a> {
+    /// Each is written from where it stands in the space.
+    pub references: Array<Described<'a>>,
     /// None where no more are left.
     pub point: Option<u64>,
 }
@@ -39,12 +40,12 @@ pub fn page_size(most: u32, requested: u32) -> u32
 }
 
 // The page that goes on at a point, where one could be held.
-fn paged(
-    references: Vec<ReferenceDescription>,
+fn paged<'a>(
+    references: Vec<Described<'a>>,
     point: Result<u64, Refusal>,
-) -> Result<Page, Refusal>
+) -> Result<Page<'a>, Refusal>
     requires { length references.items < 2 ^ 31 }
-    ensures { result ≡ result_map_both (λ serial. page_of references.items (Some serial)) (λ refusal. refusal) point }
+    ensures { result ≡ result_map_both (λ serial. page_of references.entry.items (Some serial)) (λ refusal. refusal) point }
 {
     match point {
         Ok(serial) => Ok(Page {
@@ -64,15 +65,15 @@ fn paged(
 /// point, `BAD_NO_CONTINUATION_POINTS`. `Exhausted` where no serial is left for the point. The first three come
 /// however little memory there is: nothing grows before. At an `Err` the points are as they were.
 ///
-/// The description is looked at where it came, and copied only into a point.
+/// The description is looked at where it came, and copied only into a point. Of the references nothing is copied.
 #[tactic(auto, unfolding(crate::specs::Browsing::browse_of), using(crate::proofs::Paging::takes_page))]
-pub fn browse(
+pub fn browse<'a>(
     alloc: Global,
-    space: &Space,
+    space: &'a Space,
     points: &mut Points,
     size: u32,
     description: &BrowseDescriptionView<'_>,
-) -> Result<Page, Refusal>
+) -> Result<Page<'a>, Refusal>
     ensures taken { TakesSerial result points.old points.new (browse_of space.now points.old size description.now) }
     ensures judged { IfErr (judged_spec space.now.nodes description.now) (λ code. result ≡ Err (Service code)) }
 {
@@ -105,12 +106,12 @@ pub fn browse(
 /// `BAD_CONTINUATION_POINT_INVALID` where no point of Browse has the serial, however little memory there is.
 /// `Exhausted` where no serial is left for the new point. At an `Err` the points are as they were.
 #[tactic(auto, unfolding(crate::specs::Browsing::browse_next_of), using(crate::proofs::Paging::takes_page))]
-pub fn browse_next(
+pub fn browse_next<'a>(
     alloc: Global,
-    space: &Space,
+    space: &'a Space,
     points: &mut Points,
     serial: u64,
-) -> Result<Page, Refusal>
+) -> Result<Page<'a>, Refusal>
     ensures taken { TakesSerial result points.old points.new (browse_next_of space.now points.old serial) }
     ensures held { IfErr (release_of points.old serial).answer (λ code. result ≡ Err (Service code)) }
 {

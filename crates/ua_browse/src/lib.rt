@@ -20,3 +20,4 @@ mod pages;
 mod wanted;
 
 pub use browsing::{Page, browse, browse_next, page_size, release};
+pub use describing::Described;

@@ -6,16 +6,15 @@ ghost use Rattle.ua_browse.specs.Wanted.{wanted_from};
 ghost use Rattle.ua_browse.specs.Browsing.{descriptions_of, shown_of, next_of};
 
 use crate::asked::Asked;
-use crate::describing::described;
+use crate::describing::Described;
 use crate::wanted::{Verdicts, is_wanted};
 use std::alloc::{AllocError, Global};
-use ua_service_messages::ReferenceDescription;
 use ua_space::{References, Space};
 
 /// The references of a page, and the place at which the next one begins, if any are left.
-#[derive(Debug, Drop)]
-pub struct Cut {
-    pub references: Vec<ReferenceDescription>,
+#[derive(Drop)]
+pub struct Cut<'a> {
+    pub references: Vec<Described<'a>>,
     pub next: Option<usize>,
 }
 
@@ -28,13 +27,13 @@ fn references<'a>(space: &'a Space, asked: &Asked<'_>) -> References<'a>
 
 /// The first of a node's references that are wanted, from a place on. It looks at those up to the first that
 /// the next page has.
-pub(crate) fn page_from(
+pub(crate) fn page_from<'a>(
     alloc: Global,
-    space: &Space,
+    space: &'a Space,
     asked: &Asked<'_>,
     size: u32,
     start: usize,
-) -> Result<Cut, AllocError>
+) -> Result<Cut<'a>, AllocError>
     ensures references { IfOk result (λ cut. cut.references.items ≡ descriptions_of space.now asked.now (shown_of size (wanted_from space.now asked.now start))) }
     ensures few { IfOk result (λ cut. length cut.references.items < 2 ^ 31) }
     ensures next { IfOk result (λ cut. cut.next ≡ next_of size (wanted_from space.now asked.now start)) }
@@ -52,7 +51,7 @@ pub(crate) fn page_from(
                         next: Some(place),
                     });
                 }
-                references.push(described(alloc, space, asked, &reference)?)?;
+                references.push(Described::new(space, asked, reference))?;
             }
         }
     }

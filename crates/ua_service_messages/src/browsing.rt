@@ -4,7 +4,8 @@ ghost use Rattle.std.specs.Prelude.{refl};
 ghost use Rattle.ua_service_messages.specs.Browsing.{browse_description_reading, browse_description_encoding, browse_request_reading, browse_request_encoding, reference_description_reading, reference_description_encoding, browse_result_reading, browse_result_encoding, browse_next_request_reading, browse_next_request_encoding};
 
 use std::alloc::{AllocError, Global};
-use ua_binary::{Cursor, Enumeration, TakeFault, Wire};
+use std::marker::Model;
+use ua_binary::{Cursor, Enumeration, TakeFault, Wire, Written, write_local_id};
 use ua_messages::{RequestHeader, Results};
 use ua_types::{
     Array, ByteString, ExpandedNodeId, LocalizedText, Moment, NodeId, QualifiedName, Status,
@@ -228,6 +229,50 @@ impl Wire for ReferenceDescription {
         self.display_name.encode(out)?;
         self.node_class.encode(out)?;
         self.type_definition.encode(out)?;
+        Ok(())
+    }
+}
+
+/// A [`ReferenceDescription`] to be written, of which ids, names and texts stand elsewhere. The ids are of nodes of this
+/// server. Contracts see the ReferenceDescription.
+#[derive(Debug, Drop)]
+pub struct BorrowedReferenceDescription<'a> {
+    pub reference_type_id: &'a NodeId,
+    /// Whether it begins at the node that was browsed.
+    pub is_forward: bool,
+    /// The node at the other end.
+    pub node_id: &'a NodeId,
+    pub browse_name: &'a QualifiedName,
+    pub display_name: &'a LocalizedText,
+    /// The number of its class (`ua_types::NodeClass`).
+    pub node_class: i32,
+    /// The type of an object or a variable, else null.
+    pub type_definition: &'a NodeId,
+}
+
+impl<'a> Model for BorrowedReferenceDescription<'a> {
+    ghost use Rattle.ua_binary.specs.ExpandedNodeIds.{local_id};
+    ghost use Rattle.ua_service_messages.specs.declared.browsing.ReferenceDescription.{ReferenceDescription};
+
+    ghost Value = { ReferenceDescription };
+
+    ghost view = { λ d. record { reference_type_id = d.reference_type_id.now; is_forward = d.is_forward; node_id = local_id d.node_id.now; browse_name = d.browse_name.now; display_name = d.display_name.now; node_class = d.node_class; type_definition = local_id d.type_definition.now } };
+}
+
+#[tactic(auto, using(ua_binary::proofs::Fields::fields7), unfolding(crate::specs::Browsing::reference_description_reading, crate::specs::Browsing::reference_description_encoding))]
+impl Written for BorrowedReferenceDescription<'_> {
+    ghost reading = { reference_description_reading };
+
+    ghost encoding = { reference_description_encoding };
+
+    fn write(&self, out: &mut Vec<u8>) -> Result<(), AllocError> {
+        self.reference_type_id.encode(out)?;
+        self.is_forward.encode(out)?;
+        write_local_id(self.node_id, out)?;
+        self.browse_name.encode(out)?;
+        self.display_name.encode(out)?;
+        self.node_class.encode(out)?;
+        write_local_id(self.type_definition, out)?;
         Ok(())
     }
 }

@@ -20,8 +20,8 @@ mod sessions;
 mod writing;
 
 pub use browsing::{
-    BrowseDescription, BrowseDirection, BrowseNextRequest, BrowseNextResponse, BrowseRequest,
-    BrowseResponse, BrowseResult, ReferenceDescription,
+    BorrowedReferenceDescription, BrowseDescription, BrowseDirection, BrowseNextRequest,
+    BrowseNextResponse, BrowseRequest, BrowseResponse, BrowseResult, ReferenceDescription,
 };
 pub use history::{
     BorrowedHistoryData, HistoryData, HistoryReadRequest, HistoryReadResponse, HistoryReadResult,

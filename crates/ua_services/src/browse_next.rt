@@ -28,7 +28,7 @@ use ua_types::{Array, Refusal, Status};
 use ua_views::ByteStringView;
 
 // Gives a point up, and answers a page of no references.
-fn given_up(alloc: Global, points: &mut Points, serial: u64) -> Result<Page, Refusal>
+fn given_up<'a>(alloc: Global, points: &mut Points, serial: u64) -> Result<Page<'a>, Refusal>
     ensures { TakesSerial result points.old points.new (emptied (release_of points.old serial)) }
 {
     match release(points, serial) {
@@ -41,13 +41,13 @@ fn given_up(alloc: Global, points: &mut Points, serial: u64) -> Result<Page, Ref
 }
 
 // The next page of a point, or a page of no references where it is given up.
-fn go_on(
+fn go_on<'a>(
     alloc: Global,
-    space: &Space,
+    space: &'a Space,
     points: &mut Points,
     is_release: bool,
     point: &ByteStringView<'_>,
-) -> Result<Page, Refusal>
+) -> Result<Page<'a>, Refusal>
     ensures { TakesSerial result points.old points.new (go_on_of space.now is_release points.old point.now) }
 {
     match point_serial(point.as_slice()) {

@@ -7,7 +7,7 @@ use Rattle.ua_browse.specs.Wanted.{IsRight, Placed, is_wanted, wanted_from}
 use Rattle.ua_space.proofs.Places.{none_past}
 use Rattle.ua_browse.proofs.Paging.{IsFront, front_with, front_without, full_page, full_next, last_page, last_next, few_shown}
 use Rattle.ua_browse.proofs.pages.page_from.Goals as goal
-use Rattle.ua_browse.proofs.pages.page_from.Goals.{in-Some+in_ok-is_wanted+then-branch+else-len-size+in_ok-described+in_ok-push, in-Some+in_ok-is_wanted+else-branch, in_default}
+use Rattle.ua_browse.proofs.pages.page_from.Goals.{in-Some+in_ok-is_wanted+then-branch+else-len-size+in_ok-push, in-Some+in_ok-is_wanted+else-branch, in_default}
 
 pub returns-then-len-size-clause-next : goal.returns-then-len-size-clause-next
 returns-then-len-size-clause-next c =
@@ -49,12 +49,12 @@ loop-place-preserved c =
     let i = c.loop-place.place in
     let few = c.loop-place.invariant.few in
     elim c.match-get.branch [
-      | in-Some+in_ok-is_wanted+then-branch+else-len-size+in_ok-described+in_ok-push w ↦ record {
+      | in-Some+in_ok-is_wanted+then-branch+else-len-size+in_ok-push w ↦ record {
         front = front_with f (is_wanted space d) rs all page i (i + 1) w.in-Some.reference c.match-get.references.items (omega arith)
             (w.in-Some.ensures ∙ ap (λ list. slice_get list i) c.references-all.ensures) (sym w.in_ok-is_wanted.ensures.wanted ∙ w.if-branch.true)
-            (ap (λ v. v.items) w.references-is ∙ w.in_ok-push.ensures.items ∙ ap (λ x. page ++ x ∷ []) w.in_ok-described.ensures) c.loop-place.invariant.front;
+            (ap (λ v. v.items) w.references-is ∙ w.in_ok-push.ensures.items ∙ ap (λ x. page ++ x ∷ []) w.new.ensures) c.loop-place.invariant.front;
         few =
-            let grown = ap length (ap (λ v. v.items) w.references-is ∙ w.in_ok-push.ensures.items) ∙ length-append page (w.in_ok-described.field-0 ∷ []) in
+            let grown = ap length (ap (λ v. v.items) w.references-is ∙ w.in_ok-push.ensures.items) ∙ length-append page (w.new.result ∷ []) in
             let long = w.len.ensures in
             let room = w.if-len-size.false in
             omega (arith, grown, long, room);
