@@ -1,45 +1,53 @@
 //! The service CreateSession (IEC 62541-4, "CreateSession").
 
 ghost use Rattle.std.specs.Prelude.{◌≡◌, IfOk};
+ghost use Rattle.ua_messages.specs.Bodies.{body_encoding};
+ghost use Rattle.ua_messages.specs.declared.type_ids.TheConstants.{CREATE_SESSION_RESPONSE};
+ghost use Rattle.ua_service_messages.specs.Sessions.{create_session_response_encoding};
 ghost use Rattle.ua_services.specs.CreateSession.{create_session_meaning, create_session_response};
 
 use crate::caller::Caller;
-use crate::endpoint_list::endpoint;
+use crate::endpoint_list::Endpoint;
 use crate::service::{Service, reply};
 use crate::services::Services;
 use crate::unserved::{Unserved, why_unserved};
 use server_messages::{Served, Setting};
 use std::alloc::{AllocError, Global};
-use ua_messages::{ResponseHeader, body, type_ids};
-use ua_service_messages::{CreateSessionRequest, CreateSessionResponse, SignatureData};
+use std::array;
+use ua_messages::{MessageBody, ResponseHeader, type_ids};
+use ua_service_messages::{CreateSessionRequest, SignatureData, SignedSoftwareCertificate};
 use ua_session::{Created, session_id};
-use ua_types::{Array, ByteString, Status, Text};
+use ua_types::{Array, ByteString, NodeId, Status, Text};
 
-fn response(
+// The body of the response that tells of a new session. The endpoint is written from where the configuration stands.
+#[tactic(auto, using(ua_binary::proofs::Fields::fields10), unfolding(ua_service_messages::specs::Sessions::create_session_response_encoding))]
+fn response_body(
     alloc: Global,
     setting: &Setting,
     handle: u32,
     session: Created,
-) -> Result<CreateSessionResponse, AllocError>
-    ensures { IfOk result (λ response. response ≡ create_session_response setting.now.config setting.now.clock handle session) }
+) -> Result<MessageBody, AllocError>
+    ensures { IfOk result (λ body. body ≡ body_encoding create_session_response_encoding CREATE_SESSION_RESPONSE (create_session_response setting.now.config setting.now.clock handle session)) }
 {
-    let mut endpoints = Vec::new(alloc);
-    endpoints.push(endpoint(alloc, &setting.config)?)?;
-    Ok(CreateSessionResponse {
-        response_header: ResponseHeader::new(handle, Status(0), setting.clock),
-        session_id: session_id(session.number),
-        authentication_token: session.token,
-        revised_session_timeout: setting.config.session_duration,
-        server_nonce: ByteString::from_slice(alloc, &session.nonce[..])?,
-        server_certificate: ByteString::null(),
-        server_endpoints: Array::new(endpoints),
-        server_software_certificates: Array::null(),
-        server_signature: SignatureData {
-            algorithm: Text::null(),
-            signature: ByteString::null(),
-        },
-        max_request_message_size: setting.config.max_message,
-    })
+    let config = &setting.config;
+    let mut body = MessageBody::new(alloc)?;
+    body.write(&NodeId::numeric(0, type_ids::CREATE_SESSION_RESPONSE))?;
+    body.write(&ResponseHeader::new(handle, Status(0), setting.clock))?;
+    body.write(&session_id(session.number))?;
+    body.write(&session.token)?;
+    body.write(&config.session_duration)?;
+    body.write(&ByteString::from_slice(alloc, &session.nonce[..])?)?;
+    body.write(&ByteString::null())?;
+    let endpoint = Endpoint::of(config);
+    body.write_list(array::from_ref(&endpoint))?;
+    body.write(&Array::<SignedSoftwareCertificate>::null())?;
+    let unsigned = SignatureData {
+        algorithm: Text::null(),
+        signature: ByteString::null(),
+    };
+    body.write(&unsigned)?;
+    body.write(&config.max_message)?;
+    Ok(body)
 }
 
 /// Makes a session for the client, which it activates next.
@@ -62,12 +70,8 @@ impl Service for CreateSession {
     ) -> Result<Served, Unserved> {
         match services.sessions.create(alloc, caller.conn, &caller.key) {
             Ok(session) => {
-                let response = response(alloc, setting, caller.handle, session)?;
-                Ok(reply(
-                    alloc,
-                    caller,
-                    body(alloc, type_ids::CREATE_SESSION_RESPONSE, &response)?,
-                )?)
+                let body = response_body(alloc, setting, caller.handle, session)?;
+                Ok(reply(alloc, caller, body)?)
             }
             Err(refusal) => Err(why_unserved(refusal)),
         }

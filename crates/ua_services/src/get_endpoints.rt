@@ -3,13 +3,13 @@
 ghost use Rattle.ua_services.specs.GetEndpoints.{get_endpoints_meaning};
 
 use crate::caller::Caller;
-use crate::endpoint_list::endpoints_response;
+use crate::endpoint_list::endpoints_body;
 use crate::service::{Service, reply};
 use crate::services::Services;
 use crate::unserved::Unserved;
 use server_messages::{Served, Setting};
 use std::alloc::Global;
-use ua_messages::{GetEndpointsRequest, body, type_ids};
+use ua_messages::GetEndpointsRequest;
 
 /// Says by which endpoints the server is reached.
 pub struct GetEndpoints;
@@ -26,17 +26,13 @@ impl Service for GetEndpoints {
         request: GetEndpointsRequest,
         _services: &mut Services,
     ) -> Result<Served, Unserved> {
-        let response = endpoints_response(
+        let body = endpoints_body(
             alloc,
             &setting.config,
             setting.clock,
             caller.handle,
             &request.profile_uris,
         )?;
-        Ok(reply(
-            alloc,
-            caller,
-            body(alloc, type_ids::GET_ENDPOINTS_RESPONSE, &response)?,
-        )?)
+        Ok(reply(alloc, caller, body)?)
     }
 }
