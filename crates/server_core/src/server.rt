@@ -1,6 +1,7 @@
 //! The server.
 
-ghost use Rattle.std.specs.Prelude.{◌≡◌, option_map, Some, None, Err, false, IfOk};
+ghost use Rattle.std.specs.Prelude.{◌≡◌, option_map, Some, None, Err, false, IfOk, IsOk};
+ghost use Rattle.ua_space.specs.Histories.{without_histories};
 ghost use Rattle.server_core.specs.World.{opening, world_of};
 ghost use Rattle.server_core.specs.Stepping.{step_on, StepsTo, IsUnspent, takes_no_memory_on};
 ghost use Rattle.server_core.specs.Subscriptions.{vars_on, kept_numbers_on, kept_on};
@@ -34,7 +35,8 @@ impl Server {
     /// knows no connection. Its histories begin with the values that the nodes had before, of each the last ones that the
     /// configuration lets be kept; where there are none, it takes no memory.
     pub fn new(alloc: Global, config: Config, space: Space) -> Result<Server, AllocError>
-        ensures { IfOk result (λ server. world_of server ≡ Some (opening config space)) }
+        ensures opening { IfOk result (λ server. world_of server ≡ Some (opening config space)) }
+        ensures memory { without_histories space.nodes ≡ space.nodes → IsOk result }
     {
         let clock = config.start;
         let services = Services::new(alloc, &config, space)?;

@@ -1,6 +1,7 @@
 //! What is served.
 
 ghost use Rattle.std.specs.Prelude.{◌≡◌, true, IsOk, IfOk};
+ghost use Rattle.ua_space.specs.Histories.{without_histories};
 ghost use Rattle.ua_services.specs.Serving.{Answers, Serves};
 ghost use Rattle.ua_services.specs.ServicesState.{no_services_used};
 ghost use Rattle.ua_services.specs.Services.{serving_of, picked, ticking_of, is_idle, shutting_of, forgotten};
@@ -68,7 +69,8 @@ impl Services {
     /// Nothing was served yet, over this address space. The values that its nodes had before are moved into the histories,
     /// which takes no memory where there are none.
     pub fn new(alloc: Global, config: &Config, mut space: Space) -> Result<Services, AllocError>
-        ensures { IfOk result (λ services. services ≡ no_services_used config.now space) }
+        ensures opening { IfOk result (λ services. services ≡ no_services_used config.now space) }
+        ensures memory { without_histories space.nodes ≡ space.nodes → IsOk result }
     {
         let history = History::beginning(alloc, config, &mut space)?;
         Ok(Services {

@@ -12,4 +12,4 @@ pub returns-in-Ok : goal.returns-in-Ok
 unfolding opened
 returns-in-Ok c =
     stepped (world_of c.in_ok-server.server) (world_of c.step.new.self) c.in-Ok.field-0 _ c.in-Ok.ensures.step
-    ∙ ap (λ (s : State). (run_of s (Opened 1 (replicate 32 0) ∷ [])).server) c.in_ok-server.ensures
+    ∙ ap (λ (s : State). (run_of s (Opened 1 (replicate 32 0) ∷ [])).server) c.in_ok-server.ensures.opening

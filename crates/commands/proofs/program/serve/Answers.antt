@@ -7,5 +7,5 @@ use Rattle.commands.proofs.program.serve.Goals as goal
 pub returns-in-Ok : goal.returns-in-Ok
 returns-in-Ok g c =
     subst (λ (server : State). ServesOn (place g.O.Write.contents c.args.output.now) (place g.O.Write.contents c.serve_on.new.output) c.args.listening server c.serve_on.result)
-    c.in-Ok.ensures
+    c.in-Ok.ensures.opening
     c.serve_on.ensures
