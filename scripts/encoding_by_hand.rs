@@ -11,14 +11,14 @@ const ELEMENTS: u32 = 1000;
 const ROUNDS: u32 = 5000;
 
 #[derive(Debug)]
-enum Fault {
+pub enum Fault {
     Short,
     Form,
     Kind,
     Memory,
 }
 
-struct Cursor<'a> {
+pub struct Cursor<'a> {
     rest: &'a [u8],
 }
 
@@ -37,7 +37,7 @@ impl<'a> Cursor<'a> {
     }
 }
 
-trait Wire: Sized {
+pub trait Wire: Sized {
     fn decode(cursor: &mut Cursor<'_>) -> Result<Self, Fault>;
 
     fn encode(&self, out: &mut Vec<u8>);
@@ -70,7 +70,7 @@ impl Wire for bool {
 }
 
 /// Floats and doubles are bytes, and so are Guids.
-struct Raw<const N: usize>([u8; N]);
+pub struct Raw<const N: usize>(pub [u8; N]);
 
 impl<const N: usize> Wire for Raw<N> {
     fn decode(cursor: &mut Cursor<'_>) -> Result<Self, Fault> {
@@ -82,10 +82,10 @@ impl<const N: usize> Wire for Raw<N> {
     }
 }
 
-struct Moment(i64);
-struct Status(u32);
-struct Text(Option<String>);
-struct ByteString(Option<Vec<u8>>);
+pub struct Moment(pub i64);
+pub struct Status(pub u32);
+pub struct Text(pub Option<String>);
+pub struct ByteString(pub Option<Vec<u8>>);
 
 impl Wire for Moment {
     fn decode(cursor: &mut Cursor<'_>) -> Result<Self, Fault> {
@@ -182,16 +182,16 @@ impl<T: Wire> Wire for Option<Vec<T>> {
     }
 }
 
-enum Identifier {
+pub enum Identifier {
     Numeric(u32),
     String(Text),
     Guid(Raw<16>),
     Opaque(ByteString),
 }
 
-struct NodeId {
-    namespace: u16,
-    identifier: Identifier,
+pub struct NodeId {
+    pub namespace: u16,
+    pub identifier: Identifier,
 }
 
 fn decode_id(form: u8, cursor: &mut Cursor<'_>) -> Result<NodeId, Fault> {
@@ -260,10 +260,10 @@ impl Wire for NodeId {
     }
 }
 
-struct ExpandedNodeId {
-    node_id: NodeId,
-    namespace_uri: Text,
-    server_index: u32,
+pub struct ExpandedNodeId {
+    pub node_id: NodeId,
+    pub namespace_uri: Text,
+    pub server_index: u32,
 }
 
 impl Wire for ExpandedNodeId {
@@ -304,9 +304,9 @@ impl Wire for ExpandedNodeId {
     }
 }
 
-struct QualifiedName {
-    namespace: u16,
-    name: Text,
+pub struct QualifiedName {
+    pub namespace: u16,
+    pub name: Text,
 }
 
 impl Wire for QualifiedName {
@@ -323,9 +323,9 @@ impl Wire for QualifiedName {
     }
 }
 
-struct LocalizedText {
-    locale: Text,
-    text: Text,
+pub struct LocalizedText {
+    pub locale: Text,
+    pub text: Text,
 }
 
 impl Wire for LocalizedText {
@@ -357,13 +357,13 @@ impl Wire for LocalizedText {
     }
 }
 
-enum ExtensionObjectBody {
+pub enum ExtensionObjectBody {
     None,
     Binary(ByteString),
     Xml(ByteString),
 }
 
-struct ExtensionObject {
+pub struct ExtensionObject {
     type_id: NodeId,
     body: ExtensionObjectBody,
 }
@@ -396,12 +396,12 @@ impl Wire for ExtensionObject {
     }
 }
 
-struct Matrix<T> {
+pub struct Matrix<T> {
     elements: Option<Vec<T>>,
     dimensions: Option<Vec<u32>>,
 }
 
-enum Content<T> {
+pub enum Content<T> {
     Scalar(T),
     Array(Option<Vec<T>>),
     Matrix(Box<Matrix<T>>),
@@ -452,7 +452,7 @@ fn encode_content<T: Wire>(number: u8, content: &Content<T>, out: &mut Vec<u8>) 
 
 macro_rules! variants {
     ($($number:literal $name:ident $value:ty,)* in boxes $($large:literal $large_name:ident $large_value:ty,)*) => {
-        enum Variant {
+        pub enum Variant {
             Null,
             $($name(Content<$value>),)*
             $($large_name(Box<Content<$large_value>>),)*
@@ -508,11 +508,11 @@ variants! {
     22 ExtensionObject ExtensionObject,
 }
 
-struct DataValue {
-    value: Option<Variant>,
-    status: Status,
-    source_time: Option<Moment>,
-    server_time: Option<Moment>,
+pub struct DataValue {
+    pub value: Option<Variant>,
+    pub status: Status,
+    pub source_time: Option<Moment>,
+    pub server_time: Option<Moment>,
 }
 
 impl Wire for DataValue {

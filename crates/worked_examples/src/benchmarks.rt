@@ -5,6 +5,7 @@ mod browse;
 mod connections;
 mod encoding;
 mod history;
+mod publish;
 mod requests;
 mod space;
 
@@ -27,6 +28,7 @@ fn elapsed(rt: &HostRuntime, start: io::Result<Instant>) -> u128 {
 // - `requests`: requests are handed to a whole server; how many are answered in a second;
 // - `browse`: Browse of a node of 3 references, and, once, of one of 99,000 by pages of 1,000;
 // - `history`: a variable is written 100,000 times, whose history is kept, and the history is read by pages of 1,000, once;
+// - `publish`: a subscription tells of 1,000 items in one message, which is then asked for again; the time of each;
 // - `space`: an address space of so many tenths of the largest is built and asked, once;
 // - `connections`: clients come, are served and go, beside so many that stay; the time of one.
 pub(crate) fn run(rt: &HostRuntime, line: &str) -> io::Result<()> {
@@ -37,6 +39,7 @@ pub(crate) fn run(rt: &HostRuntime, line: &str) -> io::Result<()> {
         "requests" => requests::run(rt, rounds),
         "browse" => browse::run(rt, rounds),
         "history" => history::run(rt),
+        "publish" => publish::run(rt, rounds),
         "space" => space::run(rt, rounds),
         "connections" => connections::run(rt, rounds),
         _ => Err(io::Error::from(ErrorKind::InvalidInput)),

@@ -10,8 +10,8 @@ use std::time::Instant;
 use ua_space::Space;
 use ua_types::Config;
 
-// A variable that is read and written.
-const NODES: &str = "version = 1
+/// A variable that is read and written.
+pub(crate) const NODES: &str = "version = 1
 
 [[node]]
 id = \"ns=1;i=1\"
@@ -38,7 +38,7 @@ const ACTIVATE: [u8; 4] = [0x01, 0x00, 0xd3, 0x01];
 
 pub(crate) const READ: [u8; 4] = [0x01, 0x00, 0x77, 0x02];
 
-const WRITE: [u8; 4] = [0x01, 0x00, 0xa1, 0x02];
+pub(crate) const WRITE: [u8; 4] = [0x01, 0x00, 0xa1, 0x02];
 
 // No token, and that of the first session on a connection with a key of zeros.
 const NO_TOKEN: &[u8] = b"\0\0";
@@ -58,12 +58,12 @@ const NO_USER: &[u8] =
 // A Read without times, up to its list; the variable's value, to be read; and the same, to be written with the number 258.
 pub(crate) const NO_TIMES: &[u8] = b"\0\0\0\0\0\0\0\0\x03\0\0\0";
 
-const VALUE: &[u8] = b"\x01\x01\x01\0\x0d\0\0\0\xff\xff\xff\xff\0\0\xff\xff\xff\xff";
+pub(crate) const VALUE: &[u8] = b"\x01\x01\x01\0\x0d\0\0\0\xff\xff\xff\xff\0\0\xff\xff\xff\xff";
 
-const WRITTEN: &[u8] = b"\x01\x01\x01\0\x0d\0\0\0\xff\xff\xff\xff\x01\x05\x02\x01";
+pub(crate) const WRITTEN: &[u8] = b"\x01\x01\x01\0\x0d\0\0\0\xff\xff\xff\xff\x01\x05\x02\x01";
 
 // The same with the number 1027.
-const ANOTHER: &[u8] = b"\x01\x01\x01\0\x0d\0\0\0\xff\xff\xff\xff\x01\x05\x03\x04";
+pub(crate) const ANOTHER: &[u8] = b"\x01\x01\x01\0\x0d\0\0\0\xff\xff\xff\xff\x01\x05\x03\x04";
 
 pub(crate) fn failed() -> io::Error {
     io::Error::from(ErrorKind::Other)
@@ -91,6 +91,18 @@ fn step(alloc: Global, server: &mut Server, conn: u64, bytes: Vec<u8>) -> io::Re
     tell(alloc, server, &Event::Bytes { conn, bytes })
 }
 
+/// How many bytes a step sends, where it closes no connection.
+pub(crate) fn sent_at(step: &Step) -> io::Result<usize> {
+    let mut sent = 0usize;
+    for out in step.outs.as_slice() {
+        match out {
+            Out::Send { conn: _, bytes } => sent = sent.saturating_add(bytes.len()),
+            Out::Close { conn: _ } => return Err(failed()),
+        }
+    }
+    Ok(sent)
+}
+
 /// Hands bytes of the first connection to the server, and says how many it sends.
 pub(crate) fn hand_in(alloc: Global, server: &mut Server, bytes: Vec<u8>) -> io::Result<usize> {
     hand_in_on(alloc, server, 1, bytes)
@@ -104,14 +116,7 @@ pub(crate) fn hand_in_on(
     bytes: Vec<u8>,
 ) -> io::Result<usize> {
     let step = step(alloc, server, conn, bytes)?;
-    let mut sent = 0usize;
-    for out in step.outs.as_slice() {
-        match out {
-            Out::Send { conn: _, bytes } => sent = sent.saturating_add(bytes.len()),
-            Out::Close { conn: _ } => return Err(failed()),
-        }
-    }
-    Ok(sent)
+    sent_at(&step)
 }
 
 // Hands bytes to the server, and writes the bodies of what it sends.
