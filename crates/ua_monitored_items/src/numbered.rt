@@ -19,7 +19,8 @@ use crate::kinds::Mode;
 use crate::links::Links;
 use crate::preparing::Modification;
 use crate::releases::Release;
-use std::alloc::{AllocError, AllocFailed, Global};
+use number_slots::{Near, Slots};
+use std::alloc::{AllocError, Global};
 use std::collections::BTreeMap;
 use std::marker::Model;
 use ua_read_write::Timestamps;
@@ -41,7 +42,7 @@ pub struct Recount {
 /// look at its items.
 #[derive(Drop)]
 pub struct Numbered {
-    items: BTreeMap<u32, Item>,
+    items: Slots<Item>,
     // How many of a subscription's items have a value to send. Each subscription with an item has its count here.
     counts: BTreeMap<u32, usize>,
 }
@@ -52,34 +53,22 @@ impl Model for Numbered {
 
     ghost Value = { NumberedItems };
 
-    ghost view = { λ t. t.items.entries };
+    ghost view = { λ t. t.items };
 
-    ghost invariant = { λ t. AreCounts t.counts t.items.entries };
-}
-
-// Puts an item under its number. At an `Err` nothing changed, and the item comes back.
-fn insert_item(items: &mut BTreeMap<u32, Item>, number: u32, item: Item) -> Result<(), Item>
-    ensures ok { OnOk result (items.new.entries ≡ insert_entry nat_cmp items.old.entries number item) }
-    ensures back { IfErr result (λ back. back ≡ item) }
-    ensures err { OnErr result (items.new.entries ≡ items.old.entries) }
-{
-    match items.insert(number, item) {
-        Ok(_) => Ok(()),
-        Err(AllocFailed { value: (_, item) }) => Err(item),
-    }
+    ghost invariant = { λ t. AreCounts t.counts t.items };
 }
 
 fn modify_at(
-    items: &mut BTreeMap<u32, Item>,
+    items: &mut Slots<Item>,
     number: u32,
     timestamps: Timestamps,
     modification: Modification,
     parameters: &MonitoringParameters,
 ) -> Option<Recount>
-    ensures items { items.new.entries ≡ with_item number (modified_with timestamps modification parameters.now) items.old.entries }
-    ensures recount { result ≡ recount_by (modified_with timestamps modification parameters.now) (item_at number items.old.entries) }
+    ensures items { items.new ≡ with_item number (modified_with timestamps modification parameters.now) items.old }
+    ensures recount { result ≡ recount_by (modified_with timestamps modification parameters.now) (item_at number items.old) }
 {
-    let item = items.get_mut(&number)?;
+    let item = items.get_mut(number)?;
     let had = item.waiting() > 0;
     item.modify(timestamps, modification, parameters);
     Some(Recount {
@@ -90,15 +79,15 @@ fn modify_at(
 }
 
 fn set_mode_at(
-    items: &mut BTreeMap<u32, Item>,
+    items: &mut Slots<Item>,
     number: u32,
     mode: Mode,
     first: Option<DataValue>,
 ) -> Option<Recount>
-    ensures items { items.new.entries ≡ with_item number (moded_from mode first) items.old.entries }
-    ensures recount { result ≡ recount_by (moded_from mode first) (item_at number items.old.entries) }
+    ensures items { items.new ≡ with_item number (moded_from mode first) items.old }
+    ensures recount { result ≡ recount_by (moded_from mode first) (item_at number items.old) }
 {
-    let item = items.get_mut(&number)?;
+    let item = items.get_mut(number)?;
     let had = item.waiting() > 0;
     item.set_mode(mode, first);
     Some(Recount {
@@ -108,11 +97,11 @@ fn set_mode_at(
     })
 }
 
-fn release_at(items: &mut BTreeMap<u32, Item>, release: Release) -> Option<Recount>
-    ensures items { items.new.entries ≡ with_item release.number (released_in release.subscription) items.old.entries }
-    ensures recount { result ≡ recount_by (released_in release.subscription) (item_at release.number items.old.entries) }
+fn release_at(items: &mut Slots<Item>, release: Release) -> Option<Recount>
+    ensures items { items.new ≡ with_item release.number (released_in release.subscription) items.old }
+    ensures recount { result ≡ recount_by (released_in release.subscription) (item_at release.number items.old) }
 {
-    let item = items.get_mut(&release.number)?;
+    let item = items.get_mut(release.number)?;
     let had = item.waiting() > 0;
     item.release(release.subscription);
     Some(Recount {
@@ -122,11 +111,11 @@ fn release_at(items: &mut BTreeMap<u32, Item>, release: Release) -> Option<Recou
     })
 }
 
-fn set_links_at(items: &mut BTreeMap<u32, Item>, number: u32, links: Links) -> Option<Recount>
-    ensures items { items.new.entries ≡ with_item number (with_links links) items.old.entries }
-    ensures recount { result ≡ recount_by (with_links links) (item_at number items.old.entries) }
+fn set_links_at(items: &mut Slots<Item>, number: u32, links: Links) -> Option<Recount>
+    ensures items { items.new ≡ with_item number (with_links links) items.old }
+    ensures recount { result ≡ recount_by (with_links links) (item_at number items.old) }
 {
-    let item = items.get_mut(&number)?;
+    let item = items.get_mut(number)?;
     let had = item.waiting() > 0;
     item.set_links(links);
     Some(Recount {
@@ -141,17 +130,18 @@ fn set_links_at(items: &mut BTreeMap<u32, Item>, number: u32, links: Links) -> O
 #[tactic(auto, using(crate::proofs::Edits::set_same))]
 fn visit_at(
     alloc: Global,
-    items: &mut BTreeMap<u32, Item>,
+    items: &mut Slots<Item>,
+    near: &mut Near,
     number: u32,
     value: &DataValue,
     releases: &mut Vec<Release>,
 ) -> Result<Option<Recount>, AllocError>
-    ensures ok { OnOk result (items.new.entries ≡ with_item number (seen value.now) items.old.entries) }
-    ensures recount { IfOk result (λ recount. recount ≡ recount_by (seen value.now) (item_at number items.old.entries)) }
-    ensures releases { OnOk result (releases.new.items ≡ releases.old.items ++ visit_releases (record { number = number; value = value.now }) (item_at number items.old.entries)) }
-    ensures err { OnErr result (items.new.entries ≡ items.old.entries) }
+    ensures ok { OnOk result (items.new ≡ with_item number (seen value.now) items.old) }
+    ensures recount { IfOk result (λ recount. recount ≡ recount_by (seen value.now) (item_at number items.old)) }
+    ensures releases { OnOk result (releases.new.items ≡ releases.old.items ++ visit_releases (record { number = number; value = value.now }) (item_at number items.old)) }
+    ensures err { OnErr result (items.new ≡ items.old) }
 {
-    let Some(item) = items.get_mut(&number) else {
+    let Some(item) = items.get_mut_near(near, number) else {
         return Ok(None);
     };
     let had = item.waiting() > 0;
@@ -164,12 +154,17 @@ fn visit_at(
 }
 
 // The oldest values of the item with this number are sent, at most so many. Answers how many more are wanted.
-fn send_at(items: &mut BTreeMap<u32, Item>, number: u32, left: usize) -> (usize, Option<Recount>)
-    ensures left { result.0 ≡ (with_taken (nothing_taken items.old.entries left) number).left }
-    ensures items { items.new.entries ≡ (with_taken (nothing_taken items.old.entries left) number).items }
-    ensures recount { result.1 ≡ recount_by (gave (nat_least left (waiting_at (item_at number items.old.entries)))) (item_at number items.old.entries) }
+fn send_at(
+    items: &mut Slots<Item>,
+    near: &mut Near,
+    number: u32,
+    left: usize,
+) -> (usize, Option<Recount>)
+    ensures left { result.0 ≡ (with_taken (nothing_taken items.old left) number).left }
+    ensures items { items.new ≡ (with_taken (nothing_taken items.old left) number).items }
+    ensures recount { result.1 ≡ recount_by (gave (nat_least left (waiting_at (item_at number items.old)))) (item_at number items.old) }
 {
-    match items.get_mut(&number) {
+    match items.get_mut_near(near, number) {
         None => (left, None),
         Some(item) => {
             let waiting = item.waiting();
@@ -215,7 +210,7 @@ impl Numbered {
         ensures { result ≡ [] }
     {
         Numbered {
-            items: BTreeMap::new(alloc),
+            items: Slots::new(alloc),
             counts: BTreeMap::new(alloc),
         }
     }
@@ -224,7 +219,14 @@ impl Numbered {
     pub fn get(&self, number: u32) -> Option<&Item>
         ensures { option_copied result ≡ item_at number self.now }
     {
-        self.items.get(&number)
+        self.items.get(number)
+    }
+
+    /// The same, looked for first where it is likely to be.
+    pub fn get_near(&self, near: &mut Near, number: u32) -> Option<&Item>
+        ensures { option_copied result ≡ item_at number self.now }
+    {
+        self.items.get_near(near, number)
     }
 
     /// Puts an item under a number that none has. At an `Err` nothing changed, and the item comes back.
@@ -242,7 +244,7 @@ impl Numbered {
         let Ok(()) = hold(&mut self.counts, item.subscription) else {
             return Err(item);
         };
-        insert_item(&mut self.items, number, item)?;
+        self.items.insert(number, item)?;
         count(&mut self.counts, recount, self.items.len());
         Ok(())
     }
@@ -254,7 +256,7 @@ impl Numbered {
         ensures unchanged { IfNone result (self.new ≡ self.old) }
     {
         let most = self.items.len();
-        let item = self.items.remove(&number)?;
+        let item = self.items.remove(number)?;
         let recount = Recount {
             subscription: item.subscription,
             had: item.waiting() > 0,
@@ -326,11 +328,12 @@ impl Numbered {
         }
     }
 
-    /// The item with this number sees a value, and what that releases is added. At an `Err` the items are
-    /// what they were.
+    /// The item with this number, which is likely to be near the last one, sees a value, and what that releases is
+    /// added. At an `Err` the items are what they were.
     pub fn visit(
         &mut self,
         alloc: Global,
+        near: &mut Near,
         number: u32,
         value: &DataValue,
         releases: &mut Vec<Release>,
@@ -340,20 +343,20 @@ impl Numbered {
         ensures err { OnErr result (self.new ≡ self.old) }
     {
         let most = self.items.len();
-        if let Some(recount) = visit_at(alloc, &mut self.items, number, value, releases)? {
+        if let Some(recount) = visit_at(alloc, &mut self.items, near, number, value, releases)? {
             count(&mut self.counts, recount, most);
         }
         Ok(())
     }
 
-    /// The oldest values of the item with this number are sent, at most so many. Answers how many more are wanted.
-    /// Takes no memory.
-    pub fn send_from(&mut self, number: u32, left: usize) -> usize
+    /// The oldest values of the item with this number, which is likely to be near the last one, are sent, at most so many.
+    /// Answers how many more are wanted. Takes no memory.
+    pub fn send_from(&mut self, near: &mut Near, number: u32, left: usize) -> usize
         ensures left { result ≡ (with_taken (nothing_taken self.old left) number).left }
         ensures items { self.new ≡ (with_taken (nothing_taken self.old left) number).items }
     {
         let most = self.items.len();
-        let (wanted, found) = send_at(&mut self.items, number, left);
+        let (wanted, found) = send_at(&mut self.items, near, number, left);
         if let Some(recount) = found {
             count(&mut self.counts, recount, most);
         }

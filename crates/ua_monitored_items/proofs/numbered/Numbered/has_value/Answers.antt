@@ -7,6 +7,6 @@ use Rattle.ua_monitored_items.proofs.numbered.Numbered.has_value.Goals as goal
 pub returns-in-Some : goal.returns-in-Some
 returns-in-Some c =
     let q = c.args.subscription in
-    let items = c.self.inside.items.entries in
+    let items = c.self.inside.items in
     let counted : c.in-Some.count.now ≡ with_value q items = subst (IsCountOf q items) (sym c.in-Some.ensures.value) (c.self.invariant q) in
     ap (nat_lt 0) (counted ∙ ap (with_value q) c.self.view_is) ∙ any_value q c.args.self.now c.requires

@@ -5,16 +5,16 @@ use Rattle.ua_monitored_items.specs.Counts.{AreCounts}
 use Rattle.ua_monitored_items.proofs.Counting.{held_counts, can_count_more, counts_put}
 use Rattle.ua_monitored_items.proofs.numbered.Numbered.insert.Goals as goal
 
-pub invariant_of-self-in_err-insert_item : goal.invariant_of-self-in_err-insert_item
-invariant_of-self-in_err-insert_item c =
-    subst (AreCounts c.hold.new.counts) (sym c.in_err-insert_item.ensures.err) (held_counts c.self.inside.counts c.self.inside.items.entries c.self.invariant c.args.item.subscription c.hold.new.counts c.in-Ok.ensures.ok)
+pub invariant_of-self-in_err-insert : goal.invariant_of-self-in_err-insert
+invariant_of-self-in_err-insert c =
+    subst (AreCounts c.hold.new.counts) (sym c.in_err-insert.ensures.err) (held_counts c.self.inside.counts c.self.inside.items c.self.invariant c.args.item.subscription c.hold.new.counts c.in-Ok.ensures.ok)
 
 pub count-requires : goal.count-requires
 count-requires c =
-    can_count_more c.self.inside.counts c.self.inside.items.entries c.self.invariant c.args.item.subscription c.hold.new.counts c.in-Ok.ensures.ok c.args.number c.args.item refl (nat_lt 0 c.waiting.result) (ap (nat_lt 0) c.waiting.ensures)
-    (ap (item_at c.args.number) c.self.view_is ∙ c.requires) c.insert_item.new.items.entries c.in_ok-insert_item.ensures.ok c.len.result c.len.ensures.len
+    can_count_more c.self.inside.counts c.self.inside.items c.self.invariant c.args.item.subscription c.hold.new.counts c.in-Ok.ensures.ok c.args.number c.args.item refl (nat_lt 0 c.waiting.result) (ap (nat_lt 0) c.waiting.ensures)
+    (ap (item_at c.args.number) c.self.view_is ∙ c.requires) c.insert.new.self c.in_ok-insert.ensures.ok c.len.result c.len.ensures
 
 pub invariant_of-self-2 : goal.invariant_of-self-2
 invariant_of-self-2 c =
-    counts_put c.self.inside.counts c.self.inside.items.entries c.self.invariant c.args.item.subscription c.hold.new.counts c.in-Ok.ensures.ok c.args.number c.args.item refl (nat_lt 0 c.waiting.result) (ap (nat_lt 0) c.waiting.ensures)
-    (ap (item_at c.args.number) c.self.view_is ∙ c.requires) c.insert_item.new.items.entries c.in_ok-insert_item.ensures.ok c.count.new.counts c.count.ensures
+    counts_put c.self.inside.counts c.self.inside.items c.self.invariant c.args.item.subscription c.hold.new.counts c.in-Ok.ensures.ok c.args.number c.args.item refl (nat_lt 0 c.waiting.result) (ap (nat_lt 0) c.waiting.ensures)
+    (ap (item_at c.args.number) c.self.view_is ∙ c.requires) c.insert.new.self c.in_ok-insert.ensures.ok c.count.new.counts c.count.ensures

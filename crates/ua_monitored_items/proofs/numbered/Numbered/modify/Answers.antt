@@ -6,11 +6,11 @@ use Rattle.ua_monitored_items.proofs.numbered.Numbered.modify.Goals as goal
 
 pub count-requires : goal.count-requires
 count-requires c =
-    can_count c.self.inside.counts c.self.inside.items.entries c.self.invariant c.args.number (modified_with c.args.timestamps c.args.modification c.args.parameters.now)
-    c.in-Some.recount (sym c.in-Some.is ∙ c.modify_at-found.ensures.recount) c.len-most.result c.len-most.ensures.len
+    can_count c.self.inside.counts c.self.inside.items c.self.invariant c.args.number (modified_with c.args.timestamps c.args.modification c.args.parameters.now)
+    c.in-Some.recount (sym c.in-Some.is ∙ c.modify_at-found.ensures.recount) c.len-most.result c.len-most.ensures
 
 pub invariant_of-self : goal.invariant_of-self
 invariant_of-self c =
-    counts_changed c.self.inside.counts c.self.inside.items.entries c.self.invariant c.args.number (modified_with c.args.timestamps c.args.modification c.args.parameters.now)
+    counts_changed c.self.inside.counts c.self.inside.items c.self.invariant c.args.number (modified_with c.args.timestamps c.args.modification c.args.parameters.now)
     c.in-Some.recount (sym c.in-Some.is ∙ c.modify_at-found.ensures.recount) (λ item. (there_modified_with c.args.timestamps c.args.modification c.args.parameters.now item).subscription)
-    c.modify_at-found.new.items.entries c.modify_at-found.ensures.items c.count.new.counts c.count.ensures
+    c.modify_at-found.new.items c.modify_at-found.ensures.items c.count.new.counts c.count.ensures

@@ -8,13 +8,13 @@ use Rattle.ua_monitored_items.proofs.numbered.Numbered.send_from.Goals as goal
 
 pub count-requires : goal.count-requires
 count-requires c =
-    let items = c.self.inside.items.entries in
+    let items = c.self.inside.items in
     can_count c.self.inside.counts items c.self.invariant c.args.number (gave (nat_least c.args.left (waiting_at (item_at c.args.number items))))
-    c.in-Some.recount (sym c.in-Some.is ∙ c.send_at-wanted.ensures.recount) c.len-most.result c.len-most.ensures.len
+    c.in-Some.recount (sym c.in-Some.is ∙ c.send_at-wanted.ensures.recount) c.len-most.result c.len-most.ensures
 
 pub invariant_of-self : goal.invariant_of-self
 invariant_of-self c =
-    let items = c.self.inside.items.entries in
+    let items = c.self.inside.items in
     counts_changed c.self.inside.counts items c.self.invariant c.args.number (gave (nat_least c.args.left (waiting_at (item_at c.args.number items))))
     c.in-Some.recount (sym c.in-Some.is ∙ c.send_at-wanted.ensures.recount) (λ item. refl)
-    c.send_at-wanted.new.items.entries (c.send_at-wanted.ensures.items ∙ taken_is (nothing_taken items c.args.left) c.args.number) c.count.new.counts c.count.ensures
+    c.send_at-wanted.new.items (c.send_at-wanted.ensures.items ∙ taken_is (nothing_taken items c.args.left) c.args.number) c.count.new.counts c.count.ensures

@@ -5,11 +5,11 @@ use Rattle.ua_monitored_items.proofs.numbered.Numbered.set_mode.Goals as goal
 
 pub count-requires : goal.count-requires
 count-requires c =
-    can_count c.self.inside.counts c.self.inside.items.entries c.self.invariant c.args.number (moded_from c.args.mode c.args.first)
-    c.in-Some.recount c.in-Some.ensures.recount c.len-most.result c.len-most.ensures.len
+    can_count c.self.inside.counts c.self.inside.items c.self.invariant c.args.number (moded_from c.args.mode c.args.first)
+    c.in-Some.recount c.in-Some.ensures.recount c.len-most.result c.len-most.ensures
 
 pub invariant_of-self : goal.invariant_of-self
 invariant_of-self c =
-    counts_changed c.self.inside.counts c.self.inside.items.entries c.self.invariant c.args.number (moded_from c.args.mode c.args.first)
+    counts_changed c.self.inside.counts c.self.inside.items c.self.invariant c.args.number (moded_from c.args.mode c.args.first)
     c.in-Some.recount c.in-Some.ensures.recount (λ item. (there_moded c.args.mode c.args.first item).subscription)
-    c.set_mode_at.new.items.entries c.in-Some.ensures.items c.count.new.counts c.count.ensures
+    c.set_mode_at.new.items c.in-Some.ensures.items c.count.new.counts c.count.ensures

@@ -1,0 +1,16 @@
+use Rattle.std.proofs.Common.{◌∙◌, ap, sym}
+use Rattle.ua_types.proofs.NumberMaps.{lent_found}
+use Rattle.ua_monitored_items.specs.Item.{waiting_in, gave}
+use Rattle.ua_monitored_items.specs.ItemTables.{item_at}
+use Rattle.ua_monitored_items.specs.Items.{nat_least, taken_from, nothing_taken}
+use Rattle.ua_monitored_items.proofs.Edits.{changed_there, less_of}
+use Rattle.ua_monitored_items.proofs.numbered.send_at.Goals as goal
+
+pub returns-in-Some-clause-items : goal.returns-in-Some-clause-items
+returns-in-Some-clause-items c =
+    let items = c.args.items.now in
+    let item = c.in-Some.item.now in
+    let number = c.args.number in
+    changed_there number (gave (nat_least c.args.left (waiting_in item))) items (c.get_mut_near.follows.lender c.send.new.self) c.get_mut_near.result c.in-Some.item c.send.new.self
+    c.in-Some.is c.get_mut_near.ensures.value (c.get_mut_near.follows.holds c.send.new.self) (c.send.ensures ∙ ap (λ n. gave n item) (c.min-count.ensures ∙ less_of c.args.left c.waiting-waiting.result ∙ ap (nat_least c.args.left) c.waiting-waiting.ensures))
+    ∙ sym (ap (λ found. (taken_from (nothing_taken items c.args.left) number found).items) (lent_found c.get_mut_near.result (item_at number items) c.in-Some.item c.in-Some.is c.get_mut_near.ensures.value))
