@@ -84,8 +84,10 @@ fn write_typed_part<T: Wire>(
     encode_typed(number, content, out)
 }
 
-// Writes a part of a list, and any other value whole.
+// Writes a part of a list, and any other value whole. It is long, and few values are parts: what writes those that are
+// whole stays short without it (docs/MEASURED.md, "Inlined").
 #[tactic(auto, using(crate::proofs::Extending::extends_more, crate::proofs::TypeBytes::number_is, crate::proofs::TypeBytes::flags_are), unfolding(crate::specs::Variants::typed_reading, crate::specs::Variants::variant_reading, crate::specs::Variants::variant_encoding))]
+#[inline(never)]
 fn write_part(
     value: &Variant,
     from: usize,
@@ -129,6 +131,7 @@ impl Written for BorrowedVariant<'_> {
 
     ghost encoding = { variant_encoding };
 
+    #[inline(always)]
     fn write(&self, out: &mut Vec<u8>) -> Result<(), AllocError> {
         match self.part {
             None => self.value.encode(out),

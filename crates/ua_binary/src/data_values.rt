@@ -121,8 +121,9 @@ fn bit<T>(part: Option<&T>) -> u8
     }
 }
 
-// Writes a part that is there.
+// Writes a part that is there. Of what is inlined, docs/MEASURED.md says what it spares ("Inlined").
 #[tactic(auto, unfolding(crate::specs::DataValues::optional_reading, crate::specs::DataValues::optional_encoding))]
+#[inline(always)]
 fn write_if_some<T: Written>(part: Option<&T>, out: &mut Vec<u8>) -> Result<(), AllocError>
     ensures ok { OnOk result (out.new.items ≡ out.old.items ++ optional_encoding T.encoding (option_map (λ p. p.now) part.entry)) }
     ensures err { OnErr result (Extends out.old.items out.new.items) }
@@ -143,6 +144,7 @@ impl Written for BorrowedDataValue<'_> {
 
     ghost encoding = { data_value_encoding };
 
+    #[inline(always)]
     fn write(&self, out: &mut Vec<u8>) -> Result<(), AllocError> {
         let status = if self.status.0 == 0 {
             None

@@ -20,6 +20,7 @@ impl Wire for u8 {
         cursor.byte()
     }
 
+    #[inline(always)]
     fn encode(&self, out: &mut Vec<u8>) -> Result<(), AllocError> {
         out.push(*self)?;
         Ok(())
@@ -166,6 +167,7 @@ impl Wire for i64 {
         Ok(number.cast_signed())
     }
 
+    #[inline(always)]
     fn encode(&self, out: &mut Vec<u8>) -> Result<(), AllocError> {
         self.cast_unsigned().encode(out)
     }
@@ -183,7 +185,9 @@ impl Wire for [u8; 4] {
     }
 
     fn encode(&self, out: &mut Vec<u8>) -> Result<(), AllocError> {
-        out.extend_from_slice(self)
+        // A copy is known to lie apart from `out`, so it is stored at once and not byte by byte.
+        let octets = *self;
+        out.extend_from_slice(&octets)
     }
 }
 
@@ -199,6 +203,8 @@ impl Wire for [u8; 8] {
     }
 
     fn encode(&self, out: &mut Vec<u8>) -> Result<(), AllocError> {
-        out.extend_from_slice(self)
+        // A copy is known to lie apart from `out`, so it is stored at once and not byte by byte.
+        let octets = *self;
+        out.extend_from_slice(&octets)
     }
 }

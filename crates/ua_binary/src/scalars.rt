@@ -21,6 +21,7 @@ impl Wire for Moment {
         Ok(Moment(i64::decode(alloc, cursor)?))
     }
 
+    #[inline(always)]
     fn encode(&self, out: &mut Vec<u8>) -> Result<(), AllocError> {
         self.0.encode(out)
     }
@@ -38,6 +39,7 @@ impl Wire for Status {
         Ok(Status(u32::decode(alloc, cursor)?))
     }
 
+    #[inline(always)]
     fn encode(&self, out: &mut Vec<u8>) -> Result<(), AllocError> {
         self.0.encode(out)
     }

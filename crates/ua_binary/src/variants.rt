@@ -1,6 +1,7 @@
 //! Values of any type.
 
 ghost use Rattle.std.specs.Prelude.{◌≡◌, ◌≢◌, ◌<◌, ◌≤◌, ◌⊎◌, ◌++◌, ℕ, List, Ok, Err, OnOk, OnErr};
+ghost use Rattle.ua_values.specs.declared.content.Content.TheVariants as contents;
 ghost use Rattle.ua_binary.specs.declared.fault.TakeFault.TheVariants.{Memory};
 ghost use Rattle.ua_binary.specs.Reading.{Reads, ReadsInto, Extends};
 ghost use Rattle.ua_binary.specs.Texts.{ClaimsTooMany, IsBacked};
@@ -270,6 +271,44 @@ pub(crate) fn decode_variant(
     decode_typed(alloc, first % 64, first / 64, start, cursor, place)
 }
 
+// Writes the first byte of a list, and the list. It and the next stand apart, so that one value, which most Variants hold, is
+// written by a short function (docs/MEASURED.md, "Inlined").
+#[tactic(auto, using(crate::proofs::Extending::extends_more), unfolding(crate::specs::Variants::content_reading, crate::specs::Variants::content_encoding))]
+#[inline(never)]
+fn encode_typed_array<T: Wire>(
+    number: u8,
+    elements: &Array<T>,
+    out: &mut Vec<u8>,
+) -> Result<(), AllocError>
+    requires { number < 64 }
+    ensures ok { OnOk result (out.new.items ≡ out.old.items ++ typed_encoding number T.encoding (contents.Array elements.now)) }
+    ensures err { OnErr result (Extends out.old.items out.new.items) }
+    ensures again { OnOk result ((x : List ℕ) → content_reading T.reading 2 (content_encoding T.encoding (contents.Array elements.now) ++ x) ≡ Ok (contents.Array elements.now, x)) }
+{
+    (number + 128).encode(out)?;
+    elements.encode(out)?;
+    Ok(())
+}
+
+// Writes the first byte of a list in dimensions, the list and the dimensions.
+#[tactic(auto, using(crate::proofs::Extending::extends_more), unfolding(crate::specs::Variants::content_reading, crate::specs::Variants::content_encoding))]
+#[inline(never)]
+fn encode_typed_matrix<T: Wire>(
+    number: u8,
+    matrix: &Matrix<T>,
+    out: &mut Vec<u8>,
+) -> Result<(), AllocError>
+    requires { number < 64 }
+    ensures ok { OnOk result (out.new.items ≡ out.old.items ++ typed_encoding number T.encoding (contents.Matrix matrix.now)) }
+    ensures err { OnErr result (Extends out.old.items out.new.items) }
+    ensures again { OnOk result ((x : List ℕ) → content_reading T.reading 3 (content_encoding T.encoding (contents.Matrix matrix.now) ++ x) ≡ Ok (contents.Matrix matrix.now, x)) }
+{
+    (number + 192).encode(out)?;
+    write_list(matrix.elements(), out)?;
+    write_list(matrix.dimensions(), out)?;
+    Ok(())
+}
+
 // Writes the first byte and what it announces.
 #[tactic(auto, using(crate::proofs::Extending::extends_more), unfolding(crate::specs::Variants::content_reading, crate::specs::Variants::content_encoding))]
 pub(crate) fn encode_typed<T: Wire>(
@@ -288,17 +327,8 @@ pub(crate) fn encode_typed<T: Wire>(
             value.encode(out)?;
             Ok(())
         }
-        Content::Array(elements) => {
-            (number + 128).encode(out)?;
-            elements.encode(out)?;
-            Ok(())
-        }
-        Content::Matrix(matrix) => {
-            (number + 192).encode(out)?;
-            write_list(matrix.elements(), out)?;
-            write_list(matrix.dimensions(), out)?;
-            Ok(())
-        }
+        Content::Array(elements) => encode_typed_array(number, elements, out),
+        Content::Matrix(matrix) => encode_typed_matrix(number, matrix, out),
     }
 }
 

@@ -30,6 +30,7 @@ impl<T: Wire> Written for T {
 
     ghost encoding = { T.Wire.encoding };
 
+    #[inline(always)]
     fn write(&self, out: &mut Vec<u8>) -> Result<(), AllocError> {
         self.encode(out)
     }

@@ -1,5 +1,5 @@
 -- How many of each subscription's items have a value to send.
-use Rattle.std.proofs.Common.{◌≡◌, ℕ, ◌+◌, ◌≤◌, arith, Bool, true, false, cond, List, [], ◌∷◌, length, Option, Some, None, refl, sym, ap, subst, ◌∙◌}
+use Rattle.std.proofs.Common.{◌≡◌, ℕ, ◌+◌, ◌-◌, ◌≤◌, arith, Bool, true, false, cond, List, [], ◌∷◌, length, Option, Some, None, refl, sym, ap, subst, ◌∙◌}
 use Rattle.std.proofs.lemmas.Bool.{eq-eqb}
 use Rattle.std.specs.Prelude.{◌==◌, ◌&&◌, ⊤, nat_lt}
 use Rattle.std.specs.BTreeMap as tree
@@ -71,6 +71,18 @@ of_itself n = eq-eqb n n refl
 -- an item is in the count of its own subscription
 counted_own : (item : Item) → one_if (is_of item.subscription item && has_value item) ≡ one_if (has_value item)
 counted_own item = ap (λ (b : Bool). one_if (b && has_value item)) (of_itself item.subscription)
+
+-- an item that has a value before and after, or neither, changes no count
+pub counted_alike : (counts : BTreeMap ℕ ℕ) (recount : Recount) → recount.had ≡ recount.has → AreRecounted counts counts recount
+counted_alike counts recount alike q = by (recount.subscription == q) (tree.get nat_cmp counts q)
+  where
+    by : (b : Bool) (found : Option ℕ) → found ≡ cond b (option_map (count_after recount) found) found
+    by false found = refl
+    by true None = refl
+    by true (Some n) =
+        let same : one_if recount.had ≡ one_if recount.has = ap (λ (b : Bool). one_if b) alike in
+        let none : n ≡ (n + one_if recount.has) - one_if recount.had = omega (arith, same) in
+        ap (λ (m : ℕ). Some m) none
 
 -- ---- counts, once one of them followed an item
 

@@ -194,11 +194,16 @@ fn hold(counts: &mut BTreeMap<u32, usize>, subscription: u32) -> Result<(), Allo
     }
 }
 
-// The count of a subscription follows one of its items; it is at most that number. Takes no memory.
+// The count of a subscription follows one of its items; it is at most that number. It is looked for only where it changes.
+// Takes no memory.
+#[tactic(auto, using(crate::proofs::Counting::counted_alike))]
 fn count(counts: &mut BTreeMap<u32, usize>, recount: Recount, most: usize)
     requires { CanCount counts.old recount most }
     ensures { AreRecounted counts.old counts.new recount }
 {
+    if recount.had == recount.has {
+        return;
+    }
     if let Some(count) = counts.get_mut(&recount.subscription) {
         *count = *count - usize::from(recount.had) + usize::from(recount.has);
     }
