@@ -2,7 +2,7 @@
 
 /// Where a value was found last, and how far that was from the one before. Who goes through values in the order in which
 /// they were put in, or in the order of every second or third of them, finds each at the same distance from the one
-/// before, and needs no search. It is only a guess, and a wrong one costs a search and nothing else.
+/// before, and needs no search. It is only a guess: a wrong one costs a comparison, and the search that it didn't spare.
 #[derive(Clone, Copy, Debug)]
 pub struct Near {
     // The slot in which a value was found last.
