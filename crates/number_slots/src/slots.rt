@@ -88,16 +88,6 @@ impl<V> Slots<V> {
         Some(&held.value)
     }
 
-    /// The same, looked for first where it is likely to be.
-    #[tactic(auto, using(crate::proofs::SlotLemmas::found))]
-    pub fn get_near(&self, near: &mut Near, number: u32) -> Option<&V>
-        ensures { option_copied result ≡ lookup (is_at (nat_cmp number)) self.now }
-    {
-        let slot = slot_of(&self.slots, &self.places, near, number)?;
-        let held = self.slots.get(slot)?;
-        Some(&held.value)
-    }
-
     /// The value under this number, to be changed in its place. Takes no memory.
     pub fn get_mut(&mut self, number: u32) -> Option<&mut V>
         ensures* writes_back { sem 𝓛 (lends_value V.row self.entry number result) }

@@ -5,6 +5,7 @@ use Rattle.std.proofs.lemmas.List.Sums.{fold-append}
 use Rattle.std.proofs.lemmas.List.Concat.{flat_map-cons}
 use Rattle.std.specs.Prelude.{◌&&◌, flat_map, fold}
 use Rattle.ua_values.specs.declared.data_value.DataValue.{DataValue}
+use Rattle.ua_subscription_messages.specs.DataChangeMessages.{MessageDraft, with_note, with_notes}
 use Rattle.ua_monitored_items.specs.Item.{seen, with_sent, gave, notes_of, waiting_in}
 use Rattle.ua_monitored_items.specs.Sampling.{visits_by}
 use Rattle.std.specs.Result.{OnErr}
@@ -106,6 +107,14 @@ gives_alike t number = by (item_at number t.items)
     by : (found : Option Item) → ((taken_from (nothing_taken t.items t.left) number found).items ≡ (taken_from t number found).items) × ((taken_from (nothing_taken t.items t.left) number found).left ≡ (taken_from t number found).left)
     by None = (refl, refl)
     by (Some item) = (refl, refl)
+
+-- it is written behind what the items before it gave
+pub written_alike : (message : MessageDraft) (t : Taking) (number : ℕ) → with_notes (with_notes message t.notes) (with_taken (nothing_taken t.items t.left) number).notes ≡ with_notes message (with_taken t number).notes
+written_alike message t number = by (item_at number t.items)
+  where
+    by : (found : Option Item) → with_notes (with_notes message t.notes) (taken_from (nothing_taken t.items t.left) number found).notes ≡ with_notes message (taken_from t number found).notes
+    by None = refl
+    by (Some item) = sym (fold-append with_note message t.notes (take (nat_least t.left (waiting_in item)) (notes_of item)))
 
 -- nothing is wanted any more
 least_zero : (w : ℕ) → nat_least 0 w ≡ 0

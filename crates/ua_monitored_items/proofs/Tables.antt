@@ -23,6 +23,7 @@ use Rattle.ua_monitored_items.specs.Items.{Visit, visited, sampled_items, Taking
 use Rattle.ua_monitored_items.specs.Preparing.{enabled_from, moded_from}
 use Rattle.ua_monitored_items.specs.declared.preparing.Modification.{Modification}
 use Rattle.ua_monitored_items.specs.Modifying.{modified_with}
+use Rattle.ua_monitored_items.specs.Taking.{TakenSome}
 use Rattle.ua_monitored_items.specs.declared.item.Item.{Item}
 use Rattle.ua_monitored_items.specs.declared.kinds.Mode.{Mode}
 use Rattle.ua_monitored_items.specs.declared.kinds.Trigger.{Trigger}
@@ -430,5 +431,11 @@ module _ (made : ℕ) (of_subscription : BTreeMap ℕ (BTreeSet ℕ)) (on_node :
   table_after_samples (Ok x) new visits ok err = subst (λ (es : NumberedItems). IsTable made es of_subscription on_node) (sym ok) (table_sampled made of_subscription on_node items visits h)
   table_after_samples (Err x) new visits ok (front, rest, joined, is) = subst (λ (es : NumberedItems). IsTable made es of_subscription on_node) (sym is) (table_sampled made of_subscription on_node items front h)
 
-  pub table_sent : (new : NumberedItems) (n : ℕ) (numbers : List ℕ) → new ≡ (taken_of items n numbers).items → IsTable made new of_subscription on_node
+  table_sent : (new : NumberedItems) (n : ℕ) (numbers : List ℕ) → new ≡ (taken_of items n numbers).items → IsTable made new of_subscription on_node
   table_sent new n numbers is = subst (λ (es : NumberedItems). IsTable made es of_subscription on_node) (sym is) (table_taken made of_subscription on_node (nothing_taken items n) numbers h)
+
+  -- whether all of the items gave theirs, or only the first of them
+  pub table_after_sending : {T E : Type 0} (r : Result T E) (new : NumberedItems) (n : ℕ) (numbers : List ℕ) → OnOk r (new ≡ (taken_of items n numbers).items) → OnErr r (TakenSome items new n numbers)
+      → IsTable made new of_subscription on_node
+  table_after_sending (Ok x) new n numbers ok err = table_sent new n numbers ok
+  table_after_sending (Err x) new n numbers ok (front, rest, joined, is) = table_sent new n front is

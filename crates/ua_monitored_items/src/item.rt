@@ -6,6 +6,7 @@ ghost use Rattle.ua_monitored_items.specs.Item.{is_change_since as is_change_sin
 ghost use Rattle.ua_monitored_items.specs.Modifying.{modified_with};
 ghost use Rattle.ua_monitored_items.specs.Preparing.{moded_from};
 ghost use Rattle.ua_monitored_items.specs.Releases.{releases_of};
+ghost use Rattle.ua_subscription_messages.specs.DataChangeMessages.{with_notes};
 
 use crate::kinds::{Mode, Trigger};
 use crate::links::Links;
@@ -16,7 +17,7 @@ use ua_binary::BorrowedDataValue;
 use ua_item_queue::{Entry, ItemQueue};
 use ua_read_write::{Timestamps, sample};
 use ua_space::Space;
-use ua_subscription_messages::{BorrowedNotification, MonitoringParameters};
+use ua_subscription_messages::{BorrowedNotification, DataChangeMessage, MonitoringParameters};
 use ua_types::{Copyable, Moment, NodeId, Status};
 use ua_values::DataValue;
 
@@ -282,30 +283,42 @@ impl Item {
         count > 0 && self.queue.len() <= count
     }
 
-    // Tells of its oldest values, so many, behind what is there. At an `Err` a part of them is there.
-    pub(crate) fn tell<'a>(
-        &'a self,
-        count: usize,
-        notes: &mut Vec<BorrowedNotification<'a>>,
-    ) -> Result<(), AllocError>
-        ensures { OnOk result (notes.new.items ≡ notes.old.items ++ take count (notes_of self.now)) }
+    // Writes its oldest values, so many, into a message. At an `Err` a part of them is there.
+    fn tell(&self, count: usize, message: &mut DataChangeMessage) -> Result<(), AllocError>
+        ensures { OnOk result (message.new ≡ with_notes message.old (take count (notes_of self.now))) }
     {
         for index in 0..count {
             let Some(entry) = self.queue.get(index) else {
                 return Ok(());
             };
-            notes.push(note(self.client_handle, self.timestamps, entry))?;
+            message.push(&note(self.client_handle, self.timestamps, entry))?;
         }
         Ok(())
     }
 
     // Its oldest values were sent, so many; the last one ends a release. Takes no memory.
-    pub(crate) fn send(&mut self, count: usize)
+    fn send(&mut self, count: usize)
         ensures { self.new ≡ gave count self.old }
     {
         if self.takes_last(count) {
             self.released = false;
         }
         self.queue.send(count);
+    }
+
+    // Sends its oldest values, so many, by a message into which they are written. At an `Err` it is what it was, and a part of
+    // them is written.
+    pub(crate) fn give(
+        &mut self,
+        count: usize,
+        message: &mut DataChangeMessage,
+    ) -> Result<(), AllocError>
+        ensures ok { OnOk result (self.new ≡ gave count self.old) }
+        ensures message { OnOk result (message.new ≡ with_notes message.old (take count (notes_of self.old))) }
+        ensures err { OnErr result (self.new ≡ self.old) }
+    {
+        self.tell(count, message)?;
+        self.send(count);
+        Ok(())
     }
 }

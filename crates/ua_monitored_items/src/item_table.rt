@@ -12,6 +12,8 @@ ghost use Rattle.ua_monitored_items.specs.Items.{without_all, any_waits, taken_o
 ghost use Rattle.ua_monitored_items.specs.Modifying.{modified_with};
 ghost use Rattle.ua_monitored_items.specs.Preparing.{moded_from};
 ghost use Rattle.ua_monitored_items.specs.Releases.{all_released, shown, ShownSome};
+ghost use Rattle.ua_monitored_items.specs.Taking.{TakenSome};
+ghost use Rattle.ua_subscription_messages.specs.DataChangeMessages.{with_notes};
 
 use crate::index::{Index, put_in, take_out};
 use crate::item::Item;
@@ -21,13 +23,13 @@ use crate::numbered::Numbered;
 use crate::preparing::Modification;
 use crate::releases::Release;
 use crate::sampling::{release_all, sample_all};
-use crate::taking::{send_all, tell_all};
+use crate::taking::give_all;
 use std::alloc::{AllocError, Global};
 use std::collections::BTreeMap;
 use std::marker::Model;
 use ua_read_write::{Change, Timestamps};
 use ua_space::Space;
-use ua_subscription_messages::{BorrowedNotification, MonitoringParameters};
+use ua_subscription_messages::{DataChangeMessage, MonitoringParameters};
 use ua_types::{Copyable, NodeId};
 use ua_values::DataValue;
 
@@ -287,29 +289,22 @@ impl ItemTable {
         self.items.has_value(subscription)
     }
 
-    /// What a subscription's items that report or are released have to tell, at most so many values.
-    #[tactic(auto, using(crate::proofs::FirstNotes::taken_are_told))]
-    pub fn tell(
-        &self,
-        alloc: Global,
+    /// The first values of a subscription's items that report or are released are written into a message and sent, at most so
+    /// many. At an `Err` the first items have sent theirs, and the next one hasn't.
+    pub fn send(
+        &mut self,
         subscription: u32,
         count: usize,
-    ) -> Result<Vec<BorrowedNotification<'_>>, AllocError>
-        ensures { IfOk result (λ notes. notes.items ≡ (taken_of self.now.items count (numbers_of subscription self.now.items)).notes) }
+        message: &mut DataChangeMessage,
+    ) -> Result<(), AllocError>
+        ensures made { self.new.made ≡ self.old.made }
+        ensures ok { OnOk result (self.new.items ≡ (taken_of self.old.items count (numbers_of subscription self.old.items)).items) }
+        ensures message { OnOk result (message.new ≡ with_notes message.old (taken_of self.old.items count (numbers_of subscription self.old.items)).notes) }
+        ensures err { OnErr result (TakenSome self.old.items self.new.items count (numbers_of subscription self.old.items)) }
     {
         match self.of_subscription.get(&subscription) {
-            None => Ok(Vec::new(alloc)),
-            Some(numbers) => tell_all(alloc, &self.items, numbers, count),
-        }
-    }
-
-    /// The first values of a subscription's items that report or are released are sent, at most so many. Takes no memory.
-    pub fn send(&mut self, subscription: u32, count: usize)
-        ensures made { self.new.made ≡ self.old.made }
-        ensures items { self.new.items ≡ (taken_of self.old.items count (numbers_of subscription self.old.items)).items }
-    {
-        if let Some(numbers) = self.of_subscription.get(&subscription) {
-            send_all(&mut self.items, numbers, count);
+            None => Ok(()),
+            Some(numbers) => give_all(&mut self.items, numbers, count, message),
         }
     }
 }

@@ -11,7 +11,9 @@ ghost use Rattle.ua_monitored_items.specs.Links.{link_status, unlinked, is_own a
 ghost use Rattle.ua_monitored_items.specs.Modifying.{modification_of};
 ghost use Rattle.ua_monitored_items.specs.Preparing.{IsReady, AreReady, mode_status, moded_own};
 ghost use Rattle.ua_monitored_items.specs.Releases.{mode_releases, modes_release, modes_set, shown, ShownSome};
+ghost use Rattle.ua_monitored_items.specs.Taking.{TakenSome};
 ghost use Rattle.ua_monitored_items.specs.Undoing.{last_undone, undone, CanBeUndone};
+ghost use Rattle.ua_subscription_messages.specs.DataChangeMessages.{with_notes};
 
 use crate::item::{Item, revised_size};
 use crate::item_table::ItemTable;
@@ -26,7 +28,7 @@ use ua_messages::ReadValueId;
 use ua_read_write::{Change, Timestamps, refusal};
 use ua_space::Space;
 use ua_subscription_messages::{
-    BorrowedNotification, MonitoredItemCreateRequest, MonitoredItemCreateResult,
+    DataChangeMessage, MonitoredItemCreateRequest, MonitoredItemCreateResult,
     MonitoredItemModifyRequest, MonitoredItemModifyResult,
 };
 use ua_types::{Config, Duration, ExtensionObject, ExtensionObjectBody, Moment, NodeId, Status};
@@ -44,8 +46,8 @@ use ua_types::{Config, Duration, ExtensionObject, ExtensionObjectBody, Moment, N
 /// hold is sent as a reporting item's is, until their queue is empty or their mode is set. Items are released
 /// once all items of a write, or of a request, have sampled.
 ///
-/// At want of memory nothing changed, but for [`Items::sample`]: the calls that serve a request take what
-/// memory it wants before they change an item, or take back the items that they made.
+/// At want of memory nothing changed, but for [`Items::sample`] and [`Items::send`]: the calls that serve a request
+/// take what memory it wants before they change an item, or take back the items that they made.
 #[derive(Drop)]
 pub struct Items {
     // How many items a subscription may have.
@@ -736,26 +738,23 @@ impl Items {
         self.table.available(subscription)
     }
 
-    /// What a subscription's items that report or are released have to tell, at most so many values: the items by
-    /// rising number, and the values of each oldest first. Each goes with the client's number of the item, the times
-    /// that are wanted now, and the Overflow bit where it is marked. The values stand where they wait, until
-    /// [`Items::send`] says that they were sent.
-    pub fn notes(
-        &self,
-        alloc: Global,
+    /// Writes what a subscription's items that report or are released have to tell into a message, at most so many values: the
+    /// items by rising number, and the values of each oldest first. Each goes with the client's number of the item, the times
+    /// that are wanted now, and the Overflow bit where it is marked. What is written is sent, and waits no more.
+    ///
+    /// At an `Err`, which is want of memory, the values of the first items are sent, and of the next item none is. The
+    /// message is of no use then: nothing is known of what is written.
+    pub fn send(
+        &mut self,
         subscription: u32,
         count: usize,
-    ) -> Result<Vec<BorrowedNotification<'_>>, AllocError>
-        ensures { IfOk result (λ notes. notes.items ≡ (taken_of self.now.items count (numbers_of subscription self.now.items)).notes) }
-    {
-        self.table.tell(alloc, subscription, count)
-    }
-
-    /// What [`Items::notes`] tells was sent, and waits no more. Takes no memory.
-    pub fn send(&mut self, subscription: u32, count: usize)
-        ensures items { self.new.items ≡ (taken_of self.old.items count (numbers_of subscription self.old.items)).items }
+        message: &mut DataChangeMessage,
+    ) -> Result<(), AllocError>
+        ensures ok { OnOk result (self.new.items ≡ (taken_of self.old.items count (numbers_of subscription self.old.items)).items) }
+        ensures message { OnOk result (message.new ≡ with_notes message.old (taken_of self.old.items count (numbers_of subscription self.old.items)).notes) }
         ensures others { self.new ≡ record self.old { items = self.new.items } }
+        ensures err { OnErr result (TakenSome self.old.items self.new.items count (numbers_of subscription self.old.items)) }
     {
-        self.table.send(subscription, count);
+        self.table.send(subscription, count, message)
     }
 }

@@ -3,16 +3,15 @@
 //!
 //! [`Items`] has all items of the server. Its calls `create`, `modify`, `set_mode`, `link` and `delete` serve
 //! the whole list of a request, entry by entry, `sample` shows it what was written, and `available` and
-//! `notes` and `send` are for who makes the messages. It knows no session, no subscription but by its
-//! number, no clock and no message: whose request it is, and when a message is due, is the business of
-//! the crates above.
+//! `send` are for who makes the messages. It knows no session, no subscription but by its number, and no
+//! clock: whose request it is, and when a message is due, is the business of the crates above.
 //!
 //! ```text
 //! let results = items.create(alloc, &space, clock, subscription, timestamps, requests)?;
 //! items.sample(alloc, &written.changed)?;                       // after each Write
 //! if items.available(subscription) {
-//!     let notes = items.notes(alloc, subscription, 100)?;  // at most so many
-//!     items.send(subscription, 100);                        // once they are written
+//!     let mut message = DataChangeMessage::new(alloc, number, clock)?;
+//!     items.send(subscription, 100, &mut message)?;             // at most so many values
 //! }
 //! items.end(subscription);                                      // the subscription is gone
 //! ```

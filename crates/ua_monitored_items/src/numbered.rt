@@ -13,6 +13,7 @@ ghost use Rattle.ua_monitored_items.specs.Modifying.{modified_with};
 ghost use Rattle.ua_monitored_items.specs.Preparing.{moded_from};
 ghost use Rattle.ua_monitored_items.specs.Releases.{visit_releases, with_release};
 ghost use Rattle.ua_monitored_items.specs.Taking.{waiting_at};
+ghost use Rattle.ua_subscription_messages.specs.DataChangeMessages.{with_notes};
 
 use crate::item::Item;
 use crate::kinds::Mode;
@@ -24,7 +25,7 @@ use std::alloc::{AllocError, Global};
 use std::collections::BTreeMap;
 use std::marker::Model;
 use ua_read_write::Timestamps;
-use ua_subscription_messages::MonitoringParameters;
+use ua_subscription_messages::{DataChangeMessage, MonitoringParameters};
 use ua_values::DataValue;
 
 /// Of an item that is put in, changed or taken out: whether it had a value to send before, and has one now.
@@ -153,31 +154,33 @@ fn visit_at(
     }))
 }
 
-// The oldest values of the item with this number are sent, at most so many. Answers how many more are wanted.
-fn send_at(
+// The oldest values of the item with this number are written into a message and sent, at most so many. Answers how many more
+// are wanted. At an `Err` the items are what they were.
+fn give_at(
     items: &mut Slots<Item>,
     near: &mut Near,
     number: u32,
     left: usize,
-) -> (usize, Option<Recount>)
-    ensures left { result.0 ≡ (with_taken (nothing_taken items.old left) number).left }
-    ensures items { items.new ≡ (with_taken (nothing_taken items.old left) number).items }
-    ensures recount { result.1 ≡ recount_by (gave (nat_least left (waiting_at (item_at number items.old)))) (item_at number items.old) }
+    message: &mut DataChangeMessage,
+) -> Result<(usize, Option<Recount>), AllocError>
+    ensures left { IfOk result (λ given. given.0 ≡ (with_taken (nothing_taken items.old left) number).left) }
+    ensures items { OnOk result (items.new ≡ (with_taken (nothing_taken items.old left) number).items) }
+    ensures message { OnOk result (message.new ≡ with_notes message.old (with_taken (nothing_taken items.old left) number).notes) }
+    ensures recount { IfOk result (λ given. given.1 ≡ recount_by (gave (nat_least left (waiting_at (item_at number items.old)))) (item_at number items.old)) }
+    ensures err { OnErr result (items.new ≡ items.old) }
 {
-    match items.get_mut_near(near, number) {
-        None => (left, None),
-        Some(item) => {
-            let waiting = item.waiting();
-            let count = left.min(waiting);
-            item.send(count);
-            let recount = Recount {
-                subscription: item.subscription,
-                had: waiting > 0,
-                has: item.waiting() > 0,
-            };
-            (left - count, Some(recount))
-        }
-    }
+    let Some(item) = items.get_mut_near(near, number) else {
+        return Ok((left, None));
+    };
+    let waiting = item.waiting();
+    let count = left.min(waiting);
+    item.give(count, message)?;
+    let recount = Recount {
+        subscription: item.subscription,
+        had: waiting > 0,
+        has: item.waiting() > 0,
+    };
+    Ok((left - count, Some(recount)))
 }
 
 // A subscription has a count from now on. At an `Err` nothing changed.
@@ -225,13 +228,6 @@ impl Numbered {
         ensures { option_copied result ≡ item_at number self.now }
     {
         self.items.get(number)
-    }
-
-    /// The same, looked for first where it is likely to be.
-    pub fn get_near(&self, near: &mut Near, number: u32) -> Option<&Item>
-        ensures { option_copied result ≡ item_at number self.now }
-    {
-        self.items.get_near(near, number)
     }
 
     /// Puts an item under a number that none has. At an `Err` nothing changed, and the item comes back.
@@ -354,18 +350,27 @@ impl Numbered {
         Ok(())
     }
 
-    /// The oldest values of the item with this number, which is likely to be near the last one, are sent, at most so many.
-    /// Answers how many more are wanted. Takes no memory.
-    pub fn send_from(&mut self, near: &mut Near, number: u32, left: usize) -> usize
-        ensures left { result ≡ (with_taken (nothing_taken self.old left) number).left }
-        ensures items { self.new ≡ (with_taken (nothing_taken self.old left) number).items }
+    /// The oldest values of the item with this number, which is likely to be near the last one, are written into a message
+    /// and sent, at most so many. Answers how many more are wanted. At an `Err` the items are what they were, and a part of
+    /// these values is written.
+    pub fn give_from(
+        &mut self,
+        near: &mut Near,
+        number: u32,
+        left: usize,
+        message: &mut DataChangeMessage,
+    ) -> Result<usize, AllocError>
+        ensures left { IfOk result (λ wanted. wanted ≡ (with_taken (nothing_taken self.old left) number).left) }
+        ensures items { OnOk result (self.new ≡ (with_taken (nothing_taken self.old left) number).items) }
+        ensures message { OnOk result (message.new ≡ with_notes message.old (with_taken (nothing_taken self.old left) number).notes) }
+        ensures err { OnErr result (self.new ≡ self.old) }
     {
         let most = self.items.len();
-        let (wanted, found) = send_at(&mut self.items, near, number, left);
+        let (wanted, found) = give_at(&mut self.items, near, number, left, message)?;
         if let Some(recount) = found {
             count(&mut self.counts, recount, most);
         }
-        wanted
+        Ok(wanted)
     }
 
     /// Whether an item of a subscription has a value to send. Takes no memory, and looks at no item.

@@ -5,4 +5,5 @@ pub mod Subscriptions
 pub mod Publishing
 pub mod KeptMessages
 pub mod NotificationMessages
+pub mod DataChangeMessages
 pub mod Triggering

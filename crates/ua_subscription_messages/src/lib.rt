@@ -4,8 +4,8 @@
 //! Each structure is the standard's fields in the standard's order and is [`ua_binary::Wire`], as in
 //! `ua_messages`, whose `message` and `body` read and write all of these too. A filter and a
 //! notification travel inside an ExtensionObject, whose body is such a structure: [`notification_message`]
-//! writes one where it stands, and [`publish_body`] a response round a message that was written before. Values that are
-//! told need not be copied for it: a [`BorrowedDataChange`] is written from where they stand.
+//! writes one where it stands, and [`publish_body`] a response round a message that was written before. A message with
+//! values of items is written value by value ([`DataChangeMessage`]), each from where it stands.
 //!
 //! Nothing here decides anything: no number is revised, no item is looked up, and no queue is kept.
 //!
@@ -13,6 +13,7 @@
 #![tactic(auto)]
 
 mod borrowed_notifications;
+mod data_change_messages;
 mod enumerations;
 mod kept_messages;
 pub mod laws;
@@ -23,7 +24,8 @@ mod publishing;
 mod subscriptions;
 mod triggering;
 
-pub use borrowed_notifications::{BorrowedDataChange, BorrowedNotification};
+pub use borrowed_notifications::BorrowedNotification;
+pub use data_change_messages::DataChangeMessage;
 pub use enumerations::{DataChangeTrigger, MonitoringMode};
 pub use kept_messages::{publish_body, republish_body};
 pub use monitored_items::{

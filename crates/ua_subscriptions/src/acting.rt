@@ -127,9 +127,7 @@ fn send_note(
     round.count(subscription)?;
     let count = subscription.notifications as usize;
     let number = number_after(subscription.number);
-    let notes = items.notes(alloc, round.own, count)?;
-    let bytes = data_message(alloc, number, round.clock, notes)?;
-    items.send(round.own, count);
+    let bytes = data_message(alloc, number, round.clock, items, round.own, count)?;
     let message = bytes.clone()?;
     subscription.more = items.available(round.own);
     subscription.number = number;

@@ -1,15 +1,17 @@
 //! Messages of subscriptions, as their bytes.
 
-ghost use Rattle.std.specs.Prelude.{◌≡◌, IfOk};
+ghost use Rattle.std.specs.Prelude.{◌≡◌, OnOk, IfOk};
+ghost use Rattle.ua_monitored_items.specs.ItemTables.{numbers_of};
+ghost use Rattle.ua_monitored_items.specs.Items.{taken_of};
 ghost use Rattle.ua_subscriptions.specs.Messages.{data_message, keep_alive_message, timeout_message};
 
 use bytes::Bytes;
 use std::alloc::{AllocError, Global};
 use ua_binary::Wire;
 use ua_messages::{DiagnosticInfo, type_ids};
+use ua_monitored_items::Items;
 use ua_subscription_messages::{
-    BorrowedDataChange, BorrowedNotification, NotificationMessage, StatusChangeNotification,
-    notification_message,
+    DataChangeMessage, NotificationMessage, StatusChangeNotification, notification_message,
 };
 use ua_types::{Array, Moment, Status};
 
@@ -22,22 +24,23 @@ pub struct KeptMessage {
     pub bytes: Bytes,
 }
 
-/// The bytes of a message with these values.
-#[tactic(auto, unfolding(crate::specs::Messages::data_message))]
+/// The bytes of a message with the first values of a subscription's items, at most so many, which are sent by it. At an `Err`
+/// nothing is known of what is left.
+#[tactic(auto, unfolding(crate::specs::Messages::data_message, ua_subscription_messages::specs::DataChangeMessages::data_change_message))]
 pub(crate) fn data_message(
     alloc: Global,
     number: u32,
     clock: Moment,
-    notes: Vec<BorrowedNotification<'_>>,
+    items: &mut Items,
+    subscription: u32,
+    count: usize,
 ) -> Result<Bytes, AllocError>
-    ensures { IfOk result (λ bytes. bytes ≡ data_message number clock notes.entry.items) }
+    ensures bytes { IfOk result (λ bytes. bytes ≡ data_message number clock (taken_of items.old.items count (numbers_of subscription items.old.items)).notes) }
+    ensures items { OnOk result (items.new ≡ record items.old { items = (taken_of items.old.items count (numbers_of subscription items.old.items)).items }) }
 {
-    if notes.len() >= 1 << 31 {
-        return Err(AllocError);
-    }
-    let changes = BorrowedDataChange::new(notes);
-    let type_id = type_ids::DATA_CHANGE_NOTIFICATION;
-    let mut bytes = notification_message(alloc, number, clock, type_id, &changes)?;
+    let mut message = DataChangeMessage::new(alloc, number, clock)?;
+    items.send(subscription, count, &mut message)?;
+    let mut bytes = message.finish()?;
     // A message that is kept has no room to spare.
     bytes.shrink_to_fit();
     Ok(Bytes::from_vec(bytes)?)

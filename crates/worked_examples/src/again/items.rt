@@ -6,13 +6,15 @@ use std::alloc::{AllocError, Global};
 use std::io::Write;
 use std::rt::Files;
 use std::{fs, io};
-use ua_binary::{Cursor, Wire, Written};
+use ua_binary::{Cursor, Wire};
+use ua_messages::structure;
+use ua_messages::type_ids::DATA_CHANGE_NOTIFICATION;
 use ua_monitored_items::Items;
 use ua_read_write::{Change, Timestamps};
 use ua_space::Space;
 use ua_subscription_messages::{
-    MonitoredItemCreateRequest, MonitoredItemCreateResult, MonitoredItemModifyRequest,
-    MonitoredItemNotification,
+    DataChangeMessage, DataChangeNotification, MonitoredItemCreateRequest,
+    MonitoredItemCreateResult, MonitoredItemModifyRequest, NotificationMessage,
 };
 use ua_types::{Array, Moment, NodeId, Status};
 use ua_values::{Content, DataValue, Variant};
@@ -85,20 +87,27 @@ fn write_modified(alloc: Global, items: &mut Items, output: &mut Vec<u8>) -> io:
     Ok(())
 }
 
-// Takes what the items tell, a line for each value.
-fn write_notes(alloc: Global, items: &mut Items, output: &mut Vec<u8>) -> io::Result<()> {
-    let mut told = Vec::new(alloc);
-    let mut count = 0usize;
-    for note in items.notes(alloc, 1, 9)? {
-        note.write(&mut told)?;
-        count = count.saturating_add(1);
+// The values that a message tells.
+fn told_by(alloc: Global, bytes: &[u8]) -> io::Result<DataChangeNotification> {
+    let Ok(message) = NotificationMessage::take(alloc, &mut Cursor::new(bytes)) else {
+        return Err(failed());
+    };
+    let Some([object]) = message.notification_data.as_slice() else {
+        return Err(failed());
+    };
+    match structure::<DataChangeNotification>(alloc, DATA_CHANGE_NOTIFICATION, object) {
+        Ok(told) => Ok(told),
+        Err(_) => Err(failed()),
     }
-    items.send(1, 9);
-    let mut cursor = Cursor::new(told.as_slice());
-    for _ in 0..count {
-        let Ok(note) = MonitoredItemNotification::take(alloc, &mut cursor) else {
-            return Err(failed());
-        };
+}
+
+// Has the items send what they have to tell, and writes a line for each value.
+fn write_notes(alloc: Global, items: &mut Items, output: &mut Vec<u8>) -> io::Result<()> {
+    let mut message = DataChangeMessage::new(alloc, 1, Moment(0))?;
+    items.send(1, 9, &mut message)?;
+    let bytes = message.finish()?;
+    let told = told_by(alloc, bytes.as_slice())?;
+    for note in told.monitored_items.as_slice().unwrap_or(&[]) {
         write!(
             output,
             "item {} {:?}\n",
