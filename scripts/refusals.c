@@ -15,7 +15,8 @@
    calls of MARK had begun. With ALL=1 all calls behind the refused one are refused too. LIMIT is a number of seconds, after which a
    child is ended by SIGALRM.
    With ONE in place of REPORT the process itself is refused the call of that number, and nothing forks.
-   MOST_READ and MOST_WRITE are the most bytes that a read and a write of the program move.
+   MOST_READ and MOST_WRITE are the most bytes that a read and a write of the program move. A receive of a socket is never cut short:
+   the program takes one that gives less than there was room for as a sign that the socket is empty.
    SOCKET=N with CALL=K and REFUSE=writes or REFUSE=reads: the Kth write to, or read of, the Nth socket that was accepted
    fails, and all later ones; CALL counts from 0, and SOCKET from 1.
 

@@ -6,7 +6,8 @@
 PROGRAM is the built program, NODES a node file with the standard's limits, as crates/uaserver/data/line.toml. It tries:
 two sockets whose conversations go on at once, cut differently; 100 sockets opened and closed at once, and then one
 that is served; a client that sends nothing, and one that never reads; one that ends what it sends while the server owes it
-more than the system holds, and reads then; a port and an address that can't be had, and an
+more than the system holds, and reads then; clients that hang up at once behind the last that they say, right after they connected and
+later; a port and an address that can't be had, and an
 IPv6 address, where the machine has one; the lines of connections that come, go and are turned away, and the trace of a run
 without subscriptions. Nothing but Python's own library is needed.
 """
@@ -258,6 +259,26 @@ def hangs_up_and_reads_late(program, nodes, port):
     sock.close()
 
 
+def hangs_up_behind_its_words(program, nodes, port):
+    due = without_times(piped(program, nodes, HELLO + opening()))
+    for _ in range(50):
+        # The first is looked at before anything was reported of it, and the second was served before. Each reads to the end of its
+        # connection, which comes once the server has heard that it hung up.
+        new, served = connect(port), connect(port)
+        new.sendall(HELLO + opening())
+        new.shutdown(socket.SHUT_WR)
+        got = read_all(new)
+        assert without_times(got) == of_channel(due, struct.unpack_from('<I', got, 28 + 8)[0]), got
+        served.sendall(HELLO)
+        got = read_frame(served)
+        served.sendall(opening())
+        served.shutdown(socket.SHUT_WR)
+        got += read_all(served)
+        assert without_times(got) == of_channel(due, struct.unpack_from('<I', got, 28 + 8)[0]), got
+        new.close()
+        served.close()
+
+
 def told(program, nodes):
     """Connections that come and go are told, and one too many is told to be refused, and then no more."""
     with open(nodes, encoding='utf-8') as file:
@@ -304,7 +325,7 @@ def main():
     server = Server(program, nodes)
     port = server.port
     try:
-        for name, test in (('two at once', two_at_once), ('a hundred that vanish', hundred), ('silent and deaf', silent_and_deaf), ('hangs up and reads late', hangs_up_and_reads_late)):
+        for name, test in (('two at once', two_at_once), ('a hundred that vanish', hundred), ('silent and deaf', silent_and_deaf), ('hangs up and reads late', hangs_up_and_reads_late), ('hangs up behind its words', hangs_up_behind_its_words)):
             test(program, nodes, port)
             assert server.is_running(), server.lines
             print('ok', name, flush=True)

@@ -3,26 +3,29 @@
 use crate::holding::holds;
 use bytes::Bytes;
 use server_messages::Out;
-use socket_peers::{Heard, Peer, Peers, Socket};
+use socket_peers::{Heard, Peer, Peers, Readiness, Socket};
 use std::alloc::Global;
 use std::io;
 use std::io::ErrorKind;
 use std::test::*;
 
-// A stream that takes at most seven bytes in a write, so often, and gives no byte, or is at its end.
+// A stream that takes at most seven bytes in a write, so often, gives so many bytes, and is at its end then, or has no more for now.
 #[derive(Drop)]
 struct Slow {
     taken: Vec<u8>,
     writes: usize,
+    given: usize,
     is_at_end: bool,
 }
 
 impl Socket for Slow {
-    fn receive(&mut self, _piece: &mut [u8]) -> io::Result<usize> {
-        if self.is_at_end {
-            return Ok(0);
+    fn receive(&mut self, piece: &mut [u8]) -> io::Result<usize> {
+        if self.given == 0 && !self.is_at_end {
+            return Err(io::Error::from(ErrorKind::WouldBlock));
         }
-        Err(io::Error::from(ErrorKind::WouldBlock))
+        let count = piece.len().min(self.given);
+        self.given -= count;
+        Ok(count)
     }
 
     fn send(&mut self, bytes: &[u8]) -> io::Result<usize> {
@@ -40,6 +43,7 @@ fn slow_stream(alloc: Global, writes: usize) -> Slow {
     Slow {
         taken: Vec::new(alloc),
         writes,
+        given: 0,
         is_at_end: false,
     }
 }
@@ -130,5 +134,50 @@ fn a_client_that_has_hung_up_is_gone_at_once(rt: HostRuntime) -> Result<(), Fail
     holds(&rt, "at its end", matches!(heard, Heard::End));
     holds(&rt, "told, though it is owed a byte", peers.depart(1));
     holds(&rt, "its byte is still to be written", !peers.release(1));
+    Ok(())
+}
+
+// A report that a socket is closed for reading.
+const ENDING: Readiness = Readiness {
+    is_writable: false,
+    is_ending: true,
+};
+
+// A socket that has sent five bytes and hung up at once.
+fn hung_up(alloc: Global) -> Result<Peers<Slow>, Fail> {
+    let mut peers = Peers::new(alloc);
+    let mut stream = slow_stream(alloc, 0);
+    stream.given = 5;
+    stream.is_at_end = true;
+    peers.admit(alloc, 1, stream)?;
+    Ok(peers)
+}
+
+// Whether a read with room for 16 bytes comes to this, with so many bytes.
+fn hears(alloc: Global, peers: &mut Peers<Slow>, due: Heard, count: usize) -> Result<bool, Fail> {
+    let mut piece = vec![in alloc; 0u8; 16]?;
+    let heard = peers.read(1, &mut piece);
+    Ok(heard == due && piece.len() == count)
+}
+
+#[test]
+fn an_end_that_is_reported_before_the_last_bytes_are_read(rt: HostRuntime) -> Result<(), Fail> {
+    let mut peers = hung_up(rt.alloc())?;
+    peers.report(1, ENDING)?;
+    let is_piece = hears(rt.alloc(), &mut peers, Heard::Piece, 5)?;
+    holds(&rt, "five bytes, and there may be more", is_piece);
+    let is_end = hears(rt.alloc(), &mut peers, Heard::End, 0)?;
+    holds(&rt, "the end", is_end);
+    Ok(())
+}
+
+#[test]
+fn an_end_that_is_reported_after_the_last_bytes_were_read(rt: HostRuntime) -> Result<(), Fail> {
+    let mut peers = hung_up(rt.alloc())?;
+    let is_last = hears(rt.alloc(), &mut peers, Heard::Last, 5)?;
+    holds(&rt, "five bytes, and no more for now", is_last);
+    peers.report(1, ENDING)?;
+    let is_end = hears(rt.alloc(), &mut peers, Heard::End, 0)?;
+    holds(&rt, "the end", is_end);
     Ok(())
 }

@@ -10,7 +10,7 @@ use server_core::{Event, Server};
 use socket_server::{Serve, Unobserved};
 use std::alloc::Global;
 use std::io::{ErrorKind, Read, Write};
-use std::net::{SocketAddr, TcpStream};
+use std::net::{Shutdown, SocketAddr, TcpStream};
 use std::sync::Wait;
 use std::test::*;
 use std::time::Clock;
@@ -103,6 +103,37 @@ fn two_sockets(rt: HostRuntime) -> Result<(), Fail> {
     let alloc = rt.alloc();
     let mut serve = Serve::bind(&rt, alloc, 0)?;
     holds(&rt, "both", are_served(&rt, &rt, alloc, &mut serve)?);
+    Ok(())
+}
+
+// Whether a client that hangs up at once behind its Hello reads its Acknowledge, and nothing of the server's end, since its connection
+// is no more by then.
+fn is_gone_behind_its_hello<R: Clock + Wait>(
+    host: &HostRuntime,
+    rt: &R,
+    alloc: Global,
+    serve: &mut Serve,
+) -> Result<bool, Fail> {
+    let address = serve.address()?;
+    let one = client(host, address, &[HELLO])?;
+    one.shutdown(Shutdown::Write)?;
+    let mut server = base_server(alloc)?;
+    let is_done = serve
+        .run(rt, alloc, &mut server, &mut Unobserved, 3)
+        .is_ok();
+    let answered = all_of(alloc, one)?;
+    Ok(is_done && serve.len() == 0 && answered.as_slice() == ACKNOWLEDGE)
+}
+
+#[test]
+fn a_client_that_hangs_up_behind_its_hello(rt: HostRuntime) -> Result<(), Fail> {
+    let alloc = rt.alloc();
+    let mut serve = Serve::bind(&rt, alloc, 0)?;
+    holds(
+        &rt,
+        "gone",
+        is_gone_behind_its_hello(&rt, &rt, alloc, &mut serve)?,
+    );
     Ok(())
 }
 

@@ -3,9 +3,10 @@ use Rattle.std.proofs.Common.{◌≡◌, ℕ, suc, ◌+◌, ◌<◌, List, [], �
 use lib.Seq.{drop-cons}
 use Rattle.std.proofs.lemmas.List.{drop_all}
 use Rattle.socket_peers.specs.declared.peer.Heard.{Heard}
+use Rattle.socket_peers.specs.declared.peer.Readiness.{Readiness}
 use Rattle.socket_peers.specs.Socket.{Calls}
-use Rattle.socket_peers.specs.Peer.{PeerState, awake_if, departs, departed, is_over, Reads, Flushes}
-use Rattle.socket_peers.specs.Peers.{PeersState, at, with_woken_if, listed_if, woken_if, ready, reported, reported_by, is_true_of, changed_by, touching, touching_by, Departs, ReadsBy, ReadsAt, FlushesBy, FlushesAt, FlushesEach, LooksBy, LooksAt}
+use Rattle.socket_peers.specs.Peer.{PeerState, ready, awake_if, departs, departed, is_over, Reads, Flushes}
+use Rattle.socket_peers.specs.Peers.{PeersState, at, with_woken_if, listed_if, woken_if, reported, reported_by, is_true_of, changed_by, touching, touching_by, Departs, ReadsBy, ReadsAt, FlushesBy, FlushesAt, FlushesEach, LooksBy, LooksAt}
 use Rattle.std.specs.Ordering.{nat_cmp}
 use Rattle.std.specs.FinMap.{FinMap, insert}
 use Rattle.ua_types.proofs.NumberMaps.{insert_same}
@@ -25,13 +26,13 @@ module _ {S : Type 0} where
       ap (λ m. record old { connected = m; awake = awake }) there ∙ ap (λ l. record old { connected = insert old.connected number (woken_if is_woken peer); awake = l }) list
 
   -- it was reported as ready
-  pub reported_back : (old now : PeersState S) (number : ℕ) (is_writable : Bool) (peer found after : PeerState S) (connected : FinMap nat_cmp (PeerState S)) (awake : List ℕ)
-      → old ≡ now → at old number ≡ Some found → peer ≡ ready is_writable found
+  pub reported_back : (old now : PeersState S) (number : ℕ) (readiness : Readiness) (peer found after : PeerState S) (connected : FinMap nat_cmp (PeerState S)) (awake : List ℕ)
+      → old ≡ now → at old number ≡ Some found → peer ≡ ready readiness found
       → connected ≡ insert old.connected number after → awake ≡ listed_if true old.awake number peer → after ≡ woken_if true peer
-      → record { connected = connected; last = old.last; awake = awake; touched = old.touched } ≡ reported now number is_writable
-  reported_back old now number is_writable peer found after connected awake same is e back list woken =
-      subst (λ p. record { connected = connected; last = old.last; awake = awake; touched = old.touched } ≡ reported p number is_writable) same
-      (subst (λ o. record { connected = connected; last = old.last; awake = awake; touched = old.touched } ≡ reported_by old number is_writable o) (sym is)
+      → record { connected = connected; last = old.last; awake = awake; touched = old.touched } ≡ reported now number readiness
+  reported_back old now number readiness peer found after connected awake same is e back list woken =
+      subst (λ p. record { connected = connected; last = old.last; awake = awake; touched = old.touched } ≡ reported p number readiness) same
+      (subst (λ o. record { connected = connected; last = old.last; awake = awake; touched = old.touched } ≡ reported_by old number readiness o) (sym is)
       (woken_back true old number peer after connected awake back list woken ∙ ap (with_woken_if true old number) e))
 
   -- the server is told that its connection is no more

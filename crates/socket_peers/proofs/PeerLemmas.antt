@@ -104,6 +104,7 @@ module _ {S : Type 0} (remaining contents : S → Option (List ℕ)) (calls : S 
     read = Keeps-refl (remaining p.stream);
     owed = refl;
     closes = refl;
+    ends = refl;
     ended = refl;
     gone = refl;
     awake = refl;
@@ -125,6 +126,7 @@ module _ {S : Type 0} (remaining contents : S → Option (List ℕ)) (calls : S 
         read = Keeps-again (remaining a.stream) (remaining b.stream) (remaining c.stream) p.read q.read;
         owed = q.owed ∙ ap (drop q.count) p.owed ∙ drop-drop q.count p.count a.owed;
         closes = q.closes ∙ p.closes;
+        ends = q.ends ∙ p.ends;
         ended = q.ended ∙ p.ended;
         gone = q.gone ∙ p.gone;
         awake = q.awake ∙ p.awake;

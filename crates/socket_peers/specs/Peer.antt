@@ -2,18 +2,21 @@
 use Rattle.std.specs.Prelude.{◌≡◌, ◌⊎◌, ⊤, ℕ, ◌+◌, ◌<◌, ◌≤◌, ◌==◌, ◌&&◌, ◌||◌, Bool, true, false, not, nat_lt, List, [], ◌++◌, length, take, drop, Option, Some, None, if◌then◌else◌, refl}
 use Rattle.std.specs.Coded.{Coded, code_by, coded×, coded_ℕ, coded_bool, coded_list}
 use Rattle.std.specs.Io.KnownBytes.{Appends, Consumes, Keeps, IsAtEnd}
+use Rattle.socket_peers.specs.declared.peer.Readiness.{Readiness}
 use Rattle.socket_peers.specs.declared.peer.Heard.{Heard}
-use Rattle.socket_peers.specs.declared.peer.Heard.TheVariants.{Piece, Again, Nothing, End}
+use Rattle.socket_peers.specs.declared.peer.Heard.TheVariants.{Piece, Last, Again, Nothing, End}
 use Rattle.socket_peers.specs.declared.socket.Missed.TheVariants.{Waits, Interrupted, Failed}
 use Rattle.socket_peers.specs.Socket.{Calls, NoneMissed, OneMissed}
 
 -- Its stream, the bytes that were sent to it and that the stream hasn't taken yet, whether nothing more is read from it, whether
--- its input is at its end, whether it has failed, whether the server was told that its connection is no more, whether the stream
--- took less than there was and wasn't reported as writable since, and whether it stands on the list of those to be looked at
+-- it was reported as ending: its end lies behind what is still to be read; whether its input is at its end, whether it has failed,
+-- whether the server was told that its connection is no more, whether the stream took less than there was and wasn't reported as
+-- writable since, and whether it stands on the list of those to be looked at
 pub record PeerState (S : Type 0) : Type 0 where
   pub stream : S
   pub owed : List ℕ
   pub is_closing : Bool
+  pub is_ending : Bool
   pub has_ended : Bool
   pub has_failed : Bool
   pub is_gone : Bool
@@ -32,21 +35,34 @@ abbrev pub one_if : Bool → ℕ
 one_if true = 1
 one_if false = 0
 
+-- a read gave some bytes
+abbrev pub is_piece : Heard → Bool
+is_piece Piece = true
+is_piece Last = true
+is_piece other = false
+
+-- the next read may give some
+abbrev pub may_be_more : Heard → Bool
+may_be_more Piece = true
+may_be_more Again = true
+may_be_more other = false
+
 module _ {S : Type 0} where
   abbrev pub peer_code : Coded S → Coded (PeerState S)
   peer_code stream =
-      code_by (S × (List ℕ × (Bool × (Bool × (Bool × (Bool × (Bool × Bool)))))))
-      (coded× stream (coded× (coded_list coded_ℕ) (coded× coded_bool (coded× coded_bool (coded× coded_bool (coded× coded_bool (coded× coded_bool coded_bool)))))))
-      (λ p. (p.stream, (p.owed, (p.is_closing, (p.has_ended, (p.has_failed, (p.is_gone, (p.is_full, p.is_awake))))))))
+      code_by (S × (List ℕ × (Bool × (Bool × (Bool × (Bool × (Bool × (Bool × Bool))))))))
+      (coded× stream (coded× (coded_list coded_ℕ) (coded× coded_bool (coded× coded_bool (coded× coded_bool (coded× coded_bool (coded× coded_bool (coded× coded_bool coded_bool))))))))
+      (λ p. (p.stream, (p.owed, (p.is_closing, (p.is_ending, (p.has_ended, (p.has_failed, (p.is_gone, (p.is_full, p.is_awake)))))))))
       (λ t. record {
         stream = t.0;
         owed = t.1.0;
         is_closing = t.1.1.0;
-        has_ended = t.1.1.1.0;
-        has_failed = t.1.1.1.1.0;
-        is_gone = t.1.1.1.1.1.0;
-        is_full = t.1.1.1.1.1.1.0;
-        is_awake = t.1.1.1.1.1.1.1;
+        is_ending = t.1.1.1.0;
+        has_ended = t.1.1.1.1.0;
+        has_failed = t.1.1.1.1.1.0;
+        is_gone = t.1.1.1.1.1.1.0;
+        is_full = t.1.1.1.1.1.1.1.0;
+        is_awake = t.1.1.1.1.1.1.1.1;
       })
       (λ _. refl)
 
@@ -55,6 +71,7 @@ module _ {S : Type 0} where
     stream = stream;
     owed = [];
     is_closing = false;
+    is_ending = false;
     has_ended = false;
     has_failed = false;
     is_gone = false;
@@ -69,9 +86,9 @@ module _ {S : Type 0} where
   abbrev pub closing : PeerState S → PeerState S
   closing p = record p { is_closing = true }
 
-  -- it takes bytes again
-  abbrev pub writable : PeerState S → PeerState S
-  writable p = record p { is_full = false }
+  -- It was reported as ready. Where it takes bytes it is full no more, and once it was reported as ending it stays so
+  abbrev pub ready : Readiness → PeerState S → PeerState S
+  ready readiness p = record p { is_full = p.is_full && not readiness.is_writable; is_ending = p.is_ending || readiness.is_ending }
 
   -- it stands on the list of those to be looked at, or doesn't
   abbrev pub awake_if : Bool → PeerState S → PeerState S
@@ -95,6 +112,11 @@ module _ {S : Type 0} where
 
   abbrev pub listens : PeerState S → Bool
   listens p = not p.is_closing && (not p.has_failed && not (nat_lt most_owed (length p.owed)))
+
+  -- There is no more to be read for now: this piece is less than there was room for, and the socket wasn't reported as ending, so that
+  -- its end doesn't lie behind the piece already
+  abbrev pub is_drained : PeerState S → ℕ → List ℕ → Bool
+  is_drained p room piece = nat_lt (length piece) room && not p.is_ending
 
   -- it is owed more than may stay unsent
   abbrev pub is_owed_too_much : PeerState S → Bool
@@ -130,13 +152,18 @@ module _ {S : Type 0} where
     abbrev pub Rests : S → S → Type 0
     Rests old new = Keeps (remaining old) (remaining new) × Keeps (contents old) (contents new)
 
-    -- A read with so much room, and the piece that it gave: the next bytes of the stream, from a socket that listens. At the end of
-    -- its stream a socket closes, and one that fails is over. Nothing comes without a call only from one that doesn't listen
-    abbrev pub Reads : PeerState S → PeerState S → ℕ → List ℕ → Heard → Type 0
-    Reads old new room piece Piece =
+    -- a piece comes from a socket that listens: the next bytes of the stream, as many as there is room for at most
+    abbrev pub GivesPiece : PeerState S → PeerState S → ℕ → List ℕ → Type 0
+    GivesPiece old new room piece =
         (listens old ≡ true) × (0 < length piece) × (length piece ≤ room) × Consumes (remaining old.stream) (remaining new.stream) piece
         × Keeps (contents old.stream) (contents new.stream) × NoneMissed (calls old.stream) (calls new.stream)
         × (new ≡ record old { stream = new.stream })
+
+    -- A read with so much room, and what it gave: a piece after which there may be more, or the last one for now. At the end of
+    -- its stream a socket closes, and one that fails is over. Nothing comes without a call only from one that doesn't listen
+    abbrev pub Reads : PeerState S → PeerState S → ℕ → List ℕ → Heard → Type 0
+    Reads old new room piece Piece = (is_drained old room piece ≡ false) × GivesPiece old new room piece
+    Reads old new room piece Last = (is_drained old room piece ≡ true) × GivesPiece old new room piece
     Reads old new room piece End =
         (piece ≡ []) × (listens old ≡ true) × ((Consumes (remaining old.stream) (remaining new.stream) [] × IsAtEnd (remaining new.stream)
         × Keeps (contents old.stream) (contents new.stream) × NoneMissed (calls old.stream) (calls new.stream)
@@ -158,6 +185,7 @@ module _ {S : Type 0} where
       pub read : Keeps (remaining old.stream) (remaining new.stream)
       pub owed : new.owed ≡ drop count old.owed
       pub closes : new.is_closing ≡ old.is_closing
+      pub ends : new.is_ending ≡ old.is_ending
       pub ended : new.has_ended ≡ old.has_ended
       pub gone : new.is_gone ≡ old.is_gone
       pub awake : new.is_awake ≡ old.is_awake

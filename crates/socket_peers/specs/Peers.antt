@@ -7,8 +7,9 @@ use Rattle.server_messages.specs.declared.out.Out.{Out}
 use Rattle.server_messages.specs.declared.out.Out.TheVariants.{Send, Close}
 use Rattle.socket_peers.specs.declared.peer.Heard.{Heard}
 use Rattle.socket_peers.specs.declared.peer.Heard.TheVariants.{Nothing}
+use Rattle.socket_peers.specs.declared.peer.Readiness.{Readiness}
 use Rattle.socket_peers.specs.Socket.{Calls}
-use Rattle.socket_peers.specs.Peer.{PeerState, peer_code, owing, closing, writable, awake_if, fresh, departs, departed, is_done, is_over, Reads, Flushes}
+use Rattle.socket_peers.specs.Peer.{PeerState, peer_code, owing, closing, ready, awake_if, fresh, departs, departed, is_done, is_over, Reads, Flushes}
 
 -- The sockets that are connected; the number that was given last, 0 before the first; the list of those to be looked at; and those
 -- that were owed something or closed since all were flushed
@@ -100,18 +101,13 @@ module _ {S : Type 0} where
   with_woken_if is_woken p number peer =
       record p { connected = insert p.connected number (woken_if is_woken peer); awake = listed_if is_woken p.awake number peer }
 
-  -- it was reported as ready, maybe to take bytes
-  abbrev pub ready : Bool → PeerState S → PeerState S
-  ready true peer = writable peer
-  ready false peer = peer
-
-  abbrev pub reported_by : PeersState S → ℕ → Bool → Option (PeerState S) → PeersState S
-  reported_by p number is_writable None = p
-  reported_by p number is_writable (Some peer) = with_woken_if true p number (ready is_writable peer)
+  abbrev pub reported_by : PeersState S → ℕ → Readiness → Option (PeerState S) → PeersState S
+  reported_by p number readiness None = p
+  reported_by p number readiness (Some peer) = with_woken_if true p number (ready readiness peer)
 
   -- a socket that was reported as ready is to be looked at
-  abbrev pub reported : PeersState S → ℕ → Bool → PeersState S
-  reported p number is_writable = reported_by p number is_writable (at p number)
+  abbrev pub reported : PeersState S → ℕ → Readiness → PeersState S
+  reported p number readiness = reported_by p number readiness (at p number)
 
   -- ---- what is to be done, each on the connection that it names
 

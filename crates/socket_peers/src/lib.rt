@@ -12,6 +12,6 @@ mod peer;
 mod peers;
 mod socket;
 
-pub use peer::{Heard, Peer};
+pub use peer::{Heard, Peer, Readiness};
 pub use peers::Peers;
 pub use socket::{Missed, Socket};

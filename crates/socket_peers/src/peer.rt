@@ -2,7 +2,7 @@
 
 ghost use Rattle.std.specs.Prelude.{◌≡◌, ◌<◌, ◌≤◌, ℕ, ◌||◌, true, false, [], nat_lt, take, OnOk, OnErr, length};
 ghost use Rattle.bytes.specs.Unread.{IsChunkOf, concat_slices};
-ghost use Rattle.socket_peers.specs.Peer.{fresh, owing, closing, writable, awake_if, is_over as is_over_spec, departs as departs_spec, departed, is_done as is_done_spec, listens as listens_spec, judged, one_if, Reads, Writes, Drains, Flushes};
+ghost use Rattle.socket_peers.specs.Peer.{is_piece as is_piece_spec, may_be_more as may_be_more_spec, fresh, owing, closing, ready, awake_if, is_over as is_over_spec, departs as departs_spec, departed, is_done as is_done_spec, listens as listens_spec, judged, one_if, Reads, Writes, Drains, Flushes};
 
 use crate::socket::{Missed, Socket, why_missed};
 use bytes::{Buf, Bytes, BytesQueue};
@@ -20,17 +20,44 @@ const MOST_JOINED: usize = 65_536;
 
 const MOST_FRAMES: usize = 64;
 
+/// How a socket was reported as ready.
+#[derive(Clone, Copy, Debug, PartialEq, Eq)]
+pub struct Readiness {
+    /// It takes bytes again.
+    pub is_writable: bool,
+    /// It is closed for reading, or has failed: its end lies behind what is still to be read.
+    pub is_ending: bool,
+}
+
 /// What a read came to.
 #[derive(Clone, Copy, Debug, PartialEq, Eq)]
 pub enum Heard {
-    /// Some bytes.
+    /// Some bytes, and there may be more: they filled the room that there was, or the socket was reported as ending.
     Piece,
+    /// Some bytes, and no more for now: less came than there was room for, from a socket that wasn't reported as ending.
+    Last,
     /// Nothing, but the next read may give some: this one was interrupted.
     Again,
     /// Nothing for now: the socket would have to wait, or nothing is to be read from it.
     Nothing,
     /// The stream is at its end, or failed.
     End,
+}
+
+impl Heard {
+    /// Whether some bytes came.
+    pub fn is_piece(self) -> bool
+        ensures { result ≡ is_piece_spec self }
+    {
+        matches!(self, Heard::Piece | Heard::Last)
+    }
+
+    /// Whether the next read may give some.
+    pub fn may_be_more(self) -> bool
+        ensures { result ≡ may_be_more_spec self }
+    {
+        matches!(self, Heard::Piece | Heard::Again)
+    }
 }
 
 /// A socket, and the bytes that the server sent and the socket hasn't taken yet, in order.
@@ -43,6 +70,8 @@ pub struct Peer<S> {
     owed: BytesQueue,
     // Nothing more is read. It is over once all is out.
     is_closing: bool,
+    // It was reported as ending: its end lies behind what is still to be read. It stays so.
+    is_ending: bool,
     // Its input is at its end: its connection is no more, and what it is owed is still written.
     has_ended: bool,
     // Its stream failed, or took too little of what it was owed.
@@ -66,6 +95,7 @@ impl<S> Model for Peer<S> {
       stream = p.stream;
       owed = p.owed;
       is_closing = p.is_closing;
+      is_ending = p.is_ending;
       has_ended = p.has_ended;
       has_failed = p.has_failed;
       is_gone = p.is_gone;
@@ -118,6 +148,7 @@ impl<S> Peer<S> {
             stream,
             owed: BytesQueue::new(alloc),
             is_closing: false,
+            is_ending: false,
             has_ended: false,
             has_failed: false,
             is_gone: false,
@@ -134,6 +165,7 @@ impl<S> Peer<S> {
             stream,
             owed: _,
             is_closing: _,
+            is_ending: _,
             has_ended: _,
             has_failed: _,
             is_gone: _,
@@ -204,11 +236,16 @@ impl<S> Peer<S> {
         }
     }
 
-    /// The socket was reported as ready to take bytes.
-    pub fn set_writable(&mut self)
-        ensures { self.new ≡ writable self.old }
+    /// The socket was reported as ready.
+    pub fn report(&mut self, readiness: Readiness)
+        ensures { self.new ≡ ready readiness self.old }
     {
-        self.is_full = false;
+        if readiness.is_writable {
+            self.is_full = false;
+        }
+        if readiness.is_ending {
+            self.is_ending = true;
+        }
     }
 
     /// Whether it stands on the list of those to be looked at.
@@ -229,6 +266,9 @@ impl<S> Peer<S> {
 impl<S: Socket> Peer<S> {
     /// One read of at most the length of `piece`, which holds what came. At the end of the stream the
     /// connection is no more, and the peer closes; one that failed is over.
+    ///
+    /// A read that gives less than there is room for has emptied the socket, whose next bytes are reported anew. But where the
+    /// socket was reported as ending, no report comes of the end, so it is read from until its end is read.
     pub fn read(&mut self, piece: &mut Vec<u8>) -> Heard
         requires { 0 < length piece.old.items }
         ensures { Reads S.remaining S.contents S.calls self.old self.new (length piece.old.items) piece.new.items result }
@@ -245,8 +285,13 @@ impl<S: Socket> Peer<S> {
                 Heard::End
             }
             Ok(count) => {
+                let is_drained = count < piece.len() && !self.is_ending;
                 piece.truncate(count);
-                Heard::Piece
+                if is_drained {
+                    Heard::Last
+                } else {
+                    Heard::Piece
+                }
             }
             Err(error) => {
                 piece.clear();

@@ -4,7 +4,7 @@ ghost use Rattle.std.specs.Prelude.{◌≡◌, ℕ, ◌+◌, ◌<◌, ◌==◌, 
 ghost use Rattle.std.specs.FinMap as map;
 ghost use Rattle.socket_peers.specs.Peers.{nobody, number_after, with_joined, listed_if, woken_if, reported, owed_out, owed_all, Departs, LetsGo, ReadsAt, FlushesAt, LooksAt, FlushesAll};
 
-use crate::peer::{Heard, Peer};
+use crate::peer::{Heard, Peer, Readiness};
 use crate::socket::Socket;
 use server_messages::Out;
 use std::alloc::{AllocError, Global};
@@ -113,17 +113,14 @@ impl<S: Drop> Peers<S> {
         self.connected.insert(number, Peer::new(alloc, stream))
     }
 
-    /// A socket was reported as ready, and is to be looked at. `is_writable` says whether it takes bytes
-    /// again.
-    pub fn report(&mut self, number: u64, is_writable: bool) -> Result<(), AllocError>
-        ensures { OnOk result (self.new ≡ reported self.old number is_writable) }
+    /// A socket was reported as ready, and is to be looked at.
+    pub fn report(&mut self, number: u64, readiness: Readiness) -> Result<(), AllocError>
+        ensures { OnOk result (self.new ≡ reported self.old number readiness) }
     {
         let Some(peer) = self.connected.get_mut(number) else {
             return Ok(());
         };
-        if is_writable {
-            peer.set_writable();
-        }
+        peer.report(readiness);
         wake_if(true, &mut self.awake, number, peer)
     }
 

@@ -8,7 +8,8 @@ use Rattle.server_core.specs.declared.event.Event.{Event}
 use Rattle.server_core.specs.declared.event.Event.TheVariants.{Opened, Bytes, Gone, Tick, Shutdown}
 use Rattle.socket_peers.specs.declared.peer.Heard.{Heard}
 use Rattle.socket_peers.specs.declared.peer.Heard.TheVariants as heard
-use Rattle.socket_peers.specs.Peer.{PeerState}
+use Rattle.socket_peers.specs.declared.peer.Readiness.{Readiness}
+use Rattle.socket_peers.specs.Peer.{PeerState, is_piece, may_be_more}
 use Rattle.mio.specs.declared.net.stream.TcpStream.{TcpStream}
 use Rattle.socket_peers.specs.Socket.{Calls}
 use Rattle.socket_peers.specs.Peers.{PeersState, at, with_joined, with_departed, departs_at, LetsGo, reported, ReadsBy, ReadsAt}
@@ -17,7 +18,7 @@ use Rattle.socket_server.specs.Output.{Output, EventText}
 use Rattle.socket_server.specs.declared.serve_fault.ServeFault.TheVariants as serve_fault
 use Rattle.socket_server.specs.declared.serve_fault.ServeFault.{ServeFault}
 use Rattle.rand_core.specs.Stream.{Stream}
-use Rattle.socket_server.specs.Serving.{State, Scene, scene, IsNextKey, IsQuiet, Happening, Connects, Reports, Gathers, Looks, Hears, Waits, Writes, Leaves, Drops, Passes, is_piece, may_be_more, Does, Runs, ticks, Fails, IsOutside, HandsIn, Goes, Stops, Serves, GivesNoMore, GoesOn, ReadsOn, Attends, AttendsEach, AttendsAll, TakesTurn, Turns, ServesToTheEnd, unknown, uncounted, takes_bytes, is_of_listener, reported_event, reported_events, begun, IsServed, IsStopped}
+use Rattle.socket_server.specs.Serving.{State, Scene, scene, IsNextKey, IsQuiet, Happening, Connects, Reports, Gathers, Looks, Hears, Waits, Writes, Leaves, Drops, Passes, readable, Does, Runs, ticks, Fails, IsOutside, HandsIn, Goes, Stops, Serves, Heeds, GoesOn, ReadsMore, ReadsOn, Attends, AttendsEach, AttendsAll, TakesTurn, Turns, ServesToTheEnd, unknown, uncounted, readiness_of, is_of_listener, reported_event, reported_events, begun, IsServed, IsStopped}
 
 -- what a call that went well says
 pub when_ok : {X E : Type 0} (r : Result X E) (P : Type 0) → is_err r ≡ false → OnOk r P → P
@@ -28,7 +29,7 @@ ticks_append : (xs ys : List Happening) → ticks (xs ++ ys) ≡ ticks xs + tick
 ticks_append [] ys = omega arith
 ticks_append (Passes now ∷ xs) ys = let e = ticks_append xs ys in omega arith
 ticks_append (Connects key ∷ xs) ys = ticks_append xs ys
-ticks_append (Reports conn is_writable ∷ xs) ys = ticks_append xs ys
+ticks_append (Reports conn readiness ∷ xs) ys = ticks_append xs ys
 ticks_append (Gathers conns ∷ xs) ys = ticks_append xs ys
 ticks_append (Looks conn ∷ xs) ys = ticks_append xs ys
 ticks_append (Hears conn piece ∷ xs) ys = ticks_append xs ys
@@ -83,24 +84,18 @@ module _ {S : Type 0} (remaining contents : S → Option (List ℕ)) (calls : S 
   connects key left stream a c drawn (mid, takes, writes) =
       acted (Connects key) a (scene c.keys c.server mid c.events c.output) c refl (stream, left, drawn, takes) (writes, (refl, refl, refl, refl))
 
-  pub hears : (conn room : ℕ) (piece : List ℕ) (p : PeersState S) (a c : Scene S) → room ≡ 4096 → ReadsAt remaining contents calls conn a.peers p room piece heard.Piece
-      → HandsIn remaining contents calls text (Bytes conn piece) (record a { peers = p }) c → Goes remaining contents calls text 0 a c
-  hears conn room piece p a c size reads (mid, takes, writes) =
-      acted (Hears conn piece) a (scene c.keys c.server mid c.events c.output) c refl (p, subst (λ n. ReadsAt remaining contents calls conn a.peers p n piece heard.Piece) size reads, takes) (writes, (refl, refl, refl, refl))
+  hears : (conn : ℕ) (h : Heard) (is : Bool) (a c : Scene S) → is_piece h ≡ is → Heeds remaining contents calls text conn h is a c → Goes remaining contents calls text 0 a c
+  hears conn h true a c is (piece, p, reads, (mid, takes, writes)) =
+      acted (Hears conn piece) a (scene c.keys c.server mid c.events c.output) c refl (h, is, p, reads, takes) (writes, (refl, refl, refl, refl))
+  hears conn h false a c other (reads, same) = (Waits conn ∷ [], refl, (c, (h, other, reads, same), refl))
 
   none_read : (conn : ℕ) (old new : PeersState S) (o : Option (PeerState S)) (room : ℕ) (piece : List ℕ) (h : Heard) → is_piece h ≡ false → ReadsBy remaining contents calls o conn old new room piece h → piece ≡ []
   none_read conn old new None room piece h other reads = reads.0
   none_read conn old new (Some p) room piece heard.Piece other reads = absurd (true≢false other)
+  none_read conn old new (Some p) room piece heard.Last other reads = absurd (true≢false other)
   none_read conn old new (Some p) room piece heard.Again other (after, reads, e) = reads.0
   none_read conn old new (Some p) room piece heard.Nothing other (after, reads, e) = reads.0
   none_read conn old new (Some p) room piece heard.End other (after, reads, e) = reads.0
-
-  pub waits : (conn room : ℕ) (h : Heard) (piece : List ℕ) (a c : Scene S) → is_piece h ≡ false → room ≡ 4096 → ReadsAt remaining contents calls conn a.peers c.peers room piece h → IsQuiet a c
-      → Goes remaining contents calls text 0 a c
-  waits conn room h piece a c other size reads same =
-      let none = none_read conn a.peers c.peers (at a.peers conn) room piece h other reads in
-      let sized = subst (λ n. ReadsAt remaining contents calls conn a.peers c.peers n piece h) size reads in
-      (Waits conn ∷ [], refl, (c, (h, other, subst (λ l. ReadsAt remaining contents calls conn a.peers c.peers 4096 l h) none sized, same), refl))
 
   pub leaves : (conn : ℕ) (a c : Scene S) → departs_at a.peers conn ≡ true → HandsIn remaining contents calls text (Gone conn) (record a { peers = with_departed a.peers conn }) c
       → Goes remaining contents calls text 0 a c
@@ -116,8 +111,8 @@ module _ {S : Type 0} (remaining contents : S → Option (List ℕ)) (calls : S 
   pub looks : (conn : ℕ) (a c : Scene S) → Does remaining contents calls text (Looks conn) a c → Goes remaining contents calls text 0 a c
   looks conn a c does = quiet (Looks conn) a c refl does
 
-  pub reports : (conn : ℕ) (is_writable : Bool) (a c : Scene S) → Does remaining contents calls text (Reports conn is_writable) a c → Goes remaining contents calls text 0 a c
-  reports conn is_writable a c does = quiet (Reports conn is_writable) a c refl does
+  pub reports : (conn : ℕ) (readiness : Readiness) (a c : Scene S) → Does remaining contents calls text (Reports conn readiness) a c → Goes remaining contents calls text 0 a c
+  reports conn readiness a c does = quiet (Reports conn readiness) a c refl does
 
   pub gathers : (conns : List ℕ) (a c : Scene S) → Does remaining contents calls text (Gathers conns) a c → Goes remaining contents calls text 0 a c
   gathers conns a c does = quiet (Gathers conns) a c refl does
@@ -155,23 +150,23 @@ module _ {S : Type 0} (remaining contents : S → Option (List ℕ)) (calls : S 
       (subst (λ q. HandsIn remaining contents calls text (Opened number key) (record a { keys = left; peers = q }) c) j h))
   connect_serves number key left stream a p c (Err fault) n j drawn h = stops_at (Opened number key) a c fault (fails_from (Opened number key) a c p left fault h)
 
-  -- what a read comes to
-  abbrev Heeded : ℕ → Scene S → Scene S → Result Bool ServeFault → Type 0
-  Heeded conn a c r = MatchResult r (λ more. GoesOn remaining contents calls text conn a c more) (Stops remaining contents calls text a c)
+  -- ---- one read
 
-  pub piece_heeded : (conn room : ℕ) (piece : List ℕ) (p : PeersState S) (a c : Scene S) (r : Result Bool ServeFault) → room ≡ 4096 → ReadsAt remaining contents calls conn a.peers p room piece heard.Piece
-      → MatchResult r (λ more. (more ≡ true) × HandsIn remaining contents calls text (Bytes conn piece) (record a { peers = p }) c) (Fails text (Bytes conn piece) (record a { peers = p }) c)
-      → Heeded conn a c r
-  piece_heeded conn room piece p a c (Ok x) size reads (more, h) =
-      subst (GoesOn remaining contents calls text conn a c) (sym more) (hears conn room piece p a c size reads h)
-  piece_heeded conn room piece p a c (Err fault) size reads h = stops_at (Bytes conn piece) a c fault (fails_from (Bytes conn piece) a c p a.keys fault h)
-
-  pub gives_no_more : (conn room : ℕ) (h : Heard) (piece : List ℕ) (a c : Scene S) → is_piece h ≡ false → may_be_more h ≡ false → room ≡ 4096
-      → ReadsAt remaining contents calls conn a.peers c.peers room piece h → IsQuiet a c → GivesNoMore remaining contents calls text conn a c
-  gives_no_more conn room h piece a c other none size reads same =
-      let nothing = none_read conn a.peers c.peers (at a.peers conn) room piece h other reads in
+  pub none_heeded : (conn room : ℕ) (h : Heard) (piece : List ℕ) (a c : Scene S) → is_piece h ≡ false → room ≡ 4096 → ReadsAt remaining contents calls conn a.peers c.peers room piece h → IsQuiet a c
+      → GoesOn remaining contents calls text conn a c (may_be_more h)
+  none_heeded conn room h piece a c other size reads same =
+      let none = none_read conn a.peers c.peers (at a.peers conn) room piece h other reads in
       let sized = subst (λ n. ReadsAt remaining contents calls conn a.peers c.peers n piece h) size reads in
-      (h, none, subst (λ l. ReadsAt remaining contents calls conn a.peers c.peers 4096 l h) nothing sized, same)
+      (h, refl, subst (λ is. Heeds remaining contents calls text conn h is a c) (sym other) (subst (λ l. ReadsAt remaining contents calls conn a.peers c.peers 4096 l h) none sized, same))
+
+  pub piece_heeded : (conn room : ℕ) (h : Heard) (piece : List ℕ) (p : PeersState S) (a c : Scene S) → is_piece h ≡ true → room ≡ 4096 → ReadsAt remaining contents calls conn a.peers p room piece h
+      → HandsIn remaining contents calls text (Bytes conn piece) (record a { peers = p }) c → GoesOn remaining contents calls text conn a c (may_be_more h)
+  piece_heeded conn room h piece p a c some size reads hands =
+      (h, refl, subst (λ is. Heeds remaining contents calls text conn h is a c) (sym some) (piece, p, subst (λ n. ReadsAt remaining contents calls conn a.peers p n piece h) size reads, hands))
+
+  pub piece_stops : (conn : ℕ) (piece : List ℕ) (p : PeersState S) (a c : Scene S) (fault : ServeFault) → Fails text (Bytes conn piece) (record a { peers = p }) c fault
+      → Stops remaining contents calls text a c fault
+  piece_stops conn piece p a c fault h = stops_at (Bytes conn piece) a c fault (fails_from (Bytes conn piece) a c p a.keys fault h)
 
   pub gone_serves : {X : Type 0} (conn : ℕ) (a : Scene S) (p : PeersState S) (c : Scene S) (r : Result X ServeFault) → (departs_at a.peers conn ≡ true) × (p ≡ with_departed a.peers conn)
       → Handed (Gone conn) (record a { peers = p }) c r → Serves remaining contents calls text 0 a c r
@@ -195,15 +190,22 @@ module _ {S : Type 0} (remaining contents : S → Option (List ℕ)) (calls : S 
 
   -- ---- a turn
 
-  pub no_more_goes : (conn : ℕ) (a c : Scene S) → GivesNoMore remaining contents calls text conn a c → Goes remaining contents calls text 0 a c
-  no_more_goes conn a c (heard.Piece, none, reads, same) = absurd (true≢false none)
-  no_more_goes conn a c (heard.Again, none, reads, same) = absurd (true≢false none)
-  no_more_goes conn a c (heard.Nothing, none, reads, same) = quiet (Waits conn) a c refl (heard.Nothing, refl, reads, same)
-  no_more_goes conn a c (heard.End, none, reads, same) = quiet (Waits conn) a c refl (heard.End, refl, reads, same)
+  one_read_goes : (conn : ℕ) (a c : Scene S) (more : Bool) → GoesOn remaining contents calls text conn a c more → Goes remaining contents calls text 0 a c
+  one_read_goes conn a c more (h, says, heeds) = hears conn h (is_piece h) a c refl heeds
+
+  pub reads_more_go : (count conn : ℕ) (a c : Scene S) → ReadsMore remaining contents calls text count conn a c → Goes remaining contents calls text 0 a c
+  reads_more_go zero conn a c e = goes_same a c e
+  reads_more_go (suc count) conn a c (mid, reads, more) = goes_on a mid c (reads_more_go count conn a mid reads) (one_read_goes conn mid c true more)
+
+  pub one_more_read : (count conn : ℕ) (a b c : Scene S) → ReadsMore remaining contents calls text count conn a b → GoesOn remaining contents calls text conn b c true
+      → ReadsMore remaining contents calls text (count + 1) conn a c
+  one_more_read count conn a b c reads more =
+      let next : suc count ≡ count + 1 = omega arith in
+      subst (λ n. ReadsMore remaining contents calls text n conn a c) next (b, reads, more)
 
   reads_go : (conn : ℕ) (a c : Scene S) → ReadsOn remaining contents calls text conn a c → Goes remaining contents calls text 0 a c
-  reads_go conn a c (mid, goes, inl nothing) = goes_on a mid c goes (no_more_goes conn mid c nothing)
-  reads_go conn a c (mid, goes, inr does) = goes_on a mid c goes (reports conn false mid c does)
+  reads_go conn a c (count, mid, reads, inl (few, none)) = goes_on a mid c (reads_more_go count conn a mid reads) (one_read_goes conn mid c false none)
+  reads_go conn a c (count, mid, reads, inr (all, does)) = goes_on a mid c (reads_more_go count conn a mid reads) (reports conn readable mid c does)
 
   pub attends_go : (conn : ℕ) (a c : Scene S) → Attends remaining contents calls text conn a c → Goes remaining contents calls text 0 a c
   attends_go conn a c (looked, read, does, reads, goes) = goes_on a looked c (looks conn a looked does) (goes_on looked read c (reads_go conn looked read reads) goes)
@@ -258,10 +260,10 @@ module _ {S : Type 0} (remaining contents : S → Option (List ℕ)) (calls : S 
   to_the_end n a b c (Err fault) turns fails = stops_after n a b c fault (turns_go n a b turns) (stops_at Shutdown b c fault fails)
 
   -- sockets that are reported
-  reported_once : (event : ready.Event) (b : Bool) (a c : Scene S) → c.peers ≡ cond b a.peers (reported a.peers (event_token event).0 (takes_bytes event)) → IsQuiet a c
+  reported_once : (event : ready.Event) (b : Bool) (a c : Scene S) → c.peers ≡ cond b a.peers (reported a.peers (event_token event).0 (readiness_of event)) → IsQuiet a c
       → Goes remaining contents calls text 0 a c
   reported_once event true a c e same = goes_same a c (same_scene a c e same)
-  reported_once event false a c e same = reports (event_token event).0 (takes_bytes event) a c (e, same)
+  reported_once event false a c e same = reports (event_token event).0 (readiness_of event) a c (e, same)
 
   pub reported_go : (events : List ready.Event) (a c : Scene S) → c.peers ≡ reported_events a.peers events → IsQuiet a c → Goes remaining contents calls text 0 a c
   reported_go [] a c e same = goes_same a c (same_scene a c e same)
@@ -273,10 +275,10 @@ module _ {S : Type 0} (remaining contents : S → Option (List ℕ)) (calls : S 
 
   does_writer : (act : Happening) (a b : Scene S) → Does remaining contents calls text act a b → b.output.writer ≡ a.output.writer
   does_writer (Connects key) a b (stream, left, drawn, (x, steps, owed, events, puts, keys)) = puts.writer
-  does_writer (Reports conn is_writable) a b (e, (server, events, output, keys)) = ap (λ (t : Output). t.writer) output
+  does_writer (Reports conn readiness) a b (e, (server, events, output, keys)) = ap (λ (t : Output). t.writer) output
   does_writer (Gathers conns) a b (taken, e, (server, events, output, keys)) = ap (λ (t : Output). t.writer) output
   does_writer (Looks conn) a b (looked, (server, events, output, keys)) = ap (λ (t : Output). t.writer) output
-  does_writer (Hears conn piece) a b (p, reads, (x, steps, owed, events, puts, keys)) = puts.writer
+  does_writer (Hears conn piece) a b (h, some, p, reads, (x, steps, owed, events, puts, keys)) = puts.writer
   does_writer (Waits conn) a b (h, other, reads, (server, events, output, keys)) = ap (λ (t : Output). t.writer) output
   does_writer Writes a b (wrote, (server, events, output, keys)) = ap (λ (t : Output). t.writer) output
   does_writer (Leaves conn) a b (over, (x, steps, owed, events, puts, keys)) = puts.writer

@@ -2,7 +2,7 @@
 use Rattle.std.specs.Prelude.{◌≡◌, ◌⊎◌, ⊤, ℕ, ◌+◌, ◌<◌, ◌==◌, ◌||◌, zero, suc, Bool, true, false, List, [], ◌∷◌, Option, None, Result, Ok, Err, MatchResult, if◌then◌else◌, fold}
 use Rattle.mio.specs.declared.net.stream.TcpStream.{TcpStream}
 use Rattle.mio.specs.declared.event.event.Event as ready
-use Rattle.mio.specs.Event.{event_token, is_writable, is_write_closed, is_error}
+use Rattle.mio.specs.Event.{event_token, is_writable, is_write_closed, is_read_closed, is_error}
 use Rattle.rand_core.specs.Stream.{Stream, fill_bytes}
 use Rattle.ua_types.specs.declared.moment.Moment.{Moment}
 use Rattle.server_core.specs.declared.world.World.{World}
@@ -11,7 +11,8 @@ use Rattle.server_core.specs.declared.event.Event.{Event}
 use Rattle.server_core.specs.declared.event.Event.TheVariants.{Opened, Bytes, Gone, Tick, Shutdown}
 use Rattle.server_core.specs.declared.out.Step.{Step}
 use Rattle.socket_peers.specs.declared.peer.Heard.{Heard}
-use Rattle.socket_peers.specs.declared.peer.Heard.TheVariants as heard
+use Rattle.socket_peers.specs.declared.peer.Readiness.{Readiness}
+use Rattle.socket_peers.specs.Peer.{is_piece, may_be_more}
 use Rattle.socket_peers.specs.Socket.{Calls}
 use Rattle.socket_peers.specs.Peers.{PeersState, with_joined, with_departed, without, departs_at, is_done_at, reported, owed_all, ReadsAt, LooksAt, FlushesAll}
 use Rattle.socket_server.specs.Sockets.{Sockets, key_stream}
@@ -31,16 +32,6 @@ pub record Scene (S : Type 0) : Type 0 where
   pub events : ℕ
   pub output : Output
 
-abbrev pub is_piece : Heard → Bool
-is_piece heard.Piece = true
-is_piece other = false
-
--- the next read may give some
-abbrev pub may_be_more : Heard → Bool
-may_be_more heard.Piece = true
-may_be_more heard.Again = true
-may_be_more other = false
-
 -- the key is what the generator gives next, 32 bytes
 abbrev pub IsNextKey : Stream → Stream → List ℕ → Type 0
 IsNextKey keys left key = (key, left) ≡ fill_bytes 32 keys
@@ -48,13 +39,13 @@ IsNextKey keys left key = (key, left) ≡ fill_bytes 32 keys
 abbrev pub Drawn : {G : Type 0} → (G → Stream) → G → G → List ℕ → Type 0
 Drawn stream old new key = IsNextKey (stream old) (stream new) key
 
--- One thing that happens: a socket connects and gets this key; a socket is reported as ready, maybe to take bytes; the list of those to
--- be looked at is taken; a socket on it is looked at, and written what it is owed; a piece comes from a socket; a read from one gives
--- nothing; sockets take some of what they are owed, and fail where too much is left; a connection is no more; its socket is let go
--- of; time passes
+-- One thing that happens: a socket connects and gets this key; a socket is reported as ready, maybe to take bytes, maybe as ending; the
+-- list of those to be looked at is taken; a socket on it is looked at, and written what it is owed; a piece comes from a socket; a read
+-- from one gives nothing; sockets take some of what they are owed, and fail where too much is left; a connection is no more; its socket
+-- is let go of; time passes
 pub data Happening : Type 0 where
   Connects : List ℕ → Happening
-  Reports : ℕ → Bool → Happening
+  Reports : ℕ → Readiness → Happening
   Gathers : List ℕ → Happening
   Looks : ℕ → Happening
   Hears : ℕ → List ℕ → Happening
@@ -88,11 +79,12 @@ module _ {S : Type 0} (remaining contents : S → Option (List ℕ)) (calls : S 
   Does (Connects key) old new =
       (stream : S) × (left : Stream) × IsNextKey old.keys left key
       × Takes text (Opened (old.peers.last + 1) key) (record old { keys = left; peers = with_joined old.peers stream }) new
-  Does (Reports conn is_writable) old new = (new.peers ≡ reported old.peers conn is_writable) × IsQuiet old new
+  Does (Reports conn readiness) old new = (new.peers ≡ reported old.peers conn readiness) × IsQuiet old new
   Does (Gathers conns) old new = (conns ≡ old.peers.awake) × (new.peers ≡ record old.peers { awake = [] }) × IsQuiet old new
   Does (Looks conn) old new = LooksAt remaining contents calls conn old.peers new.peers × IsQuiet old new
   Does (Hears conn piece) old new =
-      (peers : PeersState S) × ReadsAt remaining contents calls conn old.peers peers 4096 piece heard.Piece × Takes text (Bytes conn piece) (record old { peers = peers }) new
+      (h : Heard) × (is_piece h ≡ true) × (peers : PeersState S) × ReadsAt remaining contents calls conn old.peers peers 4096 piece h
+      × Takes text (Bytes conn piece) (record old { peers = peers }) new
   Does (Waits conn) old new =
       (h : Heard) × (is_piece h ≡ false) × ReadsAt remaining contents calls conn old.peers new.peers 4096 [] h × IsQuiet old new
   Does Writes old new = FlushesAll remaining contents calls old.peers new.peers × IsQuiet old new
@@ -104,6 +96,10 @@ module _ {S : Type 0} (remaining contents : S → Option (List ℕ)) (calls : S 
   abbrev pub Runs : List Happening → Scene S → Scene S → Type 0
   Runs [] old new = new ≡ old
   Runs (act ∷ acts) old new = (mid : Scene S) × Does act old mid × Runs acts mid new
+
+-- there may be more to read from a socket, and nothing else is known
+abbrev pub readable : Readiness
+readable = record { is_writable = false; is_ending = false }
 
 -- how often time passes
 abbrev pub ticks : List Happening → ℕ
@@ -151,19 +147,28 @@ module _ {S : Type 0} (remaining contents : S → Option (List ℕ)) (calls : S 
 
   -- ---- a turn
 
-  -- a read from this socket gave nothing, or its end
-  abbrev pub GivesNoMore : ℕ → Scene S → Scene S → Type 0
-  GivesNoMore conn old new = (h : Heard) × (may_be_more h ≡ false) × ReadsAt remaining contents calls conn old.peers new.peers 4096 [] h × IsQuiet old new
+  -- A read from this socket came to this. A piece that it gave is handed in, as it came, and where it gave none nothing is
+  abbrev pub Heeds : ℕ → Heard → Bool → Scene S → Scene S → Type 0
+  Heeds conn h true old new =
+      (piece : List ℕ) × (peers : PeersState S) × ReadsAt remaining contents calls conn old.peers peers 4096 piece h
+      × HandsIn (Bytes conn piece) (record old { peers = peers }) new
+  Heeds conn h false old new = ReadsAt remaining contents calls conn old.peers new.peers 4096 [] h × IsQuiet old new
 
-  -- after this there may be more to read, or a read gave no more
+  -- one read from this socket, which says that there may be more, or that there is no more for now
   abbrev pub GoesOn : ℕ → Scene S → Scene S → Bool → Type 0
-  GoesOn conn old new true = Goes 0 old new
-  GoesOn conn old new false = GivesNoMore conn old new
+  GoesOn conn old new more = (h : Heard) × (may_be_more h ≡ more) × Heeds conn h (is_piece h) old new
 
-  -- A socket is read from until a read gives no more, or it is reported as ready, and so is to be looked at again
+  -- so many reads from this socket, one after the other, each of which says that there may be more
+  abbrev pub ReadsMore : ℕ → ℕ → Scene S → Scene S → Type 0
+  ReadsMore zero conn old new = new ≡ old
+  ReadsMore (suc count) conn old new = (mid : Scene S) × ReadsMore count conn old mid × GoesOn conn mid new true
+
+  -- A socket is read from until a read says that there is no more for now, twice at most. Where both say that there may be more it is
+  -- reported as ready, and so is to be looked at again
   abbrev pub ReadsOn : ℕ → Scene S → Scene S → Type 0
   ReadsOn conn old new =
-      (mid : Scene S) × Goes 0 old mid × (GivesNoMore conn mid new ⊎ Does remaining contents calls text (Reports conn false) mid new)
+      (count : ℕ) × (mid : Scene S) × ReadsMore count conn old mid
+      × (((count < 2) × GoesOn conn mid new false) ⊎ ((count ≡ 2) × Does remaining contents calls text (Reports conn readable) mid new))
 
   -- a socket is looked at, then read from, and then the server is told if its connection is no more
   abbrev pub Attends : ℕ → Scene S → Scene S → Type 0
@@ -208,9 +213,16 @@ is_of_listener event = (event_token event).0 == 0
 abbrev pub takes_bytes : ready.Event → Bool
 takes_bytes event = is_writable event || is_write_closed event || is_error event
 
+-- a socket is closed for reading, or has failed
+abbrev pub ends : ready.Event → Bool
+ends event = is_read_closed event || is_error event
+
+abbrev pub readiness_of : ready.Event → Readiness
+readiness_of event = record { is_writable = takes_bytes event; is_ending = ends event }
+
 -- the socket that has the token for its number is to be looked at
 abbrev pub reported_event : {S : Type 0} → PeersState S → ready.Event → PeersState S
-reported_event p event = if is_of_listener event then p else reported p (event_token event).0 (takes_bytes event)
+reported_event p event = if is_of_listener event then p else reported p (event_token event).0 (readiness_of event)
 
 abbrev pub reported_events : {S : Type 0} → PeersState S → List ready.Event → PeersState S
 reported_events p events = fold reported_event p events

@@ -12,7 +12,7 @@ use crate::observer::Observer;
 use crate::serve_fault::ServeFault;
 use bytes::Bytes;
 use server_core::{Event, Out, Server, Step};
-use socket_peers::{Heard, Peers, Socket};
+use socket_peers::{Peers, Readiness, Socket};
 use std::alloc::Global;
 use std::net::SocketAddr;
 
@@ -21,6 +21,12 @@ const PIECE: usize = 4096;
 
 // The most pieces that are read from a socket in a turn.
 const PIECES: usize = 2;
+
+// There may be more to read from a socket, and nothing else is known.
+const READABLE: Readiness = Readiness {
+    is_writable: false,
+    is_ending: false,
+};
 
 /// A connection that a socket begins.
 #[derive(Clone, Copy)]
@@ -138,11 +144,10 @@ fn hand_in_piece<S: Socket + Drop, W: Observer>(
     observer: &mut W,
     number: u64,
     piece: Vec<u8>,
-) -> Result<bool, ServeFault>
+) -> Result<(), ServeFault>
     ensures { (keys : Stream) → let old = scene keys (world_of server.old) peers.old events.old (W.output observer.old) in
         let new = scene keys (world_of server.new) peers.new events.new (W.output observer.new) in
-        MatchResult result
-        (λ more. (more ≡ true) × HandsIn S.remaining S.contents S.calls W.text (happening.Bytes number piece.items) old new)
+        MatchResult result (λ _. HandsIn S.remaining S.contents S.calls W.text (happening.Bytes number piece.items) old new)
         (Fails W.text (happening.Bytes number piece.items) old new) }
 {
     let Ok(bytes) = Bytes::from_vec(piece) else {
@@ -153,12 +158,12 @@ fn hand_in_piece<S: Socket + Drop, W: Observer>(
         bytes,
     };
     match hand_in(alloc, peers, events, server, observer, &event) {
-        Ok(_) => Ok(true),
+        Ok(_) => Ok(()),
         Err(fault) => Err(fault),
     }
 }
 
-// Reads a piece from a socket, and hands it to the server. Says whether there may be more.
+// Reads once from a socket, and hands a piece that came to the server. Says whether there may be more to read.
 fn hear<S: Socket + Drop, W: Observer>(
     alloc: Global,
     peers: &mut Peers<S>,
@@ -175,11 +180,14 @@ fn hear<S: Socket + Drop, W: Observer>(
     let Ok(mut piece) = vec![in alloc; 0u8; PIECE] else {
         return Err(ServeFault::Memory);
     };
-    match peers.read(number, &mut piece) {
-        Heard::Again => Ok(true),
-        Heard::Nothing => Ok(false),
-        Heard::End => Ok(false),
-        Heard::Piece => hand_in_piece(alloc, peers, events, server, observer, number, piece),
+    let heard = peers.read(number, &mut piece);
+    let more = heard.may_be_more();
+    if !heard.is_piece() {
+        return Ok(more);
+    }
+    match hand_in_piece(alloc, peers, events, server, observer, number, piece) {
+        Ok(()) => Ok(more),
+        Err(fault) => Err(fault),
     }
 }
 
@@ -248,7 +256,7 @@ fn finish<S: Socket + Drop, W: Observer>(
     }
 }
 
-// Hands in what a socket has sent, at most two pieces. One that may have more is to be looked at again,
+// Hands in what a socket has sent, at most two pieces. One that may have more then is to be looked at again,
 // behind all others.
 fn read_pieces<S: Socket + Drop, W: Observer>(
     alloc: Global,
@@ -270,7 +278,7 @@ fn read_pieces<S: Socket + Drop, W: Observer>(
             Err(fault) => return Err(fault),
         }
     }
-    match peers.report(number, false) {
+    match peers.report(number, READABLE) {
         Ok(()) => Ok(()),
         Err(_) => Err(ServeFault::Memory),
     }

@@ -8,7 +8,7 @@ ghost use Rattle.mio.specs.Events.{items};
 ghost use Rattle.server_core.specs.World.{world_of};
 ghost use Rattle.socket_server.specs.Moments.{moment_since_1970};
 ghost use Rattle.socket_server.specs.Sockets.{IsUnserved, IsLocal, key_stream};
-ghost use Rattle.socket_server.specs.Serving.{scene, unknown, uncounted, is_of_listener, reported_event, reported_events, IsOutside, HandsIn, Fails, Serves, Stops, TakesTurn, Turns, ServesToTheEnd, Drawn};
+ghost use Rattle.socket_server.specs.Serving.{scene, unknown, uncounted, is_of_listener, readiness_of as readiness_of_spec, reported_event, reported_events, IsOutside, HandsIn, Fails, Serves, Stops, TakesTurn, Turns, ServesToTheEnd, Drawn};
 
 use crate::events::{Arrival, attend_all, hand_in, join_socket};
 use crate::observer::Observer;
@@ -20,7 +20,7 @@ use rand::make_rng;
 use rand::rngs::StdRng;
 use rand_core::Rng;
 use server_core::{Event as ServerEvent, Server};
-use socket_peers::Peers;
+use socket_peers::{Peers, Readiness};
 use std::alloc::{AllocError, Global};
 use std::io;
 use std::io::ErrorKind;
@@ -82,6 +82,17 @@ impl Model for Serve {
     } };
 }
 
+// How a socket is reported as ready. One that is closed for reading, or in error, is reported as ending: its end, or its failure, may
+// lie behind bytes, and no further report comes of it.
+fn readiness_of(event: &Event) -> Readiness
+    ensures { result ≡ readiness_of_spec event.now }
+{
+    Readiness {
+        is_writable: event.is_writable() || event.is_write_closed() || event.is_error(),
+        is_ending: event.is_read_closed() || event.is_error(),
+    }
+}
+
 // Wakes the socket that is reported as ready, or says that one may have connected.
 fn report_event(peers: &mut Peers<TcpStream>, event: &Event) -> Result<bool, AllocError>
     ensures { IfOk result (λ connected. (connected ≡ is_of_listener event.now) × (peers.new ≡ reported_event peers.old event.now)) }
@@ -90,8 +101,7 @@ fn report_event(peers: &mut Peers<TcpStream>, event: &Event) -> Result<bool, All
         return Ok(true);
     }
     let Token(number) = event.token();
-    let is_writable = event.is_writable() || event.is_write_closed() || event.is_error();
-    peers.report(number as u64, is_writable)?;
+    peers.report(number as u64, readiness_of(event))?;
     Ok(false)
 }
 
