@@ -58,22 +58,22 @@ fn visit(alloc: Global, server: &mut Server, number: u32) -> io::Result<usize> {
     Ok(greeted.saturating_add(answered).saturating_add(closed))
 }
 
-/// Lets clients come, be served and go beside so many that stay, at most 99,999, and tells how long each takes.
-pub(crate) fn run(rt: &HostRuntime, stay: u32) -> io::Result<()> {
-    let alloc = rt.alloc();
-    let stay = stay.min(99_999);
-    let (config, space) = plant(alloc, NODES)?;
-    let mut server = Server::new(alloc, config, space)?;
-    fill(alloc, &mut server, stay)?;
-    let start = Instant::now(rt);
+// The clients behind this number come, are served and go. Says how many bytes the last of them is sent.
+fn visit_all(alloc: Global, server: &mut Server, stay: u32) -> io::Result<usize> {
     let mut sent = 0;
     for guest in 0..GUESTS {
-        sent = visit(
-            alloc,
-            &mut server,
-            stay.saturating_add(guest).saturating_add(1),
-        )?;
+        let number = stay.saturating_add(guest).saturating_add(1);
+        sent = visit(alloc, server, number)?;
     }
+    Ok(sent)
+}
+
+// The clients that stay come, and then those that come and go, and it tells how long each of these takes.
+fn time_all(rt: &HostRuntime, server: &mut Server, stay: u32) -> io::Result<()> {
+    let alloc = rt.alloc();
+    fill(alloc, server, stay)?;
+    let start = Instant::now(rt);
+    let sent = visit_all(alloc, server, stay)?;
     let each = elapsed(rt, start) / u128::from(GUESTS);
     let mut errors = rt.stderr();
     let _ = writeln!(errors, "each client beside {stay}: {each} ns");
@@ -82,4 +82,12 @@ pub(crate) fn run(rt: &HostRuntime, stay: u32) -> io::Result<()> {
         out,
         "{GUESTS} clients beside {stay}, each answered in {sent} bytes"
     )
+}
+
+/// Lets clients come, be served and go beside so many that stay, at most 99,999, and tells how long each takes.
+pub(crate) fn run(rt: &HostRuntime, stay: u32) -> io::Result<()> {
+    let alloc = rt.alloc();
+    let (config, space) = plant(alloc, NODES)?;
+    let mut server = Server::new(alloc, config, space)?;
+    time_all(rt, &mut server, stay.min(99_999))
 }

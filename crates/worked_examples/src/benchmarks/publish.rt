@@ -122,7 +122,8 @@ fn time_one(rt: &HostRuntime, server: &mut Server, round: u32, told: &mut Told) 
     Ok(())
 }
 
-fn time_all(rt: &HostRuntime, server: &mut Server, rounds: u32) -> io::Result<Told> {
+// Has a new subscription tell of its items so many times.
+fn tell_all(rt: &HostRuntime, server: &mut Server, rounds: u32) -> io::Result<Told> {
     let alloc = rt.alloc();
     greet(alloc, server)?;
     ask(server, alloc, 4, &CREATE_SUBSCRIPTION, SUBSCRIPTION)?;
@@ -142,13 +143,8 @@ fn time_all(rt: &HostRuntime, server: &mut Server, rounds: u32) -> io::Result<To
     Ok(told)
 }
 
-/// Has a subscription tell of 1,000 items so many times, each in one message, and asks for each message again.
-pub(crate) fn run(rt: &HostRuntime, rounds: u32) -> io::Result<()> {
-    let alloc = rt.alloc();
-    let (config, space) = plant(alloc, NODES)?;
-    let mut server = Server::new(alloc, config, space)?;
-    let rounds = rounds.min(1_000_000_000);
-    let told = time_all(rt, &mut server, rounds)?;
+fn time_all(rt: &HostRuntime, server: &mut Server, rounds: u32) -> io::Result<()> {
+    let told = tell_all(rt, server, rounds)?;
     let made = told.made / u128::from(rounds).max(1);
     let again = told.again / u128::from(rounds).max(1);
     let mut errors = rt.stderr();
@@ -163,4 +159,12 @@ pub(crate) fn run(rt: &HostRuntime, rounds: u32) -> io::Result<()> {
         out,
         "messages of {MANY} notifications: {rounds}, each answered in {sent} bytes, and again in {resent}"
     )
+}
+
+/// Has a subscription tell of 1,000 items so many times, each in one message, and asks for each message again.
+pub(crate) fn run(rt: &HostRuntime, rounds: u32) -> io::Result<()> {
+    let alloc = rt.alloc();
+    let (config, space) = plant(alloc, NODES)?;
+    let mut server = Server::new(alloc, config, space)?;
+    time_all(rt, &mut server, rounds.min(1_000_000_000))
 }
