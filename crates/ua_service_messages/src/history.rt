@@ -1,11 +1,10 @@
 //! The service HistoryRead, and the reading of raw values by it.
 
-ghost use Rattle.std.specs.Prelude.{◌≡◌, ◌<◌, ◌^◌, length, Some, ⊤};
+ghost use Rattle.std.specs.Prelude.{⊤};
 ghost use Rattle.ua_service_messages.specs.History.{read_raw_modified_details_reading, read_raw_modified_details_encoding, history_data_reading, history_data_encoding, history_read_value_id_reading, history_read_value_id_encoding, history_read_request_reading, history_read_request_encoding, history_read_result_reading, history_read_result_encoding};
 
 use std::alloc::{AllocError, Global};
-use std::marker::Model;
-use ua_binary::{BorrowedDataValue, Cursor, TakeFault, Wire, Written, write_list};
+use ua_binary::{Cursor, TakeFault, Wire};
 use ua_messages::{RequestHeader, Results, TimestampsToReturn};
 use ua_types::{Array, ByteString, ExtensionObject, Moment, NodeId, QualifiedName, Status, Text};
 use ua_values::DataValue;
@@ -87,46 +86,6 @@ impl Wire for HistoryData {
 
     fn encode(&self, out: &mut Vec<u8>) -> Result<(), AllocError> {
         self.data_values.encode(out)?;
-        Ok(())
-    }
-}
-
-/// [`HistoryData`] of values that stand elsewhere, to be written from there. Contracts see the HistoryData.
-#[derive(Debug, Drop)]
-pub struct BorrowedHistoryData<'a> {
-    // Fewer than 2^31, as many as can be spelled.
-    values: Vec<BorrowedDataValue<'a>>,
-}
-
-impl<'a> Model for BorrowedHistoryData<'a> {
-    ghost use Rattle.std.specs.Prelude.{Some, length, ◌<◌, ◌^◌};
-    ghost use Rattle.ua_service_messages.specs.declared.history.HistoryData.{HistoryData};
-
-    ghost Value = { HistoryData };
-
-    ghost view = { λ d. record { data_values = Some d.values.items } };
-
-    ghost invariant = { λ d. length d.values.items < 2 ^ 31 };
-}
-
-impl<'a> BorrowedHistoryData<'a> {
-    /// That of these values.
-    pub fn new(values: Vec<BorrowedDataValue<'a>>) -> BorrowedHistoryData<'a>
-        requires { length values.items < 2 ^ 31 }
-        ensures { result ≡ record { data_values = Some values.entry.items } }
-    {
-        BorrowedHistoryData { values }
-    }
-}
-
-#[tactic(auto, using(ua_binary::proofs::Fields::fields1), unfolding(crate::specs::History::history_data_reading, crate::specs::History::history_data_encoding))]
-impl Written for BorrowedHistoryData<'_> {
-    ghost reading = { history_data_reading };
-
-    ghost encoding = { history_data_encoding };
-
-    fn write(&self, out: &mut Vec<u8>) -> Result<(), AllocError> {
-        write_list(&self.values, out)?;
         Ok(())
     }
 }

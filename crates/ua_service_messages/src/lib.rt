@@ -24,8 +24,8 @@ pub use browsing::{
     BrowseNextResponse, BrowseRequest, BrowseResponse, BrowseResult, ReferenceDescription,
 };
 pub use history::{
-    BorrowedHistoryData, HistoryData, HistoryReadRequest, HistoryReadResponse, HistoryReadResult,
-    HistoryReadValueId, ReadRawModifiedDetails,
+    HistoryData, HistoryReadRequest, HistoryReadResponse, HistoryReadResult, HistoryReadValueId,
+    ReadRawModifiedDetails,
 };
 pub use reading::{ReadRequest, ReadResponse};
 pub use sessions::{

@@ -1,22 +1,26 @@
 //! What HistoryRead answers of each node.
 
-ghost use Rattle.std.specs.Prelude.{◌≡◌, ◌++◌, map, IfOk, OnOk};
+ghost use Rattle.std.specs.Prelude.{◌≡◌, ◌≤◌, ◌++◌, length, map, All, OnOk, OnErr};
+ghost use Rattle.std.specs.List.{flat_map};
 ghost use Rattle.std.specs.Result.{result_map_both};
+ghost use Rattle.ua_binary.specs.DataValues.{data_value_reading, data_value_encoding};
+ghost use Rattle.ua_binary.specs.Reading.{Extends, IsReadAgain};
 ghost use Rattle.ua_history.specs.Pages.{seen};
 ghost use Rattle.ua_history.specs.Reading.{page_seen};
-ghost use Rattle.ua_service_messages.specs.History.{history_read_result_encoding};
-ghost use Rattle.ua_services.specs.HistoryResults.{stored_time_of, shown as shown_spec, history_data_of, status_alone as status_alone_spec, history_result_of, release_result_of};
+ghost use Rattle.ua_service_messages.specs.History.{history_data_reading, history_data_encoding, history_read_result_encoding};
+ghost use Rattle.ua_services.specs.HistoryResults.{stored_time_of, shown as shown_spec, status_alone as status_alone_spec, history_result_of, release_result_of};
 ghost use Rattle.ua_services.specs.Paging.{Tells};
 ghost use Rattle.ua_read_write.specs.Reading.{source_time_of};
 
 use crate::service::status_told;
 use server_messages::Halt;
 use std::alloc::{AllocError, Global};
-use ua_binary::BorrowedDataValue;
+use std::marker::Model;
+use ua_binary::{BorrowedDataValue, Wire, Written};
 use ua_history::{Kept, Page};
 use ua_messages::{MessageBody, type_ids};
 use ua_read_write::Timestamps;
-use ua_service_messages::{BorrowedHistoryData, HistoryReadResult};
+use ua_service_messages::HistoryReadResult;
 use ua_session::point_bytes;
 use ua_types::{ByteString, ExtensionObject, ExtensionObjectBody, Moment, NodeId, Refusal, Status};
 use ua_values::DataValue;
@@ -53,22 +57,58 @@ fn shown(timestamps: Timestamps, value: &DataValue) -> BorrowedDataValue<'_>
     )
 }
 
-// The HistoryData of these values. As many as can't be spelled, 2^31, are refused as by want of memory.
-fn history_data<'a>(
-    alloc: Global,
+// Writes values one behind the other.
+#[tactic(auto, using(ua_binary::proofs::Extending::extends_more))]
+fn write_values(
     timestamps: Timestamps,
-    values: &[Kept<'a>],
-) -> Result<BorrowedHistoryData<'a>, AllocError>
-    ensures { IfOk result (λ told. told ≡ history_data_of timestamps (map seen values.now)) }
+    values: &[Kept<'_>],
+    out: &mut Vec<u8>,
+) -> Result<(), AllocError>
+    ensures ok { OnOk result (out.new.items ≡ out.old.items ++ flat_map data_value_encoding (map (λ e. shown_spec timestamps e.1) (map seen values.now))) }
+    ensures err { OnErr result (Extends out.old.items out.new.items) }
+    ensures again { OnOk result (All (IsReadAgain data_value_reading data_value_encoding) (map (λ e. shown_spec timestamps e.1) (map seen values.now))) }
+    ensures some { OnOk result (length values.now ≤ length (flat_map data_value_encoding (map (λ e. shown_spec timestamps e.1) (map seen values.now)))) }
 {
-    if values.len() >= 1 << 31 {
-        return Err(AllocError);
-    }
-    let mut all = Vec::with_capacity(alloc, values.len())?;
     for kept in values {
-        all.push(shown(timestamps, kept.value))?;
+        shown(timestamps, kept.value).write(out)?;
     }
-    Ok(BorrowedHistoryData::new(all))
+    Ok(())
+}
+
+// The HistoryData of the values of a page, with those of their times that are wanted, to be written from where they stand: no list
+// of data values is made. Contracts see the HistoryData.
+#[derive(Drop)]
+struct BorrowedHistoryData<'a> {
+    timestamps: Timestamps,
+    values: &'a [Kept<'a>],
+}
+
+impl<'a> Model for BorrowedHistoryData<'a> {
+    ghost use Rattle.std.specs.Prelude.{map};
+    ghost use Rattle.ua_history.specs.Pages.{seen};
+    ghost use Rattle.ua_service_messages.specs.declared.history.HistoryData.{HistoryData};
+    ghost use Rattle.ua_services.specs.HistoryResults.{history_data_of};
+
+    ghost Value = { HistoryData };
+
+    ghost view = { λ d. history_data_of d.timestamps (map seen d.values.now) };
+}
+
+#[tactic(auto, using(ua_binary::proofs::Extending::extends_more), unfolding(ua_service_messages::specs::History::history_data_reading, ua_service_messages::specs::History::history_data_encoding, ua_binary::specs::Arrays::array_encoding))]
+impl Written for BorrowedHistoryData<'_> {
+    ghost reading = { history_data_reading };
+
+    ghost encoding = { history_data_encoding };
+
+    // As many as can't be spelled, 2^31, are refused as by want of memory.
+    fn write(&self, out: &mut Vec<u8>) -> Result<(), AllocError> {
+        if self.values.len() >= 1 << 31 {
+            return Err(AllocError);
+        }
+        (self.values.len() as u32).encode(out)?;
+        write_values(self.timestamps, self.values, out)?;
+        Ok(())
+    }
 }
 
 // A result without data.
@@ -99,7 +139,10 @@ pub(crate) fn tell(
         Ok(page) => page,
         Err(refusal) => return Ok(body.write(&status_alone(status_told(refusal)?))?),
     };
-    let data = history_data(alloc, timestamps, page.values.as_slice())?;
+    let data = BorrowedHistoryData {
+        timestamps,
+        values: page.values.as_slice(),
+    };
     body.write(&page.status)?;
     body.write(&point_bytes(alloc, page.point)?)?;
     body.write_structure(type_ids::HISTORY_DATA, &data)?;
