@@ -143,15 +143,24 @@ fn tell_all(rt: &HostRuntime, server: &mut Server, rounds: u32) -> io::Result<To
     Ok(told)
 }
 
-fn time_all(rt: &HostRuntime, server: &mut Server, rounds: u32) -> io::Result<()> {
-    let told = tell_all(rt, server, rounds)?;
-    let made = told.made / u128::from(rounds).max(1);
-    let again = told.again / u128::from(rounds).max(1);
+// The time of each of so many rounds.
+fn each(total: u128, rounds: u32) -> u128 {
+    total / u128::from(rounds.max(1))
+}
+
+fn write_times(rt: &HostRuntime, told: &Told, rounds: u32) {
+    let made = each(told.made, rounds);
+    let again = each(told.again, rounds);
     let mut errors = rt.stderr();
     let _ = writeln!(
         errors,
         "a message of {MANY} notifications: {made} ns, and again: {again} ns"
     );
+}
+
+fn time_all(rt: &HostRuntime, server: &mut Server, rounds: u32) -> io::Result<()> {
+    let told = tell_all(rt, server, rounds)?;
+    write_times(rt, &told, rounds);
     let mut out = rt.stdout();
     let sent = told.sent;
     let resent = told.resent;
