@@ -70,16 +70,16 @@ queue_after q d = fold changed q (changes_of q d)
 abbrev pub queue : {V : Type 0} → List (QueueMove V) → List (Entry V)
 queue ds = fold queue_after [] ds
 
--- the newest value that waits
+-- the newest value
 abbrev pub newest : {V : Type 0} → List (Entry V) → Option V
 newest [] = None
 newest (e ∷ []) = Some e.value
 newest (e ∷ f ∷ es) = newest (f ∷ es)
 
--- the value that was queued last: one that is kept beside the queue, or else the newest that waits
-abbrev pub last_of : {V : Type 0} → Option V → List (Entry V) → Option V
-last_of (Some v) es = Some v
-last_of None es = newest es
+-- of the values of a ring those that wait: all but the newest where that is only kept, or else all
+abbrev pub waiting_of : {V : Type 0} → Bool → List (Entry V) → List (Entry V)
+waiting_of true es = take (length es - 1) es
+waiting_of false es = es
 
 -- a queue after each call, which is one move
 abbrev pub after : {V : Type 0} → QueueState V → QueueMove V → QueueState V

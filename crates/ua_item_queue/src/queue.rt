@@ -1,13 +1,13 @@
 //! The queue of a monitored item.
 
-ghost use Rattle.std.specs.Prelude.{◌≡◌, ◌≤◌, ◌<◌, ℕ, IfOk, length, [], ◌∷◌, ◌++◌, ◌-◌, Option, None, take, drop, IsTrue, ◌↔◌, slice_get};
+ghost use Rattle.std.specs.Prelude.{◌≡◌, ◌≤◌, ◌<◌, ◌+◌, ◌-◌, IfOk, length, [], ◌∷◌, ◌++◌, None, take, drop, true, IsTrue, ◌↔◌, slice_get};
 ghost use Rattle.std.specs.Option.{option_copied};
 ghost use Rattle.circular_buffer.specs.Buffer.{buffer};
-ghost use Rattle.ua_item_queue.specs.ItemQueue.{QueueState, queue_after, marked_front, newest as newest_spec, last_of, sampled, sent, cleared, resized};
+ghost use Rattle.ua_item_queue.specs.ItemQueue.{QueueState, queue_after, marked_front, newest as newest_spec, waiting_of, sampled, sent, cleared, resized};
 ghost use Rattle.ua_item_queue.specs.ItemQueue.QueueMove.{Sample, Resize};
 
 use crate::entry::Entry;
-use crate::room::Room;
+use crate::room::{Room, ring_for};
 use circular_buffer::HeapCircularBuffer;
 use std::alloc::{AllocError, Global};
 use std::marker::Model;
@@ -15,23 +15,24 @@ use std::marker::Model;
 /// The values of a monitored item that wait to be sent, oldest first: at most as many as its size; and the value
 /// that was queued last, with which the next one is compared.
 ///
-/// They stand in a ring, which has a place for each value that may wait from the beginning: so a value that
-/// comes in wants no memory. It stands there once, for both uses.
+/// They stand in a ring, which has a place for each value that may wait from the beginning, and one more: so a value
+/// that comes in wants no memory, and one that is sent as the last one stays where it is.
 pub struct ItemQueue<T> {
-    // The values that wait, the oldest first. Its capacity is the queue's size, at least 1.
+    // The values that wait, the oldest first, and behind them the one that was queued last, where it waits no more.
+    // Its capacity is the queue's size, at least 1, and one more.
     ring: HeapCircularBuffer<Entry<T>>,
+    // Whether the newest value of the ring waits no more, and is only kept.
+    keeps_last: bool,
     // Which value is lost where the queue is full: the oldest one, or the newest.
     discard_oldest: bool,
-    // The value that was queued last, once it waits no more. Until then it is the newest of the ring.
-    last: Option<T>,
 }
 
 impl<T> Model for ItemQueue<T> {
     ghost Value = { QueueState T };
 
-    ghost view = { λ q. record { entries = q.ring.items; size = q.ring.capacity; discard_oldest = q.discard_oldest; last = last_of q.last q.ring.items } };
+    ghost view = { λ q. record { entries = waiting_of q.keeps_last q.ring.items; size = q.ring.capacity - 1; discard_oldest = q.discard_oldest; last = newest_spec q.ring.items } };
 
-    ghost invariant = { λ q. 1 ≤ q.ring.capacity };
+    ghost invariant = { λ q. 2 ≤ q.ring.capacity };
 }
 
 impl<T: Drop> ItemQueue<T> {
@@ -41,11 +42,11 @@ impl<T: Drop> ItemQueue<T> {
         requires { 1 ≤ size }
         ensures { IfOk result (λ queue. queue ≡ record { entries = []; size = size; discard_oldest = discard_oldest; last = None }) }
     {
-        let ring = HeapCircularBuffer::with_capacity(alloc, size)?;
+        let ring = ring_for(alloc, size)?;
         Ok(ItemQueue {
             ring,
+            keeps_last: false,
             discard_oldest,
-            last: None,
         })
     }
 
@@ -53,31 +54,33 @@ impl<T: Drop> ItemQueue<T> {
     pub fn len(&self) -> usize
         ensures { result ≡ length self.now.entries }
     {
-        self.ring.len()
+        waiting(&self.ring, self.keeps_last)
     }
 
     /// Whether no value waits.
     pub fn is_empty(&self) -> bool
         ensures { IsTrue result ↔ (self.now.entries ≡ []) }
     {
-        self.ring.is_empty()
+        self.len() == 0
     }
 
     /// The value that waits behind so many others.
+    #[tactic(auto, using(crate::proofs::LastLemmas::waits_at))]
     pub fn get(&self, index: usize) -> Option<&Entry<T>>
         ensures { option_copied result ≡ slice_get self.now.entries index }
     {
-        self.ring.get(index)
+        if index < self.len() {
+            self.ring.get(index)
+        } else {
+            None
+        }
     }
 
     /// The value that was queued last, without a mark, whatever became of it since.
     pub fn last(&self) -> Option<&T>
         ensures { option_copied result ≡ self.now.last }
     {
-        match &self.last {
-            Some(value) => Some(value),
-            None => newest(&self.ring),
-        }
+        newest(&self.ring)
     }
 
     /// Takes in a value. Where the queue is full, a value is lost: the oldest, and the new oldest is
@@ -87,27 +90,30 @@ impl<T: Drop> ItemQueue<T> {
     pub fn sample(&mut self, value: T)
         ensures { self.new ≡ sampled self.old value }
     {
+        forget_kept(&mut self.ring, self.keeps_last);
+        self.keeps_last = false;
         sample_into(&mut self.ring, self.discard_oldest, value);
-        self.last = None;
     }
 
     /// The oldest values are sent, so many or all, and wait no more.
+    #[tactic(auto, using(crate::proofs::LastLemmas::waiting_dropped))]
     pub fn send(&mut self, count: usize)
         ensures { self.new ≡ sent self.old count }
     {
-        if count >= self.ring.len() {
+        if count >= self.len() {
             self.clear();
         } else {
-            send_front(&mut self.ring, count);
+            drop_front(&mut self.ring, count);
         }
     }
 
     /// All values are cleared.
+    #[tactic(auto, using(crate::proofs::LastLemmas::newest_kept, crate::proofs::LastLemmas::none_waits))]
     pub fn clear(&mut self)
         ensures { self.new ≡ cleared self.old }
     {
-        remember(&mut self.ring, &mut self.last);
-        self.ring.clear();
+        self.ring.truncate_front(1);
+        self.keeps_last = true;
     }
 
     /// Gives the queue the size of `room`, and another choice of what is lost. Where more values wait than
@@ -118,8 +124,8 @@ impl<T: Drop> ItemQueue<T> {
         let mut ring = room.into_ring();
         cut(
             &mut self.ring,
-            &mut self.last,
-            ring.capacity(),
+            &mut self.keeps_last,
+            ring.capacity() - 1,
             discard_oldest,
         );
         move_all(&mut self.ring, &mut ring);
@@ -128,7 +134,19 @@ impl<T: Drop> ItemQueue<T> {
     }
 }
 
-// The newest value that waits.
+// How many values of a ring wait.
+fn waiting<T>(ring: &HeapCircularBuffer<Entry<T>>, keeps_last: bool) -> usize
+    ensures count { result ≡ length (waiting_of keeps_last ring.now.items) }
+    ensures within { length ring.now.items ≤ ring.now.capacity }
+{
+    if keeps_last {
+        ring.len().saturating_sub(1)
+    } else {
+        ring.len()
+    }
+}
+
+// The newest value of a ring.
 fn newest<T>(ring: &HeapCircularBuffer<Entry<T>>) -> Option<&T>
     ensures { option_copied result ≡ newest_spec ring.now.items }
 {
@@ -139,38 +157,33 @@ fn newest<T>(ring: &HeapCircularBuffer<Entry<T>>) -> Option<&T>
 }
 
 // Takes out the oldest values, so many and not all.
-#[tactic(auto, using(crate::proofs::LastLemmas::newest_dropped))]
-fn send_front<T: Drop>(ring: &mut HeapCircularBuffer<Entry<T>>, count: usize)
+#[tactic(auto, using(crate::proofs::LastLemmas::newest_after))]
+fn drop_front<T: Drop>(ring: &mut HeapCircularBuffer<Entry<T>>, count: usize)
     requires { count < length ring.old.items }
     ensures items { ring.new ≡ buffer (drop count ring.old.items) ring.old.capacity }
-    ensures last { (last : Option T) → last_of last ring.new.items ≡ last_of last ring.old.items }
+    ensures newest { newest_spec ring.new.items ≡ newest_spec ring.old.items }
 {
     ring.truncate_front(ring.len() - count);
 }
 
-// Keeps the value that was queued last, before it waits no more: the newest one leaves the ring for it, if it is that.
-#[tactic(auto, using(crate::proofs::LastLemmas::take_of_front))]
-fn remember<T: Drop>(ring: &mut HeapCircularBuffer<Entry<T>>, last: &mut Option<T>)
-    ensures last { last.new ≡ last_of last.old ring.old.items }
-    ensures front { (n : ℕ) → n < length ring.old.items → take n ring.new.items ≡ take n ring.old.items }
-    ensures room { ring.new.capacity ≡ ring.old.capacity }
+// The newest value leaves a ring that only keeps it.
+fn forget_kept<T: Drop>(ring: &mut HeapCircularBuffer<Entry<T>>, keeps_last: bool)
+    ensures { ring.new ≡ buffer (waiting_of keeps_last ring.old.items) ring.old.capacity }
 {
-    if last.is_some() {
-        return;
-    }
-    if let Some(entry) = ring.pop_back() {
-        *last = Some(entry.value);
+    if keeps_last {
+        let _ = ring.pop_back();
     }
 }
 
-// Takes in a value.
+// Takes in a value, where all values of the ring wait.
 fn sample_into<T: Drop>(ring: &mut HeapCircularBuffer<Entry<T>>, discard_oldest: bool, value: T)
-    requires { 1 ≤ ring.old.capacity }
-    ensures { ring.new ≡ buffer (queue_after ring.old.items (Sample ring.old.capacity discard_oldest value)) ring.old.capacity }
+    requires { 2 ≤ ring.old.capacity }
+    ensures { ring.new ≡ buffer (queue_after ring.old.items (Sample (ring.old.capacity - 1) discard_oldest value)) ring.old.capacity }
 {
-    if ring.len() < ring.capacity() {
+    let size = ring.capacity() - 1;
+    if ring.len() < size {
         push(ring, value, false);
-    } else if ring.capacity() == 1 {
+    } else if size == 1 {
         ring.clear();
         push(ring, value, false);
     } else if discard_oldest {
@@ -199,26 +212,42 @@ fn mark_front<T>(ring: &mut HeapCircularBuffer<Entry<T>>)
     }
 }
 
-// Takes out the oldest or newest values, where there are more than so many, and keeps the value that was queued last.
-#[tactic(auto, using(crate::proofs::LastLemmas::newest_dropped))]
+// Takes out the oldest or newest values that wait, where they are more than so many. The one that was queued last stays.
+#[tactic(auto, using(crate::proofs::LastLemmas::waiting_dropped))]
 fn cut<T: Drop>(
     ring: &mut HeapCircularBuffer<Entry<T>>,
-    last: &mut Option<T>,
+    keeps_last: &mut bool,
     size: usize,
     discard_oldest: bool,
 )
     requires { 1 ≤ size }
-    ensures items { ring.new ≡ buffer (queue_after ring.old.items (Resize size discard_oldest)) ring.old.capacity }
-    ensures last { last_of last.new ring.new.items ≡ last_of last.old ring.old.items }
-    ensures within { length ring.new.items ≤ size }
+    ensures entries { waiting_of keeps_last.new ring.new.items ≡ queue_after (waiting_of keeps_last.old ring.old.items) (Resize size discard_oldest) }
+    ensures newest { newest_spec ring.new.items ≡ newest_spec ring.old.items }
+    ensures within { length ring.new.items ≤ size + 1 }
 {
-    if ring.len() > size {
-        if discard_oldest {
-            ring.truncate_front(size);
-        } else {
-            remember(ring, last);
-            ring.truncate_back(size);
-        }
+    let waiting = waiting(ring, *keeps_last);
+    if waiting <= size {
+        return;
+    }
+    if discard_oldest {
+        drop_front(ring, waiting - size);
+    } else {
+        keep_front(ring, *keeps_last, size);
+        *keeps_last = true;
+    }
+}
+
+// The first values that wait stay, so many and not all, and the newest behind them.
+fn keep_front<T: Drop>(ring: &mut HeapCircularBuffer<Entry<T>>, keeps_last: bool, size: usize)
+    requires more { size < length (waiting_of keeps_last ring.old.items) }
+    requires within { length ring.old.items ≤ ring.old.capacity }
+    ensures entries { waiting_of true ring.new.items ≡ take size (waiting_of keeps_last ring.old.items) }
+    ensures newest { newest_spec ring.new.items ≡ newest_spec ring.old.items }
+    ensures within { length ring.new.items ≡ size + 1 }
+{
+    if let Some(last) = ring.pop_back() {
+        ring.truncate_back(size);
+        push(ring, last.value, last.marked);
     }
 }
 
@@ -238,8 +267,8 @@ impl<T: Drop> Drop for ItemQueue<T> {
     fn drop(self) {
         let ItemQueue {
             ring: _,
+            keeps_last: _,
             discard_oldest: _,
-            last: _,
         } = self;
     }
 }
