@@ -27,7 +27,7 @@ last_there (y ∷ z ∷ xs) x e =
     let rest = last_there (z ∷ xs) x (ap (slice_get (y ∷ z ∷ xs)) (sym few) ∙ e) in
     (y ∷ rest.0, ap (λ l. y ∷ l) rest.1)
 
-last_got : {X : Type 0} (xs : List X) (x : X) → 0 < length xs → x ≡ get_or xs (length xs - 1) x → (ys : List X) × (xs ≡ ys ++ x ∷ [])
+pub last_got : {X : Type 0} (xs : List X) (x : X) → 0 < length xs → x ≡ get_or xs (length xs - 1) x → (ys : List X) × (xs ≡ ys ++ x ∷ [])
 last_got [] x some e = absurd (omega (arith, some))
 last_got (y ∷ []) x some e = ([], ap (λ z. z ∷ []) (sym e))
 last_got (y ∷ z ∷ xs) x some e =

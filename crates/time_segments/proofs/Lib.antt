@@ -1,6 +1,7 @@
 pub mod Times
 pub mod Entries
 pub mod Lists
+pub mod Outside
 pub mod Segmented
 pub mod Changes
 pub mod Splitting

@@ -1,5 +1,5 @@
 -- Comparisons of times.
-use Rattle.std.proofs.Common.{◌≡◌, ℤ, pos, negsuc, int_lt, true, refl, arith}
+use Rattle.std.proofs.Common.{◌≡◌, ℤ, pos, negsuc, int_lt, int_le, true, refl, arith}
 use mir.Syntax.{w64}
 use mir.Val.{SFits}
 use Rattle.std.specs.BTreeMap.Range.{IsLeBy, IsLtBy}
@@ -38,6 +38,9 @@ le_self a = grind arith
 
 pub lt_is_less : (a b : ℤ) → int_lt a b ≡ true → IsLtBy int_cmp a b
 lt_is_less a b h = grind (arith, h)
+
+pub le_is_le : (a b : ℤ) → int_le a b ≡ true → IsLeBy int_cmp a b
+le_is_le a b h = grind (arith, h)
 
 -- no time lies before the least of 64 bits
 pub least_first : (time : ℤ) → SFits w64 time → IsLeBy int_cmp (negsuc 9223372036854775807) time

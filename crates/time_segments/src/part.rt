@@ -1,6 +1,6 @@
 //! A part of one segment, read in place.
 
-ghost use Rattle.std.specs.Prelude.{◌≡◌, []};
+ghost use Rattle.std.specs.Prelude.{◌≡◌, true, [], length};
 ghost use Rattle.std.specs.BTreeMap.Range.{entries_between};
 ghost use Rattle.std.specs.List.Sorted.{IsStrictlySortedBy};
 ghost use Rattle.std.specs.Map.{keys_of};
@@ -14,22 +14,78 @@ use std::collections::vec_deque::Iter;
 use std::marker::Model;
 use std::ops::Bound;
 
-// How many entries lie before a time.
+// Whether the first entry lies at a time or later, and so do all.
+fn is_from<V>(segment: &VecDeque<(i64, V)>, time: i64) -> bool
+    requires { IsStrictlySortedBy int_cmp (keys_of segment.now.items) }
+    ensures { result ≡ true → IsCountBefore time segment.now.items 0 }
+{
+    match segment.front() {
+        None => false,
+        Some((first, _)) => time <= *first,
+    }
+}
+
+// Whether the first entry lies past a time, and so do all.
+fn is_past<V>(segment: &VecDeque<(i64, V)>, time: i64) -> bool
+    requires { IsStrictlySortedBy int_cmp (keys_of segment.now.items) }
+    ensures { result ≡ true → IsCountUpTo time segment.now.items 0 }
+{
+    match segment.front() {
+        None => false,
+        Some((first, _)) => time < *first,
+    }
+}
+
+// Whether the last entry lies before a time, and so do all.
+fn is_before<V>(segment: &VecDeque<(i64, V)>, time: i64) -> bool
+    requires { IsStrictlySortedBy int_cmp (keys_of segment.now.items) }
+    ensures { result ≡ true → IsCountBefore time segment.now.items (length segment.now.items) }
+{
+    match segment.back() {
+        None => false,
+        Some((last, _)) => *last < time,
+    }
+}
+
+// Whether the last entry lies before a time or at it, and so do all.
+fn is_up_to<V>(segment: &VecDeque<(i64, V)>, time: i64) -> bool
+    requires { IsStrictlySortedBy int_cmp (keys_of segment.now.items) }
+    ensures { result ≡ true → IsCountUpTo time segment.now.items (length segment.now.items) }
+{
+    match segment.back() {
+        None => false,
+        Some((last, _)) => *last <= time,
+    }
+}
+
+// How many entries lie before a time. Of most segments that are read the first or the last entry tells; others are searched.
 fn count_before<V>(segment: &VecDeque<(i64, V)>, time: i64) -> usize
     requires { IsStrictlySortedBy int_cmp (keys_of segment.now.items) }
     ensures { IsCountBefore time segment.now.items result }
 {
+    if is_from(segment, time) {
+        return 0;
+    }
+    if is_before(segment, time) {
+        return segment.len();
+    }
     match place(segment, time) {
         Ok(at) => at,
         Err(at) => at,
     }
 }
 
-// How many entries lie before a time or at it.
+// How many entries lie before a time or at it, told likewise.
 fn count_up_to<V>(segment: &VecDeque<(i64, V)>, time: i64) -> usize
     requires { IsStrictlySortedBy int_cmp (keys_of segment.now.items) }
     ensures { IsCountUpTo time segment.now.items result }
 {
+    if is_past(segment, time) {
+        return 0;
+    }
+    if is_up_to(segment, time) {
+        return segment.len();
+    }
     match place(segment, time) {
         Ok(at) => at + 1,
         Err(at) => at,
