@@ -13,9 +13,9 @@ use Rattle.ua_monitored_items.specs.ItemTables.{NumberedItems, item_at, is_of, n
 use Rattle.ua_monitored_items.specs.Items.{any_waits, Taking, nat_least, taken_from, with_taken}
 use Rattle.ua_monitored_items.specs.Item.{gave}
 use Rattle.ua_monitored_items.specs.Taking.{waiting_at}
-use Rattle.ua_monitored_items.specs.Counts.{has_value, one_if, with_value, IsCountOf, AreCounts, recount_by, count_after, AreRecounted, CanCount, AreHeld, or_zero}
+use Rattle.ua_monitored_items.specs.Counts.{has_value, one_if, with_value, IsCountOf, AreCountsBy, AreCounts, recount_by, count_after, AreRecountedBy, AreRecounted, CanCountBy, CanCount, AreHeld, or_zero}
 use Rattle.ua_monitored_items.specs.declared.item.Item.{Item}
-use Rattle.ua_monitored_items.specs.declared.numbered.Recount.{Recount}
+use Rattle.ua_monitored_items.specs.declared.tally.Recount.{Recount}
 use Rattle.ua_monitored_items.proofs.Tables.{greater, at_itself, where_set}
 
 one_most : (b : Bool) → one_if b ≤ 1
@@ -86,18 +86,18 @@ counted_alike counts recount alike q = by (recount.subscription == q) (tree.get 
 
 -- ---- counts, once one of them followed an item
 
-module _ (counts : BTreeMap ℕ ℕ) (items : NumberedItems) (h : AreCounts counts items) (recount : Recount) where
-  can_count_in : (most : ℕ) → one_if recount.had ≤ with_value recount.subscription items → with_value recount.subscription items + one_if recount.has ≤ most + one_if recount.had → CanCount counts recount most
+module _ (counts : ℕ → Option ℕ) (items : NumberedItems) (h : AreCountsBy counts items) (recount : Recount) where
+  can_count_in : (most : ℕ) → one_if recount.had ≤ with_value recount.subscription items → with_value recount.subscription items + one_if recount.has ≤ most + one_if recount.had → CanCountBy counts recount most
   can_count_in most some room n there =
       let counted : n ≡ with_value recount.subscription items = subst (IsCountOf recount.subscription items) there (h recount.subscription) in
       (omega (arith, counted, some), omega (arith, counted, room))
 
-  module _ (after : NumberedItems) (new : BTreeMap ℕ ℕ) (re : AreRecounted counts new recount) where
+  module _ (after : NumberedItems) (new : ℕ → Option ℕ) (re : AreRecountedBy counts new recount) where
     counts_after : ((q : ℕ) → with_value q after + one_if (recount.subscription == q && recount.had) ≡ with_value q items + one_if (recount.subscription == q && recount.has))
-        → ((q : ℕ) → tree.get nat_cmp counts q ≡ None → numbers_of q items ≡ [] → numbers_of q after ≡ []) → AreCounts new after
-    counts_after moved none q = subst (IsCountOf q after) (sym (re q)) (each (tree.get nat_cmp counts q) refl (h q))
+        → ((q : ℕ) → counts q ≡ None → numbers_of q items ≡ [] → numbers_of q after ≡ []) → AreCountsBy new after
+    counts_after moved none q = subst (IsCountOf q after) (sym (re q)) (each (counts q) refl (h q))
       where
-        each : (o : Option ℕ) → tree.get nat_cmp counts q ≡ o → IsCountOf q items o → IsCountOf q after (cond (recount.subscription == q) (option_map (count_after recount) o) o)
+        each : (o : Option ℕ) → counts q ≡ o → IsCountOf q items o → IsCountOf q after (cond (recount.subscription == q) (option_map (count_after recount) o) o)
         each None e empty = by (recount.subscription == q)
           where
             by : (b : Bool) → IsCountOf q after (cond b None None)
@@ -114,11 +114,11 @@ module _ (counts : BTreeMap ℕ ℕ) (items : NumberedItems) (h : AreCounts coun
 recount_is : (change : Item → Item) (v : Item) (recount : Recount) → Some recount ≡ recount_by change (Some v) → recount ≡ record { subscription = v.subscription; had = has_value v; has = has_value (change v) }
 recount_is change v recount is = cc
 
-module _ (counts : BTreeMap ℕ ℕ) (items : NumberedItems) (h : AreCounts counts items) (number : ℕ) (change : Item → Item) (recount : Recount) (is : Some recount ≡ recount_by change (item_at number items)) where
-  pub can_count : (most : ℕ) → most ≡ length items → CanCount counts recount most
-  can_count most len = by (item_at number items) refl is
+module _ (counts : ℕ → Option ℕ) (items : NumberedItems) (h : AreCountsBy counts items) (number : ℕ) (change : Item → Item) (recount : Recount) (is : Some recount ≡ recount_by change (item_at number items)) where
+  pub can_count_by : (most : ℕ) → most ≡ length items → CanCountBy counts recount most
+  can_count_by most len = by (item_at number items) refl is
     where
-      by : (found : Option Item) → item_at number items ≡ found → Some recount ≡ recount_by change found → CanCount counts recount most
+      by : (found : Option Item) → item_at number items ≡ found → Some recount ≡ recount_by change found → CanCountBy counts recount most
       by None e its = absurd cc
       by (Some v) e its =
           let is_that = recount_is change v recount its in
@@ -130,12 +130,12 @@ module _ (counts : BTreeMap ℕ ℕ) (items : NumberedItems) (h : AreCounts coun
           let one = one_most recount.has in
           can_count_in counts items h recount most (omega (arith, was, count, among.0, own)) (omega (arith, was, count, among.1, own, one, len))
 
-  pub counts_changed : ((item : Item) → (change item).subscription ≡ item.subscription) → (after : NumberedItems) → after ≡ with_item number change items → (new : BTreeMap ℕ ℕ) → AreRecounted counts new recount → AreCounts new after
-  counts_changed stays after made new re = by (item_at number items) refl is
+  pub counts_changed_by : ((item : Item) → (change item).subscription ≡ item.subscription) → (after : NumberedItems) → after ≡ with_item number change items → (new : ℕ → Option ℕ) → AreRecountedBy counts new recount → AreCountsBy new after
+  counts_changed_by stays after made new re = by (item_at number items) refl is
     where
-      by : (found : Option Item) → item_at number items ≡ found → Some recount ≡ recount_by change found → AreCounts new after
+      by : (found : Option Item) → item_at number items ≡ found → Some recount ≡ recount_by change found → AreCountsBy new after
       by None e its = absurd cc
-      by (Some v) e its = subst (AreCounts new) (sym (made ∙ ap (with_found number change items) e)) (counts_after counts items h recount next new re moved none)
+      by (Some v) e its = subst (AreCountsBy new) (sym (made ∙ ap (with_found number change items) e)) (counts_after counts items h recount next new re moved none)
         where
           next : NumberedItems
           next = set_value (is_at (nat_cmp number)) items (change v)
@@ -151,8 +151,19 @@ module _ (counts : BTreeMap ℕ ℕ) (items : NumberedItems) (h : AreCounts coun
               let same : one_if (is_of q (change v) && has_value (change v)) ≡ one_if (v.subscription == q && has_value (change v)) = ap (λ (n : ℕ). one_if (n == q && has_value (change v))) (stays v) in
               omega (arith, set, was, now, same)
 
-          none : (q : ℕ) → tree.get nat_cmp counts q ≡ None → numbers_of q items ≡ [] → numbers_of q next ≡ []
+          none : (q : ℕ) → counts q ≡ None → numbers_of q items ≡ [] → numbers_of q next ≡ []
           none q absent empty = where_set (is_of q) number v (change v) (ap (λ (n : ℕ). n == q) (stays v)) items e ∙ empty
+
+module _ (counts : BTreeMap ℕ ℕ) (items : NumberedItems) (h : AreCounts counts items) (number : ℕ) (change : Item → Item) (recount : Recount) (is : Some recount ≡ recount_by change (item_at number items)) where
+  pub can_count : (most : ℕ) → most ≡ length items → CanCount counts recount most
+  can_count most len = can_count_by (tree.get nat_cmp counts) items h number change recount is most len
+
+  pub counts_changed : ((item : Item) → (change item).subscription ≡ item.subscription) → (after : NumberedItems) → after ≡ with_item number change items → (new : BTreeMap ℕ ℕ) → AreRecounted counts new recount → AreCounts new after
+  counts_changed stays after made new re = counts_changed_by (tree.get nat_cmp counts) items h number change recount is stays after made (tree.get nat_cmp new) re
+
+-- counts that are the same
+pub counts_alike : (counts new : ℕ → Option ℕ) (items : NumberedItems) → ((q : ℕ) → new q ≡ counts q) → AreCountsBy counts items → AreCountsBy new items
+counts_alike counts new items same h q = subst (IsCountOf q items) (sym (same q)) (h q)
 
 -- ---- an item is put in
 
@@ -225,11 +236,11 @@ module _ (counts : BTreeMap ℕ ℕ) (items : NumberedItems) (h : AreCounts coun
         let most_of = value_most subscription after in
         let own_is : one_if (subscription == subscription && has) ≡ one_if has = ap (λ (b : Bool). one_if (b && has)) (of_itself subscription) in
         let all = now subscription in
-        can_count_in held items held_counts recount most (omega arith) (omega (arith, most_of, own_is, all, len))
+        can_count_in (tree.get nat_cmp held) items held_counts recount most (omega arith) (omega (arith, most_of, own_is, all, len))
 
     pub counts_put : (new : BTreeMap ℕ ℕ) → AreRecounted held new (record { subscription = subscription; had = false; has = has }) → AreCounts new after
     unfolding recount
-    counts_put new re = counts_after held items held_counts recount after new re moved none
+    counts_put new re = counts_after (tree.get nat_cmp held) items held_counts recount after (tree.get nat_cmp new) re moved none
       where
         moved : (q : ℕ) → with_value q after + one_if (subscription == q && false) ≡ with_value q items + one_if (subscription == q && has)
         moved q =
@@ -288,11 +299,11 @@ module _ (counts : BTreeMap ℕ ℕ) (items : NumberedItems) (h : AreCounts coun
       let among = value_with item.subscription number item items found in
       let own : one_if (is_of item.subscription item && has_value item) ≡ one_if had = counted_own item ∙ ap one_if (sym had_is) in
       let all = value_most item.subscription items in
-      can_count_in counts items h recount_out most (omega (arith, among.0, own)) (omega (arith, all, len))
+      can_count_in (tree.get nat_cmp counts) items h recount_out most (omega (arith, among.0, own)) (omega (arith, all, len))
 
   pub counts_removed : (after : NumberedItems) → after ≡ remove_entry (is_at (nat_cmp number)) items → (new : BTreeMap ℕ ℕ) → AreRecounted counts new (record { subscription = item.subscription; had = had; has = false }) → AreCounts new after
   unfolding recount_out
-  counts_removed after out new re = counts_after counts items h recount_out after new re moved none
+  counts_removed after out new re = counts_after (tree.get nat_cmp counts) items h recount_out after (tree.get nat_cmp new) re moved none
     where
       moved : (q : ℕ) → with_value q after + one_if (item.subscription == q && had) ≡ with_value q items + one_if (item.subscription == q && false)
       moved q =

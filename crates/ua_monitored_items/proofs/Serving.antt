@@ -1,16 +1,16 @@
 -- Entries that are served one after the other.
 use Rattle.std.proofs.Common.{◌≡◌, List, [], ◌∷◌, ◌++◌, Result, Ok, Err, append_assoc, refl, sym, ap, ◌∙◌, ℕ, zero, suc, ◌<◌, ◌-◌, arith, map, take, drop, length, get_or, Option, Some, None, append-nil, Bool, true, false, cond, leb}
-use Rattle.std.proofs.lemmas.Bool.{leb-false}
+use Rattle.std.proofs.lemmas.Bool.{leb-false, leb-true}
 use Rattle.std.proofs.lemmas.List.Sums.{fold-append}
 use Rattle.std.proofs.lemmas.List.Concat.{flat_map-cons}
-use Rattle.std.specs.Prelude.{◌&&◌, flat_map, fold}
+use Rattle.std.specs.Prelude.{◌&&◌, ◌||◌, flat_map, fold, nat_lt}
 use Rattle.ua_values.specs.declared.data_value.DataValue.{DataValue}
 use Rattle.ua_subscription_messages.specs.DataChangeMessages.{MessageDraft, with_note, with_notes}
 use Rattle.ua_monitored_items.specs.Item.{seen, with_sent, gave, notes_of, waiting_in}
 use Rattle.ua_monitored_items.specs.Sampling.{visits_by}
 use Rattle.std.specs.Result.{OnErr}
 use Rattle.ua_monitored_items.specs.ItemTables.{NumberedItems, item_at, with_item}
-use Rattle.ua_monitored_items.specs.Items.{ItemsState, One, Served, nothing_served, with_one, all_served, Visit, visited, sampled_items, VisitedSome, Taking, nat_least, taken_from, with_taken, nothing_taken, taken_of}
+use Rattle.ua_monitored_items.specs.Items.{ItemsState, One, Served, nothing_served, with_one, all_served, Visit, visited, sampled_items, VisitedSome, waits_in, any_waits, Taking, nat_least, taken_from, with_taken, nothing_taken, taken_of}
 use Rattle.ua_monitored_items.specs.declared.item.Item.{Item}
 use Rattle.ua_monitored_items.proofs.Edits.{set_same}
 use Rattle.std.specs.BTreeMap.{is_at}
@@ -157,3 +157,36 @@ pub taken_end : (items : NumberedItems) (n : ℕ) (front rest all : List ℕ) (b
 taken_end items n front rest all before split is none =
     let same : all ≡ front = sym split ∙ ap (λ (ns : List ℕ). front ++ ns) none ∙ append-nil front in
     ap (taken_of items n) same ∙ sym is
+
+-- ---- where none has a value to send
+
+least_of_none : (l : ℕ) → nat_least l 0 ≡ 0
+least_of_none l = by (leb l 0) refl
+  where
+    by : (b : Bool) → leb l 0 ≡ b → cond b l 0 ≡ 0
+    by true e = omega (arith, leb-true l 0 e)
+    by false e = refl
+
+neither : (a b : Bool) → (a || b) ≡ false → (a ≡ false) × (b ≡ false)
+neither true b h = absurd cc
+neither false b h = (refl, h)
+
+no_waiting : (n : ℕ) → nat_lt 0 n ≡ false → n ≡ 0
+no_waiting n h = grind (arith, h)
+
+one_idle : (t : Taking) (number : ℕ) → waits_in (item_at number t.items) ≡ false → with_taken t number ≡ t
+one_idle t number idle = by (item_at number t.items) refl idle
+  where
+    by : (found : Option Item) → item_at number t.items ≡ found → waits_in found ≡ false → taken_from t number found ≡ t
+    by None e h = refl
+    by (Some item) e h = gave_nothing t number (nat_least t.left (waiting_in item)) item e (ap (nat_least t.left) (no_waiting (waiting_in item) h) ∙ least_of_none t.left)
+
+all_idle : (t : Taking) (numbers : List ℕ) → any_waits t.items numbers ≡ false → fold with_taken t numbers ≡ t
+all_idle t [] idle = refl
+all_idle t (n ∷ ns) idle =
+    let both = neither (waits_in (item_at n t.items)) (any_waits t.items ns) idle in
+    ap (λ (u : Taking). fold with_taken u ns) (one_idle t n both.0) ∙ all_idle t ns both.1
+
+-- nothing is taken
+pub none_taken : (items : NumberedItems) (n : ℕ) (numbers : List ℕ) → any_waits items numbers ≡ false → taken_of items n numbers ≡ nothing_taken items n
+none_taken items n numbers idle = all_idle (nothing_taken items n) numbers idle

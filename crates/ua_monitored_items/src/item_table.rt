@@ -1,6 +1,6 @@
 //! Items under their numbers, with an index of the subscriptions and one of the nodes.
 
-ghost use Rattle.std.specs.Prelude.{◌≡◌, ◌<◌, ◌-◌, ◌+◌, ◌^◌, ◌≤◌, [], length, OnOk, OnErr, IfOk, IfSome};
+ghost use Rattle.std.specs.Prelude.{◌≡◌, ◌<◌, ◌-◌, ◌+◌, ◌^◌, ◌≤◌, [], true, length, OnOk, OnErr, IfOk, IfSome};
 ghost use Rattle.std.specs.BTreeMap.{is_at, insert_entry};
 ghost use Rattle.std.specs.Map.{remove_entry};
 ghost use Rattle.std.specs.Option.{option_copied, option_map};
@@ -23,7 +23,6 @@ use crate::numbered::Numbered;
 use crate::preparing::Modification;
 use crate::releases::Release;
 use crate::sampling::{release_all, sample_all};
-use crate::taking::give_all;
 use std::alloc::{AllocError, Global};
 use std::collections::BTreeMap;
 use std::marker::Model;
@@ -290,7 +289,9 @@ impl ItemTable {
     }
 
     /// The first values of a subscription's items that report or are released are written into a message and sent, at most so
-    /// many. At an `Err` the first items have sent theirs, and the next one hasn't.
+    /// many. At an `Err`, which comes only where one of them has a value, the first items have sent theirs, and the next one
+    /// hasn't.
+    #[tactic(auto, using(crate::proofs::Serving::none_taken))]
     pub fn send(
         &mut self,
         subscription: u32,
@@ -301,10 +302,14 @@ impl ItemTable {
         ensures ok { OnOk result (self.new.items ≡ (taken_of self.old.items count (numbers_of subscription self.old.items)).items) }
         ensures message { OnOk result (message.new ≡ with_notes message.old (taken_of self.old.items count (numbers_of subscription self.old.items)).notes) }
         ensures err { OnErr result (TakenSome self.old.items self.new.items count (numbers_of subscription self.old.items)) }
+        ensures waits { OnErr result (any_waits self.old.items (numbers_of subscription self.old.items) ≡ true) }
     {
+        if !self.items.has_value(subscription) {
+            return Ok(());
+        }
         match self.of_subscription.get(&subscription) {
             None => Ok(()),
-            Some(numbers) => give_all(&mut self.items, numbers, count, message),
+            Some(numbers) => self.items.give(subscription, numbers, count, message),
         }
     }
 }

@@ -742,8 +742,8 @@ impl Items {
     /// items by rising number, and the values of each oldest first. Each goes with the client's number of the item, the times
     /// that are wanted now, and the Overflow bit where it is marked. What is written is sent, and waits no more.
     ///
-    /// At an `Err`, which is want of memory, the values of the first items are sent, and of the next item none is. The
-    /// message is of no use then: nothing is known of what is written.
+    /// At an `Err`, which is want of memory and comes only where there is a value to send, the values of the first items are sent,
+    /// and of the next item none is. The message is of no use then: nothing is known of what is written.
     pub fn send(
         &mut self,
         subscription: u32,
@@ -754,6 +754,7 @@ impl Items {
         ensures message { OnOk result (message.new ≡ with_notes message.old (taken_of self.old.items count (numbers_of subscription self.old.items)).notes) }
         ensures others { self.new ≡ record self.old { items = self.new.items } }
         ensures err { OnErr result (TakenSome self.old.items self.new.items count (numbers_of subscription self.old.items)) }
+        ensures waits { OnErr result (is_available self.old subscription ≡ true) }
     {
         self.table.send(subscription, count, message)
     }

@@ -38,6 +38,7 @@ mod preparing;
 mod releases;
 mod sampling;
 mod taking;
+mod tally;
 
 pub use item::Item;
 pub use items::Items;

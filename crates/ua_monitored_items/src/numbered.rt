@@ -5,14 +5,14 @@ ghost use Rattle.std.specs.BTreeMap.{is_at, insert_entry};
 ghost use Rattle.std.specs.Map.{remove_entry};
 ghost use Rattle.std.specs.Option.{option_copied};
 ghost use Rattle.std.specs.Ordering.{nat_cmp};
-ghost use Rattle.ua_monitored_items.specs.Counts.{recount_by, AreRecounted, CanCount, AreHeld, AreSame};
-ghost use Rattle.ua_monitored_items.specs.Item.{seen, gave, released_in, with_links};
+ghost use Rattle.ua_monitored_items.specs.Counts.{recount_by};
+ghost use Rattle.ua_monitored_items.specs.Item.{seen, released_in, with_links};
 ghost use Rattle.ua_monitored_items.specs.ItemTables.{item_at, numbers_of, with_item, AreRising};
-ghost use Rattle.ua_monitored_items.specs.Items.{any_waits, nat_least, with_taken, nothing_taken};
+ghost use Rattle.ua_monitored_items.specs.Items.{any_waits, taken_of};
 ghost use Rattle.ua_monitored_items.specs.Modifying.{modified_with};
 ghost use Rattle.ua_monitored_items.specs.Preparing.{moded_from};
 ghost use Rattle.ua_monitored_items.specs.Releases.{visit_releases, with_release};
-ghost use Rattle.ua_monitored_items.specs.Taking.{waiting_at};
+ghost use Rattle.ua_monitored_items.specs.Taking.{TakenSome};
 ghost use Rattle.ua_subscription_messages.specs.DataChangeMessages.{with_notes};
 
 use crate::item::Item;
@@ -20,22 +20,15 @@ use crate::kinds::Mode;
 use crate::links::Links;
 use crate::preparing::Modification;
 use crate::releases::Release;
+use crate::taking::give_all;
+use crate::tally::{Recount, Tally, count, hold};
 use number_slots::{Near, Slots};
 use std::alloc::{AllocError, Global};
-use std::collections::BTreeMap;
+use std::collections::{BTreeMap, BTreeSet};
 use std::marker::Model;
 use ua_read_write::Timestamps;
 use ua_subscription_messages::{DataChangeMessage, MonitoringParameters};
 use ua_values::DataValue;
-
-/// Of an item that is put in, changed or taken out: whether it had a value to send before, and has one now.
-#[derive(Clone, Copy)]
-pub struct Recount {
-    /// The number of its subscription.
-    pub subscription: u32,
-    pub had: bool,
-    pub has: bool,
-}
 
 /// Items under their numbers. Contracts see these alone.
 ///
@@ -152,64 +145,6 @@ fn visit_at(
         had,
         has: item.waiting() > 0,
     }))
-}
-
-// The oldest values of the item with this number are written into a message and sent, at most so many. Answers how many more
-// are wanted. At an `Err` the items are what they were.
-fn give_at(
-    items: &mut Slots<Item>,
-    near: &mut Near,
-    number: u32,
-    left: usize,
-    message: &mut DataChangeMessage,
-) -> Result<(usize, Option<Recount>), AllocError>
-    ensures left { IfOk result (λ given. given.0 ≡ (with_taken (nothing_taken items.old left) number).left) }
-    ensures items { OnOk result (items.new ≡ (with_taken (nothing_taken items.old left) number).items) }
-    ensures message { OnOk result (message.new ≡ with_notes message.old (with_taken (nothing_taken items.old left) number).notes) }
-    ensures recount { IfOk result (λ given. given.1 ≡ recount_by (gave (nat_least left (waiting_at (item_at number items.old)))) (item_at number items.old)) }
-    ensures err { OnErr result (items.new ≡ items.old) }
-{
-    let Some(item) = items.get_mut_near(near, number) else {
-        return Ok((left, None));
-    };
-    let waiting = item.waiting();
-    let count = left.min(waiting);
-    item.give(count, message)?;
-    let recount = Recount {
-        subscription: item.subscription,
-        had: waiting > 0,
-        has: item.waiting() > 0,
-    };
-    Ok((left - count, Some(recount)))
-}
-
-// A subscription has a count from now on. At an `Err` nothing changed.
-fn hold(counts: &mut BTreeMap<u32, usize>, subscription: u32) -> Result<(), AllocError>
-    ensures ok { OnOk result (AreHeld counts.old counts.new subscription) }
-    ensures err { OnErr result (AreSame counts.old counts.new) }
-{
-    if counts.get(&subscription).is_some() {
-        return Ok(());
-    }
-    match counts.insert(subscription, 0) {
-        Ok(_) => Ok(()),
-        Err(_) => Err(AllocError),
-    }
-}
-
-// The count of a subscription follows one of its items; it is at most that number. It is looked for only where it changes.
-// Takes no memory.
-#[tactic(auto, using(crate::proofs::Counting::counted_alike))]
-fn count(counts: &mut BTreeMap<u32, usize>, recount: Recount, most: usize)
-    requires { CanCount counts.old recount most }
-    ensures { AreRecounted counts.old counts.new recount }
-{
-    if recount.had == recount.has {
-        return;
-    }
-    if let Some(count) = counts.get_mut(&recount.subscription) {
-        *count = *count - usize::from(recount.had) + usize::from(recount.has);
-    }
 }
 
 impl Numbered {
@@ -350,27 +285,30 @@ impl Numbered {
         Ok(())
     }
 
-    /// The oldest values of the item with this number, which is likely to be near the last one, are written into a message
-    /// and sent, at most so many. Answers how many more are wanted. At an `Err` the items are what they were, and a part of
-    /// these values is written.
-    pub fn give_from(
+    /// The first values of the items with these numbers, which are likely to be of this subscription, are written into a message
+    /// and sent, at most so many. At an `Err` the first items have sent theirs, and the next one hasn't.
+    pub fn give(
         &mut self,
-        near: &mut Near,
-        number: u32,
-        left: usize,
+        subscription: u32,
+        numbers: &BTreeSet<u32>,
+        count: usize,
         message: &mut DataChangeMessage,
-    ) -> Result<usize, AllocError>
-        ensures left { IfOk result (λ wanted. wanted ≡ (with_taken (nothing_taken self.old left) number).left) }
-        ensures items { OnOk result (self.new ≡ (with_taken (nothing_taken self.old left) number).items) }
-        ensures message { OnOk result (message.new ≡ with_notes message.old (with_taken (nothing_taken self.old left) number).notes) }
-        ensures err { OnErr result (self.new ≡ self.old) }
+    ) -> Result<(), AllocError>
+        ensures ok { OnOk result (self.new ≡ (taken_of self.old count numbers.now.keys).items) }
+        ensures message { OnOk result (message.new ≡ with_notes message.old (taken_of self.old count numbers.now.keys).notes) }
+        ensures err { OnErr result (TakenSome self.old self.new count numbers.now.keys) }
     {
-        let most = self.items.len();
-        let (wanted, found) = give_at(&mut self.items, near, number, left, message)?;
-        if let Some(recount) = found {
-            count(&mut self.counts, recount, most);
-        }
-        Ok(wanted)
+        let mut tally = Tally::of(&self.counts, subscription);
+        let given = give_all(
+            &mut self.items,
+            &mut self.counts,
+            &mut tally,
+            numbers,
+            count,
+            message,
+        );
+        tally.put_back(&mut self.counts);
+        given
     }
 
     /// Whether an item of a subscription has a value to send. Takes no memory, and looks at no item.

@@ -1,27 +1,89 @@
 //! What a message takes of the items.
 
-ghost use Rattle.std.specs.Prelude.{◌≡◌, OnOk, OnErr};
-ghost use Rattle.ua_monitored_items.specs.Items.{taken_of};
-ghost use Rattle.ua_monitored_items.specs.Taking.{TakenSome};
+ghost use Rattle.std.specs.Prelude.{◌≡◌, OnOk, OnErr, IfOk};
+ghost use Rattle.ua_monitored_items.specs.Counts.{recount_by, counts_with, AreCountsBy};
+ghost use Rattle.ua_monitored_items.specs.Item.{gave};
+ghost use Rattle.ua_monitored_items.specs.ItemTables.{item_at};
+ghost use Rattle.ua_monitored_items.specs.Items.{nat_least, with_taken, nothing_taken, taken_of};
+ghost use Rattle.ua_monitored_items.specs.Taking.{waiting_at, TakenSome};
 ghost use Rattle.ua_subscription_messages.specs.DataChangeMessages.{with_notes};
 
-use crate::numbered::Numbered;
-use number_slots::Near;
+use crate::item::Item;
+use crate::tally::{Recount, Tally};
+use number_slots::{Near, Slots};
 use std::alloc::AllocError;
-use std::collections::BTreeSet;
+use std::collections::{BTreeMap, BTreeSet};
 use ua_subscription_messages::DataChangeMessage;
 
-/// The first values of the items with these numbers are written into a message and sent, at most so many. At an `Err` the
-/// first items have sent theirs, and the next one hasn't.
+// The oldest values of the item with this number are written into a message and sent, at most so many. Answers how many more
+// are wanted. At an `Err` the items are what they were.
+fn give_at(
+    items: &mut Slots<Item>,
+    near: &mut Near,
+    number: u32,
+    left: usize,
+    message: &mut DataChangeMessage,
+) -> Result<(usize, Option<Recount>), AllocError>
+    ensures left { IfOk result (λ given. given.0 ≡ (with_taken (nothing_taken items.old left) number).left) }
+    ensures items { OnOk result (items.new ≡ (with_taken (nothing_taken items.old left) number).items) }
+    ensures message { OnOk result (message.new ≡ with_notes message.old (with_taken (nothing_taken items.old left) number).notes) }
+    ensures recount { IfOk result (λ given. given.1 ≡ recount_by (gave (nat_least left (waiting_at (item_at number items.old)))) (item_at number items.old)) }
+    ensures err { OnErr result (items.new ≡ items.old) }
+{
+    let Some(item) = items.get_mut_near(near, number) else {
+        return Ok((left, None));
+    };
+    let waiting = item.waiting();
+    let count = left.min(waiting);
+    item.give(count, message)?;
+    let recount = Recount {
+        subscription: item.subscription,
+        had: waiting > 0,
+        has: item.waiting() > 0,
+    };
+    Ok((left - count, Some(recount)))
+}
+
+// The same, and the counts follow.
+fn give_counted(
+    items: &mut Slots<Item>,
+    counts: &mut BTreeMap<u32, usize>,
+    tally: &mut Tally,
+    near: &mut Near,
+    number: u32,
+    left: usize,
+    message: &mut DataChangeMessage,
+) -> Result<usize, AllocError>
+    requires { AreCountsBy (counts_with counts.old tally.old) items.old }
+    ensures left { IfOk result (λ wanted. wanted ≡ (with_taken (nothing_taken items.old left) number).left) }
+    ensures items { OnOk result (items.new ≡ (with_taken (nothing_taken items.old left) number).items) }
+    ensures message { OnOk result (message.new ≡ with_notes message.old (with_taken (nothing_taken items.old left) number).notes) }
+    ensures err { OnErr result (items.new ≡ items.old) }
+    ensures counts { AreCountsBy (counts_with counts.new tally.new) items.new }
+{
+    let most = items.len();
+    let (wanted, found) = give_at(items, near, number, left, message)?;
+    if let Some(recount) = found {
+        tally.follow(counts, recount, most);
+    }
+    Ok(wanted)
+}
+
+/// The first values of the items with these numbers are written into a message and sent, at most so many, and the counts
+/// follow. At an `Err` the first items have sent theirs, and the next one hasn't.
 pub(crate) fn give_all(
-    items: &mut Numbered,
+    items: &mut Slots<Item>,
+    counts: &mut BTreeMap<u32, usize>,
+    tally: &mut Tally,
     numbers: &BTreeSet<u32>,
     count: usize,
     message: &mut DataChangeMessage,
 ) -> Result<(), AllocError>
+    requires { AreCountsBy (counts_with counts.old tally.old) items.old }
     ensures ok { OnOk result (items.new ≡ (taken_of items.old count numbers.now.keys).items) }
     ensures message { OnOk result (message.new ≡ with_notes message.old (taken_of items.old count numbers.now.keys).notes) }
     ensures err { OnErr result (TakenSome items.old items.new count numbers.now.keys) }
+    ensures counts { AreCountsBy (counts_with counts.new tally.new) items.new }
 {
     let mut near = Near::new();
     let mut left = count;
@@ -29,7 +91,7 @@ pub(crate) fn give_all(
         if left == 0 {
             break;
         }
-        left = items.give_from(&mut near, *number, left, message)?;
+        left = give_counted(items, counts, tally, &mut near, *number, left, message)?;
     }
     Ok(())
 }

@@ -25,6 +25,7 @@ loop-number-preserved c =
           ∙ ap (λ (t : Taking). with_notes (with_notes message before.notes) t.notes) here
           ∙ written_alike message before number
           ∙ ap (λ (t : Taking). with_notes message t.notes) after,
+      c.in_ok-left.ensures.counts,
     )
 
 pub returns-then-left-eq0-clause-ok : goal.returns-then-left-eq0-clause-ok

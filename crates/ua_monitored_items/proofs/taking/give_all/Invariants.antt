@@ -1,5 +1,6 @@
 use Rattle.std.proofs.Common.{◌≡◌, ◌++◌, List, ℕ}
 use Rattle.ua_subscription_messages.specs.DataChangeMessages.{with_notes}
+use Rattle.ua_monitored_items.specs.Counts.{counts_with, AreCountsBy}
 use Rattle.ua_monitored_items.specs.Items.{taken_of}
 use Rattle.ua_monitored_items.proofs.taking.give_all.Given as goal
 
@@ -11,3 +12,4 @@ invariant-loop-number l =
     × (l.items ≡ (taken_of l.fn.items l.count front).items)
     × (l.left ≡ (taken_of l.fn.items l.count front).left)
     × (l.message ≡ with_notes l.fn.message (taken_of l.fn.items l.count front).notes)
+    × AreCountsBy (counts_with l.counts l.tally) l.items

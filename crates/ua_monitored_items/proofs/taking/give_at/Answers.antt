@@ -5,7 +5,7 @@ use Rattle.ua_monitored_items.specs.ItemTables.{item_at}
 use Rattle.ua_monitored_items.specs.Items.{nat_least, taken_from, nothing_taken}
 use Rattle.ua_monitored_items.proofs.Edits.{changed_there, same_there, less_of}
 use Rattle.ua_monitored_items.proofs.Serving.{on_any}
-use Rattle.ua_monitored_items.proofs.numbered.give_at.Goals as goal
+use Rattle.ua_monitored_items.proofs.taking.give_at.Goals as goal
 
 pub returns-in_err-give-clause-err : goal.returns-in_err-give-clause-err
 returns-in_err-give-clause-err c =
