@@ -3,6 +3,7 @@ use Rattle.std.proofs.Common.{◌≡◌, ℕ, Bool, true, false, cond, List, [],
 use Rattle.std.specs.Map.{keys_of}
 use Rattle.ua_types.specs.Configuration.{Configuration}
 use Rattle.ua_values.specs.declared.data_value.DataValue.{DataValue}
+use Rattle.ua_subscription_messages.specs.DataChangeMessages.{data_change_message}
 use Rattle.ua_subscription_messages.specs.declared.publishing.SubscriptionAcknowledgement.{SubscriptionAcknowledgement}
 use Rattle.ua_subscription_messages.specs.declared.publishing.MonitoredItemNotification.{MonitoredItemNotification}
 use Rattle.ua_state_table.specs.Chosen.{chosen}
@@ -24,7 +25,7 @@ use Rattle.ua_subscriptions.specs.declared.session_part.TimeoutNote.{TimeoutNote
 use Rattle.ua_subscriptions.specs.declared.subscription.Subscription.{Subscription}
 use Rattle.ua_subscriptions.specs.Calls.{event_of}
 use Rattle.ua_subscriptions.specs.Firing.{before_of, row_of}
-use Rattle.ua_subscriptions.specs.Messages.{number_after, data_message}
+use Rattle.ua_subscriptions.specs.Messages.{number_after}
 use Rattle.ua_subscriptions.specs.Named.{is_own, own_met}
 use Rattle.ua_subscriptions.specs.Publishing.{acknowledged_all, note_of, without_note, asked_by, with_results}
 use Rattle.ua_subscriptions.specs.Queues.{first_of}
@@ -67,7 +68,7 @@ note_told : (n : Noting) (own : ℕ) → n.round.own ≡ own → IsMadeOf (recor
 note_told n own is = record {
   subscription = sym is;
   clock = n.round.clock;
-  bytes = ap (λ (notes : List MonitoredItemNotification). data_message (number_after n.subscription.number) n.round.clock notes)
+  bytes = ap (λ (notes : List MonitoredItemNotification). data_change_message (number_after n.subscription.number) n.round.clock notes)
       (notes_are_of_givings n.items.items n.subscription.notifications (numbers_of n.round.own n.items.items));
 }
 

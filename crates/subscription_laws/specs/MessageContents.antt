@@ -3,11 +3,11 @@ use Rattle.std.specs.Prelude.{◌≡◌, ⊤, ℕ, List, [], ◌∷◌, ◌++◌
 use Rattle.ua_types.specs.Configuration.{Configuration}
 use Rattle.ua_types.specs.declared.moment.Moment.{Moment}
 use Rattle.ua_values.specs.declared.data_value.DataValue.{DataValue}
+use Rattle.ua_subscription_messages.specs.DataChangeMessages.{data_change_message}
 use Rattle.ua_item_queue.specs.declared.entry.Entry.{Entry}
 use Rattle.ua_monitored_items.specs.Givings.{Giving, given_to, notes_given, entries_of}
 use Rattle.ua_monitored_items.specs.Items.{ItemsState, no_items}
 use Rattle.ua_monitored_items.specs.Moves as item_moves
-use Rattle.ua_subscriptions.specs.Messages.{data_message}
 use Rattle.subscription_laws.specs.ItemCalls.{item_calls}
 use Rattle.subscription_laws.specs.Messaging.{Made}
 use Rattle.subscription_laws.specs.Runs.{Move}
@@ -34,7 +34,7 @@ all_taken config moves = taken_from (no_items config) (item_calls config moves)
 pub record IsMadeOf (m : Made) (t : Taken) : Type 0 where
   pub subscription : m.subscription ≡ t.subscription
   pub clock : Moment
-  pub bytes : m.message.bytes ≡ data_message m.message.number clock (notes_given t.givings)
+  pub bytes : m.message.bytes ≡ data_change_message m.message.number clock (notes_given t.givings)
 
 -- a message for each taking, in order, and no other
 abbrev pub AreMadeOf : List Made → List Taken → Type 0

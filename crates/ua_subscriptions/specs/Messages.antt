@@ -4,9 +4,8 @@ use Rattle.ua_types.specs.declared.extension_object.ExtensionObject.{ExtensionOb
 use Rattle.ua_types.specs.declared.moment.Moment.{Moment}
 use Rattle.ua_types.specs.declared.status.TheConstants.Status as status
 use Rattle.ua_messages.specs.Structures.{object_around}
-use Rattle.ua_messages.specs.declared.type_ids.TheConstants.{DATA_CHANGE_NOTIFICATION, STATUS_CHANGE_NOTIFICATION}
-use Rattle.ua_subscription_messages.specs.Publishing.{notification_message_encoding, data_change_notification_encoding, status_change_notification_encoding}
-use Rattle.ua_subscription_messages.specs.declared.publishing.MonitoredItemNotification.{MonitoredItemNotification}
+use Rattle.ua_messages.specs.declared.type_ids.TheConstants.{STATUS_CHANGE_NOTIFICATION}
+use Rattle.ua_subscription_messages.specs.Publishing.{notification_message_encoding, status_change_notification_encoding}
 use Rattle.ua_subscriptions.specs.declared.messages.KeptMessage.{KeptMessage}
 
 -- the number after this one, which is 1 after the last of 32 bits
@@ -15,11 +14,6 @@ number_after number = if number == 4294967295 then 1 else number + 1
 
 abbrev pub message_of : ℕ → Moment → List ExtensionObject → List ℕ
 message_of number clock notifications = notification_message_encoding (record { sequence_number = number; publish_time = clock; notification_data = Some notifications })
-
--- a message with these values
-unfoldable pub data_message : ℕ → Moment → List MonitoredItemNotification → List ℕ
-data_message number clock notes =
-    message_of number clock (object_around DATA_CHANGE_NOTIFICATION (data_change_notification_encoding (record { monitored_items = Some notes; diagnostic_infos = record {} })) ∷ [])
 
 -- a message with nothing to tell
 unfoldable pub keep_alive_message : ℕ → Moment → List ℕ

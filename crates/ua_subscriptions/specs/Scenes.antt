@@ -20,7 +20,8 @@ use Rattle.ua_subscriptions.specs.declared.subscription.Subscription.{Subscripti
 use Rattle.ua_subscriptions.specs.declared.round.Round.{Round}
 use Rattle.ua_subscriptions.specs.Answers.{number_of, published_of, refused_of}
 use Rattle.ua_subscriptions.specs.Calls.{settings_of, asks_enabled}
-use Rattle.ua_subscriptions.specs.Messages.{number_after, data_message, keep_alive_message}
+use Rattle.ua_subscription_messages.specs.DataChangeMessages.{data_change_message}
+use Rattle.ua_subscriptions.specs.Messages.{number_after, keep_alive_message}
 use Rattle.ua_subscriptions.specs.Queues.{first_of}
 use Rattle.ua_subscriptions.specs.Settings.{revised_keep_alive_count, revised_lifetime_count, revised_notifications}
 
@@ -135,7 +136,7 @@ abbrev pub items_noted : Round → Subscription → ItemsState → ItemsState
 items_noted round s items = record items { items = (taken_of items.items s.notifications (numbers_of round.own items.items)).items }
 
 abbrev pub message_made : Round → Subscription → ItemsState → List ℕ
-message_made round s items = data_message (number_after s.number) round.clock (taken_of items.items s.notifications (numbers_of round.own items.items)).notes
+message_made round s items = data_change_message (number_after s.number) round.clock (taken_of items.items s.notifications (numbers_of round.own items.items)).notes
 
 abbrev pub subscription_noted : Round → Subscription → ItemsState → Subscription
 subscription_noted round s items = record s {

@@ -3,7 +3,8 @@
 ghost use Rattle.std.specs.Prelude.{◌≡◌, OnOk, IfOk};
 ghost use Rattle.ua_monitored_items.specs.ItemTables.{numbers_of};
 ghost use Rattle.ua_monitored_items.specs.Items.{taken_of};
-ghost use Rattle.ua_subscriptions.specs.Messages.{data_message, keep_alive_message, timeout_message};
+ghost use Rattle.ua_subscription_messages.specs.DataChangeMessages.{data_change_message};
+ghost use Rattle.ua_subscriptions.specs.Messages.{keep_alive_message, timeout_message};
 
 use bytes::Bytes;
 use std::alloc::{AllocError, Global};
@@ -26,7 +27,6 @@ pub struct KeptMessage {
 
 /// The bytes of a message with the first values of a subscription's items, at most so many, which are sent by it. At an `Err`
 /// nothing is known of what is left.
-#[tactic(auto, unfolding(crate::specs::Messages::data_message, ua_subscription_messages::specs::DataChangeMessages::data_change_message))]
 pub(crate) fn data_message(
     alloc: Global,
     number: u32,
@@ -35,7 +35,7 @@ pub(crate) fn data_message(
     subscription: u32,
     count: usize,
 ) -> Result<Bytes, AllocError>
-    ensures bytes { IfOk result (λ bytes. bytes ≡ data_message number clock (taken_of items.old.items count (numbers_of subscription items.old.items)).notes) }
+    ensures bytes { IfOk result (λ bytes. bytes ≡ data_change_message number clock (taken_of items.old.items count (numbers_of subscription items.old.items)).notes) }
     ensures items { OnOk result (items.new ≡ record items.old { items = (taken_of items.old.items count (numbers_of subscription items.old.items)).items }) }
 {
     let mut message = DataChangeMessage::new(alloc, number, clock)?;
