@@ -62,8 +62,8 @@ fn owed_three(alloc: Global) -> Result<Peer<Slow>, Fail> {
 fn several_frames_in_one_write(rt: HostRuntime) -> Result<(), Fail> {
     let mut peer = owed_three(rt.alloc())?;
     peer.flush(&mut Vec::new(rt.alloc()));
-    let mut piece = vec![in rt.alloc(); 0u8; 16]?;
-    let heard = peer.read(&mut piece);
+    let mut piece = Vec::new(rt.alloc());
+    let heard = peer.read(&mut [0; 16], &mut piece)?;
     holds(
         &rt,
         "nothing heard",
@@ -107,8 +107,8 @@ fn each_on_its_own_connection(rt: HostRuntime) -> Result<(), Fail> {
         "the second stays",
         !peers.depart(2) && !peers.release(2) && peers.len() == 1,
     );
-    let mut piece = vec![in rt.alloc(); 0u8; 16]?;
-    let heard = peers.read(2, &mut piece);
+    let mut piece = Vec::new(rt.alloc());
+    let heard = peers.read(2, &mut piece)?;
     holds(&rt, "nothing heard", matches!(heard, Heard::Nothing));
     Ok(())
 }
@@ -129,8 +129,8 @@ fn ended(alloc: Global) -> Result<Peers<Slow>, Fail> {
 #[test]
 fn a_client_that_has_hung_up_is_gone_at_once(rt: HostRuntime) -> Result<(), Fail> {
     let mut peers = ended(rt.alloc())?;
-    let mut piece = vec![in rt.alloc(); 0u8; 16]?;
-    let heard = peers.read(1, &mut piece);
+    let mut piece = Vec::new(rt.alloc());
+    let heard = peers.read(1, &mut piece)?;
     holds(&rt, "at its end", matches!(heard, Heard::End));
     holds(&rt, "told, though it is owed a byte", peers.depart(1));
     holds(&rt, "its byte is still to be written", !peers.release(1));
@@ -153,10 +153,10 @@ fn hung_up(alloc: Global) -> Result<Peers<Slow>, Fail> {
     Ok(peers)
 }
 
-// Whether a read with room for 16 bytes comes to this, with so many bytes.
+// Whether a read comes to this, with so many bytes.
 fn hears(alloc: Global, peers: &mut Peers<Slow>, due: Heard, count: usize) -> Result<bool, Fail> {
-    let mut piece = vec![in alloc; 0u8; 16]?;
-    let heard = peers.read(1, &mut piece);
+    let mut piece = Vec::new(alloc);
+    let heard = peers.read(1, &mut piece)?;
     Ok(heard == due && piece.len() == count)
 }
 

@@ -1,5 +1,5 @@
 -- Sockets that are changed in their places.
-use Rattle.std.proofs.Common.{◌≡◌, ℕ, suc, ◌+◌, ◌<◌, List, [], ◌∷◌, ◌++◌, ◌≤◌, length, drop, true, false, Bool, ◌||◌, Option, Some, None, Result, Ok, Err, OnOk, slice_index_or, refl, sym, ap, ◌∙◌, subst, arith}
+use Rattle.std.proofs.Common.{◌≡◌, ℕ, suc, ◌+◌, ◌<◌, List, [], ◌∷◌, ◌++◌, ◌≤◌, length, drop, true, false, Bool, ◌||◌, Option, Some, None, Result, Ok, Err, IfOk, OnOk, slice_index_or, refl, sym, ap, ◌∙◌, subst, arith}
 use lib.Seq.{drop-cons}
 use Rattle.std.proofs.lemmas.List.{drop_all}
 use Rattle.socket_peers.specs.declared.peer.Heard.{Heard}
@@ -71,6 +71,13 @@ module _ {S : Type 0} (remaining contents : S → Option (List ℕ)) (calls : S 
       subst (λ p. ReadsAt remaining contents calls number p (record old { connected = connected }) room piece heard) same
       (subst (λ o. ReadsBy remaining contents calls o number old (record old { connected = connected }) room piece heard) (sym is)
       (after, reads, ap (λ m. record old { connected = m }) back))
+
+  -- where there was memory for what came
+  pub reads_at : {E : Type 0} (r : Result Heard E) (old now : PeersState S) (number room : ℕ) (piece : List ℕ) (found after : PeerState S) (connected : FinMap nat_cmp (PeerState S)) → old ≡ now → at old number ≡ Some found
+      → IfOk r (λ heard. Reads remaining contents calls found after room piece heard) → connected ≡ insert old.connected number after
+      → IfOk r (λ heard. ReadsAt remaining contents calls number now (record old { connected = connected }) room piece heard)
+  reads_at (Ok heard) old now number room piece found after connected same is reads back = read_at old now number room piece heard found after connected same is reads back
+  reads_at (Err e) old now number room piece found after connected same is reads back = tt
 
   pub flush_at : (old now : PeersState S) (number : ℕ) (found flushed after : PeerState S) (is_interrupted is_woken : Bool) (connected : FinMap nat_cmp (PeerState S)) (awake : List ℕ) → old ≡ now → at old number ≡ Some found
       → Flushes remaining contents calls found flushed is_interrupted → is_woken ≡ (is_interrupted || is_over flushed)

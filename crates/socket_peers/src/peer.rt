@@ -1,12 +1,12 @@
 //! One socket, and the bytes that it is owed.
 
-ghost use Rattle.std.specs.Prelude.{◌≡◌, ◌<◌, ◌≤◌, ℕ, ◌||◌, true, false, [], nat_lt, take, OnOk, OnErr, length};
+ghost use Rattle.std.specs.Prelude.{◌≡◌, ◌<◌, ◌≤◌, ℕ, ◌||◌, true, false, [], nat_lt, take, IfOk, OnOk, OnErr, length};
 ghost use Rattle.bytes.specs.Unread.{IsChunkOf, concat_slices};
 ghost use Rattle.socket_peers.specs.Peer.{is_piece as is_piece_spec, may_be_more as may_be_more_spec, fresh, owing, closing, ready, awake_if, is_over as is_over_spec, departs as departs_spec, departed, is_done as is_done_spec, listens as listens_spec, judged, one_if, Reads, Writes, Drains, Flushes};
 
 use crate::socket::{Missed, Socket, why_missed};
 use bytes::{Buf, Bytes, BytesQueue};
-use std::alloc::{AllocFailed, Global};
+use std::alloc::{AllocError, AllocFailed, Global};
 use std::marker::Model;
 
 /// Nothing is read from a peer that is owed more than this many bytes, until it takes some.
@@ -264,46 +264,42 @@ impl<S> Peer<S> {
 }
 
 impl<S: Socket> Peer<S> {
-    /// One read of at most the length of `piece`, which holds what came. At the end of the stream the
-    /// connection is no more, and the peer closes; one that failed is over.
+    /// One read into `room`. What came is copied into `piece`, which is empty before, and takes no more memory than that. At the
+    /// end of the stream the connection is no more, and the peer closes; one that failed is over. At an `Err`, which is want of
+    /// memory, what came is lost.
     ///
     /// A read that gives less than there is room for has emptied the socket, whose next bytes are reported anew. But where the
     /// socket was reported as ending, no report comes of the end, so it is read from until its end is read.
-    pub fn read(&mut self, piece: &mut Vec<u8>) -> Heard
-        requires { 0 < length piece.old.items }
-        ensures { Reads S.remaining S.contents S.calls self.old self.new (length piece.old.items) piece.new.items result }
+    pub fn read(&mut self, room: &mut [u8], piece: &mut Vec<u8>) -> Result<Heard, AllocError>
+        requires room { 0 < length room.old }
+        requires empty { piece.old.items ≡ [] }
+        ensures { IfOk result (λ heard. Reads S.remaining S.contents S.calls self.old self.new (length room.old) piece.new.items heard) }
     {
         if !self.listens() {
-            piece.clear();
-            return Heard::Nothing;
+            return Ok(Heard::Nothing);
         }
-        match self.stream.receive(piece.as_mut_slice()) {
+        match self.stream.receive(room) {
             Ok(0) => {
-                piece.clear();
                 self.is_closing = true;
                 self.has_ended = true;
-                Heard::End
+                Ok(Heard::End)
             }
             Ok(count) => {
-                let is_drained = count < piece.len() && !self.is_ending;
-                piece.truncate(count);
-                if is_drained {
-                    Heard::Last
+                piece.extend_from_slice(&room[..count])?;
+                if count < room.len() && !self.is_ending {
+                    Ok(Heard::Last)
                 } else {
-                    Heard::Piece
+                    Ok(Heard::Piece)
                 }
             }
-            Err(error) => {
-                piece.clear();
-                match why_missed(&error) {
-                    Missed::Waits => Heard::Nothing,
-                    Missed::Interrupted => Heard::Again,
-                    Missed::Failed => {
-                        self.has_failed = true;
-                        Heard::End
-                    }
+            Err(error) => match why_missed(&error) {
+                Missed::Waits => Ok(Heard::Nothing),
+                Missed::Interrupted => Ok(Heard::Again),
+                Missed::Failed => {
+                    self.has_failed = true;
+                    Ok(Heard::End)
                 }
-            }
+            },
         }
     }
 

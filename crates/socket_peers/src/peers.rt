@@ -12,6 +12,9 @@ use std::marker::Model;
 use std::mem;
 use ua_types::Numbered;
 
+// The most bytes of a piece.
+const PIECE: usize = 4096;
+
 /// The sockets that are connected, under the numbers of their connections, and which of them are to be
 /// looked at.
 ///
@@ -28,6 +31,8 @@ pub struct Peers<S> {
     touched: Vec<u64>,
     // Room for frames that are joined for one write.
     joint: Vec<u8>,
+    // Room for what one read gives.
+    room: [u8; PIECE],
 }
 
 impl<S> Model for Peers<S> {
@@ -51,6 +56,7 @@ impl<S> Peers<S> {
             awake: Vec::new(alloc),
             touched: Vec::new(alloc),
             joint: Vec::new(alloc),
+            room: [0; PIECE],
         }
     }
 
@@ -190,16 +196,15 @@ impl<S: Drop> Peers<S> {
 }
 
 impl<S: Socket + Drop> Peers<S> {
-    /// Reads from a socket. Takes no memory.
-    pub fn read(&mut self, number: u64, piece: &mut Vec<u8>) -> Heard
-        requires { 0 < length piece.old.items }
-        ensures { ReadsAt S.remaining S.contents S.calls number self.old self.new (length piece.old.items) piece.new.items result }
+    /// Reads from a socket, at most 4,096 bytes, which are put into `piece`, empty before. Memory is taken for these alone.
+    pub fn read(&mut self, number: u64, piece: &mut Vec<u8>) -> Result<Heard, AllocError>
+        requires { piece.old.items ≡ [] }
+        ensures { IfOk result (λ heard. ReadsAt S.remaining S.contents S.calls number self.old self.new 4096 piece.new.items heard) }
     {
         let Some(peer) = self.connected.get_mut(number) else {
-            piece.clear();
-            return Heard::Nothing;
+            return Ok(Heard::Nothing);
         };
-        peer.read(piece)
+        peer.read(&mut self.room, piece)
     }
 
     // Writes what a socket is owed, as much as it takes. One that is over now is to be looked at, and one of

@@ -152,17 +152,16 @@ module _ {S : Type 0} (remaining contents : S → Option (List ℕ)) (calls : S 
 
   -- ---- one read
 
-  pub none_heeded : (conn room : ℕ) (h : Heard) (piece : List ℕ) (a c : Scene S) → is_piece h ≡ false → room ≡ 4096 → ReadsAt remaining contents calls conn a.peers c.peers room piece h → IsQuiet a c
+  pub none_heeded : (conn : ℕ) (h : Heard) (piece : List ℕ) (a c : Scene S) → is_piece h ≡ false → ReadsAt remaining contents calls conn a.peers c.peers 4096 piece h → IsQuiet a c
       → GoesOn remaining contents calls text conn a c (may_be_more h)
-  none_heeded conn room h piece a c other size reads same =
-      let none = none_read conn a.peers c.peers (at a.peers conn) room piece h other reads in
-      let sized = subst (λ n. ReadsAt remaining contents calls conn a.peers c.peers n piece h) size reads in
-      (h, refl, subst (λ is. Heeds remaining contents calls text conn h is a c) (sym other) (subst (λ l. ReadsAt remaining contents calls conn a.peers c.peers 4096 l h) none sized, same))
+  none_heeded conn h piece a c other reads same =
+      let none = none_read conn a.peers c.peers (at a.peers conn) 4096 piece h other reads in
+      (h, refl, subst (λ is. Heeds remaining contents calls text conn h is a c) (sym other) (subst (λ l. ReadsAt remaining contents calls conn a.peers c.peers 4096 l h) none reads, same))
 
-  pub piece_heeded : (conn room : ℕ) (h : Heard) (piece : List ℕ) (p : PeersState S) (a c : Scene S) → is_piece h ≡ true → room ≡ 4096 → ReadsAt remaining contents calls conn a.peers p room piece h
+  pub piece_heeded : (conn : ℕ) (h : Heard) (piece : List ℕ) (p : PeersState S) (a c : Scene S) → is_piece h ≡ true → ReadsAt remaining contents calls conn a.peers p 4096 piece h
       → HandsIn remaining contents calls text (Bytes conn piece) (record a { peers = p }) c → GoesOn remaining contents calls text conn a c (may_be_more h)
-  piece_heeded conn room h piece p a c some size reads hands =
-      (h, refl, subst (λ is. Heeds remaining contents calls text conn h is a c) (sym some) (piece, p, subst (λ n. ReadsAt remaining contents calls conn a.peers p n piece h) size reads, hands))
+  piece_heeded conn h piece p a c some reads hands =
+      (h, refl, subst (λ is. Heeds remaining contents calls text conn h is a c) (sym some) (piece, p, reads, hands))
 
   pub piece_stops : (conn : ℕ) (piece : List ℕ) (p : PeersState S) (a c : Scene S) (fault : ServeFault) → Fails text (Bytes conn piece) (record a { peers = p }) c fault
       → Stops remaining contents calls text a c fault

@@ -16,9 +16,6 @@ use socket_peers::{Peers, Readiness, Socket};
 use std::alloc::Global;
 use std::net::SocketAddr;
 
-// The most bytes of a piece.
-const PIECE: usize = 4096;
-
 // The most pieces that are read from a socket in a turn.
 const PIECES: usize = 2;
 
@@ -177,10 +174,10 @@ fn hear<S: Socket + Drop, W: Observer>(
         let new = scene keys (world_of server.new) peers.new events.new (W.output observer.new) in
         MatchResult result (λ more. GoesOn S.remaining S.contents S.calls W.text number old new more) (Stops S.remaining S.contents S.calls W.text old new) }
 {
-    let Ok(mut piece) = vec![in alloc; 0u8; PIECE] else {
+    let mut piece = Vec::new(alloc);
+    let Ok(heard) = peers.read(number, &mut piece) else {
         return Err(ServeFault::Memory);
     };
-    let heard = peers.read(number, &mut piece);
     let more = heard.may_be_more();
     if !heard.is_piece() {
         return Ok(more);

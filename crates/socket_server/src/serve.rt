@@ -233,7 +233,7 @@ impl Serve {
     /// with a fault alone.
     ///
     /// The server should know no connection of another's, since numbers count up from 1. At `Step`,
-    /// `Trace` and `Memory` it is as its last step left it, and what was to be sent may be lost.
+    /// `Trace` and `Memory` it is as its last step left it, and what was to be sent may be lost, at `Memory` also what was read last.
     pub fn run<R: Clock + Wait, W: Observer>(
         &mut self,
         rt: &R,
