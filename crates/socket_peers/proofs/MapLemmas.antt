@@ -1,12 +1,12 @@
 -- Sockets that are changed in their places.
-use Rattle.std.proofs.Common.{◌≡◌, ℕ, suc, ◌+◌, ◌<◌, List, [], ◌∷◌, ◌++◌, ◌≤◌, length, drop, true, false, Bool, ◌||◌, Option, Some, None, Result, Ok, Err, IfOk, OnOk, slice_index_or, refl, sym, ap, ◌∙◌, subst, arith}
+use Rattle.std.proofs.Common.{◌≡◌, ℕ, suc, ◌+◌, ◌<◌, List, [], ◌∷◌, ◌++◌, ◌≤◌, length, drop, true, false, Bool, ◌||◌, Option, Some, None, Result, Ok, Err, IfOk, OnOk, OnErr, slice_index_or, refl, sym, ap, ◌∙◌, subst, arith}
 use lib.Seq.{drop-cons}
 use Rattle.std.proofs.lemmas.List.{drop_all}
 use Rattle.socket_peers.specs.declared.peer.Heard.{Heard}
 use Rattle.socket_peers.specs.declared.peer.Readiness.{Readiness}
 use Rattle.socket_peers.specs.Socket.{Calls}
-use Rattle.socket_peers.specs.Peer.{PeerState, ready, awake_if, departs, departed, is_over, Reads, Flushes}
-use Rattle.socket_peers.specs.Peers.{PeersState, at, with_woken_if, listed_if, woken_if, reported, reported_by, is_true_of, changed_by, touching, touching_by, Departs, ReadsBy, ReadsAt, FlushesBy, FlushesAt, FlushesEach, LooksBy, LooksAt}
+use Rattle.socket_peers.specs.Peer.{PeerState, ready, awake_if, departs, departed, is_over, Reads, Loses, Flushes}
+use Rattle.socket_peers.specs.Peers.{PeersState, at, with_woken_if, listed_if, woken_if, reported, reported_by, is_true_of, changed_by, touching, touching_by, Departs, ReadsBy, ReadsAt, LosesBy, LosesAt, FlushesBy, FlushesAt, FlushesEach, LooksBy, LooksAt}
 use Rattle.std.specs.Ordering.{nat_cmp}
 use Rattle.std.specs.FinMap.{FinMap, insert}
 use Rattle.ua_types.proofs.NumberMaps.{insert_same}
@@ -78,6 +78,16 @@ module _ {S : Type 0} (remaining contents : S → Option (List ℕ)) (calls : S 
       → IfOk r (λ heard. ReadsAt remaining contents calls number now (record old { connected = connected }) room piece heard)
   reads_at (Ok heard) old now number room piece found after connected same is reads back = read_at old now number room piece heard found after connected same is reads back
   reads_at (Err e) old now number room piece found after connected same is reads back = tt
+
+  -- where there wasn't
+  pub loses_at : {T E : Type 0} (r : Result T E) (old now : PeersState S) (number room : ℕ) (found after : PeerState S) (connected : FinMap nat_cmp (PeerState S)) → old ≡ now → at old number ≡ Some found
+      → OnErr r (Loses remaining contents calls found after room) → connected ≡ insert old.connected number after
+      → OnErr r (LosesAt remaining contents calls number now (record old { connected = connected }) room)
+  loses_at (Ok heard) old now number room found after connected same is loses back = tt
+  loses_at (Err e) old now number room found after connected same is loses back =
+      subst (λ p. LosesAt remaining contents calls number p (record old { connected = connected }) room) same
+      (subst (λ o. LosesBy remaining contents calls o number old (record old { connected = connected }) room) (sym is)
+      (after, loses, ap (λ m. record old { connected = m }) back))
 
   pub flush_at : (old now : PeersState S) (number : ℕ) (found flushed after : PeerState S) (is_interrupted is_woken : Bool) (connected : FinMap nat_cmp (PeerState S)) (awake : List ℕ) → old ≡ now → at old number ≡ Some found
       → Flushes remaining contents calls found flushed is_interrupted → is_woken ≡ (is_interrupted || is_over flushed)

@@ -159,6 +159,10 @@ module _ {S : Type 0} where
         × Keeps (contents old.stream) (contents new.stream) × NoneMissed (calls old.stream) (calls new.stream)
         × (new ≡ record old { stream = new.stream })
 
+    -- a piece came, for which there was no memory: it is lost
+    abbrev pub Loses : PeerState S → PeerState S → ℕ → Type 0
+    Loses old new room = (piece : List ℕ) × GivesPiece old new room piece
+
     -- A read with so much room, and what it gave: a piece after which there may be more, or the last one for now. At the end of
     -- its stream a socket closes, and one that fails is over. Nothing comes without a call only from one that doesn't listen
     abbrev pub Reads : PeerState S → PeerState S → ℕ → List ℕ → Heard → Type 0

@@ -9,7 +9,7 @@ use Rattle.socket_peers.specs.declared.peer.Heard.{Heard}
 use Rattle.socket_peers.specs.declared.peer.Heard.TheVariants.{Nothing}
 use Rattle.socket_peers.specs.declared.peer.Readiness.{Readiness}
 use Rattle.socket_peers.specs.Socket.{Calls}
-use Rattle.socket_peers.specs.Peer.{PeerState, peer_code, owing, closing, ready, awake_if, fresh, departs, departed, is_done, is_over, Reads, Flushes}
+use Rattle.socket_peers.specs.Peer.{PeerState, peer_code, owing, closing, ready, awake_if, fresh, departs, departed, is_done, is_over, Reads, Loses, Flushes}
 
 -- The sockets that are connected; the number that was given last, 0 before the first; the list of those to be looked at; and those
 -- that were owed something or closed since all were flushed
@@ -137,6 +137,14 @@ module _ {S : Type 0} where
 
     abbrev pub ReadsAt : ℕ → PeersState S → PeersState S → ℕ → List ℕ → Heard → Type 0
     ReadsAt number old new room piece heard = ReadsBy (at old number) number old new room piece heard
+
+    -- a piece came from the socket under this number, which is there, and is lost for want of memory
+    abbrev pub LosesBy : Option (PeerState S) → ℕ → PeersState S → PeersState S → ℕ → Type 0
+    LosesBy None number old new room = ⊥
+    LosesBy (Some peer) number old new room = (after : PeerState S) × Loses remaining contents calls peer after room × (new ≡ with_peer old number after)
+
+    abbrev pub LosesAt : ℕ → PeersState S → PeersState S → ℕ → Type 0
+    LosesAt number old new room = LosesBy (at old number) number old new room
 
     -- The socket under this number is flushed. It is to be looked at where it is over now, or where a write was interrupted
     abbrev pub FlushesBy : Option (PeerState S) → ℕ → PeersState S → PeersState S → Type 0

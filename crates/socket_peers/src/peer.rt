@@ -2,7 +2,7 @@
 
 ghost use Rattle.std.specs.Prelude.{◌≡◌, ◌<◌, ◌≤◌, ℕ, ◌||◌, true, false, [], nat_lt, take, IfOk, OnOk, OnErr, length};
 ghost use Rattle.bytes.specs.Unread.{IsChunkOf, concat_slices};
-ghost use Rattle.socket_peers.specs.Peer.{is_piece as is_piece_spec, may_be_more as may_be_more_spec, fresh, owing, closing, ready, awake_if, is_over as is_over_spec, departs as departs_spec, departed, is_done as is_done_spec, listens as listens_spec, judged, one_if, Reads, Writes, Drains, Flushes};
+ghost use Rattle.socket_peers.specs.Peer.{is_piece as is_piece_spec, may_be_more as may_be_more_spec, fresh, owing, closing, ready, awake_if, is_over as is_over_spec, departs as departs_spec, departed, is_done as is_done_spec, listens as listens_spec, judged, one_if, Reads, Loses, Writes, Drains, Flushes};
 
 use crate::socket::{Missed, Socket, why_missed};
 use bytes::{Buf, Bytes, BytesQueue};
@@ -266,14 +266,15 @@ impl<S> Peer<S> {
 impl<S: Socket> Peer<S> {
     /// One read into `room`. What came is copied into `piece`, which is empty before, and takes no more memory than that. At the
     /// end of the stream the connection is no more, and the peer closes; one that failed is over. At an `Err`, which is want of
-    /// memory, what came is lost.
+    /// memory and comes only where bytes came, these are lost, and nothing else changed.
     ///
     /// A read that gives less than there is room for has emptied the socket, whose next bytes are reported anew. But where the
     /// socket was reported as ending, no report comes of the end, so it is read from until its end is read.
     pub fn read(&mut self, room: &mut [u8], piece: &mut Vec<u8>) -> Result<Heard, AllocError>
         requires room { 0 < length room.old }
         requires empty { piece.old.items ≡ [] }
-        ensures { IfOk result (λ heard. Reads S.remaining S.contents S.calls self.old self.new (length room.old) piece.new.items heard) }
+        ensures heard { IfOk result (λ heard. Reads S.remaining S.contents S.calls self.old self.new (length room.old) piece.new.items heard) }
+        ensures lost { OnErr result (Loses S.remaining S.contents S.calls self.old self.new (length room.old)) }
     {
         if !self.listens() {
             return Ok(Heard::Nothing);

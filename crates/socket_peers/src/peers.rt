@@ -1,8 +1,8 @@
 //! All sockets, under their numbers.
 
-ghost use Rattle.std.specs.Prelude.{◌≡◌, ℕ, ◌+◌, ◌<◌, ◌==◌, not, true, [], IfOk, OnOk, length, slice_get, Some};
+ghost use Rattle.std.specs.Prelude.{◌≡◌, ℕ, ◌+◌, ◌<◌, ◌==◌, not, true, [], IfOk, OnOk, OnErr, length, slice_get, Some};
 ghost use Rattle.std.specs.FinMap as map;
-ghost use Rattle.socket_peers.specs.Peers.{nobody, number_after, with_joined, listed_if, woken_if, reported, owed_out, owed_all, Departs, LetsGo, ReadsAt, FlushesAt, LooksAt, FlushesAll};
+ghost use Rattle.socket_peers.specs.Peers.{nobody, number_after, with_joined, listed_if, woken_if, reported, owed_out, owed_all, Departs, LetsGo, ReadsAt, LosesAt, FlushesAt, LooksAt, FlushesAll};
 
 use crate::peer::{Heard, Peer, Readiness};
 use crate::socket::Socket;
@@ -196,10 +196,12 @@ impl<S: Drop> Peers<S> {
 }
 
 impl<S: Socket + Drop> Peers<S> {
-    /// Reads from a socket, at most 4,096 bytes, which are put into `piece`, empty before. Memory is taken for these alone.
+    /// Reads from a socket, at most 4,096 bytes, which are put into `piece`, empty before. Memory is taken for these alone. At an
+    /// `Err` some came, which are lost, and nothing else changed.
     pub fn read(&mut self, number: u64, piece: &mut Vec<u8>) -> Result<Heard, AllocError>
         requires { piece.old.items ≡ [] }
-        ensures { IfOk result (λ heard. ReadsAt S.remaining S.contents S.calls number self.old self.new 4096 piece.new.items heard) }
+        ensures heard { IfOk result (λ heard. ReadsAt S.remaining S.contents S.calls number self.old self.new 4096 piece.new.items heard) }
+        ensures lost { OnErr result (LosesAt S.remaining S.contents S.calls number self.old self.new 4096) }
     {
         let Some(peer) = self.connected.get_mut(number) else {
             return Ok(Heard::Nothing);

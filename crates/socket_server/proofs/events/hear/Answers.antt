@@ -18,7 +18,7 @@ returns-then-not-is_piece g c keys =
     let old = (scene keys (world_of c.args.server.now) c.args.peers.now c.args.events.now (g.W.Observer.output c.args.observer.now)) in
     let new = (scene keys (world_of c.args.server.now) c.read.new.self c.args.events.now (g.W.Observer.output c.args.observer.now)) in
     subst (GoesOn g.S.Socket.remaining g.S.Socket.contents g.S.Socket.calls g.W.Observer.text c.args.number old new) (sym c.may_be_more-more.ensures)
-    (none_heeded g.S.Socket.remaining g.S.Socket.contents g.S.Socket.calls g.W.Observer.text c.args.number c.in-Ok.heard _ old new none c.in-Ok.ensures (refl, refl, refl, refl))
+    (none_heeded g.S.Socket.remaining g.S.Socket.contents g.S.Socket.calls g.W.Observer.text c.args.number c.in-Ok.heard _ old new none c.in-Ok.ensures.heard (refl, refl, refl, refl))
 
 pub returns-in-Ok-hand_in_piece : goal.returns-in-Ok-hand_in_piece
 returns-in-Ok-hand_in_piece g c keys =
@@ -26,7 +26,7 @@ returns-in-Ok-hand_in_piece g c keys =
     let old = (scene keys (world_of c.args.server.now) c.args.peers.now c.args.events.now (g.W.Observer.output c.args.observer.now)) in
     let new = (scene keys (world_of c.hand_in_piece.new.server) c.hand_in_piece.new.peers c.hand_in_piece.new.events (g.W.Observer.output c.hand_in_piece.new.observer)) in
     subst (GoesOn g.S.Socket.remaining g.S.Socket.contents g.S.Socket.calls g.W.Observer.text c.args.number old new) (sym c.may_be_more-more.ensures)
-    (piece_heeded g.S.Socket.remaining g.S.Socket.contents g.S.Socket.calls g.W.Observer.text c.args.number c.in-Ok.heard _ c.read.new.self old new some c.in-Ok.ensures
+    (piece_heeded g.S.Socket.remaining g.S.Socket.contents g.S.Socket.calls g.W.Observer.text c.args.number c.in-Ok.heard _ c.read.new.self old new some c.in-Ok.ensures.heard
     (c.in-Ok-hand_in_piece.ensures keys))
 
 pub returns-in-Err : goal.returns-in-Err
