@@ -4,7 +4,7 @@
 use crate::holding::holds;
 use std::alloc::{AllocError, Global};
 use std::test::*;
-use ua_history::{History, Interval, Kept};
+use ua_history::{History, Interval, KeptRuns, KeptValues};
 use ua_space::{Node, NodeDetails, Space, ValueRank, Variable};
 use ua_types::{Config, Listed, LocalizedText, Moment, NodeId, QualifiedName, Status, Text};
 use ua_values::{Content, DataValue, Variant};
@@ -43,13 +43,29 @@ fn number_of(value: Option<&DataValue>) -> u64 {
     }
 }
 
-// The numbers of these values, a digit for each.
-fn digits(values: &[Kept<'_>]) -> u64 {
+// A number and, behind it, the number of one more value as a digit.
+fn with_digit(digits: u64, value: &DataValue) -> u64 {
+    digits.wrapping_mul(10).wrapping_add(number_of(Some(value)))
+}
+
+// The numbers of these values in their order, a digit for each.
+fn digits(values: &KeptValues<'_>) -> u64 {
     let mut digits = 0u64;
-    for kept in values {
-        digits = digits
-            .wrapping_mul(10)
-            .wrapping_add(number_of(Some(kept.value)));
+    match values.runs() {
+        KeptRuns::Rising(runs) => {
+            for run in runs {
+                for (_, value) in *run {
+                    digits = with_digit(digits, value);
+                }
+            }
+        }
+        KeptRuns::Falling(runs) => {
+            for run in runs {
+                for (_, value) in run.iter().rev() {
+                    digits = with_digit(digits, value);
+                }
+            }
+        }
     }
     digits
 }
@@ -71,7 +87,11 @@ fn three_values_are_kept(rt: HostRuntime) -> Result<(), Fail> {
     }
     let all = Interval::new(Moment(0), Moment(0));
     let cut = history.read(alloc, &node, all, 9)?;
-    holds(&rt, "all times", digits(cut.values.as_slice()) == 284);
+    holds(&rt, "all times", digits(&cut.values) == 284);
+    let falling = Interval::new(Moment(500), Moment(100));
+    let cut = history.read(alloc, &node, falling, 2)?;
+    holds(&rt, "the last two", digits(&cut.values) == 48);
+    holds(&rt, "more", cut.last_given == Some(Moment(300)));
     Ok(())
 }
 

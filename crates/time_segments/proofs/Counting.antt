@@ -1,5 +1,6 @@
 -- How many entries lie before a time or up to it, and the part between two bounds.
-use Rattle.std.proofs.Common.{◌≡◌, ◌+◌, ℕ, zero, suc, max, ℤ, true, false, List, [], ◌∷◌, length, take, drop, refl, sym, ap, subst, arith}
+use Rattle.std.proofs.Common.{◌≡◌, ◌-◌, ℕ, zero, suc, ℤ, true, false, List, [], ◌∷◌, ◌++◌, length, take, drop, refl, sym, ap, subst, ◌∙◌, arith}
+use Rattle.std.proofs.Math.Seq.{drop-nil}
 use Rattle.std.specs.BTreeMap.Range.{IsLeBy, IsLtBy, entries_between, is_from_start, is_past_end}
 use Rattle.std.specs.List.{AllByRecursion}
 use Rattle.std.specs.List.Sorted.{IsStrictlySortedBy}
@@ -152,17 +153,30 @@ module _ {V : Type 0} where
 
   -- ---- between two bounds
 
-  pub cut : (low high : Bound ℤ) (es : List (ℤ × V)) (i j n : ℕ) → n + i ≡ max j i →
+  pub cut : (low high : Bound ℤ) (es : List (ℤ × V)) (i j : ℕ) →
       AllByRecursion (λ e. is_from_start int_cmp low e.0 ≡ false) (take i es) → AllByRecursion (λ e. is_from_start int_cmp low e.0 ≡ true) (drop i es) →
       AllByRecursion (λ e. is_past_end int_cmp high e.0 ≡ false) (take j es) → AllByRecursion (λ e. is_past_end int_cmp high e.0 ≡ true) (drop j es) →
-      take n (drop i es) ≡ entries_between int_cmp low high es
-  cut low high [] zero j zero is p q r s = refl
-  cut low high [] zero j (suc n) is p q r s = refl
-  cut low high [] (suc i) j zero is p q r s = refl
-  cut low high [] (suc i) j (suc n) is p q r s = refl
-  cut low high (e ∷ es) (suc i) zero n is p q r s = rw p.0 (cut low high es i zero n (omega (arith, is)) p.1 q r s.1)
-  cut low high (e ∷ es) (suc i) (suc j) n is p q r s = rw p.0 (cut low high es i j n (omega (arith, is)) p.1 q r.1 s)
-  cut low high (e ∷ es) zero zero zero is p q r s = rw (q.0, s.0) (cut low high es zero zero zero (omega arith) p q.1 r s.1)
-  cut low high (e ∷ es) zero zero (suc n) is p q r s = absurd (omega (arith, is))
-  cut low high (e ∷ es) zero (suc j) zero is p q r s = absurd (omega (arith, is))
-  cut low high (e ∷ es) zero (suc j) (suc n) is p q r s = rw (q.0, r.0) (ap (λ (l : List (ℤ × V)). e ∷ l) (cut low high es zero j n (omega (arith, is)) p q.1 r.1 s))
+      drop i (take j es) ≡ entries_between int_cmp low high es
+  cut low high [] zero zero p q r s = refl
+  cut low high [] zero (suc j) p q r s = refl
+  cut low high [] (suc i) zero p q r s = refl
+  cut low high [] (suc i) (suc j) p q r s = refl
+  cut low high (e ∷ es) (suc i) zero p q r s = rw p.0 (sym (drop-nil i) ∙ cut low high es i zero p.1 q r s.1)
+  cut low high (e ∷ es) (suc i) (suc j) p q r s = rw p.0 (cut low high es i j p.1 q r.1 s)
+  cut low high (e ∷ es) zero zero p q r s = rw (q.0, s.0) (cut low high es zero zero p q.1 r s.1)
+  cut low high (e ∷ es) zero (suc j) p q r s = rw (q.0, r.0) (ap (λ (l : List (ℤ × V)). e ∷ l) (cut low high es zero j p q.1 r.1 s))
+
+  -- in two parts
+  pub cut_apart : (es fs : List (ℤ × V)) (i j k m : ℕ) → k ≡ i - length es → m ≡ j - length es → drop i (take j es) ++ drop k (take m fs) ≡ drop i (take j (es ++ fs))
+  cut_apart [] fs i zero k m p q =
+      let none : m ≡ zero = omega (arith, q) in
+      rw (none, drop-nil i, drop-nil k) refl
+  cut_apart [] fs i (suc j) k m p q =
+      let from : k ≡ i = omega (arith, p) in
+      let to : m ≡ suc j = omega (arith, q) in
+      rw (from, to, drop-nil i) refl
+  cut_apart (e ∷ es) fs i zero k m p q =
+      let none : m ≡ zero = omega (arith, q) in
+      rw (none, drop-nil i, drop-nil k) refl
+  cut_apart (e ∷ es) fs zero (suc j) k m p q = ap (λ (l : List (ℤ × V)). e ∷ l) (cut_apart es fs zero j k m (omega (arith, p)) (omega (arith, q)))
+  cut_apart (e ∷ es) fs (suc i) (suc j) k m p q = cut_apart es fs i j k m (omega (arith, p)) (omega (arith, q))

@@ -152,13 +152,6 @@ module _ {V Z : Type 0} where
   -- ---- reading them
 
   module _ (low high : Bound ℤ) (self : List (ℤ × V)) (s : ℤ × VecDeque (ℤ × V) Z) (ss rs : List (ℤ × VecDeque (ℤ × V) Z)) where
-    pub first_some : (back f : List (ℤ × V)) (x : ℤ × V) → entries_between int_cmp low high (joined ss) ++ back ≡ self → ss ≡ s ∷ rs → entries_between int_cmp low high s.1.items ≡ x ∷ f →
-        self ≡ x ∷ ((f ++ entries_between int_cmp low high (joined rs)) ++ back)
-    first_some back f x left is e =
-        sym left ∙ ap (λ (l : List (ℤ × VecDeque (ℤ × V) Z)). entries_between int_cmp low high (joined l) ++ back) is
-        ∙ ap (λ (l : List (ℤ × V)). l ++ back) (between-append low high s.1.items (joined rs))
-        ∙ ap (λ (l : List (ℤ × V)). (l ++ entries_between int_cmp low high (joined rs)) ++ back) e
-
     pub first_none : (back : List (ℤ × V)) → entries_between int_cmp low high (joined ss) ++ back ≡ self → ss ≡ s ∷ rs → entries_between int_cmp low high s.1.items ≡ [] →
         entries_between int_cmp low high (joined rs) ++ back ≡ self
     first_none back left is e =
@@ -169,14 +162,14 @@ module _ {V Z : Type 0} where
     last_joined : ss ≡ rs ++ s ∷ [] → joined ss ≡ joined rs ++ s.1.items
     last_joined is = ap joined is ∙ joined-append rs (s ∷ []) ∙ ap (λ (l : List (ℤ × V)). joined rs ++ l) (append-nil s.1.items)
 
-    pub last_some : (front f : List (ℤ × V)) (x : ℤ × V) → front ++ entries_between int_cmp low high (joined ss) ≡ self → ss ≡ rs ++ s ∷ [] → entries_between int_cmp low high s.1.items ≡ f ++ x ∷ [] →
-        self ≡ ((front ++ entries_between int_cmp low high (joined rs)) ++ f) ++ x ∷ []
-    last_some front f x left is e =
+    pub last_some : (front f run : List (ℤ × V)) → front ++ entries_between int_cmp low high (joined ss) ≡ self → ss ≡ rs ++ s ∷ [] → entries_between int_cmp low high s.1.items ≡ f ++ run →
+        self ≡ ((front ++ entries_between int_cmp low high (joined rs)) ++ f) ++ run
+    last_some front f run left is e =
         sym left ∙ ap (λ (l : List (ℤ × V)). front ++ entries_between int_cmp low high l) (last_joined is)
         ∙ ap (λ (l : List (ℤ × V)). front ++ l) (between-append low high (joined rs) s.1.items)
         ∙ ap (λ (l : List (ℤ × V)). front ++ (entries_between int_cmp low high (joined rs) ++ l)) e
-        ∙ sym (append_assoc front (entries_between int_cmp low high (joined rs)) (f ++ x ∷ []))
-        ∙ sym (append_assoc (front ++ entries_between int_cmp low high (joined rs)) f (x ∷ []))
+        ∙ sym (append_assoc front (entries_between int_cmp low high (joined rs)) (f ++ run))
+        ∙ sym (append_assoc (front ++ entries_between int_cmp low high (joined rs)) f run)
 
     pub last_none : (front : List (ℤ × V)) → front ++ entries_between int_cmp low high (joined ss) ≡ self → ss ≡ rs ++ s ∷ [] → entries_between int_cmp low high s.1.items ≡ [] →
         front ++ entries_between int_cmp low high (joined rs) ≡ self

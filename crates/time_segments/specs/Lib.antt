@@ -1,3 +1,4 @@
 pub mod Laid
 pub mod Places
 pub mod Parts
+pub mod Runs

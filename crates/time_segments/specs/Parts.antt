@@ -1,21 +1,14 @@
--- Parts of a segment that are still to be read, and bounds of times.
-use Rattle.std.specs.Prelude.{◌≡◌, ◌≤◌, ℕ, ℤ, true, false, List, [], length, take, drop, Option, Some, None}
+-- How many entries of a segment lie before a bound of times, and which segments have some from it on.
+use Rattle.std.specs.Prelude.{◌≡◌, ◌≤◌, ℕ, ℤ, true, false, List, length, take, drop}
 use Rattle.std.specs.BTreeMap.Range.{IsLeBy, IsLtBy, is_from_start, is_past_end}
 use Rattle.std.specs.List.{AllByRecursion}
 use Rattle.std.specs.Ordering.{int_cmp}
-use Rattle.std.specs.VecDeque.Iter.{deque_iter_rest}
 use Rattle.std.specs.declared.collections.VecDeque.{VecDeque}
-use Rattle.std.specs.declared.collections.vec_deque.Iter.{Iter}
 use Rattle.std.specs.declared.ops.Bound.{Bound}
 use Rattle.std.specs.Range.Bound.{IsForward}
 use Rattle.time_segments.specs.Laid.{AllFrom, AllBefore}
 
 module _ {V : Type 0} where
-  -- what is left
-  abbrev pub rest_of : Option (Iter (ℤ × V)) → List (ℤ × V)
-  rest_of None = []
-  rest_of (Some it) = deque_iter_rest it
-
   -- how many entries lie before a time, and how many before it or at it
   abbrev pub IsCountBefore : ℤ → List (ℤ × V) → ℕ → Type 0
   IsCountBefore time es n = (n ≤ length es) × AllBefore time (take n es) × AllFrom time (drop n es)

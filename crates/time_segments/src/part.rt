@@ -1,17 +1,17 @@
 //! A part of one segment, read in place.
 
-ghost use Rattle.std.specs.Prelude.{◌≡◌, true, [], length};
+ghost use Rattle.std.specs.Prelude.{◌≡◌, true, [], length, take, drop};
 ghost use Rattle.std.specs.BTreeMap.Range.{entries_between};
 ghost use Rattle.std.specs.List.Sorted.{IsStrictlySortedBy};
 ghost use Rattle.std.specs.Map.{keys_of};
-ghost use Rattle.std.specs.Map.Iter.{TakesFirst, TakesLast};
 ghost use Rattle.std.specs.Ordering.{int_cmp};
 ghost use Rattle.time_segments.specs.Parts.{IsCountBefore, IsCountUpTo, IsStartIn, IsEndIn};
+ghost use Rattle.time_segments.specs.Runs.{TakesRun, TakesLastRun};
 
 use crate::segment::place;
 use std::collections::VecDeque;
-use std::collections::vec_deque::Iter;
 use std::marker::Model;
+use std::mem;
 use std::ops::Bound;
 
 // Whether the first entry lies at a time or later, and so do all.
@@ -116,26 +116,39 @@ fn end_in<V>(segment: &VecDeque<(i64, V)>, high: Bound<i64>) -> usize
     }
 }
 
-/// Entries of a segment that are still to be read, each where it stands.
+// The entries of a slice from one place to another, as far as there are so many.
+fn cut<V>(entries: &[(i64, V)], start: usize, end: usize) -> &[(i64, V)]
+    ensures { result.now ≡ drop start (take end entries.now) }
+{
+    let before = &entries[..end.min(entries.len())];
+    &before[start.min(before.len())..]
+}
+
+/// Entries of a segment that are still to be read: two runs, one behind the other, since a segment's entries may go round
+/// the end of its memory. Contracts see the list of them.
 #[derive(Drop)]
 pub(crate) struct Part<'a, V> {
-    entries: Option<Iter<'a, (i64, V)>>,
+    // Either may be empty.
+    first: &'a [(i64, V)],
+    second: &'a [(i64, V)],
 }
 
 impl<'a, V> Model for Part<'a, V> {
-    ghost use Rattle.std.specs.Prelude.{ℤ, List};
-    ghost use Rattle.time_segments.specs.Parts.{rest_of};
+    ghost use Rattle.std.specs.Prelude.{ℤ, List, ◌++◌};
 
     ghost Value = { List (ℤ × V) };
 
-    ghost view = { λ p. rest_of p.entries };
+    ghost view = { λ p. p.first.now ++ p.second.now };
 }
 
 impl<'a, V> Part<'a, V> {
     pub(crate) fn none() -> Part<'a, V>
         ensures { result ≡ [] }
     {
-        Part { entries: None }
+        Part {
+            first: &[],
+            second: &[],
+        }
     }
 
     /// Those between two times, found by binary searches.
@@ -148,29 +161,38 @@ impl<'a, V> Part<'a, V> {
         ensures { result ≡ entries_between int_cmp low high segment.now.items }
     {
         let start = start_in(segment, low);
-        let end = end_in(segment, high).max(start);
+        let end = end_in(segment, high);
+        let (first, second) = segment.as_slices();
+        let seam = first.len();
         Part {
-            entries: Some(segment.range(start..end)),
+            first: cut(first, start, end),
+            second: cut(second, start.saturating_sub(seam), end.saturating_sub(seam)),
         }
     }
 
-    pub(crate) fn next(&mut self) -> Option<(i64, &'a V)>
-        ensures { TakesFirst (λ e. (e.0, e.1.now)) self.old result self.new }
+    /// The first of its runs.
+    pub(crate) fn next(&mut self) -> Option<&'a [(i64, V)]>
+        ensures { TakesRun self.old result self.new }
     {
-        let Some(entries) = &mut self.entries else {
-            return None;
-        };
-        let (time, value) = entries.next()?;
-        Some((*time, value))
+        if !self.first.is_empty() {
+            return Some(mem::take(&mut self.first));
+        }
+        if !self.second.is_empty() {
+            return Some(mem::take(&mut self.second));
+        }
+        None
     }
 
-    pub(crate) fn next_back(&mut self) -> Option<(i64, &'a V)>
-        ensures { TakesLast (λ e. (e.0, e.1.now)) self.old result self.new }
+    /// The last of its runs.
+    pub(crate) fn next_back(&mut self) -> Option<&'a [(i64, V)]>
+        ensures { TakesLastRun self.old result self.new }
     {
-        let Some(entries) = &mut self.entries else {
-            return None;
-        };
-        let (time, value) = entries.next_back()?;
-        Some((*time, value))
+        if !self.second.is_empty() {
+            return Some(mem::take(&mut self.second));
+        }
+        if !self.first.is_empty() {
+            return Some(mem::take(&mut self.first));
+        }
+        None
     }
 }

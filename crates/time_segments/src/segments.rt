@@ -10,7 +10,7 @@ ghost use Rattle.std.specs.Ordering.{int_cmp};
 ghost use Rattle.std.specs.Range.Bound.{IsForward};
 
 use crate::laid::{put_among, take_first, value_at};
-use crate::range::Range;
+use crate::runs::Runs;
 use std::alloc::{AllocError, Global};
 use std::collections::{BTreeMap, VecDeque};
 use std::marker::Model;
@@ -74,13 +74,13 @@ impl<V> Segments<V> {
         value_at(&self.segments, time)
     }
 
-    /// The values between two times, each where it stands. The first and the last of them are found in logarithmic
-    /// time.
-    pub fn range(&self, low: Bound<i64>, high: Bound<i64>) -> Range<'_, V>
+    /// The values between two times, run by run where they stand. The first and the last of them are found in
+    /// logarithmic time, and a segment has two runs at most.
+    pub fn range(&self, low: Bound<i64>, high: Bound<i64>) -> Runs<'_, V>
         requires { IsForward (IsLeBy int_cmp) (IsLtBy int_cmp) low high }
         ensures { result ≡ entries_between int_cmp low high self.now }
     {
-        Range::between(&self.segments, low, high)
+        Runs::between(&self.segments, low, high)
     }
 }
 

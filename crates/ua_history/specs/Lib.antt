@@ -1,5 +1,6 @@
 pub mod Histories
 pub mod Intervals
+pub mod Runs
 pub mod Pages
 pub mod Reading
 pub mod HistoryLaws

@@ -1,10 +1,8 @@
 -- Pages of a history: the first of its values in an interval, and where the next ones begin.
-use Rattle.std.specs.Prelude.{◌≡◌, ℕ, ℤ, ◌-◌, nat_lt, Bool, length, map, slice_get, take, option_map, Option, None, if◌then◌else◌}
+use Rattle.std.specs.Prelude.{◌≡◌, ℕ, ◌-◌, ◌++◌, nat_lt, Bool, length, slice_get, take, option_map, Option, None, if◌then◌else◌}
 use Rattle.ua_types.specs.declared.moment.Moment.{Moment}
-use Rattle.ua_values.specs.declared.data_value.DataValue.{DataValue}
 use Rattle.ua_history.specs.Histories.{Values}
 use Rattle.ua_history.specs.declared.pages.Cut.{Cut}
-use Rattle.ua_history.specs.declared.pages.Kept.{Kept}
 
 -- the first of them
 abbrev pub shown_of : ℕ → Values → Values
@@ -24,11 +22,17 @@ last_given size values = if is_more_than size values then last_time (shown_of si
 
 -- ---- words of the contracts
 
--- a value of the code, with its time
-abbrev pub seen : Kept → ℤ × DataValue
-seen kept = (kept.time.0, kept.value.now)
+-- a page that is being filled: its order, how many values it has at most, and those that it has
+pub record FillingState : Type 0 where
+  pub is_falling : Bool
+  pub size : ℕ
+  pub values : Values
+
+-- the first of its values and of these behind them, as many as it may have
+abbrev pub filled_by : FillingState → Values → FillingState
+filled_by s more = record s { values = take s.size (s.values ++ more) }
 
 -- the code's page is the first of these values
 pub record IsCut (cut : Cut) (size : ℕ) (all : Values) : Type 0 where
-  pub values : map seen cut.values ≡ shown_of size all
-  pub is_more : cut.is_more ≡ is_more_than size all
+  pub values : cut.values ≡ shown_of size all
+  pub last_given : cut.last_given ≡ last_given size all

@@ -1,6 +1,6 @@
 -- Reading raw values of a node (HistoryRead, IEC 62541-4; reading of raw values, IEC 62541-11): the refusals in their order, pages,
 -- and the points by which they go on.
-use Rattle.std.specs.Prelude.{ℕ, ◌/◌, ◌%◌, ◌==◌, Bool, not, List, [], ◌∷◌, map, Option, Some, None, Result, Ok, Err, if◌then◌else◌}
+use Rattle.std.specs.Prelude.{ℕ, ◌/◌, ◌%◌, ◌==◌, Bool, not, List, [], ◌∷◌, Option, Some, None, Result, Ok, Err, if◌then◌else◌}
 use Rattle.std.specs.FinMap.{get}
 use Rattle.std.specs.Result.{result_map_both}
 use Rattle.ua_types.specs.Answers.{◌>>=◌, Step, step}
@@ -21,7 +21,7 @@ use Rattle.ua_space.specs.declared.node.Node.{Node}
 use Rattle.ua_types.specs.Given.{is_given}
 use Rattle.ua_history.specs.Histories.{Values, HistoryState, history_of}
 use Rattle.ua_history.specs.Intervals.{interval_of, past, raw}
-use Rattle.ua_history.specs.Pages.{shown_of, last_given, seen}
+use Rattle.ua_history.specs.Pages.{shown_of, last_given}
 use Rattle.ua_history.specs.declared.reading.Page.{Page}
 use Rattle.ua_history.specs.declared.reading.RawRange.{RawRange}
 
@@ -156,4 +156,4 @@ release_of s bytes = released s (serial_of bytes)
 
 -- a page of the code
 abbrev pub page_seen : Page → RawPage
-page_seen page = record { status = page.status; point = page.point; values = map seen page.values }
+page_seen page = record { status = page.status; point = page.point; values = page.values }

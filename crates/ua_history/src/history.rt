@@ -209,9 +209,9 @@ impl History {
         }
     }
 
-    /// The first values of a node in an interval, in its order, each where it stands. They are found in logarithmic
-    /// time, and no more than one of the others is looked at. Where more are left, [`Interval::past`] the last one's
-    /// time has them.
+    /// The first values of a node in an interval, in its order, each where it stands. The first of them is found in
+    /// logarithmic time; then they are taken run by run, and of each run no value but the last is looked at. Where more
+    /// are left, [`Interval::past`] the last one's time has them.
     #[tactic(auto, using(crate::proofs::Between::none_raw))]
     pub fn read<'a>(
         &'a self,
@@ -223,10 +223,7 @@ impl History {
         ensures { IfOk result (λ cut. IsCut cut count (raw (history_of node.now self.now) interval)) }
     {
         match self.nodes.get(node) {
-            None => Ok(Cut {
-                values: Listed::new(alloc),
-                is_more: false,
-            }),
+            None => Ok(Cut::none(alloc)),
             Some(values) => page(alloc, &values.values, interval, count),
         }
     }

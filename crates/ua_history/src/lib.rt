@@ -8,18 +8,21 @@
 //!
 //! What a contract sees: under each node id a plain list of times and values, by rising time
 //! (`specs/Histories`); the filter of it by an interval, in its order (`Intervals`); a page, the first of that
-//! (`Pages`); and the refusals and points (`Reading`). [`laws`] says that all pages joined are the whole filter.
+//! (`Pages`), whose values are read in runs where they stand (`Runs`); and the refusals and points (`Reading`).
+//! [`laws`] says that all pages joined are the whole filter.
 //!
 //! Read [`History`] first, then [`read_raw`], and docs/SERVICES.md for the refusals as a table.
 #![tactic(auto)]
 
 mod history;
 mod intervals;
+mod kept_values;
 pub mod laws;
 mod pages;
 mod reading;
 
 pub use history::History;
 pub use intervals::Interval;
-pub use pages::{Cut, Kept};
+pub use kept_values::{KeptRuns, KeptValues, Run};
+pub use pages::Cut;
 pub use reading::{Page, RawRange, read_raw, release};

@@ -1,6 +1,6 @@
 //! Pages of a node's history, and the points between them.
 
-ghost use Rattle.std.specs.Prelude.{◌≡◌, map as list_map, None, Some, Err, IfErr, IfOk};
+ghost use Rattle.std.specs.Prelude.{◌≡◌, None, Some, Err, IfErr, IfOk};
 ghost use Rattle.std.specs.FinMap as map;
 ghost use Rattle.std.specs.Option.{option_copied};
 ghost use Rattle.std.specs.Result.{result_map_both};
@@ -8,17 +8,18 @@ ghost use Rattle.ua_types.specs.Answers.{step};
 ghost use Rattle.ua_types.specs.declared.refusal.Refusal.TheVariants.{Service};
 ghost use Rattle.ua_types.specs.declared.status.TheConstants.Status as status;
 ghost use Rattle.ua_session.specs.Points.{TakesSerial, serial_of};
-ghost use Rattle.ua_history.specs.Pages.{IsCut, seen};
+ghost use Rattle.ua_history.specs.Pages.{IsCut};
 ghost use Rattle.ua_history.specs.Reading.{node_judged, page_of, page_seen, begun, history_point, left_at, judged_at, point_named, point_past as point_past_spec, at_point, read_raw_of, release_of};
 
 use crate::history::History;
 use crate::intervals::Interval;
-use crate::pages::{Cut, Kept};
+use crate::kept_values::KeptValues;
+use crate::pages::Cut;
 use std::alloc::{AllocError, Global};
 use ua_service_views::HistoryReadValueIdView;
 use ua_session::{HistoryPoint, Point, Points, point_serial};
 use ua_space::{Node, NodeDetails, Space};
-use ua_types::{Copyable, Listed, Moment, NodeId, Refusal, Status};
+use ua_types::{Copyable, Moment, NodeId, Refusal, Status};
 use ua_views::{ByteStringView, TextView};
 
 /// Which values of nodes are asked for, of ReadRawModifiedDetails (IEC 62541-11, section 6).
@@ -40,7 +41,7 @@ pub struct Page<'a> {
     /// None where no more are left.
     pub point: Option<u64>,
     /// The values, each where it stands in the history.
-    pub values: Listed<Kept<'a>>,
+    pub values: KeptValues<'a>,
 }
 
 // Whether the history of a node may be read, or why not.
@@ -59,10 +60,10 @@ fn judged(node: &Node, index_range: &TextView<'_>) -> Result<(), Status>
     Ok(())
 }
 
-fn page_with(values: Listed<Kept<'_>>, point: Option<u64>) -> Page<'_>
-    ensures { page_seen result ≡ page_of (list_map seen values.entry) point }
+fn page_with(values: KeptValues<'_>, point: Option<u64>) -> Page<'_>
+    ensures { page_seen result ≡ page_of values.entry point }
 {
-    let status = if values.as_slice().is_empty() {
+    let status = if values.is_empty() {
         Status::GOOD_NO_DATA
     } else {
         Status::GOOD
@@ -75,8 +76,8 @@ fn page_with(values: Listed<Kept<'_>>, point: Option<u64>) -> Page<'_>
 }
 
 // The page that goes on at a point, where one could be held.
-fn paged(values: Listed<Kept<'_>>, point: Result<u64, Refusal>) -> Result<Page<'_>, Refusal>
-    ensures { result_map_both page_seen (λ refusal. refusal) result ≡ result_map_both (λ serial. page_of (list_map seen values.entry) (Some serial)) (λ refusal. refusal) point }
+fn paged(values: KeptValues<'_>, point: Result<u64, Refusal>) -> Result<Page<'_>, Refusal>
+    ensures { result_map_both page_seen (λ refusal. refusal) result ≡ result_map_both (λ serial. page_of values.entry (Some serial)) (λ refusal. refusal) point }
 {
     match point {
         Ok(serial) => Ok(page_with(values, Some(serial))),
@@ -96,7 +97,7 @@ fn begin<'a>(
 {
     let interval = Interval::new(range.start, range.end);
     let cut = history.read(alloc, node, interval, range.size)?;
-    match cut.last_given() {
+    match cut.last_given {
         None => Ok(page_with(cut.values, None)),
         Some(last) => {
             let point = HistoryPoint {
@@ -164,7 +165,7 @@ fn go_on<'a>(
         return Err(Refusal::Service(Status::BAD_CONTINUATION_POINT_INVALID));
     };
     let cut = next_cut(alloc, history, point)?;
-    match cut.last_given() {
+    match cut.last_given {
         None => {
             points.give_up(serial);
             Ok(page_with(cut.values, None))

@@ -1,6 +1,7 @@
 -- What HistoryRead answers of each node (HistoryReadResult, IEC 62541-4, section 5, HistoryRead).
-use Rattle.std.specs.Prelude.{map, Option, None, Some, option_map, Result, Ok, Err, if◌then◌else◌}
+use Rattle.std.specs.Prelude.{◌≡◌, ◌≤◌, ◌++◌, ℕ, List, length, map, All, Option, None, Some, option_map, Result, Ok, Err, if◌then◌else◌}
 use Rattle.std.specs.Int.{w64, to_le_bytes}
+use Rattle.std.specs.List.{flat_map}
 use Rattle.ua_types.specs.NodeIds.{numeric_id}
 use Rattle.ua_types.specs.declared.extension_object.ExtensionObject.{ExtensionObject}
 use Rattle.ua_types.specs.declared.extension_object.ExtensionObjectBody.TheVariants.{Absent}
@@ -8,6 +9,8 @@ use Rattle.ua_types.specs.declared.moment.Moment.{Moment}
 use Rattle.ua_types.specs.declared.status.Status.{Status}
 use Rattle.ua_types.specs.declared.status.TheConstants.Status as status
 use Rattle.ua_values.specs.declared.data_value.DataValue.{DataValue}
+use Rattle.ua_binary.specs.DataValues.{data_value_reading, data_value_encoding}
+use Rattle.ua_binary.specs.Reading.{IsReadAgain}
 use Rattle.ua_messages.specs.Structures.{object_around}
 use Rattle.ua_messages.specs.declared.type_ids.TheConstants.{HISTORY_DATA}
 use Rattle.ua_service_messages.specs.History.{history_data_encoding}
@@ -26,9 +29,12 @@ stored_time_of timestamps v = if has_server timestamps then v.server_time else N
 abbrev pub shown : Timestamps → DataValue → DataValue
 shown timestamps v = record { value = v.value; status = v.status; source_time = source_time_of timestamps v; server_time = stored_time_of timestamps v }
 
+abbrev pub all_shown : Timestamps → Values → List DataValue
+all_shown timestamps values = map (λ e. shown timestamps e.1) values
+
 -- the HistoryData of values, also of none
 abbrev pub history_data_of : Timestamps → Values → HistoryData
-history_data_of timestamps values = record { data_values = Some (map (λ e. shown timestamps e.1) values) }
+history_data_of timestamps values = record { data_values = Some (all_shown timestamps values) }
 
 -- the object that holds it
 abbrev pub history_object_of : Timestamps → Values → ExtensionObject
@@ -51,3 +57,11 @@ history_result_of timestamps (Err code) = status_alone code
 abbrev pub release_result_of : Result (Unit {0}) Status → HistoryReadResult
 release_result_of (Ok done) = status_alone status.GOOD
 release_result_of (Err code) = status_alone code
+
+-- ---- words of the contracts
+
+-- these values are written behind what was there, and each of them is read again
+pub record AreWritten (before after : List ℕ) (values : List DataValue) : Type 0 where
+  pub written : after ≡ before ++ flat_map data_value_encoding values
+  pub some : length values ≤ length (flat_map data_value_encoding values)
+  pub again : All (IsReadAgain data_value_reading data_value_encoding) values

@@ -1,14 +1,11 @@
 //! What HistoryRead answers of each node.
 
-ghost use Rattle.std.specs.Prelude.{◌≡◌, ◌≤◌, ◌++◌, length, map, All, OnOk, OnErr};
-ghost use Rattle.std.specs.List.{flat_map};
+ghost use Rattle.std.specs.Prelude.{◌≡◌, ◌++◌, reverse, OnOk, OnErr};
 ghost use Rattle.std.specs.Result.{result_map_both};
-ghost use Rattle.ua_binary.specs.DataValues.{data_value_reading, data_value_encoding};
-ghost use Rattle.ua_binary.specs.Reading.{Extends, IsReadAgain};
-ghost use Rattle.ua_history.specs.Pages.{seen};
+ghost use Rattle.ua_binary.specs.Reading.{Extends};
 ghost use Rattle.ua_history.specs.Reading.{page_seen};
 ghost use Rattle.ua_service_messages.specs.History.{history_data_reading, history_data_encoding, history_read_result_encoding};
-ghost use Rattle.ua_services.specs.HistoryResults.{stored_time_of, shown as shown_spec, status_alone as status_alone_spec, history_result_of, release_result_of};
+ghost use Rattle.ua_services.specs.HistoryResults.{stored_time_of, shown as shown_spec, all_shown, AreWritten, status_alone as status_alone_spec, history_result_of, release_result_of};
 ghost use Rattle.ua_services.specs.Paging.{Tells};
 ghost use Rattle.ua_read_write.specs.Reading.{source_time_of};
 
@@ -17,7 +14,7 @@ use server_messages::Halt;
 use std::alloc::{AllocError, Global};
 use std::marker::Model;
 use ua_binary::{BorrowedDataValue, Wire, Written};
-use ua_history::{Kept, Page};
+use ua_history::{KeptRuns, KeptValues, Page, Run};
 use ua_messages::{MessageBody, type_ids};
 use ua_read_write::Timestamps;
 use ua_service_messages::HistoryReadResult;
@@ -57,22 +54,54 @@ fn shown(timestamps: Timestamps, value: &DataValue) -> BorrowedDataValue<'_>
     )
 }
 
-// Writes values one behind the other.
+// Writes the values of a run one behind the other, from the first to the last.
+#[tactic(auto, using(ua_binary::proofs::Extending::extends_more))]
+fn write_rising(timestamps: Timestamps, run: Run<'_>, out: &mut Vec<u8>) -> Result<(), AllocError>
+    ensures ok { OnOk result (AreWritten out.old.items out.new.items (all_shown timestamps run.now)) }
+    ensures err { OnErr result (Extends out.old.items out.new.items) }
+{
+    for (_, value) in run {
+        shown(timestamps, value).write(out)?;
+    }
+    Ok(())
+}
+
+// Writes the values of a run one behind the other, from the last to the first.
+#[tactic(auto, using(ua_binary::proofs::Extending::extends_more))]
+fn write_falling(timestamps: Timestamps, run: Run<'_>, out: &mut Vec<u8>) -> Result<(), AllocError>
+    ensures ok { OnOk result (AreWritten out.old.items out.new.items (all_shown timestamps (reverse run.now))) }
+    ensures err { OnErr result (Extends out.old.items out.new.items) }
+{
+    for (_, value) in run.iter().rev() {
+        shown(timestamps, value).write(out)?;
+    }
+    Ok(())
+}
+
+// Writes the values of a page one behind the other, in its order.
 #[tactic(auto, using(ua_binary::proofs::Extending::extends_more))]
 fn write_values(
     timestamps: Timestamps,
-    values: &[Kept<'_>],
+    values: &KeptValues<'_>,
     out: &mut Vec<u8>,
 ) -> Result<(), AllocError>
-    ensures ok { OnOk result (out.new.items ≡ out.old.items ++ flat_map data_value_encoding (map (λ e. shown_spec timestamps e.1) (map seen values.now))) }
+    ensures ok { OnOk result (AreWritten out.old.items out.new.items (all_shown timestamps values.now)) }
     ensures err { OnErr result (Extends out.old.items out.new.items) }
-    ensures again { OnOk result (All (IsReadAgain data_value_reading data_value_encoding) (map (λ e. shown_spec timestamps e.1) (map seen values.now))) }
-    ensures some { OnOk result (length values.now ≤ length (flat_map data_value_encoding (map (λ e. shown_spec timestamps e.1) (map seen values.now)))) }
 {
-    for kept in values {
-        shown(timestamps, kept.value).write(out)?;
+    match values.runs() {
+        KeptRuns::Rising(runs) => {
+            for run in runs {
+                write_rising(timestamps, run, out)?;
+            }
+            Ok(())
+        }
+        KeptRuns::Falling(runs) => {
+            for run in runs {
+                write_falling(timestamps, run, out)?;
+            }
+            Ok(())
+        }
     }
-    Ok(())
 }
 
 // The HistoryData of the values of a page, with those of their times that are wanted, to be written from where they stand: no list
@@ -80,18 +109,16 @@ fn write_values(
 #[derive(Drop)]
 struct BorrowedHistoryData<'a> {
     timestamps: Timestamps,
-    values: &'a [Kept<'a>],
+    values: &'a KeptValues<'a>,
 }
 
 impl<'a> Model for BorrowedHistoryData<'a> {
-    ghost use Rattle.std.specs.Prelude.{map};
-    ghost use Rattle.ua_history.specs.Pages.{seen};
     ghost use Rattle.ua_service_messages.specs.declared.history.HistoryData.{HistoryData};
     ghost use Rattle.ua_services.specs.HistoryResults.{history_data_of};
 
     ghost Value = { HistoryData };
 
-    ghost view = { λ d. history_data_of d.timestamps (map seen d.values.now) };
+    ghost view = { λ d. history_data_of d.timestamps d.values.now };
 }
 
 #[tactic(auto, using(ua_binary::proofs::Extending::extends_more), unfolding(ua_service_messages::specs::History::history_data_reading, ua_service_messages::specs::History::history_data_encoding, ua_binary::specs::Arrays::array_encoding))]
@@ -141,7 +168,7 @@ pub(crate) fn tell(
     };
     let data = BorrowedHistoryData {
         timestamps,
-        values: page.values.as_slice(),
+        values: &page.values,
     };
     body.write(&page.status)?;
     body.write(&point_bytes(alloc, page.point)?)?;

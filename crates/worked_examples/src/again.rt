@@ -15,7 +15,7 @@ use std::io;
 use std::io::Write;
 use std::rt::Files;
 use ua_binary::{Cursor, TakeFault, Wire};
-use ua_history::{History, Interval};
+use ua_history::{History, Interval, KeptRuns};
 use ua_session::Sessions;
 use ua_types::{Config, Moment, NodeId, Refusal, Status};
 use ua_values::{Content, DataValue, Variant};
@@ -85,8 +85,13 @@ fn write_history(alloc: Global, output: &mut Vec<u8>) -> io::Result<()> {
         }
     }
     let cut = history.read(alloc, &node, Interval::new(Moment(0), Moment(0)), 9)?;
-    for kept in cut.values.as_slice() {
-        write!(output, "{} {:?}\n", kept.time.0, kept.value.value)?;
+    let runs = match cut.values.runs() {
+        KeptRuns::Rising(runs) | KeptRuns::Falling(runs) => runs,
+    };
+    for run in runs {
+        for (time, value) in *run {
+            write!(output, "{} {:?}\n", time, value.value)?;
+        }
     }
     Ok(())
 }

@@ -1,4 +1,4 @@
-use Rattle.std.proofs.Common.{◌≡◌, ◌<◌, ◌-◌, ℕ, subst, w64, rules, length, get_or, FitsSigned, refl}
+use Rattle.std.proofs.Common.{◌≡◌, ◌<◌, ℕ, subst, w64, rules, length, get_or, FitsSigned, refl}
 use Rattle.std.proofs.lemmas.Int.{to_z-of_z}
 use Rattle.time_segments.proofs.Outside.{past_first}
 use Rattle.time_segments.proofs.Times.{lt_is_less}

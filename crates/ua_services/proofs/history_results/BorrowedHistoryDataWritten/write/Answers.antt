@@ -1,13 +1,12 @@
-use Rattle.std.proofs.Common.{◌<◌, ◌≤◌, ◌^◌, List, All, Some, refl, arith, length, map, subst}
+use Rattle.std.proofs.Common.{◌<◌, ◌≤◌, ◌^◌, List, All, Some, refl, arith, length, subst}
 use Rattle.std.specs.List.{flat_map}
 use Rattle.std.proofs.lemmas.List.{length-map}
 use Rattle.ua_binary.specs.DataValues.{data_value_reading, data_value_encoding}
 use Rattle.ua_binary.specs.Reading.{IsReadAgain}
 use Rattle.ua_binary.proofs.Elements.{array_again}
 use Rattle.ua_values.specs.declared.data_value.DataValue.{DataValue}
-use Rattle.ua_history.specs.Pages.{seen}
 use Rattle.ua_service_messages.specs.History.{history_data_reading, history_data_encoding}
-use Rattle.ua_services.specs.HistoryResults.{shown}
+use Rattle.ua_services.specs.HistoryResults.{all_shown}
 use Rattle.ua_services.proofs.history_results.BorrowedHistoryDataWritten.write.Goals as goal
 
 -- the HistoryData of values that are each read again is
@@ -18,7 +17,7 @@ data_again values short some each x = rw (array_again data_value_reading data_va
 
 pub returns-clause-again : goal.returns-clause-again
 returns-clause-again c =
-    let all = map (λ e. shown c.self.inside.timestamps e.1) (map seen c.self.inside.values.now) in
+    let all = all_shown c.self.inside.timestamps c.self.inside.values.now in
     let short : length all < 2 ^ 31 = simp length-map (omega arith) in
-    let some : length all ≤ length (flat_map data_value_encoding all) = simp length-map c.in_ok-write_values.ensures.some in
-    subst (IsReadAgain history_data_reading history_data_encoding) c.self.view_is (data_again all short some c.in_ok-write_values.ensures.again)
+    let written = c.in_ok-write_values.ensures.ok in
+    subst (IsReadAgain history_data_reading history_data_encoding) c.self.view_is (data_again all short written.some written.again)

@@ -1,6 +1,6 @@
 use Rattle.std.proofs.Common.{◌∙◌, sym}
 use Rattle.time_segments.proofs.Reading.{first_none, first_sorted, rest_sorted}
-use Rattle.time_segments.proofs.range.RangeIterator.next.Goals as goal
+use Rattle.time_segments.proofs.runs.RunsIterator.next.Goals as goal
 
 pub within-self-inside-requires : goal.within-self-inside-requires
 within-self-inside-requires g c =

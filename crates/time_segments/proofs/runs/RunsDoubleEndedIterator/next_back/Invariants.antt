@@ -4,13 +4,13 @@ use Rattle.std.specs.List.Sorted.{IsStrictlySortedBy}
 use Rattle.std.specs.Map.{keys_of}
 use Rattle.std.specs.Ordering.{int_cmp}
 use Rattle.time_segments.specs.Laid.{joined}
-use Rattle.time_segments.proofs.range.RangeIterator.next.Given as goal
+use Rattle.time_segments.proofs.runs.RunsDoubleEndedIterator.next_back.Given as goal
 
--- nothing is left of the first segment, and the others and the last one have what is left
+-- nothing is left of the last segment, and the first one and the others have what is left
 abbrev pub invariant-loop-segment : goal.invariant-loop-segment
 invariant-loop-segment g l = record {
-  left : entries_between int_cmp l.self-inside.low l.self-inside.high (joined l.self-inside.segments) ++ l.self-inside.back ≡ l.fn.self;
-  front : l.self-inside.front ≡ [];
+  left : l.self-inside.front ++ entries_between int_cmp l.self-inside.low l.self-inside.high (joined l.self-inside.segments) ≡ l.fn.self;
+  back : l.self-inside.back ≡ [];
   sorted : IsStrictlySortedBy int_cmp (keys_of (joined l.self-inside.segments));
 }
 

@@ -1,6 +1,6 @@
 use Rattle.std.proofs.Common.{◌∙◌, sym, ap, length, length-append, arith}
 use Rattle.time_segments.proofs.Reading.{last_some, last_none, last_sorted, others_sorted}
-use Rattle.time_segments.proofs.range.RangeDoubleEndedIterator.next_back.Goals as goal
+use Rattle.time_segments.proofs.runs.RunsDoubleEndedIterator.next_back.Goals as goal
 
 pub within-self-inside-requires : goal.within-self-inside-requires
 within-self-inside-requires g c =
@@ -41,8 +41,8 @@ returns-in-Some-next_back-2-clause-steps g c =
     let ss = c.loop-segment.self-inside.segments in
     let rs = c.next_back-in-loop-segment.new.self in
     let is = c.in-Some-next_back.ensures.steps in
-    let some = sym c.within-self-inside.ensures ∙ c.in-Some-next_back-2.ensures in
-    last_some low high c.args.self.now (c.in-Some-next_back.field-0-0.now, c.in-Some-next_back.segment.now) ss rs c.loop-segment.self-inside.front c.next_back-in-Some-next_back.new.self (c.in-Some-next_back-2.entry.0, c.in-Some-next_back-2.entry.1.now) c.loop-segment.invariant.left is some
+    let some = sym c.within-self-inside.ensures ∙ c.in-Some-next_back-2.ensures.1 in
+    (c.in-Some-next_back-2.ensures.0, last_some low high c.args.self.now (c.in-Some-next_back.field-0-0.now, c.in-Some-next_back.segment.now) ss rs c.loop-segment.self-inside.front c.next_back-in-Some-next_back.new.self _ c.loop-segment.invariant.left is some)
 
 pub returns-in-Some-next_back-2-clause-goes : goal.returns-in-Some-next_back-2-clause-goes
 returns-in-Some-next_back-2-clause-goes g c =
@@ -51,7 +51,8 @@ returns-in-Some-next_back-2-clause-goes g c =
     let ss = c.loop-segment.self-inside.segments in
     let rs = c.next_back-in-loop-segment.new.self in
     let is = c.in-Some-next_back.ensures.steps in
-    let some = sym c.within-self-inside.ensures ∙ c.in-Some-next_back-2.ensures in
-    let steps = last_some low high c.args.self.now (c.in-Some-next_back.field-0-0.now, c.in-Some-next_back.segment.now) ss rs c.loop-segment.self-inside.front c.next_back-in-Some-next_back.new.self (c.in-Some-next_back-2.entry.0, c.in-Some-next_back-2.entry.1.now) c.loop-segment.invariant.left is some in
+    let some = sym c.within-self-inside.ensures ∙ c.in-Some-next_back-2.ensures.1 in
+    let steps = last_some low high c.args.self.now (c.in-Some-next_back.field-0-0.now, c.in-Some-next_back.segment.now) ss rs c.loop-segment.self-inside.front c.next_back-in-Some-next_back.new.self _ c.loop-segment.invariant.left is some in
     let sizes = simp length-append at (ap length steps) in
-    record { on = λ f. (tt, tt, simp length-append (omega (arith, sizes))); keeps = tt; rests = λ f. tt }
+    let some_run = c.in-Some-next_back-2.ensures.0 in
+    record { on = λ f. (tt, tt, simp length-append (omega (arith, sizes, some_run))); keeps = tt; rests = λ f. tt }

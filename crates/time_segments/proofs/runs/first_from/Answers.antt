@@ -1,7 +1,7 @@
 use Rattle.std.proofs.Common.{w64, FitsSigned, rules}
 use Rattle.std.proofs.lemmas.Int.{to_z-of_z}
 use Rattle.time_segments.proofs.Reading.{first_at, first_past}
-use Rattle.time_segments.proofs.range.first_from.Goals as goal
+use Rattle.time_segments.proofs.runs.first_from.Goals as goal
 
 pub returns-in-Some-clause-at : goal.returns-in-Some-clause-at
 returns-in-Some-clause-at g c =

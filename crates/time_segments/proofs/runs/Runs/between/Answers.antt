@@ -5,7 +5,7 @@ use Rattle.std.specs.Map.{keys_of}
 use Rattle.std.specs.Ordering.{int_cmp}
 use Rattle.time_segments.proofs.Reading.{same_between, sorted_of_some}
 use Rattle.time_segments.specs.Laid.{joined}
-use Rattle.time_segments.proofs.range.Range.between.Goals as goal
+use Rattle.time_segments.proofs.runs.Runs.between.Goals as goal
 
 pub invariant_of-result : goal.invariant_of-result
 invariant_of-result g c =

@@ -1,16 +1,16 @@
-//! The entries between two times, read in place from either end.
+//! The entries between two times, read in place from either end, run by run.
 
 ghost use Rattle.std.specs.Prelude.{◌≡◌};
 ghost use Rattle.std.specs.BTreeMap.Range.{IsLeBy, IsLtBy, entries_between};
 ghost use Rattle.std.specs.Iterator.{at_most};
 ghost use Rattle.std.specs.List.Sorted.{IsStrictlySortedBy};
 ghost use Rattle.std.specs.Map.{keys_of};
-ghost use Rattle.std.specs.Map.Iter.{TakesFirst, TakesLast};
 ghost use Rattle.std.specs.Ordering.{int_cmp};
 ghost use Rattle.std.specs.Prelude.{length};
 ghost use Rattle.std.specs.Range.Bound.{IsForward};
 ghost use Rattle.time_segments.specs.Laid.{joined, IsLaid};
 ghost use Rattle.time_segments.specs.Parts.{IsFirstFor};
+ghost use Rattle.time_segments.specs.Runs.{TakesRun, TakesLastRun};
 
 use crate::laid::start_for;
 use crate::part::Part;
@@ -18,10 +18,11 @@ use std::collections::{BTreeMap, VecDeque, btree_map};
 use std::marker::Model;
 use std::ops::Bound;
 
-/// The entries between two times that are still to be read: from the first on by `next`, from the last back by
-/// `next_back`. Contracts see the list of them, by rising time.
+/// The entries between two times that are still to be read, in runs: slices, each of entries as they stand in memory, by
+/// rising time, and none of them empty. The first run is taken by `next`, the last by `next_back`. Contracts see the list
+/// of the entries, by rising time.
 #[derive(Drop)]
-pub struct Range<'a, V> {
+pub struct Runs<'a, V> {
     low: Bound<i64>,
     high: Bound<i64>,
     // What is left of the first segment.
@@ -32,7 +33,7 @@ pub struct Range<'a, V> {
     back: Part<'a, V>,
 }
 
-impl<'a, V> Model for Range<'a, V> {
+impl<'a, V> Model for Runs<'a, V> {
     ghost use Rattle.std.specs.Prelude.{ℤ, List, ◌++◌};
     ghost use Rattle.std.specs.BTreeMap.Range.{entries_between};
     ghost use Rattle.std.specs.List.Sorted.{IsStrictlySortedBy};
@@ -71,19 +72,19 @@ fn first_for<V>(segments: &BTreeMap<i64, VecDeque<(i64, V)>>, low: Bound<i64>) -
     }
 }
 
-impl<'a, V> Range<'a, V> {
+impl<'a, V> Runs<'a, V> {
     pub(crate) fn between(
         segments: &'a BTreeMap<i64, VecDeque<(i64, V)>>,
         low: Bound<i64>,
         high: Bound<i64>,
-    ) -> Range<'a, V>
+    ) -> Runs<'a, V>
         requires forward { IsForward (IsLeBy int_cmp) (IsLtBy int_cmp) low high }
         requires laid { IsLaid segments.now.entries }
         requires sorted { IsStrictlySortedBy int_cmp (keys_of (joined segments.now.entries)) }
         ensures { result ≡ entries_between int_cmp low high (joined segments.now.entries) }
     {
         let first = first_for(segments, low);
-        Range {
+        Runs {
             low,
             high,
             front: Part::none(),
@@ -93,38 +94,38 @@ impl<'a, V> Range<'a, V> {
     }
 }
 
-impl<'a, V> Iterator for Range<'a, V> {
-    type Item = (i64, &'a V);
+impl<'a, V> Iterator for Runs<'a, V> {
+    type Item = &'a [(i64, V)];
 
-    ghost next_gives = { TakesFirst (λ e. (e.0, e.1.now)) };
+    ghost next_gives = { TakesRun };
 
     ghost remaining = { λ s. at_most (length s) };
 
-    fn next(&mut self) -> Option<(i64, &'a V)> {
-        if let Some(entry) = self.front.next() {
-            return Some(entry);
+    fn next(&mut self) -> Option<&'a [(i64, V)]> {
+        if let Some(run) = self.front.next() {
+            return Some(run);
         }
         while let Some((_, segment)) = self.segments.next() {
             self.front = Part::within(segment, self.low, self.high);
-            if let Some(entry) = self.front.next() {
-                return Some(entry);
+            if let Some(run) = self.front.next() {
+                return Some(run);
             }
         }
         self.back.next()
     }
 }
 
-impl<'a, V> DoubleEndedIterator for Range<'a, V> {
-    ghost next_back_gives = { TakesLast (λ e. (e.0, e.1.now)) };
+impl<'a, V> DoubleEndedIterator for Runs<'a, V> {
+    ghost next_back_gives = { TakesLastRun };
 
-    fn next_back(&mut self) -> Option<(i64, &'a V)> {
-        if let Some(entry) = self.back.next_back() {
-            return Some(entry);
+    fn next_back(&mut self) -> Option<&'a [(i64, V)]> {
+        if let Some(run) = self.back.next_back() {
+            return Some(run);
         }
         while let Some((_, segment)) = self.segments.next_back() {
             self.back = Part::within(segment, self.low, self.high);
-            if let Some(entry) = self.back.next_back() {
-                return Some(entry);
+            if let Some(run) = self.back.next_back() {
+                return Some(run);
             }
         }
         self.front.next_back()
