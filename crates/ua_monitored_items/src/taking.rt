@@ -39,7 +39,7 @@ fn give_at(
     let recount = Recount {
         subscription: item.subscription,
         had: waiting > 0,
-        has: item.waiting() > 0,
+        has: waiting > count,
     };
     Ok((left - count, Some(recount)))
 }
