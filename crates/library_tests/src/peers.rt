@@ -3,6 +3,7 @@
 use crate::holding::holds;
 use bytes::Bytes;
 use server_messages::Out;
+use short_lists::ShortList;
 use socket_peers::{Heard, Peer, Peers, Readiness, Socket};
 use std::alloc::Global;
 use std::io;
@@ -85,7 +86,7 @@ fn two_peers(alloc: Global) -> Result<Peers<Slow>, Fail> {
     let mut peers = Peers::new(alloc);
     peers.admit(alloc, 1, slow_stream(alloc, 9))?;
     peers.admit(alloc, 2, slow_stream(alloc, 9))?;
-    let mut outs = Vec::new(alloc);
+    let mut outs = ShortList::new(alloc);
     let bytes = Bytes::copy_from_slice(alloc, b"A")?;
     outs.push(Out::Send { conn: 1, bytes })?;
     outs.push(Out::Close { conn: 1 })?;
@@ -119,7 +120,7 @@ fn ended(alloc: Global) -> Result<Peers<Slow>, Fail> {
     let mut stream = slow_stream(alloc, 0);
     stream.is_at_end = true;
     peers.admit(alloc, 1, stream)?;
-    let mut outs = Vec::new(alloc);
+    let mut outs = ShortList::new(alloc);
     let bytes = Bytes::copy_from_slice(alloc, b"A")?;
     outs.push(Out::Send { conn: 1, bytes })?;
     peers.owe_all(outs)?;

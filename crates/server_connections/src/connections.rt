@@ -13,10 +13,11 @@ use crate::reactions::{Sender, break_off, frame_reaction, put_refusal};
 use crate::sending::say;
 use crate::shutting::close_open;
 use server_messages::{Out, Reply, Setting};
+use short_lists::ShortList;
 use std::alloc::{AllocError, Global};
 use std::mem;
 use ua_tcp::{Frame, FrameFault};
-use ua_types::{Listed, Numbered, Status};
+use ua_types::{Numbered, Status};
 
 /// Who is connected, and what was agreed with each.
 ///
@@ -83,7 +84,7 @@ impl Connections {
         conn: u64,
         key: &[u8; 32],
         status: Status,
-        outs: &mut Listed<Out>,
+        outs: &mut ShortList<Out>,
     ) -> Result<(), AllocError>
         ensures connections { OnOk result (self.new ≡ (turned_away self.old conn key.now status).connections) }
         ensures outs { OnOk result (outs.new ≡ outs.old ++ (turned_away self.old conn key.now status).outs) }
@@ -98,7 +99,7 @@ impl Connections {
         &mut self,
         alloc: Global,
         conn: u64,
-        outs: &mut Listed<Out>,
+        outs: &mut ShortList<Out>,
     ) -> Result<(), AllocError>
         ensures { OnOk result (refusing self.new outs.new ≡ refusing_after outs.old (shut_one self.old conn)) }
     {
@@ -109,7 +110,7 @@ impl Connections {
     }
 
     // Closes all connections that are open, by rising number.
-    fn shut_each(&mut self, alloc: Global, outs: &mut Listed<Out>) -> Result<(), AllocError>
+    fn shut_each(&mut self, alloc: Global, outs: &mut ShortList<Out>) -> Result<(), AllocError>
         ensures { OnOk result (refusing self.new outs.new ≡ refusing_after outs.old (shut self.old)) }
     {
         for conn in self.known.numbers(alloc)? {
@@ -120,7 +121,7 @@ impl Connections {
 
     /// Closes all connections that are open, by rising number, as the server shuts down: each is told
     /// `BAD_SHUTDOWN`. They stay known until they are gone.
-    pub fn shut(&mut self, alloc: Global, outs: &mut Listed<Out>) -> Result<(), AllocError>
+    pub fn shut(&mut self, alloc: Global, outs: &mut ShortList<Out>) -> Result<(), AllocError>
         ensures shut { OnOk result (refusing self.new outs.new ≡ refusing_after outs.old (shut self.old)) }
         ensures ended { OnOk result ((conn : ℕ) → get self.new.known conn ≡ ended (get self.old.known conn)) }
     {
@@ -142,7 +143,7 @@ impl Connections {
         setting: &Setting,
         conn: u64,
         frame: &Frame,
-        outs: &mut Listed<Out>,
+        outs: &mut ShortList<Out>,
     ) -> Result<FrameOutcome, AllocError>
         ensures { IfOk result (λ asked. taking self.new outs.new asked
             ≡ taking_after outs.old (taking_of setting.now conn self.old frame.now)) }
@@ -172,7 +173,7 @@ impl Connections {
         alloc: Global,
         conn: u64,
         fault: FrameFault,
-        outs: &mut Listed<Out>,
+        outs: &mut ShortList<Out>,
     ) -> Result<(), AllocError>
         ensures connections { OnOk result (self.new ≡ (break_of conn self.old fault).connections) }
         ensures outs { OnOk result (outs.new ≡ outs.old ++ (break_of conn self.old fault).outs) }
@@ -192,7 +193,7 @@ impl Connections {
         alloc: Global,
         setting: &Setting,
         reply: Reply,
-        outs: &mut Listed<Out>,
+        outs: &mut ShortList<Out>,
     ) -> Result<(), AllocError>
         ensures { OnOk result (sending self.new outs.new
             ≡ sending_after outs.old (delivered setting.now self.old reply)) }
@@ -208,14 +209,14 @@ impl Connections {
         &mut self,
         alloc: Global,
         setting: &Setting,
-        replies: Listed<Reply>,
-        outs: &mut Listed<Out>,
+        replies: ShortList<Reply>,
+        outs: &mut ShortList<Out>,
     ) -> Result<(), AllocError>
         ensures sent { OnOk result (sending self.new outs.new
             ≡ sending_after outs.old (delivery_of setting.now self.old replies)) }
         ensures none { replies ≡ [] → IsOk result }
     {
-        for reply in replies.into_vec() {
+        for reply in replies {
             self.deliver_one(alloc, setting, reply, outs)?;
         }
         Ok(())

@@ -7,11 +7,12 @@ use crate::connection::Phase;
 use crate::frame_outcome::FrameOutcome;
 use bytes::Bytes;
 use server_messages::{Out, Request, Setting};
+use short_lists::ShortList;
 use std::alloc::{AllocError, Global};
 use ua_channel::{Channel, SendFault, Taken};
 use ua_messages::{MessageBody, OpenSecureChannelResponse, ResponseHeader, body, type_ids};
 use ua_tcp::{Agreed, Frame, FrameFault, Limits, MessageType, ack, err, hello};
-use ua_types::{ByteString, Listed, Refusal, Status};
+use ua_types::{ByteString, Refusal, Status};
 
 /// What a frame leaves of its connection, and what is left to do about it.
 #[derive(Debug, Drop)]
@@ -34,7 +35,7 @@ fn going_on(channel: Channel) -> Reacted
 }
 
 // The connection is closed.
-fn close(conn: u64, outs: &mut Listed<Out>) -> Result<Reacted, AllocError>
+fn close(conn: u64, outs: &mut ShortList<Out>) -> Result<Reacted, AllocError>
     ensures { IfOk result (λ t. reaction t.phase outs.new t.asked ≡ reaction_after outs.old (closed conn)) }
 {
     outs.push(Out::Close { conn })?;
@@ -50,7 +51,7 @@ pub(crate) fn put_refusal(
     alloc: Global,
     conn: u64,
     status: Status,
-    outs: &mut Listed<Out>,
+    outs: &mut ShortList<Out>,
 ) -> Result<(), AllocError>
     ensures { OnOk result (outs.new ≡ outs.old ++ refusal conn status) }
 {
@@ -67,7 +68,7 @@ fn refuse(
     alloc: Global,
     conn: u64,
     status: Status,
-    outs: &mut Listed<Out>,
+    outs: &mut ShortList<Out>,
 ) -> Result<Reacted, AllocError>
     ensures { IfOk result (λ t. reaction t.phase outs.new t.asked ≡ reaction_after outs.old (refused conn status)) }
 {
@@ -84,7 +85,7 @@ fn acknowledge(
     alloc: Global,
     conn: u64,
     agreed: &Agreed,
-    outs: &mut Listed<Out>,
+    outs: &mut ShortList<Out>,
 ) -> Result<(), AllocError>
     ensures { OnOk result (outs.new ≡ outs.old ++ acknowledgement conn agreed.now) }
 {
@@ -102,7 +103,7 @@ fn take_first_frame(
     setting: &Setting,
     conn: u64,
     frame: &Frame,
-    outs: &mut Listed<Out>,
+    outs: &mut ShortList<Out>,
 ) -> Result<Reacted, AllocError>
     ensures { IfOk result (λ t. reaction t.phase outs.new t.asked
         ≡ reaction_after outs.old (first_reaction setting.now conn frame.now)) }
@@ -122,12 +123,12 @@ fn take_first_frame(
 /// Sends frames on a connection.
 pub(crate) fn send_all(
     conn: u64,
-    chunks: Listed<Bytes>,
-    outs: &mut Listed<Out>,
+    chunks: ShortList<Bytes>,
+    outs: &mut ShortList<Out>,
 ) -> Result<(), AllocError>
     ensures { OnOk result (outs.new ≡ outs.old ++ sends conn chunks) }
 {
-    for bytes in chunks.into_vec() {
+    for bytes in chunks {
         outs.push(Out::Send { conn, bytes })?;
     }
     Ok(())
@@ -164,14 +165,14 @@ fn grant(
     id: u32,
     handle: u32,
     number: u32,
-) -> Result<Listed<Bytes>, AllocError>
+) -> Result<ShortList<Bytes>, AllocError>
     ensures { IfOk result (λ chunks. record { frames = chunks; channel = channel.new } ≡ granted setting.now channel.old id handle number) }
 {
     let token_id = channel.grant(number);
     let body = opening_response(alloc, setting, handle, number, token_id)?;
     match channel.send_opening(alloc, id, body.as_slice()) {
         Ok(chunks) => Ok(chunks),
-        Err(SendFault::TooLarge) => Ok(Listed::new(alloc)),
+        Err(SendFault::TooLarge) => Ok(ShortList::new(alloc)),
         Err(SendFault::Memory) => Err(AllocError),
     }
 }
@@ -196,7 +197,7 @@ fn open(
     conn: u64,
     mut channel: Channel,
     opening: Opening,
-    outs: &mut Listed<Out>,
+    outs: &mut ShortList<Out>,
 ) -> Result<Reacted, AllocError>
     ensures { IfOk result (λ t. counted channels.new (reaction t.phase outs.new t.asked)
         ≡ counted_after outs.old (opening_reaction setting.now channels.old conn channel opening.id opening.handle opening.renew)) }
@@ -233,7 +234,7 @@ fn talk(
     sender: Sender,
     mut channel: Channel,
     frame: &Frame,
-    outs: &mut Listed<Out>,
+    outs: &mut ShortList<Out>,
 ) -> Result<Reacted, AllocError>
     ensures { IfOk result (λ t. counted channels.new (reaction t.phase outs.new t.asked)
         ≡ counted_after outs.old (later_reaction setting.now channels.old sender.conn sender.key frame.now channel)) }
@@ -275,7 +276,7 @@ pub(crate) fn frame_reaction(
     sender: Sender,
     phase: Phase,
     frame: &Frame,
-    outs: &mut Listed<Out>,
+    outs: &mut ShortList<Out>,
 ) -> Result<Reacted, AllocError>
     ensures { IfOk result (λ t. counted channels.new (reaction t.phase outs.new t.asked)
         ≡ counted_after outs.old (reaction_of setting.now channels.old sender.conn sender.key frame.now phase)) }
@@ -295,7 +296,7 @@ pub(crate) fn break_off(
     alloc: Global,
     conn: u64,
     fault: FrameFault,
-    outs: &mut Listed<Out>,
+    outs: &mut ShortList<Out>,
 ) -> Result<Reacted, AllocError>
     ensures { IfOk result (λ t. reaction t.phase outs.new t.asked ≡ reaction_after outs.old (fault_reaction conn fault)) }
 {

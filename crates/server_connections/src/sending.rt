@@ -7,10 +7,11 @@ use crate::connection::Phase;
 use crate::reactions::send_all;
 use bytes::Bytes;
 use server_messages::{Out, Reply, Setting};
+use short_lists::ShortList;
 use std::alloc::{AllocError, Global};
 use ua_channel::{Channel, SendFault};
 use ua_messages::fault;
-use ua_types::{Listed, Moment, Status};
+use ua_types::{Moment, Status};
 
 // The fault that is sent in the place of a reply that is too large for the client.
 #[tactic(auto, unfolding(crate::specs::Delivering::too_large_sent))]
@@ -20,13 +21,13 @@ fn too_large(
     id: u32,
     handle: u32,
     clock: Moment,
-) -> Result<Listed<Bytes>, AllocError>
+) -> Result<ShortList<Bytes>, AllocError>
     ensures { IfOk result (λ chunks. record { frames = chunks; channel = channel.new } ≡ too_large_sent channel.old id handle clock) }
 {
     let body = fault(alloc, handle, Status::BAD_RESPONSE_TOO_LARGE, clock)?;
     match channel.send(alloc, id, body) {
         Ok(chunks) => Ok(chunks),
-        Err(SendFault::TooLarge) => Ok(Listed::new(alloc)),
+        Err(SendFault::TooLarge) => Ok(ShortList::new(alloc)),
         Err(SendFault::Memory) => Err(AllocError),
     }
 }
@@ -38,7 +39,7 @@ fn reply_chunks(
     channel: &mut Channel,
     reply: Reply,
     clock: Moment,
-) -> Result<Listed<Bytes>, AllocError>
+) -> Result<ShortList<Bytes>, AllocError>
     ensures { IfOk result (λ chunks. record { frames = chunks; channel = channel.new }
         ≡ reply_sent channel.old reply clock) }
 {
@@ -61,7 +62,7 @@ pub(crate) fn say(
     setting: &Setting,
     phase: &mut Phase,
     reply: Reply,
-    outs: &mut Listed<Out>,
+    outs: &mut ShortList<Out>,
 ) -> Result<(), AllocError>
     ensures { OnOk result (said phase.new outs.new ≡ said_after outs.old (said_by setting.now reply phase.old)) }
 {

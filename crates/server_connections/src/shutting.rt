@@ -7,15 +7,16 @@ ghost use Rattle.server_connections.specs.Shutting.{shut_by, said_behind};
 use crate::connection::Phase;
 use crate::reactions::put_refusal;
 use server_messages::Out;
+use short_lists::ShortList;
 use std::alloc::{AllocError, Global};
-use ua_types::{Listed, Status};
+use ua_types::Status;
 
 /// Closes a connection, which is in this phase, and tells it so if it is open.
 pub(crate) fn close_open(
     alloc: Global,
     conn: u64,
     phase: &mut Phase,
-    outs: &mut Listed<Out>,
+    outs: &mut ShortList<Out>,
 ) -> Result<(), AllocError>
     ensures { OnOk result (said phase.new outs.new ≡ said_behind outs.old (shut_by conn phase.old)) }
 {

@@ -5,6 +5,7 @@ ghost use Rattle.server_core.specs.declared.out.StepFault.TheVariants.{Memory};
 ghost use Rattle.server_core.specs.Faults.{fault_of};
 
 use server_messages::{Fired, Halt, Out};
+use short_lists::ShortList;
 use std::alloc::{AllocError, AllocFailed, Global};
 use thiserror::Error;
 use ua_types::Listed;
@@ -13,7 +14,7 @@ use ua_types::Listed;
 #[derive(Debug, Drop)]
 pub struct Step {
     /// What is to be done, in order.
-    pub outs: Listed<Out>,
+    pub outs: ShortList<Out>,
 
     /// The rows of the subscriptions' state table that fired, in order.
     pub rows: Listed<Fired>,
@@ -26,7 +27,7 @@ impl Step {
         ensures rows { result.rows ≡ [] }
     {
         Step {
-            outs: Listed::new(alloc),
+            outs: ShortList::new(alloc),
             rows: Listed::new(alloc),
         }
     }

@@ -2,6 +2,7 @@
 
 use crate::fired::Fired;
 use crate::reply::Reply;
+use short_lists::ShortList;
 use ua_types::Listed;
 
 /// What a request or a tick came to, beside what the services keep.
@@ -9,7 +10,7 @@ use ua_types::Listed;
 pub struct Served {
     /// The replies, in the order in which they are sent. They are for the request and for others that
     /// waited, on any connection.
-    pub replies: Listed<Reply>,
+    pub replies: ShortList<Reply>,
 
     /// The rows of the subscriptions' state table that fired, in order.
     pub rows: Listed<Fired>,

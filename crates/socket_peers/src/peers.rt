@@ -7,6 +7,7 @@ ghost use Rattle.socket_peers.specs.Peers.{nobody, number_after, with_joined, li
 use crate::peer::{Heard, Peer, Readiness};
 use crate::socket::Socket;
 use server_messages::Out;
+use short_lists::ShortList;
 use std::alloc::{AllocError, Global};
 use std::marker::Model;
 use std::mem;
@@ -185,8 +186,8 @@ impl<S: Drop> Peers<S> {
 
     /// Owes each socket what is sent on its connection, in order, and closes those whose connections are
     /// closed. Nothing is owed to a socket that isn't there.
-    pub fn owe_all(&mut self, outs: Vec<Out>) -> Result<(), AllocError>
-        ensures { OnOk result (self.new ≡ owed_all self.old outs.items) }
+    pub fn owe_all(&mut self, outs: ShortList<Out>) -> Result<(), AllocError>
+        ensures { OnOk result (self.new ≡ owed_all self.old outs) }
     {
         for out in outs {
             self.owe(out)?;

@@ -67,7 +67,7 @@ pub(crate) fn hand_in<S: Socket + Drop, W: Observer>(
         Err(fault) => return Err(ServeFault::Step(fault)),
     };
     let is_close = closes(outs.as_slice());
-    if peers.owe_all(outs.into_vec()).is_err() {
+    if peers.owe_all(outs).is_err() {
         return Err(ServeFault::Memory);
     }
     if peers.flush_touched().is_err() {

@@ -18,12 +18,13 @@ use crate::send_fault::SendFault;
 use crate::sequence_numbers::{may_follow, sequence_number_after};
 use crate::taken::Taken;
 use bytes::Bytes;
+use short_lists::ShortList;
 use std::alloc::Global;
 use std::marker::Model;
 use ua_binary::{Cursor, Wire};
 use ua_messages::MessageBody;
 use ua_tcp::{Agreed, ChunkType, Frame, MessageType};
-use ua_types::{Listed, Refusal, Status};
+use ua_types::{Refusal, Status};
 
 /// The secure channel of a connection, as the server has it (IEC 62541-6, "OPC UA Secure
 /// Conversation").
@@ -285,7 +286,7 @@ impl Channel {
         alloc: Global,
         id: u32,
         body: MessageBody,
-    ) -> Result<Listed<Bytes>, SendFault>
+    ) -> Result<ShortList<Bytes>, SendFault>
         ensures taken { Takes send_fault.Memory result self.old self.new (send_of self.old id body) }
         ensures refused { IfErr (send_of self.old id body).answer (λ fault. result ≡ Err fault) }
     {
@@ -314,7 +315,7 @@ impl Channel {
         alloc: Global,
         id: u32,
         body: &[u8],
-    ) -> Result<Listed<Bytes>, SendFault>
+    ) -> Result<ShortList<Bytes>, SendFault>
         ensures taken { Takes send_fault.Memory result self.old self.new (send_opening_of self.old id body.now) }
         ensures refused { IfErr (send_opening_of self.old id body.now).answer (λ fault. result ≡ Err fault) }
     {
@@ -323,10 +324,10 @@ impl Channel {
         }
         let sent = sequence_number_after(self.sent);
         let channel_id = self.channel_id.unwrap_or(0);
-        let mut chunks = Vec::new(alloc);
+        let mut chunks = ShortList::new(alloc);
         chunks.push(opening_chunk(alloc, channel_id, sent, id, body)?)?;
         self.sent = sent;
-        Ok(Listed::from_vec(chunks))
+        Ok(chunks)
     }
 }
 

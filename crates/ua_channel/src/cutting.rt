@@ -11,11 +11,11 @@ ghost use Rattle.ua_channel.specs.Cutting.{chunk_encoding, cut_of, is_too_large 
 use crate::headers::{ChunkHeader, FRAME_HEADER_SIZE, OPENING_FRAME_HEADER_SIZE, OpeningHeader};
 use crate::sequence_numbers::sequence_number_after;
 use bytes::Bytes;
+use short_lists::ShortList;
 use std::alloc::{AllocError, Global};
 use ua_binary::Wire;
 use ua_messages::{HEAD_SIZE, MessageBody};
 use ua_tcp::{Agreed, ChunkType};
-use ua_types::Listed;
 
 // How many bytes of a body a chunk holds.
 pub(crate) fn room(agreed: &Agreed) -> usize
@@ -49,13 +49,13 @@ pub fn cut(
     first: ChunkHeader,
     room: usize,
     body: &[u8],
-) -> Result<(Listed<Bytes>, u32), AllocError>
+) -> Result<(ShortList<Bytes>, u32), AllocError>
     requires some { 0 < room }
     requires small { room + 24 < 2 ^ 32 }
     ensures cut { IfOk result (λ cut. record { chunks = cut.0; sent = cut.1 } ≡ cut_of last first room body.now) }
     ensures sent { first.sequence_number ≤ 4294966272 → IfOk result (λ cut. cut.1 ≤ 4294966272) }
 {
-    let mut chunks = Vec::new(alloc);
+    let mut chunks = ShortList::new(alloc);
     let mut header = first;
     let mut rest = body;
     while rest.len() > room {
@@ -65,7 +65,7 @@ pub fn cut(
         rest = behind;
     }
     chunks.push(chunk(alloc, &header, last, rest)?)?;
-    Ok((Listed::from_vec(chunks), header.sequence_number))
+    Ok((chunks, header.sequence_number))
 }
 
 /// The chunks of a body that is given away, and the sequence number of the last of them. Where one chunk holds the body, it
@@ -76,7 +76,7 @@ pub(crate) fn cut_up(
     first: ChunkHeader,
     room: usize,
     body: MessageBody,
-) -> Result<(Listed<Bytes>, u32), AllocError>
+) -> Result<(ShortList<Bytes>, u32), AllocError>
     requires some { 0 < room }
     requires small { room + 24 < 2 ^ 32 }
     ensures cut { IfOk result (λ cut. record { chunks = cut.0; sent = cut.1 } ≡ cut_of Final first room body) }
@@ -85,9 +85,9 @@ pub(crate) fn cut_up(
     if body.len() > room {
         return cut(alloc, ChunkType::Final, first, room, body.as_slice());
     }
-    let mut chunks = Vec::new(alloc);
+    let mut chunks = ShortList::new(alloc);
     chunks.push(only_chunk(&first, body)?)?;
-    Ok((Listed::from_vec(chunks), first.sequence_number))
+    Ok((chunks, first.sequence_number))
 }
 
 // The one chunk of a body.

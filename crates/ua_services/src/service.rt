@@ -12,6 +12,7 @@ use crate::caller::Caller;
 use crate::services::Services;
 use crate::unserved::Unserved;
 use server_messages::{Halt, Reply, Served, Setting};
+use short_lists::ShortList;
 use std::alloc::{AllocError, Global};
 use ua_binary::TakeFault;
 use ua_messages::{MessageBody, fault, received};
@@ -22,7 +23,7 @@ use ua_walks::Walk;
 pub(crate) fn reply(alloc: Global, caller: &Caller, body: MessageBody) -> Result<Served, AllocError>
     ensures { IfOk result (λ served. served ≡ replied (reply_of caller.now body)) }
 {
-    let mut replies = Listed::new(alloc);
+    let mut replies = ShortList::new(alloc);
     replies.push(Reply {
         conn: caller.conn,
         id: caller.id,

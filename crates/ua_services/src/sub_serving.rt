@@ -10,6 +10,7 @@ use crate::caller::Caller;
 use crate::service::reply;
 use crate::services::Services;
 use server_messages::{Halt, Served, Setting};
+use short_lists::ShortList;
 use std::alloc::{AllocError, Global};
 use ua_messages::MessageBody;
 use ua_subscriptions::Answered;
@@ -86,7 +87,7 @@ pub(crate) fn end_sessions(
     ensures { Serves result services.new (all_timed_out setting.now services.old numbers.now) }
 {
     let mut served = Served {
-        replies: Listed::new(alloc),
+        replies: ShortList::new(alloc),
         rows: Listed::new(alloc),
     };
     for number in numbers {

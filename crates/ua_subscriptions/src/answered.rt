@@ -1,6 +1,7 @@
 //! What a call of the subscriptions gives.
 
 use server_messages::{Fired, Reply};
+use short_lists::ShortList;
 use ua_types::Listed;
 
 /// What a call of the subscriptions gives beside its own answer.
@@ -9,7 +10,7 @@ pub struct Answered<T> {
     /// The answer to the call.
     pub answer: T,
     /// The answers to Publish requests, in the order in which they are sent.
-    pub replies: Listed<Reply>,
+    pub replies: ShortList<Reply>,
     /// The rows of the state table that fired, in order.
     pub rows: Listed<Fired>,
 }

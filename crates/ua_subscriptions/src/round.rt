@@ -6,6 +6,7 @@ use crate::call::Call;
 use crate::publish_call::PublishCall;
 use crate::settings::Bounds;
 use server_messages::{Fired, Reply};
+use short_lists::ShortList;
 use ua_types::{Listed, Moment};
 
 /// What the rows of one request or tick are done with, beside the subscriptions and items: what stays the same for all
@@ -25,7 +26,7 @@ pub struct Round {
     /// How many messages the server has sent of all subscriptions.
     pub message_count: u64,
     /// What was answered, in order.
-    pub replies: Listed<Reply>,
+    pub replies: ShortList<Reply>,
     /// The rows that fired, in order.
     pub rows: Listed<Fired>,
 }

@@ -21,6 +21,7 @@ use crate::settings::{Bounds, Settings};
 use crate::table::LiveSubscriptions;
 use bytes::Bytes;
 use server_messages::Halt;
+use short_lists::ShortList;
 use std::alloc::{AllocError, Global};
 use std::marker::Model;
 use ua_monitored_items::Items;
@@ -90,7 +91,7 @@ impl Subscriptions {
             call: Call::Timer,
             asked: None,
             message_count: self.message_count,
-            replies: Listed::new(alloc),
+            replies: ShortList::new(alloc),
             rows: Listed::new(alloc),
         }
     }

@@ -8,9 +8,10 @@ ghost use Rattle.ua_tcp.specs.declared.frame.Judgement.TheVariants.{Incomplete};
 
 use crate::frame::{Frame, FrameFault, Judgement, judge, read_header};
 use bytes::Bytes;
+use short_lists::ShortList;
 use std::alloc::{AllocError, Global};
 use std::marker::Model;
-use ua_types::{Listed, Memory};
+use ua_types::Memory;
 
 // The start of a frame. It grows by what comes of it, so that a large frame in small pieces costs
 // no more than the frame's size; no room is taken before the bytes are there.
@@ -69,7 +70,7 @@ impl Held {
 #[derive(Debug, Drop)]
 pub struct Fed {
     /// The frames that are whole with this piece, in the order of the stream.
-    pub frames: Listed<Frame>,
+    pub frames: ShortList<Frame>,
     /// What stands behind them, where it can begin no frame.
     pub fault: Option<FrameFault>,
 }
@@ -79,7 +80,7 @@ impl Fed {
         ensures { result ≡ record { frames = []; fault = fault } }
     {
         Fed {
-            frames: Listed::new(alloc),
+            frames: ShortList::new(alloc),
             fault,
         }
     }
@@ -213,16 +214,10 @@ fn cut_frames(
         ≡ feeding_by limit (frames limit (front ++ behind))) }
     ensures bounded { IfOk result (λ cut. IfSome cut.1 (λ held. length held < max limit 8)) }
 {
-    let mut frames = Vec::new(alloc);
+    let mut frames = ShortList::new(alloc);
     let (rest, fault) = split_both(alloc, limit, front, behind, &mut frames)?;
     let held = kept(alloc, rest.as_slice(), fault)?;
-    Ok((
-        Fed {
-            frames: Listed::from_vec(frames),
-            fault,
-        },
-        held,
-    ))
+    Ok((Fed { frames, fault }, held))
 }
 
 // The bytes, where no fault stands behind them.
@@ -243,9 +238,9 @@ fn split_both(
     limit: u32,
     front: Bytes,
     behind: Bytes,
-    taken: &mut Vec<Frame>,
+    taken: &mut ShortList<Frame>,
 ) -> Result<(Bytes, Option<FrameFault>), AllocError>
-    ensures taken { OnOk result (taken.new.items ≡ taken.old.items ++ (frames limit (front ++ behind)).frames) }
+    ensures taken { OnOk result (taken.new ≡ taken.old ++ (frames limit (front ++ behind)).frames) }
     ensures end { IfOk result (λ left. (frames limit (front ++ behind)).end ≡ end_of left.0 left.1) }
 {
     let mut begun = front;
@@ -261,9 +256,9 @@ fn split_both(
 fn split_frames(
     limit: u32,
     rest: &mut Bytes,
-    taken: &mut Vec<Frame>,
+    taken: &mut ShortList<Frame>,
 ) -> Result<Option<FrameFault>, AllocError>
-    ensures taken { OnOk result (taken.new.items ≡ taken.old.items ++ (frames limit rest.old).frames) }
+    ensures taken { OnOk result (taken.new ≡ taken.old ++ (frames limit rest.old).frames) }
     ensures end { IfOk result (λ fault. (frames limit rest.old).end ≡ end_of rest.new fault) }
 {
     'frames: loop {

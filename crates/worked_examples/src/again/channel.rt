@@ -2,13 +2,14 @@
 
 use super::TWICE;
 use bytes::Bytes;
+use short_lists::ShortList;
 use std::alloc::{AllocError, Global};
 use std::io;
 use std::io::Write;
 use ua_channel::{Channel, SendFault, Taken};
 use ua_messages::MessageBody;
 use ua_tcp::{Agreed, Fed, Frame, Framer, Limits};
-use ua_types::{ByteString, Listed, Refusal};
+use ua_types::{ByteString, Refusal};
 
 // Two chunks of the request 2, of 26 bytes each, on channel 7.
 const CHUNKS: &[u8] =
@@ -33,7 +34,7 @@ fn opened() -> Channel {
 }
 
 // The frames that are whole with a piece. None where memory ran out twice.
-fn fed(alloc: Global, framer: &mut Framer, piece: &[u8]) -> io::Result<Option<Listed<Frame>>> {
+fn fed(alloc: Global, framer: &mut Framer, piece: &[u8]) -> io::Result<Option<ShortList<Frame>>> {
     let piece = Bytes::from_vec(Vec::from_slice(alloc, piece)?)?;
     let fed = match framer.feed(alloc, &piece) {
         Err(_) => framer.feed(alloc, &piece),

@@ -4,4 +4,4 @@ use Rattle.server_connections.proofs.reactions.send_all.Given as goal
 
 -- what was added so far and what is left are the whole
 abbrev pub invariant-loop-bytes : goal.invariant-loop-bytes
-invariant-loop-bytes l = l.outs ++ sends l.conn l.bytes-iterator.rest.items ≡ l.fn.outs ++ sends l.fn.conn l.fn.chunks
+invariant-loop-bytes l = l.outs ++ sends l.conn l.bytes-iterator ≡ l.fn.outs ++ sends l.fn.conn l.fn.chunks

@@ -9,9 +9,9 @@ loop-rest-preserved c =
     let rest = c.loop-rest.rest.now in
     let part = chunk_encoding c.loop-rest.header Intermediate (take c.args.room rest) in
     record {
-      cut = rw (c.in_ok-push.ensures.items, c.in_ok-chunk.ensures, c.sequence_number_after.ensures.value, c.split_at.ensures.front, c.split_at.ensures.back)
-          (cut_after_twice c.loop-rest.chunks.items (part ∷ []) _
-          ∙ ap (cut_after c.loop-rest.chunks.items) (sym (cut_more c.args.last c.loop-rest.header c.args.room rest c.requires.some c.loop-rest-test.true))
+      cut = rw (c.in_ok-push.ensures.ok, c.in_ok-chunk.ensures, c.sequence_number_after.ensures.value, c.split_at.ensures.front, c.split_at.ensures.back)
+          (cut_after_twice c.loop-rest.chunks (part ∷ []) _
+          ∙ ap (cut_after c.loop-rest.chunks) (sym (cut_more c.args.last c.loop-rest.header c.args.room rest c.requires.some c.loop-rest-test.true))
           ∙ c.loop-rest.invariant.cut);
       small = λ _. c.sequence_number_after.ensures.small;
     }
@@ -19,6 +19,6 @@ loop-rest-preserved c =
 pub returns-clause-cut : goal.returns-clause-cut
 returns-clause-cut c =
     let rest = c.loop-rest.rest.now in
-    rw (c.from_vec.ensures, c.in_ok-push-2.ensures.items, c.in_ok-chunk-2.ensures)
-    (ap (cut_after c.loop-rest.chunks.items) (sym (cut_last c.args.last c.loop-rest.header c.args.room rest c.requires.some c.loop-rest-test.false))
+    rw (c.in_ok-push-2.ensures.ok, c.in_ok-chunk-2.ensures)
+    (ap (cut_after c.loop-rest.chunks) (sym (cut_last c.args.last c.loop-rest.header c.args.room rest c.requires.some c.loop-rest-test.false))
     ∙ c.loop-rest.invariant.cut)

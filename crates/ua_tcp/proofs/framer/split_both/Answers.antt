@@ -13,7 +13,7 @@ both c =
 pub returns-clause-taken : goal.returns-clause-taken
 returns-clause-taken c =
     rw (ap (λ (framed : Framed). framed.frames) (both c), c.in_ok-fault-2.ensures.taken, c.in_ok-fault.ensures.taken)
-    (append_assoc c.args.taken.now.items (frames c.args.limit c.args.front).frames (frames c.args.limit c.in_ok-rest.rest).frames)
+    (append_assoc c.args.taken.now (frames c.args.limit c.args.front).frames (frames c.args.limit c.in_ok-rest.rest).frames)
 
 pub returns-clause-end : goal.returns-clause-end
 returns-clause-end c = ap (λ (framed : Framed). framed.end) (both c) ∙ c.in_ok-fault-2.ensures.end

@@ -30,18 +30,18 @@ frames-preserved c =
     let frame : Frame = record { message_type = c.in-Whole.header.message_type; chunk_type = c.in-Whole.header.chunk_type; body = c.advance.new.self } in
     let same : frame ≡ frame_of c.in-Whole.header c.frames.rest =
     ap (λ (b : List ℕ). record { message_type = c.in-Whole.header.message_type; chunk_type = c.in-Whole.header.chunk_type; body = b }) (c.advance.ensures ∙ ap (drop 8) c.in_ok-body-in-Whole.ensures.front) in
-    rw (c.in_ok-push-in-Whole.ensures.items, c.in_ok-body-in-Whole.ensures.rest)
-    (taken_one c.args.limit c.frames.rest c.in-Whole.header c.frames.taken.items frame e same ∙ c.frames.invariant)
+    rw (c.in_ok-push-in-Whole.ensures.ok, c.in_ok-body-in-Whole.ensures.rest)
+    (taken_one c.args.limit c.frames.rest c.in-Whole.header c.frames.taken frame e same ∙ c.frames.invariant)
 
-partial : (c : goal.In-Incomplete) → (c.frames.taken.items ≡ c.args.taken.now.items ++ (frames c.args.limit c.args.rest.now).frames) × ((frames c.args.limit c.args.rest.now).end ≡ Rest c.frames.rest)
+partial : (c : goal.In-Incomplete) → (c.frames.taken ≡ c.args.taken.now ++ (frames c.args.limit c.args.rest.now).frames) × ((frames c.args.limit c.args.rest.now).end ≡ Rest c.frames.rest)
 partial c =
     let e : judgement_of c.args.limit c.frames.rest ≡ Incomplete = cc in
-    stopped c.args.limit c.frames.rest c.frames.taken.items (Rest c.frames.rest) (with_front c.args.taken.now.items (frames c.args.limit c.args.rest.now)) (frames_judged c.args.limit c.frames.rest Incomplete e) c.frames.invariant
+    stopped c.args.limit c.frames.rest c.frames.taken (Rest c.frames.rest) (with_front c.args.taken.now (frames c.args.limit c.args.rest.now)) (frames_judged c.args.limit c.frames.rest Incomplete e) c.frames.invariant
 
-faulty : (c : goal.In-Faulty) → (c.frames.taken.items ≡ c.args.taken.now.items ++ (frames c.args.limit c.args.rest.now).frames) × ((frames c.args.limit c.args.rest.now).end ≡ Broken c.in-Faulty.fault)
+faulty : (c : goal.In-Faulty) → (c.frames.taken ≡ c.args.taken.now ++ (frames c.args.limit c.args.rest.now).frames) × ((frames c.args.limit c.args.rest.now).end ≡ Broken c.in-Faulty.fault)
 faulty c =
     let e : judgement_of c.args.limit c.frames.rest ≡ Faulty c.in-Faulty.fault = cc in
-    stopped c.args.limit c.frames.rest c.frames.taken.items (Broken c.in-Faulty.fault) (with_front c.args.taken.now.items (frames c.args.limit c.args.rest.now)) (frames_judged c.args.limit c.frames.rest (Faulty c.in-Faulty.fault) e) c.frames.invariant
+    stopped c.args.limit c.frames.rest c.frames.taken (Broken c.in-Faulty.fault) (with_front c.args.taken.now (frames c.args.limit c.args.rest.now)) (frames_judged c.args.limit c.frames.rest (Faulty c.in-Faulty.fault) e) c.frames.invariant
 
 pub returns-in-Incomplete-clause-taken : goal.returns-in-Incomplete-clause-taken
 returns-in-Incomplete-clause-taken c = (partial c).0

@@ -1,0 +1,10 @@
+//! Lists that mostly have one element or none.
+//!
+//! A [`ShortList`] of one element takes no memory: what a request leads to is mostly one frame, one reply and one chunk.
+#![tactic(auto)]
+
+mod elements;
+mod short_list;
+
+pub use elements::Elements;
+pub use short_list::ShortList;
