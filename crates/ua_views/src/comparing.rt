@@ -13,6 +13,9 @@ use crate::texts::{ByteStringView, TextView};
 use std::cmp::Ordering;
 use ua_types::{ByteString, Identifier, NodeId, Text};
 
+// It and the next aren't inlined, so that numbers, which most ids are, are compared by a short function (docs/MEASURED.md,
+// "Requests").
+#[inline(never)]
 fn compare_texts(text: &Text, view: &TextView<'_>) -> Ordering
     ensures { result ≡ option_cmp (slice_cmp nat_cmp) text.now view.now }
 {
@@ -24,6 +27,7 @@ fn compare_texts(text: &Text, view: &TextView<'_>) -> Ordering
     }
 }
 
+#[inline(never)]
 fn compare_bytes(bytes: &ByteString, view: &ByteStringView<'_>) -> Ordering
     ensures { result ≡ option_cmp (slice_cmp nat_cmp) bytes.now view.now }
 {
@@ -35,6 +39,7 @@ fn compare_bytes(bytes: &ByteString, view: &ByteStringView<'_>) -> Ordering
     }
 }
 
+#[inline(always)]
 fn compare_identifiers(identifier: &Identifier, view: &IdentifierView<'_>) -> Ordering
     ensures { result ≡ identifiers.ghosts.cmp identifier.now (identifier_of view.now) }
 {
@@ -61,6 +66,7 @@ fn compare_identifiers(identifier: &Identifier, view: &IdentifierView<'_>) -> Or
 }
 
 /// How an id stands to one that is looked at in place, in the order of ids. Takes no memory.
+#[inline(always)]
 pub fn compare(id: &NodeId, view: &NodeIdView<'_>) -> Ordering
     ensures { result ≡ id_cmp id.now view.now }
 {
