@@ -4,7 +4,7 @@
 usage: scripts/over_sockets.py PROGRAM [ROUNDS [SECONDS]]    a program that was built with its proofs; 12 rounds of 2 seconds
                                                            where left out
 
-Both servers run on one processor, and their clients on another. Told is, for 1 client and for 50, how many Reads and echoes came
+Both servers run on one processor, and their clients on another, so it wants two. Told is, for 1 client and for 50, how many Reads and echoes came
 there and back in a second, the least, the median and the most, how many echoes came for a Read in the same round, the median of all,
 and what a Read takes of the server's own time and of the system's.
 """
@@ -19,18 +19,13 @@ import serving
 
 TOP = os.path.dirname(os.path.dirname(os.path.realpath(__file__)))
 NODES = f"{TOP}/crates/uaserver/data/line.toml"
-SERVERS, CLIENTS = 1, 2
 TICKS = os.sysconf("SC_CLK_TCK")
-
-
-def on(processor):
-    return lambda: os.sched_setaffinity(0, {processor})
 
 
 def each_second(load, kind, port, clients, seconds):
     """How many requests of these clients are answered in a second."""
     words = [load, kind, str(port), str(clients), str(seconds)]
-    ran = subprocess.run(words, capture_output=True, text=True, check=True, preexec_fn=on(CLIENTS))
+    ran = subprocess.run(words, capture_output=True, text=True, check=True)
     return int(re.search(r": (\d+) a second", ran.stdout)[1])
 
 
@@ -65,13 +60,19 @@ def main():
         sys.exit(__doc__)
     rounds = int(sys.argv[2]) if len(sys.argv) > 2 else 12
     seconds = float(sys.argv[3]) if len(sys.argv) > 3 else 2.0
+    processors = sorted(os.sched_getaffinity(0))
+    if len(processors) < 2:
+        sys.exit("the servers and their clients want a processor each")
+    for_servers, for_clients = {processors[-2]}, {processors[-1]}
     with tempfile.TemporaryDirectory() as folder:
         load, port = f"{folder}/load", serving.free_port()
         subprocess.run(["cc", "-O2", "-o", load, f"{TOP}/scripts/load.c"], check=True)
         server = serving.Server(os.path.abspath(sys.argv[1]), NODES)
-        os.sched_setaffinity(server.process.pid, {SERVERS})
         echo = serving.Program([load, "echo", str(port)])
-        os.sched_setaffinity(echo.process.pid, {SERVERS})
+        for program in (server, echo):
+            os.sched_setaffinity(program.process.pid, for_servers)
+        # What is started from here on, the clients, has it from this process.
+        os.sched_setaffinity(0, for_clients)
         try:
             for clients in (1, 50):
                 measure(load, server, port, clients, rounds, seconds)
