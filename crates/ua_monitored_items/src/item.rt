@@ -26,15 +26,11 @@ use ua_values::DataValue;
 const OVERFLOW: u32 = 0x480;
 
 /// A monitored item: whose it is, what it watches, how, the values that wait, and the items that it triggers.
+///
+/// The fields lie in memory as they are declared: what a message looks at comes first, side by side.
 pub struct Item {
     /// The number of its subscription.
     pub subscription: u32,
-
-    /// The node that it watches.
-    pub node_id: NodeId,
-
-    /// The number of the attribute that it watches, as 13 for the value.
-    pub attribute_id: u32,
 
     /// The client's number of the item. It and `timestamps` are those of the last call that set them, and
     /// are applied when a message is made.
@@ -45,16 +41,22 @@ pub struct Item {
 
     pub mode: Mode,
 
-    /// Which changes are queued.
-    pub trigger: Trigger,
+    /// Its values are sent although it only samples, since an item to which it is linked queued a value. That
+    /// ends when its queue is empty, and when its mode is set.
+    pub released: bool,
 
     /// The values that wait, with both times as they were read, and the last one that was queued: none until the
     /// item is enabled first.
     pub queue: ItemQueue<DataValue>,
 
-    /// Its values are sent although it only samples, since an item to which it is linked queued a value. That
-    /// ends when its queue is empty, and when its mode is set.
-    pub released: bool,
+    /// The node that it watches.
+    pub node_id: NodeId,
+
+    /// The number of the attribute that it watches, as 13 for the value.
+    pub attribute_id: u32,
+
+    /// Which changes are queued.
+    pub trigger: Trigger,
 
     /// The items that are linked to it.
     pub links: Links,

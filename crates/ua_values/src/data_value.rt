@@ -9,17 +9,18 @@ use ua_types::{Copyable, Moment, Status};
 
 /// A value with its status and times (DataValue, IEC 62541-6, 5.2.2.17).
 ///
-/// In the order they go by value, then by status and times; what is absent comes first.
+/// In the order they go by status and times, then by value; what is absent comes first. The fields lie in memory as they
+/// are declared: who looks at a short value with its status and times finds them side by side.
 #[derive(Debug, PartialEq, Eq, PartialOrd, Ord)]
 pub struct DataValue {
-    /// The value, where there is one.
-    pub value: Option<Variant>,
     /// How good the value is. [`Status::GOOD`] where nothing is said.
     pub status: Status,
     /// When the source had the value.
     pub source_time: Option<Moment>,
     /// When the server learnt of it, or knew it to be still so.
     pub server_time: Option<Moment>,
+    /// The value, where there is one.
+    pub value: Option<Variant>,
 }
 
 impl DataValue {
