@@ -101,6 +101,8 @@ impl<T: Drop> ShortList<T> {
     pub fn append(&mut self, other: ShortList<T>) -> Result<(), AllocError>
         ensures ok { OnOk result (self.new ≡ self.old ++ other) }
         ensures err { OnErr result (self.new ≡ self.old) }
+        ensures onto_nothing { self.old ≡ [] → IsOk result }
+        ensures of_nothing { other ≡ [] → IsOk result }
     {
         if self.as_slice().is_empty() {
             *self = other;
