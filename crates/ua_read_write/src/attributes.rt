@@ -88,6 +88,8 @@ fn rank_number(rank: ValueRank) -> i32
     }
 }
 
+// It and those below are inlined, so that an attribute isn't moved on its way to who shows it (docs/MEASURED.md, "Requests").
+#[inline(always)]
 fn variable_attribute(variable: &Variable, id: AttributeId) -> Option<Attribute<'_>>
     ensures attribute { option_map seen result ≡ variable_attribute variable.now id }
     ensures whole { IfSome result IsWhole }
@@ -105,6 +107,7 @@ fn variable_attribute(variable: &Variable, id: AttributeId) -> Option<Attribute<
 }
 
 // An attribute that not all classes have.
+#[inline(always)]
 fn own_attribute(details: &NodeDetails, id: AttributeId) -> Option<Attribute<'_>>
     ensures attribute { option_map seen result ≡ own_attribute details.now id }
     ensures whole { IfSome result IsWhole }
@@ -145,6 +148,7 @@ fn own_attribute(details: &NodeDetails, id: AttributeId) -> Option<Attribute<'_>
 }
 
 // An attribute of a node, where its class has it.
+#[inline(always)]
 fn attribute_of(node: &Node, id: AttributeId) -> Option<Attribute<'_>>
     ensures attribute { option_map seen result ≡ attribute_of node.now id }
     ensures whole { IfSome result IsWhole }
@@ -161,6 +165,7 @@ fn attribute_of(node: &Node, id: AttributeId) -> Option<Attribute<'_>>
 }
 
 /// The attribute with this number, where the node's class has it.
+#[inline(always)]
 pub(crate) fn attribute_at(node: &Node, number: u32) -> Option<Attribute<'_>>
     ensures attribute { option_map seen result ≡ attribute_at node.now number }
     ensures whole { IfSome result IsWhole }

@@ -1,7 +1,7 @@
 //! Which elements of a list a read or a write is about.
 
 ghost use Rattle.std.specs.Prelude.{◌≡◌, ◌≤◌, ◌<◌, ◌+◌, ◌^◌, IfSome, option_map};
-ghost use Rattle.ua_read_write.specs.IndexRanges.{element_number as element_number_spec, index_range_of, asked_range as asked_range_spec};
+ghost use Rattle.ua_read_write.specs.IndexRanges.{element_number as element_number_spec, index_range_of, if_said, asked_range as asked_range_spec};
 
 use ua_types::{Status, decimal_up_to};
 
@@ -53,7 +53,20 @@ impl IndexRange {
     }
 }
 
-// The range that a request asks for, where its text is neither null nor empty.
+// The range that a text says, which is neither null nor empty.
+#[inline(never)]
+fn range_said(text: &str) -> Result<Option<IndexRange>, Status>
+    ensures { result ≡ if_said (index_range_of text.now) }
+{
+    match IndexRange::parse(text) {
+        None => Err(Status::BAD_INDEX_RANGE_INVALID),
+        Some(range) => Ok(Some(range)),
+    }
+}
+
+// The range that a request asks for, where its text is neither null nor empty. Few ask for one, so that much is seen inline
+// (docs/MEASURED.md, "Requests").
+#[inline(always)]
 pub(crate) fn asked_range(text: Option<&str>) -> Result<Option<IndexRange>, Status>
     ensures { result ≡ asked_range_spec (option_map (λ t. t.now) text.entry) }
 {
@@ -63,8 +76,5 @@ pub(crate) fn asked_range(text: Option<&str>) -> Result<Option<IndexRange>, Stat
     if text.is_empty() {
         return Ok(None);
     }
-    match IndexRange::parse(text) {
-        None => Err(Status::BAD_INDEX_RANGE_INVALID),
-        Some(range) => Ok(Some(range)),
-    }
+    range_said(text)
 }

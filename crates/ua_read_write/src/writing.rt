@@ -51,6 +51,7 @@ fn stored(value: Variant, written: &DataValueView<'_>, clock: Moment) -> DataVal
 /// It is judged where it stands in the request's bytes, and refused as [`write`] says. Only what is accepted is copied,
 /// once, so a refusal takes no memory; where an index range is given, so is the list as it stands, which the change has
 /// whole. It is never refused as exhausted.
+#[inline(always)]
 pub fn accepted<'a>(
     alloc: Global,
     space: &Space,

@@ -50,6 +50,8 @@ impl<'a> Readable for WriteValueView<'a> {
 
 #[tactic(auto, unfolding(ua_service_messages::specs::Writing::write_value_reading))]
 impl<'a> View<'a> for WriteValueView<'a> {
+    // Inlined into the loop over a request's list (docs/MEASURED.md, "Requests").
+    #[inline(always)]
     fn look(cursor: &mut Cursor<'a>) -> Result<WriteValueView<'a>, TakeFault> {
         Ok(WriteValueView {
             node_id: NodeIdView::look(cursor)?,
