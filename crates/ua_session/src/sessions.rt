@@ -118,7 +118,7 @@ impl Sessions {
     {
         let (secret, number) = token_parts(token)?;
         let session = self.table.get(number)?;
-        if secret == &session.secret[..] {
+        if *secret == session.secret {
             Some((number, session))
         } else {
             None

@@ -42,8 +42,9 @@ pub fn session_token(alloc: Global, secret: &[u8; 16], number: u32) -> Result<No
     })
 }
 
-/// The secret and the number of the one session whose token this may be.
-pub(crate) fn token_parts<'a>(token: &NodeIdView<'a>) -> Option<(&'a [u8], u32)>
+/// The secret and the number of the one session whose token this may be. The secret is lent with its length, so that it is
+/// compared at once.
+pub(crate) fn token_parts<'a>(token: &NodeIdView<'a>) -> Option<(&'a [u8; 16], u32)>
     ensures { option_map (λ p. (p.0.now, p.1)) result ≡ parts_of token.now }
 {
     let IdentifierView::Opaque(bytes) = &token.identifier else {
@@ -54,6 +55,9 @@ pub(crate) fn token_parts<'a>(token: &NodeIdView<'a>) -> Option<(&'a [u8], u32)>
         return None;
     }
     let (secret, number) = bytes.split_at(SECRET);
+    let Ok(secret) = <&[u8; 16]>::try_from(secret) else {
+        return None;
+    };
     Some((
         secret,
         u32::from_le_bytes([number[0], number[1], number[2], number[3]]),
