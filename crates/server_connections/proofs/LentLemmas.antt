@@ -1,5 +1,5 @@
 -- A connection that is lent to be changed in its place.
-use Rattle.std.proofs.Common.{◌≡◌, ℕ, List, ◌++◌, Option, Some, Result, Ok, Err, OnOk, ap, sym, ◌∙◌}
+use Rattle.std.proofs.Common.{◌≡◌, ℕ, List, ◌++◌, Some, Result, Ok, Err, OnOk, IfOk, ap, sym, ◌∙◌}
 use Rattle.std.specs.Ordering.{nat_cmp}
 use Rattle.std.specs.FinMap.{FinMap, get, insert}
 use Rattle.ua_tcp.specs.declared.frame.Frame.{Frame}
@@ -13,7 +13,7 @@ use Rattle.server_connections.specs.declared.connections.Connections.{Connection
 use Rattle.server_connections.specs.declared.frame_outcome.FrameOutcome.{FrameOutcome}
 use Rattle.server_connections.specs.Reactions.{Reaction, Counted, reaction, reaction_after, counted, counted_after, reaction_of, fault_reaction}
 use Rattle.server_connections.specs.Connecting.{taking, taking_after, taking_by, taking_of, break_by, break_of, with_phase, refusing}
-use Rattle.server_connections.specs.Delivering.{Said, said, said_after, said_by, sending, sending_after, delivered_on, delivered_to, delivered}
+use Rattle.server_connections.specs.Delivering.{Said, said, said_after, said_by, sending, sending_after, delivered_to, delivered}
 use Rattle.server_connections.specs.Shutting.{shut_by, shut_at, shut_one, said_behind, refusing_after}
 
 module _ (old : Connections) (conn : ℕ) (connection : Connection) (known : FinMap nat_cmp Connection) (phase : Phase) (there : get old.known conn ≡ Some connection)
@@ -54,6 +54,11 @@ module _ (old : Connections) (conn : ℕ) (connection : Connection) (known : Fin
       ap (λ m. refusing (record old { known = m }) after) back
       ∙ ap (λ (x : Said). refusing (with_phase old conn connection x.phase) x.outs) e
       ∙ ap (λ o. refusing_after before (shut_at old conn o)) (sym there)
+
+-- what holds of an answer
+pub if_ok : {X E : Type 0} (A B : X → Type 0) (r : Result X E) → IfOk r A → ((x : X) → A x → B x) → IfOk r B
+if_ok A B (Ok x) a f = f x a
+if_ok A B (Err e) a f = tt
 
 -- what holds where it went well
 pub on_ok : {X E : Type 0} (A B : Type 0) (r : Result X E) → OnOk r A → (A → B) → OnOk r B

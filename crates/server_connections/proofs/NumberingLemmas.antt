@@ -1,5 +1,5 @@
 -- Every channel has a number of its own.
-use Rattle.std.proofs.Common.{◌≡◌, ◌≢◌, ℕ, ◌+◌, ◌<◌, ◌≤◌, ◌==◌, Bool, true, false, cond, List, Option, Some, None, is_some, Result, Ok, Err, refl, sym, ◌∙◌, ap, subst, inl, inr, ◌⊎◌, arith}
+use Rattle.std.proofs.Common.{◌≡◌, ℕ, ◌+◌, ◌<◌, ◌≤◌, ◌==◌, Bool, true, false, cond, List, Option, Some, None, is_some, Result, Ok, Err, refl, sym, ◌∙◌, ap, subst, inl, inr, ◌⊎◌, arith}
 use Rattle.std.specs.Prelude.{⊤, not, ◌||◌, nat_lt, length}
 use Rattle.std.proofs.lemmas.Bool.{false≢true}
 use Rattle.std.specs.FinMap.{get}
@@ -32,7 +32,7 @@ use Rattle.server_messages.specs.declared.setting.Setting.{Setting}
 use Rattle.server_connections.specs.Apart.{unsent_phase, unsent}
 use Rattle.server_connections.specs.Coherent.{number_in, number_at, AreNumbered}
 use Rattle.server_connections.specs.Connecting.{known_as, gone, reacted, taking_by, taking_of, break_by, break_of}
-use Rattle.server_connections.specs.Reactions.{Reaction, reaction, Counted, counted, Sent, sent_nothing, sent_or, greeted, first_reaction, opening_body, opening_sent, granted, opening_reaction, taken_reaction, later_reaction, reaction_of, fault_reaction}
+use Rattle.server_connections.specs.Reactions.{Reaction, Counted, counted, Sent, sent_nothing, sent_or, greeted, first_reaction, opening_body, opening_sent, granted, opening_reaction, taken_reaction, later_reaction, reaction_of, fault_reaction}
 use Rattle.server_connections.specs.declared.connection.Connection.{Connection}
 use Rattle.server_connections.specs.declared.connection.Phase.{Phase}
 use Rattle.server_connections.specs.declared.connection.Phase.TheVariants.{Greeting, Talking, Closed}

@@ -1,7 +1,7 @@
 -- What a shutdown leaves of the connections: each is known as it was, and closed.
 use Rattle.std.proofs.Common.{◌≡◌, ◌≢◌, ℕ, Bool, true, false, cond, List, [], ◌∷◌, Option, Some, None, is_some, refl, sym, ap, subst, ◌∙◌}
 use Rattle.std.proofs.lemmas.Bool.{false≢true}
-use Rattle.std.specs.FinMap.{find, get, insert, entries, get-entries, get-insert}
+use Rattle.std.specs.FinMap.{find, get, entries, get-entries, get-insert}
 use Rattle.std.specs.Map.{keys_of}
 use Rattle.std.specs.Ordering.{nat_cmp, eq_by_cmp}
 use Rattle.std.specs.Cmp.{nat_cmp_total}
@@ -9,7 +9,7 @@ use Rattle.ua_types.proofs.NumberMaps.{same_number}
 use Rattle.ua_types.specs.Configuration.{Configuration}
 use Rattle.server_connections.specs.Coherent.{IsAgreedAt, AreAgreed, IsFresh, AreNumbered, number_at, is_open_at, is_open}
 use Rattle.server_connections.specs.Connecting.{is_new}
-use Rattle.server_connections.specs.Shutting.{shut_by, shut_at, shut_one, all_shut, shut, with_end, ended}
+use Rattle.server_connections.specs.Shutting.{shut_by, shut_at, shut_one, all_shut, shut, ended}
 use Rattle.server_connections.specs.declared.connection.Connection.{Connection}
 use Rattle.server_connections.specs.declared.connection.Phase.{Phase}
 use Rattle.server_connections.specs.declared.connection.Phase.TheVariants.{Greeting, Talking, Closed}

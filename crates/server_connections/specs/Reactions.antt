@@ -41,6 +41,11 @@ reaction phase outs asked = record { phase = phase; outs = outs; asked = asked }
 abbrev pub reaction_after : List Out → Reaction → Reaction
 reaction_after outs t = reaction t.phase (outs ++ t.outs) t.asked
 
+-- how far a connection is, where what it asks for may be its end
+abbrev pub left_by : FrameOutcome → Phase → Phase
+left_by outcome.Closed phase = Closed
+left_by asked phase = phase
+
 -- the connection is closed, with or without an Error frame
 abbrev pub refused : ℕ → Status → Reaction
 refused conn code = reaction Closed (refusal conn code) outcome.Closed

@@ -15,7 +15,6 @@ use crate::shutting::close_open;
 use server_messages::{Out, Reply, Setting};
 use short_lists::ShortList;
 use std::alloc::{AllocError, Global};
-use std::mem;
 use ua_tcp::{Frame, FrameFault};
 use ua_types::{Numbered, Status};
 
@@ -151,19 +150,16 @@ impl Connections {
         let Some(connection) = self.known.get_mut(conn) else {
             return Ok(FrameOutcome::Closed);
         };
-        let phase = mem::replace(&mut connection.phase, Phase::Closed);
         let key = connection.key;
-        let reacted = frame_reaction(
+        frame_reaction(
             alloc,
             setting,
             &mut self.channels,
             Sender { conn, key },
-            phase,
+            &mut connection.phase,
             frame,
             outs,
-        )?;
-        connection.phase = reacted.phase;
-        Ok(reacted.asked)
+        )
     }
 
     /// Closes a connection on which comes what can be no frame.
@@ -181,8 +177,7 @@ impl Connections {
         let Some(connection) = self.known.get_mut(conn) else {
             return Ok(());
         };
-        let reacted = break_off(alloc, conn, fault, outs)?;
-        connection.phase = reacted.phase;
+        break_off(alloc, conn, fault, &mut connection.phase, outs)?;
         Ok(())
     }
 

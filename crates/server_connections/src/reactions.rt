@@ -1,7 +1,7 @@
 //! What the server does about a frame of one connection.
 
 ghost use Rattle.std.specs.Prelude.{◌≡◌, ◌++◌, IfOk, OnOk};
-ghost use Rattle.server_connections.specs.Reactions.{reaction, reaction_after, counted, counted_after, refused, refusal, closed, acknowledgement, granted, opening_body, opening_reaction, sends, first_reaction, later_reaction, reaction_of, fault_reaction};
+ghost use Rattle.server_connections.specs.Reactions.{reaction, reaction_after, counted, counted_after, left_by, refused, refusal, closed, acknowledgement, granted, opening_body, opening_reaction, sends, first_reaction, later_reaction, reaction_of, fault_reaction};
 
 use crate::connection::Phase;
 use crate::frame_outcome::FrameOutcome;
@@ -14,35 +14,12 @@ use ua_messages::{MessageBody, OpenSecureChannelResponse, ResponseHeader, body, 
 use ua_tcp::{Agreed, Frame, FrameFault, Limits, MessageType, ack, err, hello};
 use ua_types::{ByteString, Refusal, Status};
 
-/// What a frame leaves of its connection, and what is left to do about it.
-#[derive(Debug, Drop)]
-pub(crate) struct Reacted {
-    /// How far the connection is after the frame.
-    pub phase: Phase,
-    /// What the frame asks of the services.
-    pub asked: FrameOutcome,
-}
-
-// The connection goes on.
-fn going_on(channel: Channel) -> Reacted
-    ensures phase { result.phase ≡ Phase.Talking channel }
-    ensures asked { result.asked ≡ FrameOutcome.Nothing }
-{
-    Reacted {
-        phase: Phase::Talking(channel),
-        asked: FrameOutcome::Nothing,
-    }
-}
-
-// The connection is closed.
-fn close(conn: u64, outs: &mut ShortList<Out>) -> Result<Reacted, AllocError>
-    ensures { IfOk result (λ t. reaction t.phase outs.new t.asked ≡ reaction_after outs.old (closed conn)) }
+// The connection is to be closed.
+fn close(conn: u64, outs: &mut ShortList<Out>) -> Result<FrameOutcome, AllocError>
+    ensures { IfOk result (λ asked. reaction Phase.Closed outs.new asked ≡ reaction_after outs.old (closed conn)) }
 {
     outs.push(Out::Close { conn })?;
-    Ok(Reacted {
-        phase: Phase::Closed,
-        asked: FrameOutcome::Closed,
-    })
+    Ok(FrameOutcome::Closed)
 }
 
 /// The client is told this status, to be followed by the end of the connection.
@@ -63,20 +40,17 @@ pub(crate) fn put_refusal(
     Ok(())
 }
 
-// The client is told this status, and then the connection is closed.
+// The client is told this status, and then the connection is to be closed.
 fn refuse(
     alloc: Global,
     conn: u64,
     status: Status,
     outs: &mut ShortList<Out>,
-) -> Result<Reacted, AllocError>
-    ensures { IfOk result (λ t. reaction t.phase outs.new t.asked ≡ reaction_after outs.old (refused conn status)) }
+) -> Result<FrameOutcome, AllocError>
+    ensures { IfOk result (λ asked. reaction Phase.Closed outs.new asked ≡ reaction_after outs.old (refused conn status)) }
 {
     put_refusal(alloc, conn, status, outs)?;
-    Ok(Reacted {
-        phase: Phase::Closed,
-        asked: FrameOutcome::Closed,
-    })
+    Ok(FrameOutcome::Closed)
 }
 
 // The client is told what was agreed.
@@ -96,16 +70,17 @@ fn acknowledge(
     Ok(())
 }
 
-// The first frame of a connection.
+// The first frame of a connection, which makes its channel where it isn't to be closed.
 #[tactic(auto, unfolding(crate::specs::Reactions::first_reaction))]
 fn take_first_frame(
     alloc: Global,
     setting: &Setting,
     conn: u64,
+    phase: &mut Phase,
     frame: &Frame,
     outs: &mut ShortList<Out>,
-) -> Result<Reacted, AllocError>
-    ensures { IfOk result (λ t. reaction t.phase outs.new t.asked
+) -> Result<FrameOutcome, AllocError>
+    ensures { IfOk result (λ asked. reaction (left_by asked phase.new) outs.new asked
         ≡ reaction_after outs.old (first_reaction setting.now conn frame.now)) }
 {
     if frame.message_type == MessageType::Error {
@@ -114,7 +89,8 @@ fn take_first_frame(
     match hello(frame, &Limits::new(&setting.config)) {
         Ok(agreed) => {
             acknowledge(alloc, conn, &agreed, outs)?;
-            Ok(going_on(Channel::new(agreed)))
+            *phase = Phase::Talking(Channel::new(agreed));
+            Ok(FrameOutcome::Nothing)
         }
         Err(status) => refuse(alloc, conn, status, outs),
     }
@@ -195,12 +171,12 @@ fn open(
     setting: &Setting,
     channels: &mut u32,
     conn: u64,
-    mut channel: Channel,
+    channel: &mut Channel,
     opening: Opening,
     outs: &mut ShortList<Out>,
-) -> Result<Reacted, AllocError>
-    ensures { IfOk result (λ t. counted channels.new (reaction t.phase outs.new t.asked)
-        ≡ counted_after outs.old (opening_reaction setting.now channels.old conn channel opening.id opening.handle opening.renew)) }
+) -> Result<FrameOutcome, AllocError>
+    ensures { IfOk result (λ asked. counted channels.new (reaction (left_by asked (Phase.Talking channel.new)) outs.new asked)
+        ≡ counted_after outs.old (opening_reaction setting.now channels.old conn channel.old opening.id opening.handle opening.renew)) }
 {
     let Opening { id, handle, renew } = opening;
     let number = if renew {
@@ -211,9 +187,9 @@ fn open(
         *channels += 1;
         *channels
     };
-    let chunks = grant(alloc, setting, &mut channel, id, handle, number)?;
+    let chunks = grant(alloc, setting, channel, id, handle, number)?;
     send_all(conn, chunks, outs)?;
-    Ok(going_on(channel))
+    Ok(FrameOutcome::Nothing)
 }
 
 /// The connection that a frame came on.
@@ -232,17 +208,17 @@ fn talk(
     setting: &Setting,
     channels: &mut u32,
     sender: Sender,
-    mut channel: Channel,
+    channel: &mut Channel,
     frame: &Frame,
     outs: &mut ShortList<Out>,
-) -> Result<Reacted, AllocError>
-    ensures { IfOk result (λ t. counted channels.new (reaction t.phase outs.new t.asked)
-        ≡ counted_after outs.old (later_reaction setting.now channels.old sender.conn sender.key frame.now channel)) }
+) -> Result<FrameOutcome, AllocError>
+    ensures { IfOk result (λ asked. counted channels.new (reaction (left_by asked (Phase.Talking channel.new)) outs.new asked)
+        ≡ counted_after outs.old (later_reaction setting.now channels.old sender.conn sender.key frame.now channel.old)) }
 {
     let Sender { conn, key } = sender;
     match channel.take(alloc, frame) {
-        Ok(Taken::Nothing) => Ok(going_on(channel)),
-        Ok(Taken::Aborted { id: _ }) => Ok(going_on(channel)),
+        Ok(Taken::Nothing) => Ok(FrameOutcome::Nothing),
+        Ok(Taken::Aborted { id: _ }) => Ok(FrameOutcome::Nothing),
         Ok(Taken::Closed) => close(conn, outs),
         Ok(Taken::Opening { id, handle, renew }) => open(
             alloc,
@@ -253,42 +229,40 @@ fn talk(
             Opening { id, handle, renew },
             outs,
         ),
-        Ok(Taken::Request { id, body }) => Ok(Reacted {
-            phase: Phase::Talking(channel),
-            asked: FrameOutcome::Request(Request {
-                conn,
-                key,
-                id,
-                body,
-            }),
-        }),
+        Ok(Taken::Request { id, body }) => Ok(FrameOutcome::Request(Request {
+            conn,
+            key,
+            id,
+            body,
+        })),
         Err(Refusal::Service(status)) => refuse(alloc, conn, status, outs),
         Err(Refusal::Memory) => Err(AllocError),
         Err(Refusal::Exhausted) => unreachable!(),
     }
 }
 
-/// A frame of a connection in this phase.
+/// A frame of a connection in this phase, which is changed in its place.
 pub(crate) fn frame_reaction(
     alloc: Global,
     setting: &Setting,
     channels: &mut u32,
     sender: Sender,
-    phase: Phase,
+    phase: &mut Phase,
     frame: &Frame,
     outs: &mut ShortList<Out>,
-) -> Result<Reacted, AllocError>
-    ensures { IfOk result (λ t. counted channels.new (reaction t.phase outs.new t.asked)
-        ≡ counted_after outs.old (reaction_of setting.now channels.old sender.conn sender.key frame.now phase)) }
+) -> Result<FrameOutcome, AllocError>
+    ensures { IfOk result (λ asked. counted channels.new (reaction phase.new outs.new asked)
+        ≡ counted_after outs.old (reaction_of setting.now channels.old sender.conn sender.key frame.now phase.old)) }
 {
-    match phase {
-        Phase::Greeting => take_first_frame(alloc, setting, sender.conn, frame, outs),
-        Phase::Talking(channel) => { talk(alloc, setting, channels, sender, channel, frame, outs) }
-        Phase::Closed => Ok(Reacted {
-            phase: Phase::Closed,
-            asked: FrameOutcome::Closed,
-        }),
+    let asked = match phase {
+        Phase::Greeting => take_first_frame(alloc, setting, sender.conn, phase, frame, outs)?,
+        Phase::Talking(channel) => talk(alloc, setting, channels, sender, channel, frame, outs)?,
+        Phase::Closed => FrameOutcome::Closed,
+    };
+    if matches!(&asked, FrameOutcome::Closed) {
+        *phase = Phase::Closed;
     }
+    Ok(asked)
 }
 
 /// What is no frame ends a connection.
@@ -296,10 +270,12 @@ pub(crate) fn break_off(
     alloc: Global,
     conn: u64,
     fault: FrameFault,
+    phase: &mut Phase,
     outs: &mut ShortList<Out>,
-) -> Result<Reacted, AllocError>
-    ensures { IfOk result (λ t. reaction t.phase outs.new t.asked ≡ reaction_after outs.old (fault_reaction conn fault)) }
+) -> Result<FrameOutcome, AllocError>
+    ensures { IfOk result (λ asked. reaction phase.new outs.new asked ≡ reaction_after outs.old (fault_reaction conn fault)) }
 {
+    *phase = Phase::Closed;
     match fault {
         FrameFault::Letters => refuse(alloc, conn, Status::BAD_TCP_MESSAGE_TYPE_INVALID, outs),
         FrameFault::Size => refuse(alloc, conn, Status::BAD_TCP_MESSAGE_TOO_LARGE, outs),
