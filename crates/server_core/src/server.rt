@@ -30,6 +30,15 @@ pub struct Server {
     world: Option<World>,
 }
 
+// Nothing is left of a server that is halted. It stands apart, so that a step that goes on makes no room for another world
+// (docs/MEASURED.md, "Over sockets").
+#[inline(never)]
+fn let_go(world: &mut Option<World>)
+    ensures { world.new ≡ None }
+{
+    *world = None;
+}
+
 impl Server {
     /// A server of this configuration and address space, whose clock shows the configured start. It
     /// knows no connection. Its histories begin with the values that the nodes had before, of each the last ones that the
@@ -71,7 +80,7 @@ impl Server {
         };
         let answer = world.step(alloc, event);
         if matches!(&answer, Err(StepFault::Memory | StepFault::Exhausted)) {
-            self.world = None;
+            let_go(&mut self.world);
         }
         answer
     }
@@ -146,7 +155,7 @@ impl Server {
         ensures fault { result.fault ≡ Some step_fault.Memory }
         ensures halted { world_of self.new ≡ None }
     {
-        self.world = None;
+        let_go(&mut self.world);
         Ran {
             steps,
             fault: Some(StepFault::Memory),
