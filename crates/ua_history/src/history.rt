@@ -210,8 +210,9 @@ impl History {
     }
 
     /// The first values of a node in an interval, in its order, each where it stands. The first of them is found in
-    /// logarithmic time; then they are taken run by run, and of each run no value but the last is looked at. Where more
-    /// are left, [`Interval::past`] the last one's time has them.
+    /// logarithmic time; then they are taken run by run. Of a run the value at its end is looked at, and of a segment the
+    /// first and the last time, or those that a search meets where the interval ends in it. Where more are left,
+    /// [`Interval::past`] the last one's time has them.
     #[tactic(auto, using(crate::proofs::Between::none_raw))]
     pub fn read<'a>(
         &'a self,

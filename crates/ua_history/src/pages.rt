@@ -178,7 +178,7 @@ fn is_forward(low: Bound<i64>, high: Bound<i64>) -> bool
 }
 
 /// The first of the values in an interval, in its order, each where it stands. The first of them is found in logarithmic
-/// time; then they are taken run by run, and of each run no value but the last is looked at.
+/// time; then they are taken run by run, with no look at each of their values.
 #[tactic(auto, using(crate::proofs::Between::goes_forward, crate::proofs::Between::none_backward))]
 pub(crate) fn page<'a>(
     alloc: Global,

@@ -60,7 +60,7 @@ release_result_of (Err code) = status_alone code
 
 -- ---- words of the contracts
 
--- these values are written behind what was there, and each of them is read again
+-- these values are written behind what was there, each takes a byte at least, and each of them is read again
 pub record AreWritten (before after : List ℕ) (values : List DataValue) : Type 0 where
   pub written : after ≡ before ++ flat_map data_value_encoding values
   pub some : length values ≤ length (flat_map data_value_encoding values)

@@ -85,12 +85,20 @@ fn write_history(alloc: Global, output: &mut Vec<u8>) -> io::Result<()> {
         }
     }
     let cut = history.read(alloc, &node, Interval::new(Moment(0), Moment(0)), 9)?;
-    let runs = match cut.values.runs() {
-        KeptRuns::Rising(runs) | KeptRuns::Falling(runs) => runs,
-    };
-    for run in runs {
-        for (time, value) in *run {
-            write!(output, "{} {:?}\n", time, value.value)?;
+    match cut.values.runs() {
+        KeptRuns::Rising(runs) => {
+            for run in runs {
+                for (time, value) in run.iter() {
+                    write!(output, "{} {:?}\n", time, value.value)?;
+                }
+            }
+        }
+        KeptRuns::Falling(runs) => {
+            for run in runs {
+                for (time, value) in run.iter().rev() {
+                    write!(output, "{} {:?}\n", time, value.value)?;
+                }
+            }
         }
     }
     Ok(())
