@@ -4,9 +4,9 @@
 usage: scripts/over_sockets.py PROGRAM [ROUNDS [SECONDS]]    a program that was built with its proofs; 12 rounds of 2 seconds
                                                            where left out
 
-Both servers run on one processor, and their clients on another, so it wants two. Told is, for 1 client and for 50, how many Reads and echoes came
-there and back in a second, the least, the median and the most, how many echoes came for a Read in the same round, the median of all,
-and what a Read takes of the server's own time and of the system's.
+Both servers run on one processor, and their clients on another, so it wants two. Told is, for 1 client and for 50, how many Reads
+and echoes came there and back in a second, the least, the median and the most, how many echoes came for a Read in the same round,
+the median of all, and what a Read takes of the server's own time and of the system's.
 """
 import os
 import re
