@@ -45,6 +45,8 @@ impl Wire for ReadValueId {
 
 #[tactic(auto, unfolding(crate::specs::ReadValueIds::read_value_id_reading))]
 impl Walk for ReadValueId {
+    // Inlined into the loop over a request's list (docs/MEASURED.md, "Requests").
+    #[inline(always)]
     fn walk(cursor: &mut Cursor<'_>) -> Result<(), TakeFault> {
         NodeId::skip(cursor)?;
         u32::skip(cursor)?;

@@ -49,6 +49,8 @@ impl Wire for WriteValue {
 
 #[tactic(auto, unfolding(crate::specs::Writing::write_value_reading))]
 impl Walk for WriteValue {
+    // Inlined into the loop over a request's list (docs/MEASURED.md, "Requests").
+    #[inline(always)]
     fn walk(cursor: &mut Cursor<'_>) -> Result<(), TakeFault> {
         NodeId::skip(cursor)?;
         u32::skip(cursor)?;

@@ -23,6 +23,7 @@ fn skip_elements<T: Walk>(count: u32, cursor: &mut Cursor<'_>) -> Result<(), Tak
 
 // Moves past a list, and tells how many elements it has: None where it is null.
 #[tactic(auto, unfolding(ua_binary::specs::Arrays::array_reading))]
+#[inline(never)]
 pub(crate) fn skip_list<T: Walk>(cursor: &mut Cursor<'_>) -> Result<Option<u32>, TakeFault>
     ensures tells { Tells (option_map length) result cursor.new (array_reading T.reading cursor.old) }
     ensures no_memory { result ≢ Err Memory }

@@ -72,10 +72,12 @@ fn skip_dimensions(count: u32, cursor: &mut Cursor<'_>) -> Result<Option<u32>, T
 }
 
 // What follows is moved past, and of a flat list it is told how many elements it has: of one that isn't null, and has no
-// dimensions or exactly one. None is told of everything else.
+// dimensions or exactly one. None is told of everything else. Lists, and values of no fixed size, are moved past by functions of
+// their own, which aren't inlined, so that a number, which most values are, is passed by a short one (docs/MEASURED.md, "Requests").
 
 // Moves past a list and its dimensions, in which it must lie.
 #[tactic(auto, using(crate::proofs::Flat::of_one_dimension, crate::proofs::Flat::of_other_dimensions), unfolding(ua_binary::specs::Variants::content_reading))]
+#[inline(never)]
 fn skip_matrix<T: Walk>(cursor: &mut Cursor<'_>) -> Result<Option<u32>, TakeFault>
     ensures tells { Tells flat_len_in result cursor.new (content_reading T.reading 3 cursor.old) }
     ensures no_memory { result ≢ Err Memory }
@@ -145,6 +147,7 @@ fn skip_number(number: u8, flags: u8, cursor: &mut Cursor<'_>) -> Result<Option<
 
 // Moves past what follows a first byte with the number of a text, a moment, a Guid or bytes.
 #[tactic(auto, unfolding(ua_binary::specs::Variants::typed_reading))]
+#[inline(never)]
 fn skip_sized(number: u8, flags: u8, cursor: &mut Cursor<'_>) -> Result<Option<u32>, TakeFault>
     requires least { 12 ≤ number }
     requires most { number ≤ 16 }
@@ -162,6 +165,7 @@ fn skip_sized(number: u8, flags: u8, cursor: &mut Cursor<'_>) -> Result<Option<u
 
 // Moves past what follows a first byte with the number of an id, a status, a name or a structure.
 #[tactic(auto, unfolding(ua_binary::specs::Variants::typed_reading))]
+#[inline(never)]
 fn skip_named(number: u8, flags: u8, cursor: &mut Cursor<'_>) -> Result<Option<u32>, TakeFault>
     requires least { 17 ≤ number }
     requires most { number ≤ 22 }

@@ -18,6 +18,7 @@ pub trait Walk: Wire {
         ensures no_memory { result ≢ Err Memory };
 
     /// Moves past a field. The value that is left behind has a name in contracts.
+    #[inline(always)]
     final fn skip(cursor: &mut Cursor<'_>) -> Result<(), TakeFault>
         ensures skips { Skips result cursor.new (Self.reading cursor.old) }
         ensures no_memory { result ≢ Err Memory }
