@@ -58,20 +58,26 @@ impl<'a, T: View<'a>> ArrayView<'a, T> {
         }
     }
 
-    /// Whether it is null. A list stays what it is as its elements are looked at.
+    /// Whether it is null.
     pub fn is_null(&self) -> bool
         ensures { result ≡ is_none self.now }
     {
         self.left.is_none()
     }
+}
 
-    // The next element, behind which the list goes on. None at its end, and of a null list. It is inlined, so that an element
-    // isn't moved on its way to who goes through the list (docs/MEASURED.md, "Requests").
+// The elements that are left, one after the other. A null list has none.
+impl<'a, T: View<'a>> Iterator for ArrayView<'a, T> {
+    type Item = T;
+
+    ghost next_gives = { YieldsFirst or_none };
+
+    ghost remaining = { item_count or_none };
+
+    // It is inlined, and in one piece, so that an element isn't moved on its way to who goes through the list
+    // (docs/MEASURED.md, "Requests").
     #[inline(always)]
-    fn step(&mut self) -> Option<T>
-        ensures element { result ≡ first_in self.old }
-        ensures rest { self.new ≡ option_map (drop 1) self.old }
-    {
+    fn next(&mut self) -> Option<T> {
         let Some(left) = self.left else {
             return None;
         };
@@ -85,21 +91,6 @@ impl<'a, T: View<'a>> ArrayView<'a, T> {
             }
             Err(_) => unreachable!(),
         }
-    }
-}
-
-// The elements that are left, one after the other. A null list has none.
-#[tactic(auto, using(crate::proofs::Stepping::yields_first))]
-impl<'a, T: View<'a>> Iterator for ArrayView<'a, T> {
-    type Item = T;
-
-    ghost next_gives = { YieldsFirst or_none };
-
-    ghost remaining = { item_count or_none };
-
-    #[inline(always)]
-    fn next(&mut self) -> Option<T> {
-        self.step()
     }
 }
 

@@ -13,9 +13,6 @@ use crate::texts::{ByteStringView, TextView};
 use std::cmp::Ordering;
 use ua_types::{ByteString, Identifier, NodeId, Text};
 
-// It and the next aren't inlined, so that numbers, which most ids are, are compared by a short function (docs/MEASURED.md,
-// "Requests").
-#[inline(never)]
 fn compare_texts(text: &Text, view: &TextView<'_>) -> Ordering
     ensures { result ≡ option_cmp (slice_cmp nat_cmp) text.now view.now }
 {
@@ -27,7 +24,6 @@ fn compare_texts(text: &Text, view: &TextView<'_>) -> Ordering
     }
 }
 
-#[inline(never)]
 fn compare_bytes(bytes: &ByteString, view: &ByteStringView<'_>) -> Ordering
     ensures { result ≡ option_cmp (slice_cmp nat_cmp) bytes.now view.now }
 {
@@ -39,7 +35,8 @@ fn compare_bytes(bytes: &ByteString, view: &ByteStringView<'_>) -> Ordering
     }
 }
 
-#[inline(always)]
+// It isn't inlined, so that what compares numbers is short.
+#[inline(never)]
 fn compare_identifiers(identifier: &Identifier, view: &IdentifierView<'_>) -> Ordering
     ensures { result ≡ identifiers.ghosts.cmp identifier.now (identifier_of view.now) }
 {
@@ -66,13 +63,19 @@ fn compare_identifiers(identifier: &Identifier, view: &IdentifierView<'_>) -> Or
 }
 
 /// How an id stands to one that is looked at in place, in the order of ids. Takes no memory.
+// Most ids are numbers, and those are compared inline (docs/MEASURED.md, "Requests").
 #[inline(always)]
 pub fn compare(id: &NodeId, view: &NodeIdView<'_>) -> Ordering
     ensures { result ≡ id_cmp id.now view.now }
 {
-    match id.namespace.cmp(&view.namespace) {
-        Ordering::Equal => compare_identifiers(&id.identifier, &view.identifier),
-        Ordering::Less => Ordering::Less,
-        Ordering::Greater => Ordering::Greater,
+    if id.namespace < view.namespace {
+        return Ordering::Less;
+    }
+    if id.namespace > view.namespace {
+        return Ordering::Greater;
+    }
+    match (&id.identifier, &view.identifier) {
+        (Identifier::Numeric(a), IdentifierView::Numeric(b)) => a.cmp(b),
+        _ => compare_identifiers(&id.identifier, &view.identifier),
     }
 }

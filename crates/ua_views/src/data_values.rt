@@ -83,6 +83,8 @@ impl<'a> Readable for DataValueView<'a> {
 
 #[tactic(auto, unfolding(ua_binary::specs::DataValues::data_value_reading))]
 impl<'a> View<'a> for DataValueView<'a> {
+    // Inlined into the loop over a request's list (docs/MEASURED.md, "Requests").
+    #[inline(always)]
     fn look(cursor: &mut Cursor<'a>) -> Result<DataValueView<'a>, TakeFault> {
         let mask = cursor.byte()?;
         let value = look_where_set::<VariantView<'a>>(mask % 2, cursor)?;

@@ -1,6 +1,6 @@
 //! Ids of nodes.
 
-ghost use Rattle.std.specs.Prelude.{◌≡◌, ◌≢◌, Err, IfOk, IsOk};
+ghost use Rattle.std.specs.Prelude.{◌≡◌, ◌≢◌, ◌<◌, Err, IfOk, IsOk};
 ghost use Rattle.ua_binary.specs.declared.fault.TakeFault.TheVariants.{Memory};
 ghost use Rattle.ua_binary.specs.ExpandedNodeIds.{expanded_node_id_reading};
 ghost use Rattle.ua_binary.specs.NodeIds.{node_id_reading, after_form_reading};
@@ -122,49 +122,41 @@ fn numeric<'a>(namespace: u16, number: u32) -> NodeIdView<'a>
     }
 }
 
-// Looks at what follows the first byte of an id with a text.
+// Looks at what follows the first byte of an id that is no number.
 #[tactic(auto, unfolding(ua_binary::specs::NodeIds::after_form_reading))]
 #[inline(never)]
-fn look_text_id<'a>(cursor: &mut Cursor<'a>) -> Result<NodeIdView<'a>, TakeFault>
-    ensures reads { Reads result cursor.new (after_form_reading 3 cursor.old) }
+fn look_long_form<'a>(form: u8, cursor: &mut Cursor<'a>) -> Result<NodeIdView<'a>, TakeFault>
+    requires { 2 < form }
+    ensures reads { Reads result cursor.new (after_form_reading form cursor.old) }
     ensures no_memory { result ≢ Err Memory }
 {
-    let namespace = cursor.short_number()?;
-    let text = TextView::look(cursor)?;
-    Ok(NodeIdView {
-        namespace,
-        identifier: IdentifierView::String(text),
-    })
-}
-
-// Looks at what follows the first byte of an id with a Guid.
-#[tactic(auto, unfolding(ua_binary::specs::NodeIds::after_form_reading))]
-#[inline(never)]
-fn look_guid_id<'a>(cursor: &mut Cursor<'a>) -> Result<NodeIdView<'a>, TakeFault>
-    ensures reads { Reads result cursor.new (after_form_reading 4 cursor.old) }
-    ensures no_memory { result ≢ Err Memory }
-{
-    let namespace = cursor.short_number()?;
-    let guid = cursor.guid()?;
-    Ok(NodeIdView {
-        namespace,
-        identifier: IdentifierView::Guid(guid),
-    })
-}
-
-// Looks at what follows the first byte of an id with bytes.
-#[tactic(auto, unfolding(ua_binary::specs::NodeIds::after_form_reading))]
-#[inline(never)]
-fn look_opaque_id<'a>(cursor: &mut Cursor<'a>) -> Result<NodeIdView<'a>, TakeFault>
-    ensures reads { Reads result cursor.new (after_form_reading 5 cursor.old) }
-    ensures no_memory { result ≢ Err Memory }
-{
-    let namespace = cursor.short_number()?;
-    let bytes = ByteStringView::look(cursor)?;
-    Ok(NodeIdView {
-        namespace,
-        identifier: IdentifierView::Opaque(bytes),
-    })
+    match form {
+        3 => {
+            let namespace = cursor.short_number()?;
+            let text = TextView::look(cursor)?;
+            Ok(NodeIdView {
+                namespace,
+                identifier: IdentifierView::String(text),
+            })
+        }
+        4 => {
+            let namespace = cursor.short_number()?;
+            let guid = cursor.guid()?;
+            Ok(NodeIdView {
+                namespace,
+                identifier: IdentifierView::Guid(guid),
+            })
+        }
+        5 => {
+            let namespace = cursor.short_number()?;
+            let bytes = ByteStringView::look(cursor)?;
+            Ok(NodeIdView {
+                namespace,
+                identifier: IdentifierView::Opaque(bytes),
+            })
+        }
+        _ => Err(TakeFault::Form),
+    }
 }
 
 // Looks at what follows the first byte, which says the form. Most ids are numbers, so those are looked at inline (docs/MEASURED.md,
@@ -190,10 +182,7 @@ fn look_form<'a>(form: u8, cursor: &mut Cursor<'a>) -> Result<NodeIdView<'a>, Ta
             let number = cursor.number()?;
             Ok(numeric(namespace, number))
         }
-        3 => look_text_id(cursor),
-        4 => look_guid_id(cursor),
-        5 => look_opaque_id(cursor),
-        _ => Err(TakeFault::Form),
+        _ => look_long_form(form, cursor),
     }
 }
 

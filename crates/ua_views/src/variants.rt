@@ -86,6 +86,8 @@ impl<'a> VariantView<'a> {
     }
 
     /// A copy to keep.
+    // Inlined into the loop over a request's list (docs/MEASURED.md, "Requests").
+    #[inline(always)]
     pub fn to_value(&self, alloc: Global) -> Result<Variant, AllocError>
         ensures { IfOk result (λ value. value ≡ self.now) }
     {
