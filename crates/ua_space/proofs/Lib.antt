@@ -9,6 +9,7 @@ pub mod Marking
 pub mod Bits
 pub mod Soundness
 pub mod Emptying
+pub mod Placing
 pub mod Searching
 pub mod Walking
 pub mod Referring

@@ -22,10 +22,11 @@ use Rattle.ua_space.specs.declared.node.Node.{Node}
 use Rattle.ua_space.specs.Nodes.{Nodes, node_at}
 use Rattle.ua_space.specs.declared.node.NodeDetails.{NodeDetails}
 use Rattle.ua_space.specs.declared.node.NodeDetails.TheVariants as details
-use Rattle.ua_space.specs.NodePlaces.{IsPlaceOf, takes_in, with_value_in}
+use Rattle.ua_space.specs.NodePlaces.{IsPlaceOf, place_of, takes_in, with_value_in}
 use Rattle.ua_space.specs.Values.{holding, put, takes_at, variable_of, variable_takes, with_value}
 use Rattle.ua_space.specs.Variables.{VariableAttributes}
 use Rattle.ua_space.proofs.Places.{at_get, get_there, none_past}
+use Rattle.ua_space.proofs.Placing.{first_place}
 use Rattle.ua_space.proofs.Soundness.{tied}
 
 -- ---- the other way round
@@ -125,6 +126,9 @@ module _ (es : Nodes) (sorted : IsStrictlySortedBy id_cmp (keys_of es)) where
   there id place ends d =
       let same : (get_or es place d).0 ≡ id = tied (get_or es place d).0 id (ap is_eq (ends.1 d)) in
       subst (λ (q : NodeId). is_at (id_cmp id) q ≡ true) (sym same) (ap is_eq (tied_itself total-law id))
+
+  pub place_found : (id : NodeId) (place : ℕ) → IsPlaceOf id es (Ok place) → place_of id es ≡ Some place
+  place_found id place ends = first_place id es place ends.0 (before id place ends) (there id place ends)
 
   pub set_there : (id : NodeId) (place : ℕ) (value : DataValue) → IsPlaceOf id es (Ok place) → with_value_in place value es ≡ with_value id value es
   set_there id place value ends = by (slice_get es place) refl

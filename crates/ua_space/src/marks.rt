@@ -1,38 +1,33 @@
 //! Marks of numbers, a bit for each.
 
-ghost use Rattle.std.specs.Prelude.{◌≡◌, ◌<◌, ℕ, false, true, length, slice_set};
+ghost use Rattle.std.specs.Prelude.{◌≡◌, ◌<◌, ◌*◌, ℕ, false, true, length, slice_set};
 ghost use Rattle.ua_space.specs.Marks.{is_marked};
 
-use crate::build::MAX_NODES;
 use std::marker::Model;
 
-// How many words have a bit for each number.
-const WORDS: usize = MAX_NODES / 64;
-
-/// Which numbers below [`MAX_NODES`] are marked.
+/// Which numbers below 64 times `WORDS` are marked.
 ///
 /// It lies on the stack, where a byte for each number would be eight times as large.
 #[derive(Drop)]
-pub(crate) struct Marks {
+pub(crate) struct Marks<const WORDS: usize> {
     // The bits of the numbers, the lowest of the first word first.
     words: [u64; WORDS],
 }
 
-impl Model for Marks {
-    ghost use Rattle.std.specs.Prelude.{Bool, List};
+impl<const WORDS: usize> Model for Marks<WORDS> {
+    ghost use Rattle.std.specs.Prelude.{Bool, List, ◌*◌};
     ghost use Rattle.ua_space.specs.Marks.{bits_of};
-    ghost use Rattle.ua_space.specs.declared.build.TheConstants.{MAX_NODES};
 
     ghost Value = { List Bool };
 
-    ghost view = { λ m. bits_of m.words 0 MAX_NODES };
+    ghost view = { λ m. bits_of m.words 0 (WORDS * 64) };
 }
 
-impl Marks {
+impl<const WORDS: usize> Marks<WORDS> {
     /// No number is marked.
-    pub(crate) fn none() -> Marks
+    pub(crate) fn none() -> Marks<WORDS>
         ensures none { (n : ℕ) → is_marked result n ≡ false }
-        ensures size { length result ≡ MAX_NODES }
+        ensures size { length result ≡ WORDS * 64 }
     {
         Marks { words: [0; WORDS] }
     }
@@ -40,8 +35,7 @@ impl Marks {
     /// Whether a number is marked.
     pub(crate) fn has(&self, number: usize) -> bool
         requires { number < length self.now }
-        ensures mark { result ≡ is_marked self.now number }
-        ensures size { length self.now ≡ MAX_NODES }
+        ensures { result ≡ is_marked self.now number }
     {
         (self.words[number / 64] >> (number % 64)) & 1 == 1
     }

@@ -5,7 +5,7 @@ ghost use Rattle.std.specs.Option.{option_copied};
 ghost use Rattle.ua_types.specs.declared.node_id.NodeId.{NodeId};
 ghost use Rattle.ua_space.specs.Histories.{history_in, without_history_in};
 ghost use Rattle.ua_space.specs.Nodes.{node_at};
-ghost use Rattle.ua_space.specs.NodePlaces.{IsPlaceOf, takes_in, with_value_in};
+ghost use Rattle.ua_space.specs.NodePlaces.{IsPlaceOf, place_of, takes_in, with_value_in};
 ghost use Rattle.ua_space.specs.Values.{takes_at, with_value};
 
 use crate::node::{Node, NodeDetails};
@@ -38,6 +38,13 @@ impl Model for NodeTable {
     ghost view = { λ t. t.entries.items };
 
     ghost invariant = { λ t. IsStrictlySortedBy id_cmp (keys_of t.entries.items) };
+}
+
+// Where the search for an id ends.
+fn search(entries: &Vec<(NodeId, Node)>, id: &NodeIdView<'_>) -> Result<usize, usize>
+    ensures { IsPlaceOf id.now entries.now.items result }
+{
+    entries.binary_search_by(|entry| compare(&entry.0, id))
 }
 
 // Gives the variable at this place a new value.
@@ -74,18 +81,21 @@ impl NodeTable {
         Ok(NodeTable { entries })
     }
 
-    // Where the search for an id ends.
-    fn place(&self, id: &NodeIdView<'_>) -> Result<usize, usize>
-        ensures { IsPlaceOf id.now self.now result }
+    /// The place of the node with an id that is looked at in place.
+    pub(crate) fn place(&self, id: &NodeIdView<'_>) -> Option<usize>
+        ensures { result ≡ place_of id.now self.now }
     {
-        self.entries.binary_search_by(|entry| compare(&entry.0, id))
+        match search(&self.entries, id) {
+            Err(_) => None,
+            Ok(place) => Some(place),
+        }
     }
 
     /// The node with an id that is looked at in place.
     pub(crate) fn find(&self, id: &NodeIdView<'_>) -> Option<&Node>
         ensures { option_copied result ≡ node_at id.now self.now }
     {
-        match self.place(id) {
+        match search(&self.entries, id) {
             Err(_) => None,
             Ok(place) => match self.entries.get(place) {
                 None => None,
@@ -106,10 +116,18 @@ impl NodeTable {
         requires { takes_at id.now value self.old ≡ true }
         ensures { self.new ≡ with_value id.now value self.old }
     {
-        match self.place(&NodeIdView::of(id)) {
+        match search(&self.entries, &NodeIdView::of(id)) {
             Err(_) => {}
             Ok(place) => set_in(&mut self.entries, place, value),
         }
+    }
+
+    /// Gives the variable at a place in the order of ids a new value.
+    pub(crate) fn set_value_in(&mut self, place: usize, value: DataValue)
+        requires { takes_in (slice_get self.old place) value ≡ true }
+        ensures { self.new ≡ with_value_in place value self.old }
+    {
+        set_in(&mut self.entries, place, value);
     }
 
     /// The node at a place in the order of ids.

@@ -4,7 +4,7 @@
 //! the references to each marked type. Where that marks a higher number, which the order of the numbers
 //! rules out in a space, it goes back there.
 
-ghost use Rattle.std.specs.Prelude.{◌≡◌, ◌≤◌, ◌<◌, ℕ, Some, false, filter, length, slice_index_or};
+ghost use Rattle.std.specs.Prelude.{◌≡◌, ◌≤◌, ◌<◌, ◌*◌, ℕ, Some, false, filter, length, slice_index_or};
 ghost use Rattle.std.specs.List.{All};
 ghost use Rattle.ua_types.specs.declared.node_id.NodeId.{NodeId};
 ghost use Rattle.ua_space.specs.Indexes.{IsIndex, items, stands_under};
@@ -14,6 +14,7 @@ ghost use Rattle.ua_space.specs.Numbers.{number_at, AreNumbered};
 ghost use Rattle.ua_space.specs.Spaces.{most_nodes};
 ghost use Rattle.ua_space.specs.Subtypes.{is_subtype};
 
+use crate::build::MAX_NODES;
 use crate::index::{Index, places_at};
 use crate::marks::Marks;
 use crate::numbering::Numbering;
@@ -32,13 +33,14 @@ fn above<'a>(triples: &'a [Triple], supertypes: &'a Index, lower: &NodeId) -> Tr
 
 // Marks the sources of these references. The number that is given back is `next`, or one more than the
 // highest number that wasn't marked before.
-fn mark(
+fn mark<const WORDS: usize>(
     numbers: &BTreeMap<NodeId, usize>,
     list: &TripleList<'_>,
-    marks: &mut Marks,
+    marks: &mut Marks<WORDS>,
     next: usize,
 ) -> usize
-    requires { (id : NodeId) (n : ℕ) → number_at numbers.now.entries id ≡ Some n → n < length marks.old }
+    requires numbered { (id : NodeId) (n : ℕ) → number_at numbers.now.entries id ≡ Some n → n < length marks.old }
+    requires fits { length marks.old ≤ most_nodes }
     ensures { (marks.new, result) ≡ marked (number_at numbers.now.entries) (marks.old, next) list.now }
 {
     let mut next = next;
@@ -61,17 +63,18 @@ fn mark(
 
 // Marks supertypes until the upper type is marked, or there are no more. The references to the marked
 // types from `next` on are followed.
-fn walk_up(
+fn walk_up<const WORDS: usize>(
     triples: &[Triple],
     supertypes: &Index,
     numbering: &Numbering,
-    marks: &mut Marks,
+    marks: &mut Marks<WORDS>,
     lower: &NodeId,
     upper: usize,
 ) -> bool
     requires index { IsIndex items (stands_under keys.Subtype) triples.now supertypes.now.entries }
     requires numbered { AreNumbered triples.now numbering.now.types.items numbering.now.numbers.entries }
     requires enough { length numbering.now.types.items ≤ length marks.old }
+    requires fits { length marks.old ≤ most_nodes }
     requires unmarked { (n : ℕ) → is_marked marks.old n ≡ false }
     requires upper { upper < length numbering.now.types.items }
     ensures { (id : NodeId) → number_at numbering.now.numbers.entries id ≡ Some upper → (lower.now ≡ id → ⊥) → result ≡ is_subtype triples.now lower.now id }
@@ -92,8 +95,33 @@ fn walk_up(
     marks.has(upper)
 }
 
-// Whether a walk up from a type reaches another. The marks lie on the stack and are made here, so that a
-// question that needs no walk doesn't pay for them.
+// How many words have a bit for each type of a space of some thousands, and of the largest.
+const FEW: usize = 64;
+
+const MANY: usize = MAX_NODES / 64;
+
+// Whether a walk up from a type reaches another, by this many words of marks. They lie on the stack and are made here, so
+// that who needs none, or few, doesn't pay for more.
+#[inline(never)]
+fn reaches_by<const WORDS: usize>(
+    triples: &[Triple],
+    supertypes: &Index,
+    numbering: &Numbering,
+    lower: &NodeId,
+    upper: usize,
+) -> bool
+    requires index { IsIndex items (stands_under keys.Subtype) triples.now supertypes.now.entries }
+    requires numbered { AreNumbered triples.now numbering.now.types.items numbering.now.numbers.entries }
+    requires enough { length numbering.now.types.items ≤ WORDS * 64 }
+    requires fits { WORDS * 64 ≤ most_nodes }
+    requires upper { upper < length numbering.now.types.items }
+    ensures { (id : NodeId) → number_at numbering.now.numbers.entries id ≡ Some upper → (lower.now ≡ id → ⊥) → result ≡ is_subtype triples.now lower.now id }
+{
+    let mut marks = Marks::<WORDS>::none();
+    walk_up(triples, supertypes, numbering, &mut marks, lower, upper)
+}
+
+// Whether a walk up from a type reaches another.
 fn reaches(
     triples: &[Triple],
     supertypes: &Index,
@@ -107,8 +135,11 @@ fn reaches(
     requires upper { upper < length numbering.now.types.items }
     ensures { (id : NodeId) → number_at numbering.now.numbers.entries id ≡ Some upper → (lower.now ≡ id → ⊥) → result ≡ is_subtype triples.now lower.now id }
 {
-    let mut marks = Marks::none();
-    walk_up(triples, supertypes, numbering, &mut marks, lower, upper)
+    if numbering.types.len() <= 64 * FEW {
+        reaches_by::<FEW>(triples, supertypes, numbering, lower, upper)
+    } else {
+        reaches_by::<MANY>(triples, supertypes, numbering, lower, upper)
+    }
 }
 
 /// Whether the one type is the other or one of its subtypes.
