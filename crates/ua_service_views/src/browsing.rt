@@ -4,6 +4,7 @@ ghost use Rattle.std.specs.Prelude.{◌≡◌, IfOk};
 ghost use Rattle.ua_service_messages.specs.Browsing.{browse_description_reading, browse_request_reading, browse_next_request_reading};
 
 use crate::headers::RequestHeaderView;
+use crate::requests::RequestView;
 use std::alloc::{AllocError, Global};
 use std::marker::Model;
 use ua_binary::{Cursor, TakeFault};
@@ -103,8 +104,25 @@ impl<'a> Readable for BrowseRequestView<'a> {
 #[tactic(auto, unfolding(ua_service_messages::specs::Browsing::browse_request_reading))]
 impl<'a> View<'a> for BrowseRequestView<'a> {
     fn look(cursor: &mut Cursor<'a>) -> Result<BrowseRequestView<'a>, TakeFault> {
+        let header = RequestHeaderView::look(cursor)?;
+        Self::behind(header, cursor)
+    }
+
+    fn pass(cursor: &mut Cursor<'a>) -> Result<(), TakeFault> {
+        BrowseRequest::skip(cursor)
+    }
+}
+
+#[tactic(auto, unfolding(ua_service_messages::specs::Browsing::browse_request_reading))]
+impl<'a> RequestView<'a> for BrowseRequestView<'a> {
+    ghost header_of = { λ request. request.request_header };
+
+    fn behind(
+        header: RequestHeaderView<'a>,
+        cursor: &mut Cursor<'a>,
+    ) -> Result<BrowseRequestView<'a>, TakeFault> {
         Ok(BrowseRequestView {
-            request_header: RequestHeaderView::look(cursor)?,
+            request_header: header,
             view_id: NodeIdView::look(cursor)?,
             view_timestamp: Moment::look(cursor)?,
             view_version: u32::look(cursor)?,
@@ -113,8 +131,8 @@ impl<'a> View<'a> for BrowseRequestView<'a> {
         })
     }
 
-    fn pass(cursor: &mut Cursor<'a>) -> Result<(), TakeFault> {
-        BrowseRequest::skip(cursor)
+    fn header(&self) -> &RequestHeaderView<'a> {
+        &self.request_header
     }
 }
 
@@ -142,14 +160,31 @@ impl<'a> Readable for BrowseNextRequestView<'a> {
 #[tactic(auto, unfolding(ua_service_messages::specs::Browsing::browse_next_request_reading))]
 impl<'a> View<'a> for BrowseNextRequestView<'a> {
     fn look(cursor: &mut Cursor<'a>) -> Result<BrowseNextRequestView<'a>, TakeFault> {
+        let header = RequestHeaderView::look(cursor)?;
+        Self::behind(header, cursor)
+    }
+
+    fn pass(cursor: &mut Cursor<'a>) -> Result<(), TakeFault> {
+        BrowseNextRequest::skip(cursor)
+    }
+}
+
+#[tactic(auto, unfolding(ua_service_messages::specs::Browsing::browse_next_request_reading))]
+impl<'a> RequestView<'a> for BrowseNextRequestView<'a> {
+    ghost header_of = { λ request. request.request_header };
+
+    fn behind(
+        header: RequestHeaderView<'a>,
+        cursor: &mut Cursor<'a>,
+    ) -> Result<BrowseNextRequestView<'a>, TakeFault> {
         Ok(BrowseNextRequestView {
-            request_header: RequestHeaderView::look(cursor)?,
+            request_header: header,
             release_continuation_points: bool::look(cursor)?,
             continuation_points: ArrayView::<ByteStringView<'a>>::look(cursor)?,
         })
     }
 
-    fn pass(cursor: &mut Cursor<'a>) -> Result<(), TakeFault> {
-        BrowseNextRequest::skip(cursor)
+    fn header(&self) -> &RequestHeaderView<'a> {
+        &self.request_header
     }
 }

@@ -4,6 +4,7 @@ ghost use Rattle.std.specs.Prelude.{◌≡◌, IfOk};
 ghost use Rattle.ua_service_messages.specs.History.{read_raw_modified_details_reading, history_read_value_id_reading, history_read_request_reading};
 
 use crate::headers::RequestHeaderView;
+use crate::requests::RequestView;
 use std::alloc::{AllocError, Global};
 use std::marker::Model;
 use ua_binary::{Cursor, TakeFault};
@@ -141,8 +142,25 @@ impl<'a> Readable for HistoryReadRequestView<'a> {
 #[tactic(auto, unfolding(ua_service_messages::specs::History::history_read_request_reading))]
 impl<'a> View<'a> for HistoryReadRequestView<'a> {
     fn look(cursor: &mut Cursor<'a>) -> Result<HistoryReadRequestView<'a>, TakeFault> {
+        let header = RequestHeaderView::look(cursor)?;
+        Self::behind(header, cursor)
+    }
+
+    fn pass(cursor: &mut Cursor<'a>) -> Result<(), TakeFault> {
+        HistoryReadRequest::skip(cursor)
+    }
+}
+
+#[tactic(auto, unfolding(ua_service_messages::specs::History::history_read_request_reading))]
+impl<'a> RequestView<'a> for HistoryReadRequestView<'a> {
+    ghost header_of = { λ request. request.request_header };
+
+    fn behind(
+        header: RequestHeaderView<'a>,
+        cursor: &mut Cursor<'a>,
+    ) -> Result<HistoryReadRequestView<'a>, TakeFault> {
         Ok(HistoryReadRequestView {
-            request_header: RequestHeaderView::look(cursor)?,
+            request_header: header,
             history_read_details: ExtensionObjectView::look(cursor)?,
             timestamps_to_return: look_enumeration::<TimestampsToReturn>(cursor)?,
             release_continuation_points: bool::look(cursor)?,
@@ -150,7 +168,7 @@ impl<'a> View<'a> for HistoryReadRequestView<'a> {
         })
     }
 
-    fn pass(cursor: &mut Cursor<'a>) -> Result<(), TakeFault> {
-        HistoryReadRequest::skip(cursor)
+    fn header(&self) -> &RequestHeaderView<'a> {
+        &self.request_header
     }
 }

@@ -5,6 +5,7 @@ ghost use Rattle.ua_messages.specs.ReadValueIds.{read_value_id_reading};
 ghost use Rattle.ua_service_messages.specs.Reading.{read_request_reading};
 
 use crate::headers::RequestHeaderView;
+use crate::requests::RequestView;
 use std::alloc::{AllocError, Global};
 use std::marker::Model;
 use ua_binary::{Cursor, TakeFault};
@@ -67,6 +68,7 @@ impl<'a> View<'a> for ReadValueIdView<'a> {
         })
     }
 
+    #[inline(always)]
     fn pass(cursor: &mut Cursor<'a>) -> Result<(), TakeFault> {
         ReadValueId::skip(cursor)
     }
@@ -97,15 +99,32 @@ impl<'a> Readable for ReadRequestView<'a> {
 #[tactic(auto, unfolding(ua_service_messages::specs::Reading::read_request_reading))]
 impl<'a> View<'a> for ReadRequestView<'a> {
     fn look(cursor: &mut Cursor<'a>) -> Result<ReadRequestView<'a>, TakeFault> {
+        let header = RequestHeaderView::look(cursor)?;
+        Self::behind(header, cursor)
+    }
+
+    fn pass(cursor: &mut Cursor<'a>) -> Result<(), TakeFault> {
+        ReadRequest::skip(cursor)
+    }
+}
+
+#[tactic(auto, unfolding(ua_service_messages::specs::Reading::read_request_reading))]
+impl<'a> RequestView<'a> for ReadRequestView<'a> {
+    ghost header_of = { λ request. request.request_header };
+
+    fn behind(
+        header: RequestHeaderView<'a>,
+        cursor: &mut Cursor<'a>,
+    ) -> Result<ReadRequestView<'a>, TakeFault> {
         Ok(ReadRequestView {
-            request_header: RequestHeaderView::look(cursor)?,
+            request_header: header,
             max_age: Duration::look(cursor)?,
             timestamps_to_return: look_enumeration::<TimestampsToReturn>(cursor)?,
             nodes_to_read: ArrayView::<ReadValueIdView<'a>>::look(cursor)?,
         })
     }
 
-    fn pass(cursor: &mut Cursor<'a>) -> Result<(), TakeFault> {
-        ReadRequest::skip(cursor)
+    fn header(&self) -> &RequestHeaderView<'a> {
+        &self.request_header
     }
 }

@@ -4,6 +4,7 @@ ghost use Rattle.std.specs.Prelude.{◌≡◌, IfOk};
 ghost use Rattle.ua_service_messages.specs.Writing.{write_value_reading, write_request_reading};
 
 use crate::headers::RequestHeaderView;
+use crate::requests::RequestView;
 use std::alloc::{AllocError, Global};
 use std::marker::Model;
 use ua_binary::{Cursor, TakeFault};
@@ -61,6 +62,7 @@ impl<'a> View<'a> for WriteValueView<'a> {
         })
     }
 
+    #[inline(always)]
     fn pass(cursor: &mut Cursor<'a>) -> Result<(), TakeFault> {
         WriteValue::skip(cursor)
     }
@@ -88,13 +90,30 @@ impl<'a> Readable for WriteRequestView<'a> {
 #[tactic(auto, unfolding(ua_service_messages::specs::Writing::write_request_reading))]
 impl<'a> View<'a> for WriteRequestView<'a> {
     fn look(cursor: &mut Cursor<'a>) -> Result<WriteRequestView<'a>, TakeFault> {
-        Ok(WriteRequestView {
-            request_header: RequestHeaderView::look(cursor)?,
-            nodes_to_write: ArrayView::<WriteValueView<'a>>::look(cursor)?,
-        })
+        let header = RequestHeaderView::look(cursor)?;
+        Self::behind(header, cursor)
     }
 
     fn pass(cursor: &mut Cursor<'a>) -> Result<(), TakeFault> {
         WriteRequest::skip(cursor)
+    }
+}
+
+#[tactic(auto, unfolding(ua_service_messages::specs::Writing::write_request_reading))]
+impl<'a> RequestView<'a> for WriteRequestView<'a> {
+    ghost header_of = { λ request. request.request_header };
+
+    fn behind(
+        header: RequestHeaderView<'a>,
+        cursor: &mut Cursor<'a>,
+    ) -> Result<WriteRequestView<'a>, TakeFault> {
+        Ok(WriteRequestView {
+            request_header: header,
+            nodes_to_write: ArrayView::<WriteValueView<'a>>::look(cursor)?,
+        })
+    }
+
+    fn header(&self) -> &RequestHeaderView<'a> {
+        &self.request_header
     }
 }

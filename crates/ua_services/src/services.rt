@@ -1,6 +1,7 @@
 //! What is served.
 
 ghost use Rattle.std.specs.Prelude.{◌≡◌, true, IsOk, IfOk};
+ghost use Rattle.ua_service_views.specs.Headed.{IsHeaded};
 ghost use Rattle.ua_space.specs.Histories.{without_histories};
 ghost use Rattle.ua_services.specs.Serving.{Answers, Serves};
 ghost use Rattle.ua_services.specs.ServicesState.{no_services_used};
@@ -37,12 +38,11 @@ use std::alloc::{AllocError, Global};
 use ua_history::History;
 use ua_messages::{message_id, type_ids};
 use ua_monitored_items::Items;
-use ua_service_views::{RequestHeaderView, message_view};
+use ua_service_views::{Headed, header_view};
 use ua_session::Sessions;
 use ua_space::Space;
 use ua_subscriptions::Subscriptions;
 use ua_types::{Config, Status};
-use ua_views::NodeIdView;
 
 /// The services, and what they keep.
 ///
@@ -105,33 +105,32 @@ impl Services {
         let Ok(type_id) = message_id(body) else {
             return Ok(refuse(alloc, &caller, Status::BAD_DECODING_ERROR, setting.clock)?);
         };
-        let header: RequestHeaderView<'_> = match message_view(body) {
-            Ok(header) => header,
-            Err(_) => {
-                return Ok(refuse(alloc, &caller, Status::BAD_DECODING_ERROR, setting.clock)?);
-            }
+        let Ok(headed) = header_view(body) else {
+            return Ok(refuse(alloc, &caller, Status::BAD_DECODING_ERROR, setting.clock)?);
         };
-        caller.handle = header.request_handle;
-        let token = &header.authentication_token;
-        match self.pick(alloc, setting, &caller, token, type_id, body) {
+        caller.handle = headed.header.request_handle;
+        match self.pick(alloc, setting, &caller, type_id, headed, body) {
             Ok(served) => Ok(served),
             Err(Unserved::Fault(status)) => Ok(refuse(alloc, &caller, status, setting.clock)?),
             Err(Unserved::Halted(halt)) => Err(halt),
         }
     }
 
-    // Does what a request of this type asks for, or refuses it.
-    fn pick(
+    // Does what a request of this type asks for, or refuses it. Its header was looked at. What is looked at in place is looked
+    // at behind it, and what is taken is read from the front of the body.
+    fn pick<'a>(
         &mut self,
         alloc: Global,
         setting: &Setting,
         caller: &Caller,
-        token: &NodeIdView<'_>,
         type_id: u32,
-        body: &[u8],
+        headed: Headed<'a>,
+        body: &'a [u8],
     ) -> Result<Served, Unserved>
-        ensures { Answers setting.now caller.now true result self.new (picked setting.now caller.now token.now body.now self.old type_id) }
+        requires { IsHeaded body.now headed.header headed.fields }
+        ensures { Answers setting.now caller.now true result self.new (picked setting.now caller.now headed.entry.header.authentication_token body.now self.old type_id) }
     {
+        let token = &headed.header.authentication_token;
         match type_id {
             type_ids::GET_ENDPOINTS_REQUEST => {
                 GetEndpoints::take(alloc, setting, caller, body, self)
@@ -145,14 +144,14 @@ impl Services {
             type_ids::CLOSE_SESSION_REQUEST => {
                 CloseSession::take(alloc, setting, caller, body, self)
             }
-            type_ids::READ_REQUEST => Read::take(alloc, setting, caller, token, body, self),
-            type_ids::WRITE_REQUEST => Write::take(alloc, setting, caller, token, body, self),
-            type_ids::BROWSE_REQUEST => Browse::take(alloc, setting, caller, token, body, self),
+            type_ids::READ_REQUEST => Read::take(alloc, setting, caller, headed, self),
+            type_ids::WRITE_REQUEST => Write::take(alloc, setting, caller, headed, self),
+            type_ids::BROWSE_REQUEST => Browse::take(alloc, setting, caller, headed, self),
             type_ids::BROWSE_NEXT_REQUEST => {
-                BrowseNext::take(alloc, setting, caller, token, body, self)
+                BrowseNext::take(alloc, setting, caller, headed, self)
             }
             type_ids::HISTORY_READ_REQUEST => {
-                HistoryRead::take(alloc, setting, caller, token, body, self)
+                HistoryRead::take(alloc, setting, caller, headed, self)
             }
             type_ids::CREATE_MONITORED_ITEMS_REQUEST => {
                 CreateMonitoredItems::take(alloc, setting, caller, token, body, self)

@@ -1,7 +1,8 @@
 //! What a service of a session is that looks at its requests where they came.
 
-ghost use Rattle.std.specs.Prelude.{ℕ};
+ghost use Rattle.std.specs.Prelude.{ℕ, List};
 ghost use Rattle.ua_messages.specs.Bodies.{message_of};
+ghost use Rattle.ua_service_views.specs.Headed.{IsHeaded};
 ghost use Rattle.server_messages.specs.declared.setting.Setting.{Setting};
 ghost use Rattle.ua_services.specs.InSession.{served_in_session, is_admitted};
 ghost use Rattle.ua_services.specs.ServicesState.{Services};
@@ -13,9 +14,8 @@ use crate::services::Services;
 use crate::unserved::Unserved;
 use server_messages::{Served, Setting};
 use std::alloc::Global;
-use ua_service_views::message_view;
+use ua_service_views::{Headed, RequestView};
 use ua_types::Status;
-use ua_views::{NodeIdView, View};
 
 /// A service of a session whose requests are looked at in the bytes in which they came, as
 /// [`crate::session_service::SessionService`] is one whose requests are taken from them.
@@ -24,7 +24,7 @@ use ua_views::{NodeIdView, View};
 /// fields can't be read and one whose session may not be used ([`ua_session::Sessions::find`]).
 pub trait ViewedService<'a> {
     /// The request's fields. Contracts see it as the request that was sent.
-    type Request: View<'a>;
+    type Request: RequestView<'a>;
 
     /// What a request comes to.
     ghost meaning: { Setting → Caller → ℕ → Self.Request → Services → Serving };
@@ -42,7 +42,7 @@ pub trait ViewedService<'a> {
     ) -> Result<Served, Unserved>
         ensures { Judges setting.now caller.now result services.new (meaning setting.now caller.now session request services.old) };
 
-    /// Looks at a request's fields, finds the session that the token in its header names, and serves it.
+    /// Looks at a request's fields behind its header, finds the session that the token there names, and serves it.
     ///
     /// The faults, in this order: `BAD_DECODING_ERROR` where the fields can't be read,
     /// `BAD_SESSION_ID_INVALID` where no session has the token, `BAD_SECURE_CHANNEL_ID_INVALID` on another
@@ -52,17 +52,17 @@ pub trait ViewedService<'a> {
         alloc: Global,
         setting: &Setting,
         caller: &Caller,
-        token: &NodeIdView<'_>,
-        body: &'a [u8],
+        headed: Headed<'a>,
         services: &mut Services,
     ) -> Result<Served, Unserved>
-        ensures { Answers setting.now caller.now (is_admitted token.now caller.now.conn services.old.sessions (message_of Self.Request.reading body.now)) result services.new
-            (served_in_session meaning setting.now caller.now token.now services.old (message_of Self.Request.reading body.now)) }
+        ensures { (body : List ℕ) → IsHeaded body headed.entry.header headed.entry.fields → Answers setting.now caller.now (is_admitted headed.entry.header.authentication_token caller.now.conn services.old.sessions (message_of Self.Request.reading body)) result services.new
+            (served_in_session meaning setting.now caller.now headed.entry.header.authentication_token services.old (message_of Self.Request.reading body)) }
     {
-        let request = match message_view::<Self::Request>(body) {
+        let request = match headed.request::<Self::Request>() {
             Ok(request) => request,
             Err(_) => return Err(Unserved::Fault(Status::BAD_DECODING_ERROR)),
         };
+        let token = &request.header().authentication_token;
         let session = match services.sessions.find(token, caller.conn) {
             Ok(session) => session,
             Err(status) => return Err(Unserved::Fault(status)),
