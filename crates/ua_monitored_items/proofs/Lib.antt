@@ -16,4 +16,5 @@ pub mod Counting
 pub mod Readiness
 pub mod Modifications
 pub mod Sent
+pub mod Showing
 pub mod Causing

@@ -1,6 +1,6 @@
 //! Items under their numbers, with an index of the subscriptions and one of the nodes.
 
-ghost use Rattle.std.specs.Prelude.{◌≡◌, ◌<◌, ◌-◌, ◌+◌, ◌^◌, ◌≤◌, [], true, length, OnOk, OnErr, IfOk, IfSome};
+ghost use Rattle.std.specs.Prelude.{◌≡◌, ◌<◌, ◌-◌, ◌+◌, ◌^◌, ◌≤◌, ◌∷◌, [], true, length, OnOk, OnErr, IfOk, IfSome};
 ghost use Rattle.std.specs.BTreeMap.{is_at, insert_entry};
 ghost use Rattle.std.specs.Map.{remove_entry};
 ghost use Rattle.std.specs.Option.{option_copied, option_map};
@@ -22,7 +22,7 @@ use crate::links::Links;
 use crate::numbered::Numbered;
 use crate::preparing::Modification;
 use crate::releases::Release;
-use crate::sampling::{release_all, sample_all};
+use crate::sampling::{release_all, sample_all, show_node};
 use std::alloc::{AllocError, Global};
 use std::collections::BTreeMap;
 use std::marker::Model;
@@ -269,6 +269,21 @@ impl ItemTable {
         ensures { self.new ≡ record { made = self.old.made; items = all_released self.old.items releases.now } }
     {
         release_all(&mut self.items, releases);
+    }
+
+    /// The items of a node that was written see the value, and release what is linked to them. At an `Err` some visits were
+    /// made, from the first on.
+    pub fn show(
+        &mut self,
+        alloc: Global,
+        node_id: &NodeId,
+        value: &DataValue,
+    ) -> Result<(), AllocError>
+        ensures made { self.new.made ≡ self.old.made }
+        ensures ok { OnOk result (self.new.items ≡ shown self.old.items (record { node_id = node_id.now; value = value.now } ∷ [])) }
+        ensures err { OnErr result (ShownSome self.old.items self.new.items (record { node_id = node_id.now; value = value.now } ∷ [])) }
+    {
+        show_node(alloc, &mut self.items, &self.on_node, node_id, value)
     }
 
     /// The items of the nodes that were written see the values, in their order, and release what is linked

@@ -1,6 +1,6 @@
 //! The monitored items of a server.
 
-ghost use Rattle.std.specs.Prelude.{◌≡◌, ◌++◌, ◌-◌, ◌^◌, ◌<◌, ◌≤◌, [], false, true, filter, fold, length, map, IsOk, OnOk, OnErr, IfOk, if◌then◌else◌};
+ghost use Rattle.std.specs.Prelude.{◌≡◌, ◌++◌, ◌-◌, ◌^◌, ◌<◌, ◌≤◌, ◌∷◌, [], false, true, filter, fold, length, map, IsOk, OnOk, OnErr, IfOk, if◌then◌else◌};
 ghost use Rattle.std.specs.BTreeSet.{insert_key};
 ghost use Rattle.std.specs.Option.{option_copied};
 ghost use Rattle.std.specs.Ordering.{nat_cmp};
@@ -32,6 +32,7 @@ use ua_subscription_messages::{
     MonitoredItemModifyRequest, MonitoredItemModifyResult,
 };
 use ua_types::{Config, Duration, ExtensionObject, ExtensionObjectBody, Moment, NodeId, Status};
+use ua_values::DataValue;
 
 /// The monitored items of a server, of all subscriptions. Each has a number, counted from 1 over the
 /// server and never used again.
@@ -729,6 +730,22 @@ impl Items {
         ensures err { OnErr result (ShownSome self.old.items self.new.items changed.now) }
     {
         self.table.sample(alloc, changed)
+    }
+
+    /// Shows the items one value that was written, as [`Items::sample`] shows many.
+    ///
+    /// At want of memory some have seen it, from the first on, and nothing else was done.
+    pub fn show(
+        &mut self,
+        alloc: Global,
+        node_id: &NodeId,
+        value: &DataValue,
+    ) -> Result<(), AllocError>
+        ensures ok { OnOk result (self.new.items ≡ shown self.old.items (record { node_id = node_id.now; value = value.now } ∷ [])) }
+        ensures others { self.new ≡ record self.old { items = self.new.items } }
+        ensures err { OnErr result (ShownSome self.old.items self.new.items (record { node_id = node_id.now; value = value.now } ∷ [])) }
+    {
+        self.table.show(alloc, node_id, value)
     }
 
     /// Whether an item of a subscription that reports or is released has a value. Takes no memory, and looks at no item.

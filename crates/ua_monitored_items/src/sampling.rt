@@ -61,19 +61,21 @@ fn show_value(
     Ok(())
 }
 
-// The items of a node, whose numbers the index has, see a value that was written there.
-fn show_node(
+/// The items of a node, whose numbers the index has, see a value that was written there, and release what is linked to them.
+/// At an `Err` some visits were made, from the first on.
+pub(crate) fn show_node(
     alloc: Global,
     items: &mut Numbered,
     on_node: &Index<NodeId>,
-    change: &Change,
+    node_id: &NodeId,
+    value: &DataValue,
 ) -> Result<(), AllocError>
-    ensures ok { OnOk result (items.new ≡ index_shown on_node.now items.old change.now) }
-    ensures err { OnErr result (VisitedSome items.old items.new (index_visits on_node.now change.now)) }
+    ensures ok { OnOk result (items.new ≡ index_shown on_node.now items.old (record { node_id = node_id.now; value = value.now })) }
+    ensures err { OnErr result (VisitedSome items.old items.new (index_visits on_node.now (record { node_id = node_id.now; value = value.now }))) }
 {
-    match on_node.get(&change.node_id) {
+    match on_node.get(node_id) {
         None => Ok(()),
-        Some(numbers) => show_value(alloc, items, numbers, &change.value),
+        Some(numbers) => show_value(alloc, items, numbers, value),
     }
 }
 
@@ -89,7 +91,7 @@ pub(crate) fn sample_all(
     ensures err { OnErr result (IndexShownSome on_node.now items.old items.new changed.now) }
 {
     for change in changed {
-        show_node(alloc, items, on_node, change)?;
+        show_node(alloc, items, on_node, &change.node_id, &change.value)?;
     }
     Ok(())
 }

@@ -18,6 +18,7 @@ use Rattle.ua_space.specs.declared.node.ValueRank.TheVariants as ranks
 use Rattle.ua_read_write.specs.Attributes.{Attributed, ValueOf, Plain, attribute_at}
 use Rattle.ua_read_write.specs.IndexRanges.{asked_range}
 use Rattle.ua_read_write.specs.declared.index_range.IndexRange.{IndexRange}
+use Rattle.ua_read_write.specs.declared.writing.AcceptedValue.{AcceptedValue}
 use Rattle.ua_read_write.specs.declared.writing.Change.{Change}
 
 -- ---- what a variable is to hold
@@ -95,6 +96,10 @@ holding_of clock w value = stored_of clock (record w.value { value = Some value 
 abbrev pub accepted_of : Moment → WriteValue → Result Variant Status → Result Change Status
 accepted_of clock w (Ok value) = Ok (record { node_id = w.node_id; value = holding_of clock w value })
 accepted_of clock w (Err code) = Err code
+
+-- what was accepted, with the variable that was named
+abbrev pub change_of : WriteValue → AcceptedValue → Change
+change_of w a = record { node_id = w.node_id; value = a.value }
 
 abbrev pub status_of : Result Variant Status → Status
 status_of (Ok value) = status.GOOD

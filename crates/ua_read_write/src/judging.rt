@@ -1,17 +1,18 @@
 //! Which values a Write stores, and why it refuses others.
 
+ghost use Rattle.std.specs.Option.{option_copied};
 ghost use Rattle.std.specs.Prelude.{◌≡◌, true, Some, IfOk};
 ghost use Rattle.std.specs.Result.{result_map_both};
 ghost use Rattle.ua_read_write.specs.Judging.{new_value, IsReady};
-ghost use Rattle.ua_read_write.specs.Writing.{is_writable, has_elements, whole_judged, part_judged, content_judged, judged};
-ghost use Rattle.ua_space.specs.Values.{variable_at, variable_takes};
+ghost use Rattle.ua_read_write.specs.Writing.{is_writable, has_elements, whole_judged, part_judged, content_judged, node_judged};
+ghost use Rattle.ua_space.specs.Values.{variable_of, variable_takes};
 ghost use Rattle.ua_space.specs.Variables.{shape_has_rank, takes};
 
 use crate::attributes::{Attribute, attribute_at};
 use crate::index_range::{IndexRange, asked_range};
 use std::alloc::{AllocError, Global};
 use ua_service_views::WriteValueView;
-use ua_space::{Space, ValueRank, Variable};
+use ua_space::{Node, ValueRank, Variable};
 use ua_types::{Copyable, Status};
 use ua_values::{Shape, Variant};
 use ua_views::VariantView;
@@ -45,7 +46,9 @@ fn has_rank(shape: Shape, rank: ValueRank) -> bool
 }
 
 // Whether a variable may have this value, by its type and shape alone, as `Variable::takes` says it of a value that is there.
+// It and what calls it are inlined into the loop over a request's list (docs/MEASURED.md, "Requests").
 #[tactic(auto, unfolding(ua_space::specs::Variables::has_rank))]
+#[inline(always)]
 fn takes(variable: &Variable, value: &VariantView<'_>) -> bool
     ensures { result ≡ takes variable.now value.now }
 {
@@ -64,6 +67,7 @@ fn has_elements(range: IndexRange, len: Option<usize>) -> bool
 
 // The value that a variable is to hold where no range is given.
 #[tactic(auto, using(crate::proofs::Taking::takes_flattened))]
+#[inline(always)]
 fn whole_judged<'a, 'b>(
     variable: &'a Variable,
     value: &'a VariantView<'b>,
@@ -91,8 +95,10 @@ fn whole_judged<'a, 'b>(
     }
 }
 
-// The list that a variable is to hold where some of its elements are written.
+// The list that a variable is to hold where some of its elements are written. It isn't inlined, so that what judges one value is
+// short.
 #[tactic(auto, using(crate::proofs::Taking::takes_with_part, crate::proofs::Taking::type_is_ready, crate::proofs::Taking::room_is_ready))]
+#[inline(never)]
 fn part_judged<'a, 'b>(
     range: IndexRange,
     variable: &'a Variable,
@@ -120,6 +126,7 @@ fn part_judged<'a, 'b>(
     Ok(NewValue::Part(whole, range.first as usize, value))
 }
 
+#[inline(always)]
 fn content_judged<'a, 'b>(
     range: Option<IndexRange>,
     variable: &'a Variable,
@@ -135,17 +142,18 @@ fn content_judged<'a, 'b>(
     }
 }
 
-/// What the variable is to hold where a value is accepted, or why it isn't. Takes no memory.
-#[tactic(auto, unfolding(crate::specs::Writing::judged))]
+/// What the variable is to hold where a value is accepted, or why it isn't. It is judged by the node that was looked up. Takes
+/// no memory.
+#[inline(always)]
 pub(crate) fn judged<'a, 'b>(
-    space: &'a Space,
+    node: Option<&'a Node>,
     write: &'a WriteValueView<'b>,
 ) -> Result<NewValue<'a, 'b>, Status>
-    ensures judged { result_map_both new_value (λ code. code) result ≡ judged space.entry.now.nodes write.entry.now }
+    ensures judged { result_map_both new_value (λ code. code) result ≡ node_judged write.entry.now (option_copied node.entry) }
     ensures ready { IfOk result IsReady }
-    ensures taken { IfOk result (λ new. variable_takes (variable_at write.entry.now.node_id space.entry.now.nodes) (Some (new_value new)) ≡ true) }
+    ensures taken { IfOk result (λ new. variable_takes (variable_of (option_copied node.entry)) (Some (new_value new)) ≡ true) }
 {
-    let Some(node) = space.find(&write.node_id) else {
+    let Some(node) = node else {
         return Err(Status::BAD_NODE_ID_UNKNOWN);
     };
     let Some(attribute) = attribute_at(node, write.attribute_id) else {
@@ -164,9 +172,10 @@ pub(crate) fn judged<'a, 'b>(
     content_judged(range, variable, value)
 }
 
-/// The value itself. The list as it stands is copied once.
+// The value itself, where it is a list. The list as it stands is copied once.
 #[tactic(auto, using(ua_values::proofs::Parting::type_flattened, crate::proofs::Taking::has_room))]
-pub(crate) fn made(alloc: Global, new: NewValue<'_, '_>) -> Result<Variant, AllocError>
+#[inline(never)]
+fn list_made(alloc: Global, new: NewValue<'_, '_>) -> Result<Variant, AllocError>
     requires { IsReady new }
     ensures { IfOk result (λ value. value ≡ new_value new.entry) }
 {
@@ -177,5 +186,18 @@ pub(crate) fn made(alloc: Global, new: NewValue<'_, '_>) -> Result<Variant, Allo
             let part = value.to_value(alloc)?.flattened(alloc)?;
             whole.copy(alloc)?.with_part(alloc, first, part)
         }
+    }
+}
+
+/// The value itself. The list as it stands is copied once.
+// It is inlined, and what makes a list isn't.
+#[inline(always)]
+pub(crate) fn made(alloc: Global, new: NewValue<'_, '_>) -> Result<Variant, AllocError>
+    requires { IsReady new }
+    ensures { IfOk result (λ value. value ≡ new_value new.entry) }
+{
+    match new {
+        NewValue::Whole(value) => value.to_value(alloc),
+        _ => list_made(alloc, new),
     }
 }

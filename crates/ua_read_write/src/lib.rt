@@ -37,4 +37,4 @@ pub use attributes::AttributeId;
 pub use index_range::IndexRange;
 pub use reading::{read, read_body, refusal, sample};
 pub use timestamps::Timestamps;
-pub use writing::{Change, Written, accepted, write};
+pub use writing::{AcceptedValue, Change, Written, accepted, write};

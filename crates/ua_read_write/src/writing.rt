@@ -1,7 +1,9 @@
 //! The service Write.
 
 ghost use Rattle.std.specs.Prelude.{◌≡◌, ◌⊎◌, ◌++◌, true, length, Some, Ok, Err, IfErr, IfOk, IsOk, OnOk, OnErr};
-ghost use Rattle.ua_read_write.specs.Writing.{stored_of, judged, accepted_of, status_of, nodes_after, changes_of, write_of, WroteSome};
+ghost use Rattle.ua_read_write.specs.Writing.{stored_of, judged, change_of, accepted_of, status_of, nodes_after, changes_of, write_of, WroteSome};
+ghost use Rattle.std.specs.Result.{result_map_both};
+ghost use Rattle.ua_space.specs.NodePlaces.{place_of};
 ghost use Rattle.ua_space.specs.Values.{takes_at};
 ghost use Rattle.ua_types.specs.Refusals.{GivesOrRefuses};
 ghost use Rattle.ua_types.specs.declared.refusal.Refusal.TheVariants.{Memory};
@@ -45,30 +47,46 @@ fn stored(value: Variant, written: &DataValueView<'_>, clock: Moment) -> DataVal
     }
 }
 
-/// A value of a Write as it is stored at this clock, with the variable that gets it: for who stores the values by
-/// himself ([`Space::set_value`]), and looks at each before.
+/// A value of a Write that was accepted, for who stores it by himself ([`Space::set_value_in`]), and looks at it before.
+#[derive(Debug, Drop)]
+pub struct AcceptedValue {
+    /// The place of the variable that gets it ([`Space::place`]).
+    pub place: usize,
+    /// It as it is stored, with both times.
+    pub value: DataValue,
+}
+
+/// A value of a Write as it is stored at this clock, with the place of the variable that gets it. Its node is searched for once.
 ///
 /// It is judged where it stands in the request's bytes, and refused as [`write`] says. Only what is accepted is copied,
-/// once, so a refusal takes no memory; where an index range is given, so is the list as it stands, which the change has
+/// once, so a refusal takes no memory; where an index range is given, so is the list as it stands, which the value has
 /// whole. It is never refused as exhausted.
+// Inlined into the loop over a request's list (docs/MEASURED.md, "Requests").
+#[tactic(auto, unfolding(crate::specs::Writing::judged))]
 #[inline(always)]
 pub fn accepted<'a>(
     alloc: Global,
     space: &Space,
     clock: Moment,
     write: &WriteValueView<'a>,
-) -> Result<Change, Refusal>
-    ensures answer { GivesOrRefuses result (accepted_of clock write.now (judged space.now.nodes write.now)) }
+) -> Result<AcceptedValue, Refusal>
+    ensures answer { GivesOrRefuses (result_map_both (change_of write.now) (λ refusal. refusal) result) (accepted_of clock write.now (judged space.now.nodes write.now)) }
     ensures memory { result ≡ Err Memory → IsOk (judged space.now.nodes write.now) }
-    ensures taken { IfOk result (λ change. takes_at change.node_id change.value space.now.nodes ≡ true) }
+    ensures place { IfOk result (λ accepted. place_of write.now.node_id space.now.nodes ≡ Some accepted.place) }
+    ensures taken { IfOk result (λ accepted. takes_at write.now.node_id accepted.value space.now.nodes ≡ true) }
 {
-    let new = judged(space, write)?;
-    let node_id = write.node_id.to_value(alloc)?;
-    let value = made(alloc, new)?;
-    Ok(Change {
-        node_id,
-        value: stored(value, &write.value, clock),
-    })
+    let Some(place) = space.place(&write.node_id) else {
+        return Err(Refusal::Service(Status::BAD_NODE_ID_UNKNOWN));
+    };
+    let new = judged(space.node_in_order(place), write)?;
+    // Told by a match, since `?` would move the value once more.
+    match made(alloc, new) {
+        Ok(value) => Ok(AcceptedValue {
+            place,
+            value: stored(value, &write.value, clock),
+        }),
+        Err(AllocError) => Err(Refusal::Memory),
+    }
 }
 
 // Writes one value where it is accepted, and answers its outcome.
@@ -86,15 +104,15 @@ fn write_one<'a>(
     ensures refused { IfErr (judged space.old.nodes write.now) (λ status. result ≡ Ok status) }
     ensures err { OnErr result ((space.new.nodes ≡ space.old.nodes) ⊎ (space.new.nodes ≡ nodes_after clock write.now (judged space.old.nodes write.now) space.old.nodes)) }
 {
-    let change = match accepted(alloc, space, clock, write) {
-        Ok(change) => change,
+    let AcceptedValue { place, value } = match accepted(alloc, space, clock, write) {
+        Ok(accepted) => accepted,
         Err(Refusal::Service(status)) => return Ok(status),
         Err(Refusal::Memory) => return Err(AllocError),
         Err(Refusal::Exhausted) => unreachable!(),
     };
-    let value = change.value.copy(alloc)?;
-    space.set_value(&change.node_id, value);
-    changed.push(change)?;
+    let node_id = write.node_id.to_value(alloc)?;
+    space.set_value_in(place, value.copy(alloc)?);
+    changed.push(Change { node_id, value })?;
     Ok(Status::GOOD)
 }
 

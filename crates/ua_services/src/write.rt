@@ -1,10 +1,12 @@
 //! The service Write (IEC 62541-4, "Write").
 
-ghost use Rattle.std.specs.Prelude.{◌≡◌, true, length, OnOk, IfOk};
-ghost use Rattle.ua_space.specs.Values.{takes_at, variable_at};
+ghost use Rattle.std.specs.Prelude.{◌≡◌, Some, length, OnOk, IfOk};
+ghost use Rattle.ua_types.specs.declared.node_id.NodeId.{NodeId};
+ghost use Rattle.ua_space.specs.NodePlaces.{IsTakenIn, place_of};
+ghost use Rattle.ua_space.specs.Values.{variable_in};
 ghost use Rattle.ua_read_write.specs.Writing.{judged, accepted_of, status_of, write_of};
 ghost use Rattle.ua_views.specs.Views.{or_none};
-ghost use Rattle.ua_services.specs.Write.{is_historizing as is_historizing_spec, with_change, with_accepted, with_judged, with_written, write_meaning};
+ghost use Rattle.ua_services.specs.Write.{is_historizing as is_historizing_spec, with_accepted, with_judged, with_written, write_meaning};
 
 use crate::caller::Caller;
 use crate::operations::viewed_operations;
@@ -15,50 +17,38 @@ use crate::unserved::Unserved;
 use crate::viewed_service::ViewedService;
 use server_messages::{Served, Setting};
 use std::alloc::{AllocError, Global};
-use std::slice;
-use ua_history::History;
 use ua_messages::type_ids;
-use ua_read_write::{Change, accepted};
+use ua_read_write::{AcceptedValue, accepted};
 use ua_service_views::{WriteRequestView, WriteValueView};
-use ua_space::Space;
-use ua_types::{Copyable, Moment, NodeId, Refusal, Status};
+use ua_space::{Node, NodeDetails};
+use ua_types::{Copyable, Moment, Refusal, Status};
 use ua_views::ArrayView;
 
 // Whether the values of this node are kept.
-fn is_historizing(space: &Space, node: &NodeId) -> bool
-    ensures { result ≡ is_historizing_spec (variable_at node.now space.now.nodes) }
+fn is_historizing(node: &Node) -> bool
+    ensures { result ≡ is_historizing_spec (variable_in node.now.details) }
 {
-    match space.variable(node) {
-        None => false,
-        Some(variable) => variable.historizing,
+    match &node.details {
+        NodeDetails::Variable(variable) => variable.historizing,
+        _ => false,
     }
 }
 
-// Keeps a copy of a value that was accepted, where its variable is historizing.
-fn keep(
-    alloc: Global,
-    space: &Space,
-    history: &mut History,
-    change: &Change,
-) -> Result<(), AllocError>
-    ensures { OnOk result (history.new ≡ with_change space.now.nodes history.old change.now) }
+// Shows a value that was accepted to the items that watch its variable, keeps it where the variable is historizing, and stores
+// it. So it is copied for those who queue or keep it, and moved into the variable.
+fn put(alloc: Global, services: &mut Services, accepted: AcceptedValue) -> Result<(), AllocError>
+    requires { IsTakenIn services.old.space.nodes accepted.place accepted.value }
+    ensures { (id : NodeId) → place_of id services.old.space.nodes ≡ Some accepted.place → OnOk result (services.new ≡ with_accepted services.old (record { node_id = id; value = accepted.value })) }
 {
-    if is_historizing(space, &change.node_id) {
-        history.keep(alloc, &change.node_id, change.value.copy(alloc)?)?;
+    let AcceptedValue { place, value } = accepted;
+    let Some(node) = services.space.node_in_order(place) else {
+        unreachable!();
+    };
+    services.items.show(alloc, &node.id, &value)?;
+    if is_historizing(node) {
+        services.history.keep(alloc, &node.id, value.copy(alloc)?)?;
     }
-    Ok(())
-}
-
-// Shows a value that was accepted to the items that watch its variable, keeps it, and stores it. So it is copied for those
-// who queue or keep it, and moved into the variable.
-fn put(alloc: Global, services: &mut Services, change: Change) -> Result<(), AllocError>
-    requires { takes_at change.node_id change.value services.old.space.nodes ≡ true }
-    ensures { OnOk result (services.new ≡ with_accepted services.old change) }
-{
-    services.items.sample(alloc, slice::from_ref(&change))?;
-    keep(alloc, &services.space, &mut services.history, &change)?;
-    let Change { node_id, value } = change;
-    services.space.set_value(&node_id, value);
+    services.space.set_value_in(place, value);
     Ok(())
 }
 
@@ -73,8 +63,8 @@ fn write_one<'a>(
     ensures status { IfOk result (λ status. status ≡ status_of (judged services.old.space.nodes value.now)) }
 {
     match accepted(alloc, &services.space, clock, value) {
-        Ok(change) => {
-            put(alloc, services, change)?;
+        Ok(accepted) => {
+            put(alloc, services, accepted)?;
             Ok(Status::GOOD)
         }
         Err(Refusal::Service(status)) => Ok(status),
