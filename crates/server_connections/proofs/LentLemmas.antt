@@ -1,5 +1,5 @@
 -- A connection that is lent to be changed in its place.
-use Rattle.std.proofs.Common.{◌≡◌, ℕ, List, ◌++◌, Some, Result, Ok, Err, OnOk, IfOk, ap, sym, ◌∙◌}
+use Rattle.std.proofs.Common.{◌≡◌, ℕ, List, ◌++◌, Some, ap, sym, ◌∙◌}
 use Rattle.std.specs.Ordering.{nat_cmp}
 use Rattle.std.specs.FinMap.{FinMap, get, insert}
 use Rattle.ua_tcp.specs.declared.frame.Frame.{Frame}
@@ -54,13 +54,3 @@ module _ (old : Connections) (conn : ℕ) (connection : Connection) (known : Fin
       ap (λ m. refusing (record old { known = m }) after) back
       ∙ ap (λ (x : Said). refusing (with_phase old conn connection x.phase) x.outs) e
       ∙ ap (λ o. refusing_after before (shut_at old conn o)) (sym there)
-
--- what holds of an answer
-pub if_ok : {X E : Type 0} (A B : X → Type 0) (r : Result X E) → IfOk r A → ((x : X) → A x → B x) → IfOk r B
-if_ok A B (Ok x) a f = f x a
-if_ok A B (Err e) a f = tt
-
--- what holds where it went well
-pub on_ok : {X E : Type 0} (A B : Type 0) (r : Result X E) → OnOk r A → (A → B) → OnOk r B
-on_ok A B (Ok x) a f = f a
-on_ok A B (Err e) a f = tt

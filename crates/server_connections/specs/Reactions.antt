@@ -41,7 +41,7 @@ reaction phase outs asked = record { phase = phase; outs = outs; asked = asked }
 abbrev pub reaction_after : List Out → Reaction → Reaction
 reaction_after outs t = reaction t.phase (outs ++ t.outs) t.asked
 
--- how far a connection is, where what it asks for may be its end
+-- a connection whose outcome is Closed is closed, and any other is as far as it was
 abbrev pub left_by : FrameOutcome → Phase → Phase
 left_by outcome.Closed phase = Closed
 left_by asked phase = phase
