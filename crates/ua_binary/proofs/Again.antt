@@ -1,29 +1,34 @@
 -- What is written is read again.
 use Rattle.std.proofs.Common.{◌≡◌, ℕ, ℤ, ◌^◌, ◌<◌, true, false, ltb, leb, List, ◌++◌, length, Some, Ok, Err, refl, ap, ◌∙◌, append_assoc, arith}
-use Rattle.std.specs.Int.{Width, w32, to_le_bytes, cast_signed, cast_unsigned}
+use Rattle.std.specs.Int.{Width, w16, w32, byte_len, from_le_bytes, to_le_bytes, cast_signed, cast_unsigned}
 use Rattle.std.specs.Prelude.{FitsSigned}
 use Rattle.std.proofs.lemmas.Int.{to_z-of_z}
 use Rattle.std.specs.Str.{IsUtf8}
 use Rattle.std.proofs.lemmas.Bool.{le-ltb, lt-leb, lt-ltb}
 use Rattle.std.proofs.lemmas.List.{take_at, drop_at, length-append}
-use Rattle.std.proofs.lemmas.Nat.{from_le_bytes-to_le_bytes_4}
+use Rattle.std.proofs.lemmas.Nat.{from_le_bytes-to_le_bytes_2, from_le_bytes-to_le_bytes_4}
 use Rattle.std.proofs.lemmas.Str.{is_utf8-from_IsUtf8}
 use Rattle.ua_binary.specs.Reading.{IsReadAgain}
 use Rattle.ua_binary.specs.Numbers.{bytes_reading, octets_reading, number_reading, number_encoding}
 use Rattle.ua_binary.specs.Texts.{text_reading, text_encoding, byte_string_reading, byte_string_encoding, ClaimsTooMany}
 use Rattle.ua_binary.specs.declared.fault.TakeFault.TheVariants.{Short}
 
-pub number32_again : (n : ℕ) (x : List ℕ) → n < 2 ^ 32 → number_reading w32 (number_encoding w32 n ++ x) ≡ Ok (n, x)
-unfolding number_reading number_encoding
-number32_again n x lt =
-    let long : ltb (length (to_le_bytes w32 n ++ x)) 4 ≡ false = le-ltb _ _ (omega (arith, length-append (to_le_bytes w32 n) x)) in
-    rw (long, from_le_bytes-to_le_bytes_4 n lt) refl
-
 -- so many bytes are read as they stand
 bytes_again : (n : ℕ) (bytes x : List ℕ) → length bytes ≡ n → bytes_reading n (bytes ++ x) ≡ Ok (bytes, x)
 bytes_again n bytes x e =
     let enough : ltb (length (bytes ++ x)) n ≡ false = le-ltb _ _ (omega (arith, length-append bytes x)) in
     rw (enough, take_at bytes x n e, drop_at bytes x n e) refl
+
+-- a number of any width whose bytes give it back
+number_again : (w : Width) (n : ℕ) (x : List ℕ) → length (to_le_bytes w n) ≡ byte_len w → from_le_bytes w (to_le_bytes w n) ≡ n → number_reading w (number_encoding w n ++ x) ≡ Ok (n, x)
+unfolding number_reading number_encoding
+number_again w n x sized back = rw (bytes_again (byte_len w) (to_le_bytes w n) x sized, back) refl
+
+pub number16_again : (n : ℕ) (x : List ℕ) → n < 2 ^ 16 → number_reading w16 (number_encoding w16 n ++ x) ≡ Ok (n, x)
+number16_again n x lt = number_again w16 n x refl (from_le_bytes-to_le_bytes_2 n lt)
+
+pub number32_again : (n : ℕ) (x : List ℕ) → n < 2 ^ 32 → number_reading w32 (number_encoding w32 n ++ x) ≡ Ok (n, x)
+number32_again n x lt = number_again w32 n x refl (from_le_bytes-to_le_bytes_4 n lt)
 
 pub octets_again : (n : ℕ) (bytes x : List ℕ) → length bytes ≡ n → octets_reading n (bytes ++ x) ≡ Ok (bytes, x)
 unfolding octets_reading

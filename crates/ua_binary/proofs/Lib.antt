@@ -1,5 +1,6 @@
 pub mod Utf8Tests
 pub mod Again
+pub mod NumericIds
 pub mod Elements
 pub mod Extending
 pub mod Flags

@@ -1,8 +1,9 @@
 //! Ids of nodes.
 
-ghost use Rattle.std.specs.Prelude.{◌≡◌, ◌<◌, ℕ, List, ◌++◌, Ok, Err, OnOk, OnErr};
+ghost use Rattle.std.specs.Prelude.{◌≡◌, ◌<◌, ℕ, List, ◌++◌, length, Ok, Err, OnOk, OnErr};
+ghost use Rattle.ua_types.specs.NodeIds.{numeric_id};
 ghost use Rattle.ua_binary.specs.declared.fault.TakeFault.TheVariants.{Memory};
-ghost use Rattle.ua_binary.specs.Reading.{Reads, Extends};
+ghost use Rattle.ua_binary.specs.Reading.{Reads, Extends, IsReadAgain};
 ghost use Rattle.ua_binary.specs.Texts.{IsBacked};
 ghost use Rattle.ua_binary.specs.NodeIds.{node_id_reading, after_form_reading, node_id_encoding, form_of, after_form_encoding};
 
@@ -121,7 +122,42 @@ pub(crate) fn encode_form(id: &NodeId, out: &mut Vec<u8>) -> Result<(), AllocErr
     }
 }
 
+// Writes an id, its form first. Numbers, which most ids are, are written by the next.
 #[tactic(auto, using(crate::proofs::Extending::extends_more), unfolding(crate::specs::NodeIds::node_id_reading, crate::specs::NodeIds::node_id_encoding))]
+#[inline(never)]
+fn encode_by_form(id: &NodeId, out: &mut Vec<u8>) -> Result<(), AllocError>
+    ensures ok { OnOk result (out.new.items ≡ out.old.items ++ node_id_encoding id.now) }
+    ensures err { OnErr result (Extends out.old.items out.new.items) }
+    ensures again { OnOk result (IsReadAgain node_id_reading node_id_encoding id.now) }
+    ensures some { OnOk result (0 < length (node_id_encoding id.now)) }
+{
+    form(id).encode(out)?;
+    encode_form(id, out)
+}
+
+// Writes an id that is a number, in the shortest form that holds it. Its bytes are written at once, which takes half of the
+// time of a field by field (docs/MEASURED.md, "Inlined").
+#[tactic(auto, using(crate::proofs::NumericIds::numeric_again), unfolding(crate::specs::NodeIds::node_id_encoding, crate::specs::Numbers::number_encoding))]
+#[inline(always)]
+fn encode_numeric(namespace: u16, number: u32, out: &mut Vec<u8>) -> Result<(), AllocError>
+    ensures ok { OnOk result (out.new.items ≡ out.old.items ++ node_id_encoding (numeric_id namespace number)) }
+    ensures err { OnErr result (Extends out.old.items out.new.items) }
+    ensures again { OnOk result (IsReadAgain node_id_reading node_id_encoding (numeric_id namespace number)) }
+    ensures some { OnOk result (0 < length (node_id_encoding (numeric_id namespace number))) }
+{
+    if namespace == 0 && number < 1 << 8 {
+        out.extend_from_slice(&[0, number as u8])
+    } else if namespace < 1 << 8 && number < 1 << 16 {
+        let [low, high] = (number as u16).to_le_bytes();
+        out.extend_from_slice(&[1, namespace as u8, low, high])
+    } else {
+        let [low, high] = namespace.to_le_bytes();
+        let [first, second, third, fourth] = number.to_le_bytes();
+        out.extend_from_slice(&[2, low, high, first, second, third, fourth])
+    }
+}
+
+#[tactic(auto, unfolding(crate::specs::NodeIds::node_id_reading))]
 impl Wire for NodeId {
     ghost reading = { node_id_reading };
 
@@ -132,8 +168,11 @@ impl Wire for NodeId {
         decode_form(alloc, form, cursor)
     }
 
+    #[inline(always)]
     fn encode(&self, out: &mut Vec<u8>) -> Result<(), AllocError> {
-        form(self).encode(out)?;
-        encode_form(self, out)
+        match &self.identifier {
+            Identifier::Numeric(number) => encode_numeric(self.namespace, *number, out),
+            _ => encode_by_form(self, out),
+        }
     }
 }

@@ -76,6 +76,7 @@ impl Wire for u32 {
         cursor.number()
     }
 
+    #[inline(always)]
     fn encode(&self, out: &mut Vec<u8>) -> Result<(), AllocError> {
         out.extend_from_slice(&self.to_le_bytes())?;
         Ok(())

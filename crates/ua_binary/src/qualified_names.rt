@@ -21,6 +21,7 @@ impl Wire for QualifiedName {
         })
     }
 
+    #[inline(always)]
     fn encode(&self, out: &mut Vec<u8>) -> Result<(), AllocError> {
         self.namespace.encode(out)?;
         self.name.encode(out)

@@ -16,6 +16,7 @@ pub const NULL_LENGTH: u32 = 0xffff_ffff;
 
 // Writes bytes behind their length.
 #[tactic(auto, using(crate::proofs::Extending::extends_more, crate::proofs::Again::byte_string_again), unfolding(crate::specs::Texts::byte_string_encoding))]
+#[inline(always)]
 fn encode_sized(bytes: &[u8], out: &mut Vec<u8>) -> Result<(), AllocError>
     requires { length bytes.now < 2 ^ 31 }
     ensures ok { OnOk result (out.new.items ≡ out.old.items ++ byte_string_encoding (Some bytes.now)) }
@@ -29,6 +30,7 @@ fn encode_sized(bytes: &[u8], out: &mut Vec<u8>) -> Result<(), AllocError>
 
 // Writes the length of null.
 #[tactic(auto, unfolding(crate::specs::Texts::byte_string_encoding, crate::specs::Texts::byte_string_reading))]
+#[inline(always)]
 fn encode_null(out: &mut Vec<u8>) -> Result<(), AllocError>
     ensures ok { OnOk result (out.new.items ≡ out.old.items ++ byte_string_encoding None) }
     ensures err { OnErr result (Extends out.old.items out.new.items) }
@@ -40,6 +42,7 @@ fn encode_null(out: &mut Vec<u8>) -> Result<(), AllocError>
 
 /// Writes a text that isn't null, as [`Text`] is written. At an `Err` a part of it is written.
 #[tactic(auto, using(crate::proofs::Again::text_again))]
+#[inline(always)]
 pub fn write_text(text: &str, out: &mut Vec<u8>) -> Result<(), AllocError>
     requires { length text.now < 2 ^ 31 }
     ensures ok { OnOk result (out.new.items ≡ out.old.items ++ text_encoding (Some text.now)) }
@@ -68,6 +71,7 @@ impl Wire for Text {
         Ok(text)
     }
 
+    #[inline(always)]
     fn encode(&self, out: &mut Vec<u8>) -> Result<(), AllocError> {
         match self.as_str() {
             None => encode_null(out),
