@@ -95,6 +95,7 @@ fn skip_matrix<T: Walk>(cursor: &mut Cursor<'_>) -> Result<Option<u32>, TakeFaul
 
 // Moves past what follows these flags.
 #[tactic(auto, using(crate::proofs::Flat::list_told), unfolding(ua_binary::specs::Variants::content_reading))]
+#[inline(always)]
 fn skip_content<T: Walk>(flags: u8, cursor: &mut Cursor<'_>) -> Result<Option<u32>, TakeFault>
     ensures tells { Tells flat_len_in result cursor.new (content_reading T.reading flags cursor.old) }
     ensures no_memory { result ≢ Err Memory }
@@ -112,6 +113,7 @@ fn skip_content<T: Walk>(flags: u8, cursor: &mut Cursor<'_>) -> Result<Option<u3
 
 // Moves past what follows a first byte with the number of a Boolean or an integer of up to 32 bits.
 #[tactic(auto, unfolding(ua_binary::specs::Variants::typed_reading))]
+#[inline(always)]
 fn skip_integer(number: u8, flags: u8, cursor: &mut Cursor<'_>) -> Result<Option<u32>, TakeFault>
     requires least { 1 ≤ number }
     requires most { number ≤ 7 }
@@ -131,6 +133,7 @@ fn skip_integer(number: u8, flags: u8, cursor: &mut Cursor<'_>) -> Result<Option
 
 // Moves past what follows a first byte with the number of a longer number.
 #[tactic(auto, unfolding(ua_binary::specs::Variants::typed_reading))]
+#[inline(always)]
 fn skip_number(number: u8, flags: u8, cursor: &mut Cursor<'_>) -> Result<Option<u32>, TakeFault>
     requires least { 8 ≤ number }
     requires most { number ≤ 11 }
@@ -184,6 +187,7 @@ fn skip_named(number: u8, flags: u8, cursor: &mut Cursor<'_>) -> Result<Option<u
 
 // Moves past what follows a first byte with this number and these flags.
 #[tactic(auto, unfolding(ua_binary::specs::Variants::typed_reading))]
+#[inline(never)]
 fn skip_typed(number: u8, flags: u8, cursor: &mut Cursor<'_>) -> Result<Option<u32>, TakeFault>
     ensures tells { Tells flat_len result cursor.new (typed_reading number flags cursor.old) }
     ensures no_memory { result ≢ Err Memory }
@@ -209,12 +213,22 @@ fn skip_typed(number: u8, flags: u8, cursor: &mut Cursor<'_>) -> Result<Option<u
 ///
 /// At an `Err`, the first fault, the cursor stands where the fault is.
 #[tactic(auto, unfolding(ua_binary::specs::Variants::variant_reading))]
+#[inline(always)]
 pub fn skip_variant(cursor: &mut Cursor<'_>) -> Result<Option<u32>, TakeFault>
     ensures tells { Tells flat_len result cursor.new (variant_reading cursor.old) }
     ensures no_memory { result ≢ Err Memory }
 {
     let first = cursor.byte()?;
-    skip_typed(first % 64, first / 64, cursor)
+    let number = first % 64;
+    let flags = first / 64;
+    if flags == 0 {
+        match number {
+            1..=7 => return skip_integer(number, 0, cursor),
+            8..=11 => return skip_number(number, 0, cursor),
+            _ => {}
+        }
+    }
+    skip_typed(number, flags, cursor)
 }
 
 impl Walk for Variant {
