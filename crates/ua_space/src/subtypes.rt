@@ -95,9 +95,10 @@ fn walk_up<const WORDS: usize>(
     marks.has(upper)
 }
 
-// How many words have a bit for each type of a space of some thousands, and of the largest.
+// How many words have a bit for each type of a space of some thousands.
 const FEW: usize = 64;
 
+// And of the largest space.
 const MANY: usize = MAX_NODES / 64;
 
 // Whether a walk up from a type reaches another, by this many words of marks. They lie on the stack and are made here, so
@@ -121,27 +122,6 @@ fn reaches_by<const WORDS: usize>(
     walk_up(triples, supertypes, numbering, &mut marks, lower, upper)
 }
 
-// Whether a walk up from a type reaches another.
-fn reaches(
-    triples: &[Triple],
-    supertypes: &Index,
-    numbering: &Numbering,
-    lower: &NodeId,
-    upper: usize,
-) -> bool
-    requires index { IsIndex items (stands_under keys.Subtype) triples.now supertypes.now.entries }
-    requires numbered { AreNumbered triples.now numbering.now.types.items numbering.now.numbers.entries }
-    requires few { length numbering.now.types.items ≤ most_nodes }
-    requires upper { upper < length numbering.now.types.items }
-    ensures { (id : NodeId) → number_at numbering.now.numbers.entries id ≡ Some upper → (lower.now ≡ id → ⊥) → result ≡ is_subtype triples.now lower.now id }
-{
-    if numbering.types.len() <= 64 * FEW {
-        reaches_by::<FEW>(triples, supertypes, numbering, lower, upper)
-    } else {
-        reaches_by::<MANY>(triples, supertypes, numbering, lower, upper)
-    }
-}
-
 /// Whether the one type is the other or one of its subtypes.
 pub(crate) fn is_subtype(
     triples: &[Triple],
@@ -160,6 +140,12 @@ pub(crate) fn is_subtype(
     }
     match numbering.numbers.get(upper) {
         None => false,
-        Some(number) => reaches(triples, supertypes, numbering, lower, *number),
+        Some(number) => {
+            if numbering.types.len() <= 64 * FEW {
+                reaches_by::<FEW>(triples, supertypes, numbering, lower, *number)
+            } else {
+                reaches_by::<MANY>(triples, supertypes, numbering, lower, *number)
+            }
+        }
     }
 }

@@ -14,8 +14,11 @@ returns-then-eq c =
     let upper = c.args.upper.now in
     sym (walk_found c.args.triples.now 0 lower upper (same_id_true lower upper (sym c.eq.ensures ∙ c.if-eq.true)))
 
-pub reaches-requires-clause-upper : goal.reaches-requires-clause-upper
-reaches-requires-clause-upper c = number_below c.args.numbering.now.types.items c.args.numbering.now.numbers.entries c.args.upper.now c.in-Some.number.now c.requires.numbered.each (sym c.in-Some.ensures.value)
+pub reaches_by-requires-clause-upper : goal.reaches_by-requires-clause-upper
+reaches_by-requires-clause-upper c = number_below c.args.numbering.now.types.items c.args.numbering.now.numbers.entries c.args.upper.now c.in-Some.number.now c.requires.numbered.each (sym c.in-Some.ensures.value)
+
+pub reaches_by-requires-else-len-clause-upper : goal.reaches_by-requires-else-len-clause-upper
+reaches_by-requires-else-len-clause-upper c = number_below c.args.numbering.now.types.items c.args.numbering.now.numbers.entries c.args.upper.now c.in-Some.number.now c.requires.numbered.each (sym c.in-Some.ensures.value)
 
 pub returns-in-None : goal.returns-in-None
 returns-in-None c =
