@@ -1,8 +1,8 @@
 //! The service Write.
 
 ghost use Rattle.std.specs.Prelude.{◌≡◌, ◌⊎◌, ◌++◌, true, length, Some, Ok, Err, IfErr, IfOk, IsOk, OnOk, OnErr};
-ghost use Rattle.ua_read_write.specs.Writing.{stored_of, judged, change_of, accepted_of, status_of, nodes_after, changes_of, write_of, WroteSome};
 ghost use Rattle.std.specs.Result.{result_map_both};
+ghost use Rattle.ua_read_write.specs.Writing.{stored_of, judged, change_of, accepted_of, status_of, nodes_after, changes_of, write_of, WroteSome};
 ghost use Rattle.ua_space.specs.NodePlaces.{place_of};
 ghost use Rattle.ua_space.specs.Values.{takes_at};
 ghost use Rattle.ua_types.specs.Refusals.{GivesOrRefuses};

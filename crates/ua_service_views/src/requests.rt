@@ -15,8 +15,9 @@ use ua_types::NodeId;
 use ua_views::View;
 use ua_walks::Walk;
 
-/// A request whose header can be looked at before it, so that a server that asks the header which request it is looks at it
-/// once.
+/// A request whose fields can be looked at behind a header that was looked at before: a server that asks the header for the
+/// session's token and the request's handle, whatever the request is, looks at it once. Which request it is, the id before
+/// the header tells.
 ///
 /// Implementors write `behind`, a plain chain of `?` over the fields that follow the header.
 pub trait RequestView<'a>: View<'a> {
@@ -42,7 +43,9 @@ pub struct Headed<'a> {
     pub fields: Cursor<'a>,
 }
 
-/// Looks at the header of a body's message, whatever the id before it is. Takes no memory.
+/// Looks at the header of a body's message (RequestHeader, IEC 62541-4, section 7), whatever the id before it is. Takes no memory.
+///
+/// The `Err` is the first fault in the id or in the header; what follows the header isn't looked at.
 #[tactic(auto, unfolding(ua_messages::specs::Bodies::message_of))]
 pub fn header_view<'a>(body: &'a [u8]) -> Result<Headed<'a>, TakeFault>
     ensures gives { GivesAs Memory (λ headed. headed.header) result (message_of request_header_reading body.now) }
