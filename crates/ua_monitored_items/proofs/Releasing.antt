@@ -78,7 +78,7 @@ module _ (made : ℕ) (of_subscription : BTreeMap ℕ (BTreeSet ℕ)) (on_node :
         )
 
     pub table_some_shown : IndexShownSome on_node items new changed → IsTable made new of_subscription on_node
-    table_some_shown (front, change, rest, joined, (made_visits, left, split, is)) =
+    table_some_shown (front, change, rest, joined, (made_visits, next, left, split, is)) =
         let before = table_shown items front h in
         let now : new ≡ sampled_items (shown items front) made_visits = is ∙ ap (λ (es : NumberedItems). sampled_items es made_visits) (all_shown items front h) in
         subst (λ (es : NumberedItems). IsTable made es of_subscription on_node) (sym now) (table_sampled made of_subscription on_node (shown items front) made_visits before)

@@ -10,7 +10,7 @@ use Rattle.ua_monitored_items.specs.Item.{seen, with_sent, gave, notes_of, waiti
 use Rattle.ua_monitored_items.specs.Sampling.{visits_by}
 use Rattle.std.specs.Result.{OnErr}
 use Rattle.ua_monitored_items.specs.ItemTables.{NumberedItems, item_at, with_item}
-use Rattle.ua_monitored_items.specs.Items.{ItemsState, One, Served, nothing_served, with_one, all_served, Visit, visited, sampled_items, VisitedSome, waits_in, any_waits, Taking, nat_least, taken_from, with_taken, nothing_taken, taken_of}
+use Rattle.ua_monitored_items.specs.Items.{ItemsState, One, Served, nothing_served, with_one, all_served, visited, sampled_items, VisitedSome, waits_in, any_waits, Taking, nat_least, taken_from, with_taken, nothing_taken, taken_of}
 use Rattle.ua_monitored_items.specs.declared.item.Item.{Item}
 use Rattle.ua_monitored_items.proofs.Edits.{set_same}
 use Rattle.std.specs.BTreeMap.{is_at}
@@ -45,19 +45,6 @@ module _ {A R : Type 0} (serve : ItemsState → A → One R) (old mid : ItemsSta
 
 -- ---- visits
 
-pub sampled_more : (items : NumberedItems) (front : List Visit) (back : List Visit) → sampled_items items (front ++ back) ≡ sampled_items (sampled_items items front) back
-sampled_more items front back = fold-append visited items front back
-
--- some of the visits that come after others
-pub visited_after : (old mid new : NumberedItems) (front some all : List Visit) (rest : List Visit) → mid ≡ sampled_items old front → front ++ (some ++ rest) ≡ all → VisitedSome mid new some → VisitedSome old new all
-visited_after old mid new front some all rest is split (made, left, joined, then) =
-    let inner : made ++ (left ++ rest) ≡ some ++ rest = sym (append_assoc made left rest) ∙ ap (λ (vs : List Visit). vs ++ rest) joined in (
-      front ++ made,
-      left ++ rest,
-      append_assoc front made (left ++ rest) ∙ ap (λ (vs : List Visit). front ++ vs) inner ∙ split,
-      then ∙ ap (λ (m : NumberedItems). sampled_items m made) is ∙ sym (sampled_more old front made),
-    )
-
 fold_map_more : {A B S : Type 0} (f : S → B → S) (h : A → B) (s : S) (xs : List A) (x : A) → fold f s (map h (xs ++ x ∷ [])) ≡ f (fold f s (map h xs)) (h x)
 fold_map_more f h s [] x = refl
 fold_map_more f h s (y ∷ ys) x = fold_map_more f h (f s (h y)) ys x
@@ -72,7 +59,7 @@ module _ (items : NumberedItems) (value : DataValue) (front : List ℕ) (number 
 
   pub visits_before : (rest all : List ℕ) (new mid : NumberedItems) → front ++ number ∷ rest ≡ all → mid ≡ sampled_items items (visits_by value front) → new ≡ mid → VisitedSome items new (visits_by value all)
   visits_before rest all new mid split is same =
-      (visits_by value front, visits_by value (number ∷ rest), map_split (λ n. record { number = n; value = value }) front (number ∷ rest) ∙ ap (visits_by value) split, same ∙ is)
+      (visits_by value front, record { number = number; value = value }, visits_by value rest, map_split (λ n. record { number = n; value = value }) front (number ∷ rest) ∙ ap (visits_by value) split, same ∙ is)
 
 flat_split : {A B : Type 0} (f : A → List B) (xs ys : List A) (x : A) → flat_map f xs ++ (f x ++ flat_map f ys) ≡ flat_map f (xs ++ x ∷ ys)
 flat_split f [] ys x = sym (flat_map-cons f x ys)

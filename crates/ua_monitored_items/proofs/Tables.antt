@@ -19,7 +19,7 @@ use Rattle.ua_values.specs.declared.data_value.DataValue.{DataValue}
 use Rattle.ua_read_write.specs.declared.timestamps.Timestamps.{Timestamps}
 use Rattle.ua_subscription_messages.specs.declared.monitoring_parameters.MonitoringParameters.{MonitoringParameters}
 use Rattle.ua_monitored_items.specs.Item.{is_enabled, takes, queued, seen, with_mode, disabled, modified, gave, waiting_in}
-use Rattle.ua_monitored_items.specs.Items.{Visit, visited, sampled_items, Taking, nat_least, taken_from, with_taken, without_all, first_number, VisitedSome, taken_of, nothing_taken}
+use Rattle.ua_monitored_items.specs.Items.{Visit, visited, sampled_items, Taking, nat_least, taken_from, with_taken, without_all, first_number, taken_of, nothing_taken}
 use Rattle.ua_monitored_items.specs.Preparing.{enabled_from, moded_from}
 use Rattle.ua_monitored_items.specs.declared.preparing.Modification.{Modification}
 use Rattle.ua_monitored_items.specs.Modifying.{modified_with}
@@ -427,10 +427,6 @@ none_left subscription (e ∷ es) none = by (is_of subscription e.1) none (none_
 -- ---- after what was seen or taken, of which a part may be left
 
 module _ (made : ℕ) (of_subscription : BTreeMap ℕ (BTreeSet ℕ)) (on_node : BTreeMap NodeId (BTreeSet ℕ)) (items : NumberedItems) (h : IsTable made items of_subscription on_node) where
-  pub table_after_samples : {T E : Type 0} (r : Result T E) (new : NumberedItems) (visits : List Visit) → OnOk r (new ≡ sampled_items items visits) → OnErr r (VisitedSome items new visits) → IsTable made new of_subscription on_node
-  table_after_samples (Ok x) new visits ok err = subst (λ (es : NumberedItems). IsTable made es of_subscription on_node) (sym ok) (table_sampled made of_subscription on_node items visits h)
-  table_after_samples (Err x) new visits ok (front, rest, joined, is) = subst (λ (es : NumberedItems). IsTable made es of_subscription on_node) (sym is) (table_sampled made of_subscription on_node items front h)
-
   table_sent : (new : NumberedItems) (n : ℕ) (numbers : List ℕ) → new ≡ (taken_of items n numbers).items → IsTable made new of_subscription on_node
   table_sent new n numbers is = subst (λ (es : NumberedItems). IsTable made es of_subscription on_node) (sym is) (table_taken made of_subscription on_node (nothing_taken items n) numbers h)
 

@@ -278,9 +278,9 @@ visited items visit = with_item visit.number (seen visit.value) items
 abbrev pub sampled_items : NumberedItems → List Visit → NumberedItems
 sampled_items items visits = fold visited items visits
 
--- some of the visits were made, from the first on, and nothing else was done
+-- some of the visits were made, from the first on, the next one wasn't, and nothing else was done
 abbrev pub VisitedSome : NumberedItems → NumberedItems → List Visit → Type 0
-VisitedSome old new visits = (front : List Visit) × (rest : List Visit) × (front ++ rest ≡ visits) × (new ≡ sampled_items old front)
+VisitedSome old new visits = (front : List Visit) × (next : Visit) × (rest : List Visit) × (front ++ next ∷ rest ≡ visits) × (new ≡ sampled_items old front)
 
 -- ---- what a message takes
 

@@ -45,7 +45,7 @@ shown_one items change = seen_by_all items (visits_of items change)
 abbrev pub shown : NumberedItems → List Change → NumberedItems
 shown items changed = fold shown_one items changed
 
--- some of the values were shown, from the first on, some visits of the next one were made, and nothing else was done
+-- some of the values were shown, from the first on, some but not all visits of the next one were made, and nothing else was done
 abbrev pub ShownSome : NumberedItems → NumberedItems → List Change → Type 0
 ShownSome old new changed =
     (front : List Change) × (change : Change) × (rest : List Change) × (front ++ change ∷ rest ≡ changed)

@@ -20,7 +20,7 @@ index_visits on_node change = visits_by change.value (numbers_at id_cmp on_node 
 abbrev pub index_shown : BTreeMap NodeId (BTreeSet ℕ) → NumberedItems → Change → NumberedItems
 index_shown on_node items change = seen_by_all items (index_visits on_node change)
 
--- some of the values were shown, from the first on, some visits of the next one were made, and nothing else was done
+-- some of the values were shown, from the first on, some but not all visits of the next one were made, and nothing else was done
 abbrev pub IndexShownSome : BTreeMap NodeId (BTreeSet ℕ) → NumberedItems → NumberedItems → List Change → Type 0
 IndexShownSome on_node old new changed =
     (front : List Change) × (change : Change) × (rest : List Change) × (front ++ change ∷ rest ≡ changed)

@@ -27,7 +27,7 @@ const OVERFLOW: u32 = 0x480;
 
 /// A monitored item: whose it is, what it watches, how, the values that wait, and the items that it triggers.
 ///
-/// The fields lie in memory as they are declared: what a message looks at comes first, side by side.
+/// What a message looks at is declared first, side by side.
 pub struct Item {
     /// The number of its subscription.
     pub subscription: u32,

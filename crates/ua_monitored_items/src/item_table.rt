@@ -1,6 +1,6 @@
 //! Items under their numbers, with an index of the subscriptions and one of the nodes.
 
-ghost use Rattle.std.specs.Prelude.{◌≡◌, ◌<◌, ◌-◌, ◌+◌, ◌^◌, ◌≤◌, ◌∷◌, [], true, length, OnOk, OnErr, IfOk, IfSome};
+ghost use Rattle.std.specs.Prelude.{◌≡◌, ◌<◌, ◌-◌, ◌+◌, ◌^◌, ◌≤◌, [], true, length, OnOk, OnErr, IfOk, IfSome};
 ghost use Rattle.std.specs.BTreeMap.{is_at, insert_entry};
 ghost use Rattle.std.specs.Map.{remove_entry};
 ghost use Rattle.std.specs.Option.{option_copied, option_map};
@@ -8,10 +8,10 @@ ghost use Rattle.std.specs.Ordering.{nat_cmp};
 ghost use Rattle.ua_types.specs.NodeIdOrder.{id_cmp};
 ghost use Rattle.ua_monitored_items.specs.Item.{with_links};
 ghost use Rattle.ua_monitored_items.specs.ItemTables.{TableState, item_at, numbers_of, is_of, is_on, with_item, IsPut, IsTakenOut, IsPutBack, IsKept, IsOwn};
-ghost use Rattle.ua_monitored_items.specs.Items.{without_all, any_waits, taken_of, first_number};
+ghost use Rattle.ua_monitored_items.specs.Items.{without_all, any_waits, taken_of, first_number, visits_of, VisitedSome};
 ghost use Rattle.ua_monitored_items.specs.Modifying.{modified_with};
 ghost use Rattle.ua_monitored_items.specs.Preparing.{moded_from};
-ghost use Rattle.ua_monitored_items.specs.Releases.{all_released, shown, ShownSome};
+ghost use Rattle.ua_monitored_items.specs.Releases.{all_released, shown_one, shown, ShownSome};
 ghost use Rattle.ua_monitored_items.specs.Taking.{TakenSome};
 ghost use Rattle.ua_subscription_messages.specs.DataChangeMessages.{with_notes};
 
@@ -272,7 +272,7 @@ impl ItemTable {
     }
 
     /// The items of a node that was written see the value, and release what is linked to them. At an `Err` some visits were
-    /// made, from the first on.
+    /// made, from the first on, but not all.
     pub fn show(
         &mut self,
         alloc: Global,
@@ -280,8 +280,8 @@ impl ItemTable {
         value: &DataValue,
     ) -> Result<(), AllocError>
         ensures made { self.new.made ≡ self.old.made }
-        ensures ok { OnOk result (self.new.items ≡ shown self.old.items (record { node_id = node_id.now; value = value.now } ∷ [])) }
-        ensures err { OnErr result (ShownSome self.old.items self.new.items (record { node_id = node_id.now; value = value.now } ∷ [])) }
+        ensures ok { OnOk result (self.new.items ≡ shown_one self.old.items (record { node_id = node_id.now; value = value.now })) }
+        ensures err { OnErr result (VisitedSome self.old.items self.new.items (visits_of self.old.items (record { node_id = node_id.now; value = value.now }))) }
     {
         show_node(alloc, &mut self.items, &self.on_node, node_id, value)
     }

@@ -62,7 +62,7 @@ fn show_value(
 }
 
 /// The items of a node, whose numbers the index has, see a value that was written there, and release what is linked to them.
-/// At an `Err` some visits were made, from the first on.
+/// At an `Err` some visits were made, from the first on, but not all.
 pub(crate) fn show_node(
     alloc: Global,
     items: &mut Numbered,
