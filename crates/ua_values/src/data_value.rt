@@ -9,8 +9,7 @@ use ua_types::{Copyable, Moment, Status};
 
 /// A value with its status and times (DataValue, IEC 62541-6, 5.2.2.17).
 ///
-/// In the order they go by status and times, then by value; what is absent comes first. The status and the times are declared
-/// first, side by side with the first bytes of the value: who looks at a short value wants them together.
+/// In the order they go by status and times, which are declared first, then by value; what is absent comes first.
 #[derive(Debug, PartialEq, Eq, PartialOrd, Ord)]
 pub struct DataValue {
     /// How good the value is. [`Status::GOOD`] where nothing is said.
