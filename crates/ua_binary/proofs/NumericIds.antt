@@ -1,5 +1,5 @@
 -- Ids that are numbers are read again, in whichever form they are written.
-use Rattle.std.proofs.Common.{◌≡◌, ℕ, ◌^◌, ◌<◌, ◌&&◌, ◌==◌, nat_lt, true, false, ◌++◌, Ok, refl, sym, ap, ◌∙◌, inl, inr, append_assoc}
+use Rattle.std.proofs.Common.{◌≡◌, ℕ, ◌^◌, ◌<◌, ◌&&◌, ◌==◌, nat_lt, true, false, ◌++◌, Ok, refl, sym, ap, inl, inr, append_assoc}
 use Rattle.std.specs.Int.{w16, w32}
 use Rattle.std.proofs.lemmas.Bool.{cases_Bool, and_parts, eqb-true, ltb-true}
 use Rattle.ua_types.specs.NodeIds.{numeric_id}

@@ -49,5 +49,6 @@ pub use expanded_node_ids::write_local_id;
 pub use fault::TakeFault;
 pub use localized_texts::write_without_locale;
 pub use texts::{NULL_LENGTH, write_text};
+pub use variants::decode_variant;
 pub use wire::Wire;
 pub use written::Written;

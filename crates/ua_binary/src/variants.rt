@@ -254,10 +254,10 @@ fn decode_typed<'a>(
     }
 }
 
-// Reads a value into a place. At an `Err` the cursor stands as after `Wire::decode`, and any value may be in
-// the place.
+/// Reads a value into a place, where it is looked at next: a value that is returned is moved once more for each `Result` that
+/// hands it up. At an `Err` the cursor stands as after [`Wire::decode`], and any value may be in the place.
 #[tactic(auto, using(crate::proofs::TypeBytes::announced_claim, crate::proofs::Backing::variant_found_no_room), unfolding(crate::specs::Variants::variant_reading))]
-pub(crate) fn decode_variant(
+pub fn decode_variant(
     alloc: Global,
     cursor: &mut Cursor<'_>,
     place: &mut Variant,

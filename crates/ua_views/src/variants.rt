@@ -10,7 +10,7 @@ ghost use Rattle.ua_views.specs.VariantBytes.{shape_announced};
 use crate::view::{Readable, View};
 use std::alloc::{AllocError, Global};
 use std::marker::Model;
-use ua_binary::{Cursor, TakeFault, Wire};
+use ua_binary::{Cursor, TakeFault, decode_variant};
 use ua_values::{Shape, Variant};
 use ua_walks::{Walk, skip_variant};
 
@@ -91,8 +91,9 @@ impl<'a> VariantView<'a> {
     pub fn to_value(&self, alloc: Global) -> Result<Variant, AllocError>
         ensures { IfOk result (λ value. value ≡ self.now) }
     {
-        match Variant::decode(alloc, &mut Cursor::new(self.bytes)) {
-            Ok(value) => Ok(value),
+        let mut value = Variant::Null;
+        match decode_variant(alloc, &mut Cursor::new(self.bytes), &mut value) {
+            Ok(()) => Ok(value),
             Err(TakeFault::Memory) => Err(AllocError),
             Err(_) => unreachable!(),
         }
