@@ -111,6 +111,14 @@ fn structures(rt: HostRuntime) -> Result<(), Fail> {
     Ok(())
 }
 
+// Whether an id is this number, in whatever namespace.
+fn is_number(id: &NodeIdView<'_>, number: u32) -> bool {
+    match &id.identifier {
+        IdentifierView::Numeric(own) => own.get() == number,
+        _ => false,
+    }
+}
+
 #[test]
 fn lists(rt: HostRuntime) {
     let mut left = seen::<ArrayView<'_, NodeIdView<'_>>>(&[2, 0, 0, 0, 0, 11, 0, 12]);
@@ -123,14 +131,12 @@ fn lists(rt: HostRuntime) {
         holds(&rt, "the first", false);
         return;
     };
-    let is_first = matches!(&first.identifier, IdentifierView::Numeric(11));
-    holds(&rt, "11 first", is_first);
+    holds(&rt, "11 first", is_number(&first, 11));
     let Some(second) = list.next() else {
         holds(&rt, "the second", false);
         return;
     };
-    let is_second = matches!(&second.identifier, IdentifierView::Numeric(12));
-    holds(&rt, "12 second", is_second);
+    holds(&rt, "12 second", is_number(&second, 12));
     holds(&rt, "no third", list.next().is_none());
     let mut cursor = Cursor::new(&[3, 0, 0, 0, 0, 11]);
     let claimed = ArrayView::<'_, NodeIdView<'_>>::view(&mut cursor);
@@ -166,8 +172,7 @@ fn a_read_as_it_came(rt: HostRuntime) {
         holds(&rt, "the first", false);
         return;
     };
-    let is_numeric = matches!(&first.node_id.identifier, IdentifierView::Numeric(11));
-    holds(&rt, "a number", is_numeric);
+    holds(&rt, "a number", is_number(&first.node_id, 11));
     let Some(second) = request.nodes_to_read.next() else {
         holds(&rt, "the second", false);
         return;

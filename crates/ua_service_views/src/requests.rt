@@ -69,8 +69,7 @@ impl<'a> Headed<'a> {
         ensures header { IfOk result (λ request. T.header_of request ≡ self.entry.header) }
         ensures no_memory { result ≢ Err Memory }
     {
-        let Headed { header, fields } = self;
-        let mut fields = fields;
+        let Headed { header, mut fields } = self;
         T::behind(header, &mut fields)
     }
 }

@@ -15,7 +15,7 @@ fn is_standard(id: &NodeIdView<'_>, number: u32) -> bool
     ensures { result ≡ is_id number id.now }
 {
     match &id.identifier {
-        IdentifierView::Numeric(own) => id.namespace == 0 && *own == number,
+        IdentifierView::Numeric(own) => id.namespace == 0 && own.get() == number,
         _ => false,
     }
 }

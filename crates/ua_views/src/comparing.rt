@@ -42,7 +42,7 @@ fn compare_identifiers(identifier: &Identifier, view: &IdentifierView<'_>) -> Or
 {
     match identifier {
         Identifier::Numeric(a) => match view {
-            IdentifierView::Numeric(b) => a.cmp(b),
+            IdentifierView::Numeric(b) => a.cmp(&b.get()),
             _ => Ordering::Less,
         },
         Identifier::String(a) => match view {
@@ -52,7 +52,7 @@ fn compare_identifiers(identifier: &Identifier, view: &IdentifierView<'_>) -> Or
         },
         Identifier::Guid(a) => match view {
             IdentifierView::Numeric(_) | IdentifierView::String(_) => Ordering::Greater,
-            IdentifierView::Guid(b) => a.cmp(b),
+            IdentifierView::Guid(b) => a.cmp(&b.get()),
             IdentifierView::Opaque(_) => Ordering::Less,
         },
         Identifier::Opaque(a) => match view {
@@ -75,7 +75,7 @@ pub fn compare(id: &NodeId, view: &NodeIdView<'_>) -> Ordering
         return Ordering::Greater;
     }
     match (&id.identifier, &view.identifier) {
-        (Identifier::Numeric(a), IdentifierView::Numeric(b)) => a.cmp(b),
+        (Identifier::Numeric(a), IdentifierView::Numeric(b)) => a.cmp(&b.get()),
         _ => compare_identifiers(&id.identifier, &view.identifier),
     }
 }

@@ -13,6 +13,7 @@
 //! Read [`View`] first, then `node_ids` for a type with forms, and [`ArrayView`].
 #![tactic(auto)]
 
+mod aligned;
 mod arrays;
 mod comparing;
 mod data_values;
@@ -24,6 +25,7 @@ mod texts;
 mod variants;
 mod view;
 
+pub use aligned::Aligned;
 pub use arrays::ArrayView;
 pub use comparing::compare;
 pub use data_values::DataValueView;

@@ -8,6 +8,7 @@ ghost use Rattle.ua_binary.specs.Reading.{Reads};
 ghost use Rattle.ua_types.specs.NodeIds.{numeric_id, is_null_id};
 ghost use Rattle.ua_views.specs.Identifiers.{identifier_of, IsPlain};
 
+use crate::aligned::Aligned;
 use crate::parts::{look_number_where_set, look_text_where_set};
 use crate::texts::{ByteStringView, TextView};
 use crate::view::{Readable, View};
@@ -20,9 +21,9 @@ use ua_walks::Walk;
 /// An [`Identifier`] in the bytes that it stands in.
 #[derive(Debug)]
 pub enum IdentifierView<'a> {
-    Numeric(u32),
+    Numeric(Aligned<u32>),
     String(TextView<'a>),
-    Guid(Guid),
+    Guid(Aligned<Guid>),
     Opaque(ByteStringView<'a>),
 }
 
@@ -44,9 +45,9 @@ impl<'a> IdentifierView<'a> {
         ensures { identifier_of result ≡ identifier.now }
     {
         match identifier {
-            Identifier::Numeric(number) => IdentifierView::Numeric(*number),
+            Identifier::Numeric(number) => IdentifierView::Numeric(Aligned::new(*number)),
             Identifier::String(text) => IdentifierView::String(TextView::of(text)),
-            Identifier::Guid(guid) => IdentifierView::Guid(*guid),
+            Identifier::Guid(guid) => IdentifierView::Guid(Aligned::new(*guid)),
             Identifier::Opaque(bytes) => IdentifierView::Opaque(ByteStringView::of(bytes)),
         }
     }
@@ -57,9 +58,9 @@ impl<'a> IdentifierView<'a> {
         ensures plain { IsPlain (identifier_of self.now) → IsOk result }
     {
         match self {
-            IdentifierView::Numeric(number) => Ok(Identifier::Numeric(*number)),
+            IdentifierView::Numeric(number) => Ok(Identifier::Numeric(number.get())),
             IdentifierView::String(text) => Ok(Identifier::String(text.to_value(alloc)?)),
-            IdentifierView::Guid(guid) => Ok(Identifier::Guid(*guid)),
+            IdentifierView::Guid(guid) => Ok(Identifier::Guid(guid.get())),
             IdentifierView::Opaque(bytes) => Ok(Identifier::Opaque(bytes.to_value(alloc)?)),
         }
     }
@@ -97,7 +98,10 @@ impl<'a> NodeIdView<'a> {
     pub fn is_null(&self) -> bool
         ensures { result ≡ is_null_id self.now }
     {
-        self.namespace == 0 && matches!(&self.identifier, IdentifierView::Numeric(0))
+        match &self.identifier {
+            IdentifierView::Numeric(number) => self.namespace == 0 && number.get() == 0,
+            _ => false,
+        }
     }
 
     /// A copy to keep. That of a number or a Guid takes no memory.
@@ -118,7 +122,7 @@ fn numeric<'a>(namespace: u16, number: u32) -> NodeIdView<'a>
 {
     NodeIdView {
         namespace,
-        identifier: IdentifierView::Numeric(number),
+        identifier: IdentifierView::Numeric(Aligned::new(number)),
     }
 }
 
@@ -144,7 +148,7 @@ fn look_long_form<'a>(form: u8, cursor: &mut Cursor<'a>) -> Result<NodeIdView<'a
             let guid = cursor.guid()?;
             Ok(NodeIdView {
                 namespace,
-                identifier: IdentifierView::Guid(guid),
+                identifier: IdentifierView::Guid(Aligned::new(guid)),
             })
         }
         5 => {
