@@ -57,4 +57,4 @@ pub use service_faults::{ServiceFault, fault};
 pub use structures::{
     StructureFault, extension_object, is_structure, object_of_bytes, received_structure, structure,
 };
-pub use structures_in_place::write_structure;
+pub use structures_in_place::{put_number, write_structure};

@@ -11,8 +11,9 @@ use std::alloc::AllocError;
 use ua_binary::{Wire, Written};
 use ua_types::NodeId;
 
-// Puts a number into the place of the four bytes at `at`.
-fn put_number(out: &mut Vec<u8>, at: usize, number: u32)
+/// Puts a number into the place of the four bytes at `at`: a length or a count that is known only once what follows it is
+/// written (UInt32, IEC 62541-6, 5.2.2.2).
+pub fn put_number(out: &mut Vec<u8>, at: usize, number: u32)
     requires { at + 4 ≤ length out.old.items }
     ensures { out.new.items ≡ take at out.old.items ++ (to_le_bytes w32 number ++ drop (at + 4) out.old.items) }
 {

@@ -1,7 +1,6 @@
 //! Messages with values of monitored items, written value by value.
 
-ghost use Rattle.std.specs.Prelude.{◌≡◌, ◌≤◌, ◌+◌, ◌++◌, ℕ, List, length, take, drop, IfOk, OnOk};
-ghost use Rattle.std.specs.Int.{w32, to_le_bytes};
+ghost use Rattle.std.specs.Prelude.{◌≡◌, ℕ, List, IfOk, OnOk};
 ghost use Rattle.ua_types.specs.declared.moment.Moment.{Moment};
 ghost use Rattle.ua_subscription_messages.specs.declared.publishing.MonitoredItemNotification.{MonitoredItemNotification};
 ghost use Rattle.ua_subscription_messages.specs.DataChangeMessages.{begun, with_note, with_notes, data_change_message};
@@ -10,7 +9,7 @@ use crate::borrowed_notifications::BorrowedNotification;
 use std::alloc::{AllocError, Global};
 use std::marker::Model;
 use ua_binary::{Wire, Written};
-use ua_messages::{DiagnosticInfos, type_ids};
+use ua_messages::{DiagnosticInfos, put_number, type_ids};
 use ua_types::{Moment, NodeId};
 
 // How many bytes a message has room for at first.
@@ -39,14 +38,6 @@ impl Model for DataChangeMessage {
     ghost view = { λ m. record { front = take m.at m.bytes.items; notes = drop (m.at + 8) m.bytes.items; count = m.count } };
 
     ghost invariant = { λ m. (m.at + 8 ≤ length m.bytes.items) × (m.count < 2 ^ 31) };
-}
-
-// Puts a number into the place of the four bytes at `at`.
-fn put_number(out: &mut Vec<u8>, at: usize, number: u32)
-    requires { at + 4 ≤ length out.old.items }
-    ensures { out.new.items ≡ take at out.old.items ++ (to_le_bytes w32 number ++ drop (at + 4) out.old.items) }
-{
-    out[at..at + 4].copy_from_slice(&number.to_le_bytes());
 }
 
 impl DataChangeMessage {
