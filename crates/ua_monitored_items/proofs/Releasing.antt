@@ -52,13 +52,13 @@ module _ (made : ℕ) (of_subscription : BTreeMap ℕ (BTreeSet ℕ)) (on_node :
   table_shown items (c ∷ cs) h = table_shown (shown_one items c) cs (table_seen items (visits_of items c) h)
 
   -- the visits that the index leads to are those of the items of a node
-  one_shown : (items : NumberedItems) (c : Change) → IsTable made items of_subscription on_node → index_visits on_node c ≡ visits_of items c
-  one_shown items c h = ap (visits_by c.value) (h.nodes c.node_id)
+  pub visits_by_index : (items : NumberedItems) (c : Change) → IsTable made items of_subscription on_node → index_visits on_node c ≡ visits_of items c
+  visits_by_index items c h = ap (visits_by c.value) (h.nodes c.node_id)
 
   pub all_shown : (items : NumberedItems) (changed : List Change) → IsTable made items of_subscription on_node → fold (index_shown on_node) items changed ≡ shown items changed
   all_shown items [] h = refl
   all_shown items (c ∷ cs) h =
-      ap (λ (vs : List Visit). fold (index_shown on_node) (seen_by_all items vs) cs) (one_shown items c h)
+      ap (λ (vs : List Visit). fold (index_shown on_node) (seen_by_all items vs) cs) (visits_by_index items c h)
       ∙ all_shown (shown_one items c) cs (table_seen items (visits_of items c) h)
 
   module _ (items : NumberedItems) (h : IsTable made items of_subscription on_node) (new : NumberedItems) (changed : List Change) where
@@ -73,12 +73,12 @@ module _ (made : ℕ) (of_subscription : BTreeMap ℕ (BTreeSet ℕ)) (on_node :
           change,
           rest,
           joined,
-          subst (λ (vs : List Visit). VisitedSome (shown items front) new vs) (one_shown (shown items front) change before)
+          subst (λ (vs : List Visit). VisitedSome (shown items front) new vs) (visits_by_index (shown items front) change before)
               (subst (λ (es : NumberedItems). VisitedSome es new (index_visits on_node change)) same visits),
         )
 
     pub table_some_shown : IndexShownSome on_node items new changed → IsTable made new of_subscription on_node
-    table_some_shown (front, change, rest, joined, (made_visits, next, left, split, is)) =
+    table_some_shown (front, change, rest, joined, (made_visits, next, left, split, is, takes)) =
         let before = table_shown items front h in
         let now : new ≡ sampled_items (shown items front) made_visits = is ∙ ap (λ (es : NumberedItems). sampled_items es made_visits) (all_shown items front h) in
         subst (λ (es : NumberedItems). IsTable made es of_subscription on_node) (sym now) (table_sampled made of_subscription on_node (shown items front) made_visits before)

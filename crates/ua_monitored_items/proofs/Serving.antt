@@ -1,5 +1,5 @@
 -- Entries that are served one after the other.
-use Rattle.std.proofs.Common.{◌≡◌, List, [], ◌∷◌, ◌++◌, Result, Ok, Err, append_assoc, refl, sym, ap, ◌∙◌, ℕ, zero, suc, ◌<◌, ◌-◌, arith, map, take, drop, length, get_or, Option, Some, None, append-nil, Bool, true, false, cond, leb}
+use Rattle.std.proofs.Common.{◌≡◌, List, [], ◌∷◌, ◌++◌, Result, Ok, Err, append_assoc, refl, sym, ap, subst, ◌∙◌, ℕ, zero, suc, ◌<◌, ◌-◌, arith, map, take, drop, length, get_or, Option, Some, None, append-nil, Bool, true, false, cond, leb}
 use Rattle.std.proofs.lemmas.Bool.{leb-false, leb-true}
 use Rattle.std.proofs.lemmas.List.Sums.{fold-append}
 use Rattle.std.proofs.lemmas.List.Concat.{flat_map-cons}
@@ -10,7 +10,7 @@ use Rattle.ua_monitored_items.specs.Item.{seen, with_sent, gave, notes_of, waiti
 use Rattle.ua_monitored_items.specs.Sampling.{visits_by}
 use Rattle.std.specs.Result.{OnErr}
 use Rattle.ua_monitored_items.specs.ItemTables.{NumberedItems, item_at, with_item}
-use Rattle.ua_monitored_items.specs.Items.{ItemsState, One, Served, nothing_served, with_one, all_served, visited, sampled_items, VisitedSome, waits_in, any_waits, Taking, nat_least, taken_from, with_taken, nothing_taken, taken_of}
+use Rattle.ua_monitored_items.specs.Items.{ItemsState, One, Served, nothing_served, with_one, all_served, Visit, visited, sampled_items, visit_takes, VisitedSome, waits_in, any_waits, Taking, nat_least, taken_from, with_taken, nothing_taken, taken_of}
 use Rattle.ua_monitored_items.specs.declared.item.Item.{Item}
 use Rattle.ua_monitored_items.proofs.Edits.{set_same}
 use Rattle.std.specs.BTreeMap.{is_at}
@@ -57,9 +57,17 @@ module _ (items : NumberedItems) (value : DataValue) (front : List ℕ) (number 
   pub visits_more : sampled_items items (visits_by value (front ++ number ∷ [])) ≡ with_item number (seen value) (sampled_items items (visits_by value front))
   visits_more = fold_map_more visited (λ n. record { number = n; value = value }) items front number
 
-  pub visits_before : (rest all : List ℕ) (new mid : NumberedItems) → front ++ number ∷ rest ≡ all → mid ≡ sampled_items items (visits_by value front) → new ≡ mid → VisitedSome items new (visits_by value all)
-  visits_before rest all new mid split is same =
-      (visits_by value front, record { number = number; value = value }, visits_by value rest, map_split (λ n. record { number = n; value = value }) front (number ∷ rest) ∙ ap (visits_by value) split, same ∙ is)
+  pub visits_before : (rest all : List ℕ) (new mid : NumberedItems) → front ++ number ∷ rest ≡ all → mid ≡ sampled_items items (visits_by value front) → new ≡ mid
+      → visit_takes (record { number = number; value = value }) (item_at number mid) ≡ true → VisitedSome items new (visits_by value all)
+  visits_before rest all new mid split is same takes =
+      let visit : Visit = record { number = number; value = value } in (
+        visits_by value front,
+        visit,
+        visits_by value rest,
+        map_split (λ n. record { number = n; value = value }) front (number ∷ rest) ∙ ap (visits_by value) split,
+        same ∙ is,
+        subst (λ (es : NumberedItems). visit_takes visit (item_at number es) ≡ true) (sym same) takes,
+      )
 
 flat_split : {A B : Type 0} (f : A → List B) (xs ys : List A) (x : A) → flat_map f xs ++ (f x ++ flat_map f ys) ≡ flat_map f (xs ++ x ∷ ys)
 flat_split f [] ys x = sym (flat_map-cons f x ys)

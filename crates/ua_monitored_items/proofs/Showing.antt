@@ -1,5 +1,5 @@
 -- A table whose items see what the index leads to is a table whose items see what was written.
-use Rattle.std.proofs.Common.{◌≡◌, ℕ, List, [], ◌∷◌, Result, Ok, Err, refl, ap, subst, ◌∙◌}
+use Rattle.std.proofs.Common.{◌≡◌, ℕ, List, [], ◌∷◌, Result, Ok, Err, refl, subst, ◌∙◌}
 use Rattle.std.specs.Prelude.{OnOk, OnErr, fold}
 use Rattle.std.specs.BTreeMap.{BTreeMap}
 use Rattle.std.specs.BTreeSet.{BTreeSet}
@@ -8,8 +8,8 @@ use Rattle.ua_read_write.specs.declared.writing.Change.{Change}
 use Rattle.ua_monitored_items.specs.ItemTables.{NumberedItems, IsTable}
 use Rattle.ua_monitored_items.specs.Items.{Visit, visits_of, VisitedSome}
 use Rattle.ua_monitored_items.specs.Releases.{shown, ShownSome}
-use Rattle.ua_monitored_items.specs.Sampling.{visits_by, index_shown, index_visits, IndexShownSome}
-use Rattle.ua_monitored_items.proofs.Releasing.{all_shown, some_shown, table_all_shown, table_some_shown}
+use Rattle.ua_monitored_items.specs.Sampling.{index_shown, index_visits, IndexShownSome}
+use Rattle.ua_monitored_items.proofs.Releasing.{visits_by_index, all_shown, some_shown, table_all_shown, table_some_shown}
 
 module _ (made : ℕ) (of_subscription : BTreeMap ℕ (BTreeSet ℕ)) (on_node : BTreeMap NodeId (BTreeSet ℕ)) (items : NumberedItems) (h : IsTable made items of_subscription on_node) (new : NumberedItems) (changed : List Change) where
   pub table_after : {T E : Type 0} (r : Result T E) → OnOk r (new ≡ fold (index_shown on_node) items changed) → OnErr r (IndexShownSome on_node items new changed) → IsTable made new of_subscription on_node
@@ -28,7 +28,7 @@ module _ (made : ℕ) (of_subscription : BTreeMap ℕ (BTreeSet ℕ)) (on_node :
 pub visits_are : {T E : Type 0} (made : ℕ) (of_subscription : BTreeMap ℕ (BTreeSet ℕ)) (on_node : BTreeMap NodeId (BTreeSet ℕ)) (items new : NumberedItems) (change : Change) (r : Result T E)
     → IsTable made items of_subscription on_node → OnErr r (VisitedSome items new (index_visits on_node change)) → OnErr r (VisitedSome items new (visits_of items change))
 visits_are made of_subscription on_node items new change (Ok x) h some = tt
-visits_are made of_subscription on_node items new change (Err x) h some = subst (λ (vs : List Visit). VisitedSome items new vs) (ap (visits_by change.value) (h.nodes change.node_id)) some
+visits_are made of_subscription on_node items new change (Err x) h some = subst (λ (vs : List Visit). VisitedSome items new vs) (visits_by_index made of_subscription on_node items change h) some
 
 -- a value is a list of one
 pub one_shown : {T E : Type 0} (on_node : BTreeMap NodeId (BTreeSet ℕ)) (items new : NumberedItems) (change : Change) (r : Result T E) → OnErr r (VisitedSome items new (index_visits on_node change)) → OnErr r (IndexShownSome on_node items new (change ∷ []))

@@ -1,6 +1,6 @@
 -- The monitored items of a server: what is done with them, and the refusals in their order (IEC 62541-4, "MonitoredItem
 -- Service Set").
-use Rattle.std.specs.Prelude.{◌≡◌, ℕ, ◌+◌, ◌-◌, ◌^◌, ◌==◌, ◌||◌, Bool, false, not, filter, List, [], ◌∷◌, ◌++◌, map, flat_map, fold, take, length, nat_le, nat_lt, Option, Some, None, Result, Ok, Err, if◌then◌else◌}
+use Rattle.std.specs.Prelude.{◌≡◌, ℕ, ◌+◌, ◌-◌, ◌^◌, ◌==◌, ◌||◌, Bool, true, false, not, filter, List, [], ◌∷◌, ◌++◌, map, flat_map, fold, take, length, nat_le, nat_lt, Option, Some, None, Result, Ok, Err, if◌then◌else◌}
 use Rattle.std.specs.BTreeMap.{insert_entry, is_at}
 use Rattle.std.specs.Map.{remove_entry}
 use Rattle.std.specs.Ordering.{nat_cmp}
@@ -26,7 +26,7 @@ use Rattle.ua_subscription_messages.specs.declared.publishing.MonitoredItemNotif
 use Rattle.ua_item_queue.specs.ItemQueue.{QueueMove}
 use Rattle.ua_item_queue.specs.ItemQueue.QueueMove.{Clear}
 use Rattle.ua_monitored_items.specs.Kinds.{mode_numbered, trigger_of}
-use Rattle.ua_monitored_items.specs.Item.{is_enabled, queued, seen, reading, moded, revised_size, modified, gave, notes_of, waiting_in, sample_queue_move, mode_queue_moves, modify_queue_moves}
+use Rattle.ua_monitored_items.specs.Item.{is_enabled, takes, queued, seen, reading, moded, revised_size, modified, gave, notes_of, waiting_in, sample_queue_move, mode_queue_moves, modify_queue_moves}
 use Rattle.ua_monitored_items.specs.ItemTables.{NumberedItems, item_at, is_of, numbers_of, numbers_on, with_item}
 use Rattle.ua_monitored_items.specs.declared.item.Item.{Item}
 use Rattle.ua_monitored_items.specs.declared.kinds.Kind.{Kind}
@@ -278,9 +278,16 @@ visited items visit = with_item visit.number (seen visit.value) items
 abbrev pub sampled_items : NumberedItems → List Visit → NumberedItems
 sampled_items items visits = fold visited items visits
 
--- some of the visits were made, from the first on, the next one wasn't, and nothing else was done
+-- whether the item that is visited, if there is one, queues what it sees
+abbrev pub visit_takes : Visit → Option Item → Bool
+visit_takes visit None = false
+visit_takes visit (Some item) = takes item visit.value
+
+-- some of the visits were made, from the first on, the next one, at which an item was to queue the value, wasn't, and nothing else was done
 abbrev pub VisitedSome : NumberedItems → NumberedItems → List Visit → Type 0
-VisitedSome old new visits = (front : List Visit) × (next : Visit) × (rest : List Visit) × (front ++ next ∷ rest ≡ visits) × (new ≡ sampled_items old front)
+VisitedSome old new visits =
+    (front : List Visit) × (next : Visit) × (rest : List Visit) × (front ++ next ∷ rest ≡ visits) × (new ≡ sampled_items old front)
+    × (visit_takes next (item_at next.number new) ≡ true)
 
 -- ---- what a message takes
 

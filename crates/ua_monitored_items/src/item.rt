@@ -1,8 +1,8 @@
 //! A monitored item.
 
-ghost use Rattle.std.specs.Prelude.{◌≡◌, ◌≤◌, ◌++◌, [], take, OnOk, OnErr, IfOk, if◌then◌else◌};
+ghost use Rattle.std.specs.Prelude.{◌≡◌, ◌≤◌, ◌++◌, [], true, take, OnOk, OnErr, IfOk, if◌then◌else◌};
 ghost use Rattle.std.specs.Option.{option_copied};
-ghost use Rattle.ua_monitored_items.specs.Item.{is_change_since as is_change_since_spec, takes as takes_spec, queued, seen, reading, revised_size as revised_size_spec, takes_last as takes_last_spec, with_sent, gave, notes_of, tells as tells_spec, waiting_in, released_in, with_links, time_if, marked_status, shown, note_of};
+ghost use Rattle.ua_monitored_items.specs.Item.{is_change_since as is_change_since_spec, takes as takes_spec, queued, seen, reading, revised_size as revised_size_spec, takes_last as takes_last_spec, gave, notes_of, tells as tells_spec, waiting_in, released_in, with_links, time_if, marked_status, note_of};
 ghost use Rattle.ua_monitored_items.specs.Modifying.{modified_with};
 ghost use Rattle.ua_monitored_items.specs.Preparing.{moded_from};
 ghost use Rattle.ua_monitored_items.specs.Releases.{releases_of};
@@ -184,7 +184,8 @@ impl Item {
         Ok(())
     }
 
-    // Sees a value that was written, and adds what that releases. At an `Err` the item is what it was.
+    // Sees a value that was written, and adds what that releases. At an `Err`, which comes only where it queues the value, the
+    // item is what it was.
     pub(crate) fn see(
         &mut self,
         alloc: Global,
@@ -194,6 +195,7 @@ impl Item {
         ensures ok { OnOk result (self.new ≡ seen value.now self.old) }
         ensures releases { OnOk result (releases.new.items ≡ releases.old.items ++ (if takes_spec self.old value.now then releases_of self.old else [])) }
         ensures err { OnErr result (self.new ≡ self.old) }
+        ensures takes { OnErr result (takes_spec self.old value.now ≡ true) }
     {
         if self.takes(value) {
             self.add_releases(releases)?;

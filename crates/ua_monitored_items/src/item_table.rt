@@ -1,9 +1,9 @@
 //! Items under their numbers, with an index of the subscriptions and one of the nodes.
 
-ghost use Rattle.std.specs.Prelude.{◌≡◌, ◌<◌, ◌-◌, ◌+◌, ◌^◌, ◌≤◌, [], true, length, OnOk, OnErr, IfOk, IfSome};
+ghost use Rattle.std.specs.Prelude.{◌≡◌, ◌<◌, ◌-◌, ◌+◌, ◌^◌, [], true, length, OnOk, OnErr, IfSome};
 ghost use Rattle.std.specs.BTreeMap.{is_at, insert_entry};
 ghost use Rattle.std.specs.Map.{remove_entry};
-ghost use Rattle.std.specs.Option.{option_copied, option_map};
+ghost use Rattle.std.specs.Option.{option_copied};
 ghost use Rattle.std.specs.Ordering.{nat_cmp};
 ghost use Rattle.ua_types.specs.NodeIdOrder.{id_cmp};
 ghost use Rattle.ua_monitored_items.specs.Item.{with_links};
@@ -272,7 +272,7 @@ impl ItemTable {
     }
 
     /// The items of a node that was written see the value, and release what is linked to them. At an `Err` some visits were
-    /// made, from the first on, but not all.
+    /// made, from the first on, and the next item, which was to queue the value, hasn't seen it.
     pub fn show(
         &mut self,
         alloc: Global,
@@ -286,8 +286,8 @@ impl ItemTable {
         show_node(alloc, &mut self.items, &self.on_node, node_id, value)
     }
 
-    /// The items of the nodes that were written see the values, in their order, and release what is linked
-    /// to them. At an `Err` some have seen theirs, from the first on.
+    /// The items of the nodes that were written see the values, in their order, and release what is linked to them. At an
+    /// `Err` some visits were made, from the first on, and the next item, which was to queue its value, hasn't seen it.
     pub fn sample(&mut self, alloc: Global, changed: &[Change]) -> Result<(), AllocError>
         ensures made { self.new.made ≡ self.old.made }
         ensures ok { OnOk result (self.new.items ≡ shown self.old.items changed.now) }

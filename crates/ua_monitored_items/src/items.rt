@@ -1,12 +1,11 @@
 //! The monitored items of a server.
 
-ghost use Rattle.std.specs.Prelude.{◌≡◌, ◌++◌, ◌-◌, ◌^◌, ◌<◌, ◌≤◌, [], false, true, filter, fold, length, map, IsOk, OnOk, OnErr, IfOk, if◌then◌else◌};
+ghost use Rattle.std.specs.Prelude.{◌≡◌, ◌++◌, ◌-◌, ◌^◌, ◌<◌, ◌≤◌, [], false, true, filter, fold, map, IsOk, OnOk, OnErr, IfOk, if◌then◌else◌};
 ghost use Rattle.std.specs.BTreeSet.{insert_key};
 ghost use Rattle.std.specs.Option.{option_copied};
 ghost use Rattle.std.specs.Ordering.{nat_cmp};
-ghost use Rattle.ua_monitored_items.specs.Item.{moded, revised_size as revised_size_spec};
 ghost use Rattle.ua_monitored_items.specs.ItemTables.{numbers_of};
-ghost use Rattle.ua_monitored_items.specs.Items.{no_items, is_full as is_full_spec, null_object, zero_duration, create_judged, create_one, create_result, create_refused, new_item, begun, with_new_item, own_item, with_change, modify_one, modify_result, modify_refused, mode_one, delete_one, without, ended as ended_spec, all_served, is_available, taken_of, visits_of, VisitedSome};
+ghost use Rattle.ua_monitored_items.specs.Items.{no_items, is_full as is_full_spec, null_object, create_judged, create_one, create_refused, new_item, own_item, modify_one, modify_refused, mode_one, delete_one, ended as ended_spec, all_served, is_available, taken_of, visits_of, VisitedSome};
 ghost use Rattle.ua_monitored_items.specs.Links.{link_status, unlinked, is_own as is_own_spec, may_link as may_link_spec, linked, in_order, link as link_spec, after_link, IsAnswer};
 ghost use Rattle.ua_monitored_items.specs.Modifying.{modification_of};
 ghost use Rattle.ua_monitored_items.specs.Preparing.{IsReady, AreReady, mode_status, moded_own};
@@ -723,8 +722,8 @@ impl Items {
     /// queued. The items of one node see a value by rising numbers, and once all have, those that queued it
     /// release what is linked to them.
     ///
-    /// At want of memory, which comes only where an item watches one of the nodes, some have seen theirs, from the first on, but
-    /// not all, and nothing else was done.
+    /// At want of memory, which comes only where an item is to queue a value, some have seen theirs, from the first on, that item
+    /// hasn't, and nothing else was done.
     pub fn sample(&mut self, alloc: Global, changed: &[Change]) -> Result<(), AllocError>
         ensures ok { OnOk result (self.new.items ≡ shown self.old.items changed.now) }
         ensures others { self.new ≡ record self.old { items = self.new.items } }
@@ -735,8 +734,8 @@ impl Items {
 
     /// Shows the items one value that was written, as [`Items::sample`] shows many.
     ///
-    /// At want of memory, which comes only where an item watches the node, some of its items have seen it, from the first on,
-    /// but not all, and nothing else was done.
+    /// At want of memory, which comes only where an item is to queue the value, some of the node's items have seen it, from the
+    /// first on, that item hasn't, and nothing else was done.
     pub fn show(
         &mut self,
         alloc: Global,

@@ -1,6 +1,6 @@
 //! Items under their numbers, and how many of each subscription's items have a value to send.
 
-ghost use Rattle.std.specs.Prelude.{◌≡◌, ◌++◌, [], None, OnOk, OnErr, IfOk, IfErr, IfNone};
+ghost use Rattle.std.specs.Prelude.{◌≡◌, ◌++◌, [], None, true, OnOk, OnErr, IfOk, IfErr, IfNone};
 ghost use Rattle.std.specs.BTreeMap.{is_at, insert_entry};
 ghost use Rattle.std.specs.Map.{remove_entry};
 ghost use Rattle.std.specs.Option.{option_copied};
@@ -8,7 +8,7 @@ ghost use Rattle.std.specs.Ordering.{nat_cmp};
 ghost use Rattle.ua_monitored_items.specs.Counts.{recount_by};
 ghost use Rattle.ua_monitored_items.specs.Item.{seen, released_in, with_links};
 ghost use Rattle.ua_monitored_items.specs.ItemTables.{item_at, numbers_of, with_item, AreRising};
-ghost use Rattle.ua_monitored_items.specs.Items.{any_waits, taken_of};
+ghost use Rattle.ua_monitored_items.specs.Items.{any_waits, taken_of, visit_takes};
 ghost use Rattle.ua_monitored_items.specs.Modifying.{modified_with};
 ghost use Rattle.ua_monitored_items.specs.Preparing.{moded_from};
 ghost use Rattle.ua_monitored_items.specs.Releases.{visit_releases, with_release};
@@ -119,8 +119,8 @@ fn set_links_at(items: &mut Slots<Item>, number: u32, links: Links) -> Option<Re
     })
 }
 
-// The item with this number sees a value, and what that releases is added. At an `Err` the items are what
-// they were.
+// The item with this number sees a value, and what that releases is added. At an `Err`, which comes only where the item queues
+// the value, the items are what they were.
 #[tactic(auto, using(crate::proofs::Edits::set_same))]
 fn visit_at(
     alloc: Global,
@@ -134,6 +134,7 @@ fn visit_at(
     ensures recount { IfOk result (λ recount. recount ≡ recount_by (seen value.now) (item_at number items.old)) }
     ensures releases { OnOk result (releases.new.items ≡ releases.old.items ++ visit_releases (record { number = number; value = value.now }) (item_at number items.old)) }
     ensures err { OnErr result (items.new ≡ items.old) }
+    ensures takes { OnErr result (visit_takes (record { number = number; value = value.now }) (item_at number items.old) ≡ true) }
 {
     let Some(item) = items.get_mut_near(near, number) else {
         return Ok(None);
@@ -265,7 +266,7 @@ impl Numbered {
     }
 
     /// The item with this number, which is likely to be near the last one, sees a value, and what that releases is
-    /// added. At an `Err` the items are what they were.
+    /// added. At an `Err`, which comes only where the item queues the value, the items are what they were.
     pub fn visit(
         &mut self,
         alloc: Global,
@@ -277,6 +278,7 @@ impl Numbered {
         ensures ok { OnOk result (self.new ≡ with_item number (seen value.now) self.old) }
         ensures releases { OnOk result (releases.new.items ≡ releases.old.items ++ visit_releases (record { number = number; value = value.now }) (item_at number self.old)) }
         ensures err { OnErr result (self.new ≡ self.old) }
+        ensures takes { OnErr result (visit_takes (record { number = number; value = value.now }) (item_at number self.old) ≡ true) }
     {
         let most = self.items.len();
         if let Some(recount) = visit_at(alloc, &mut self.items, near, number, value, releases)? {

@@ -1,8 +1,6 @@
 //! Values that were written, as the items of their nodes see them.
 
-ghost use Rattle.std.specs.Prelude.{◌≡◌, fold, map, OnOk, OnErr, IfOk};
-ghost use Rattle.ua_types.specs.NodeIdOrder.{id_cmp};
-ghost use Rattle.ua_monitored_items.specs.ItemTables.{numbers_at};
+ghost use Rattle.std.specs.Prelude.{◌≡◌, fold, OnOk, OnErr, IfOk};
 ghost use Rattle.ua_monitored_items.specs.Items.{sampled_items, VisitedSome};
 ghost use Rattle.ua_monitored_items.specs.Releases.{all_released, sample_releases, seen_by_all};
 ghost use Rattle.ua_monitored_items.specs.Sampling.{visits_by, index_visits, index_shown, IndexShownSome};
@@ -62,7 +60,7 @@ fn show_value(
 }
 
 /// The items of a node, whose numbers the index has, see a value that was written there, and release what is linked to them.
-/// At an `Err` some visits were made, from the first on, but not all.
+/// At an `Err` some visits were made, from the first on, and the next item, which was to queue the value, hasn't seen it.
 pub(crate) fn show_node(
     alloc: Global,
     items: &mut Numbered,
@@ -80,7 +78,8 @@ pub(crate) fn show_node(
 }
 
 /// The items of all nodes that were written, whose numbers the index has, see the values, in their order,
-/// and release what is linked to them. At an `Err` some have seen theirs, from the first on.
+/// and release what is linked to them. At an `Err` some visits were made, from the first on, and the next item, which was to
+/// queue its value, hasn't seen it.
 pub(crate) fn sample_all(
     alloc: Global,
     items: &mut Numbered,

@@ -30,4 +30,4 @@ returns-in_err-visit-clause-err c =
     let front = c.loop-number.invariant.2 in
     on_any c.from_residual.result
     (visits_before c.args.items.now c.args.value.now front c.in-Some.number.now c.next.new.self c.args.numbers.now.keys c.visit.new.self c.loop-number.items
-    (ap (λ xs. front ++ xs) (sym c.in-Some.ensures.steps) ∙ c.loop-number.invariant.3) c.loop-number.invariant.4 c.in_err-visit.ensures.err)
+    (ap (λ xs. front ++ xs) (sym c.in-Some.ensures.steps) ∙ c.loop-number.invariant.3) c.loop-number.invariant.4 c.in_err-visit.ensures.err c.in_err-visit.ensures.takes)
