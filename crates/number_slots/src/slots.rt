@@ -41,7 +41,7 @@ impl<V> Model for Slots<V> {
 fn slot_of<V>(
     slots: &Slab<Slot<V>>,
     places: &BTreeMap<u32, usize>,
-    near: &mut Near,
+    near: &Near,
     number: u32,
 ) -> Option<usize>
     requires { IsHeld slots.now.slots places.now.entries }
@@ -50,13 +50,10 @@ fn slot_of<V>(
     let guess = near.guess();
     if let Some(held) = slots.get(guess) {
         if held.number == number {
-            near.found(guess);
             return Some(guess);
         }
     }
-    let slot = *places.get(&number)?;
-    near.found(slot);
-    Some(slot)
+    places.get(&number).copied()
 }
 
 impl<V> Slots<V> {
@@ -105,7 +102,10 @@ impl<V> Slots<V> {
             return None;
         };
         match self.slots.get_mut(slot) {
-            Some(held) => Some(held.value_mut()),
+            Some(held) => {
+                near.found(slot);
+                Some(held.value_mut())
+            }
             None => None,
         }
     }

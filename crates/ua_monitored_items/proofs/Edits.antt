@@ -1,6 +1,5 @@
 -- A value in the place of itself, and an item that was changed where it stands.
-use Rattle.std.proofs.Common.{◌≡◌, ℕ, arith, leb, min, Bool, true, false, cond, List, [], ◌∷◌, Option, Some, refl, ap, sym, ◌∙◌}
-use Rattle.std.proofs.lemmas.Bool.{leb-true, leb-false}
+use Rattle.std.proofs.Common.{◌≡◌, ℕ, Bool, true, false, cond, List, [], ◌∷◌, Option, Some, refl, ap, sym, ◌∙◌}
 use Rattle.std.specs.Borrow.{MutBor}
 use Rattle.std.specs.BTreeMap.{is_at}
 use Rattle.std.specs.Map.{lookup, set_value}
@@ -8,7 +7,6 @@ use Rattle.std.specs.Option.{OnSome, option_copied_mut}
 use Rattle.std.specs.Ordering.{nat_cmp}
 use Rattle.ua_types.proofs.NumberMaps.{lent_found, given_back}
 use Rattle.ua_monitored_items.specs.ItemTables.{NumberedItems, item_at, with_found, with_item}
-use Rattle.ua_monitored_items.specs.Items.{nat_least}
 use Rattle.ua_monitored_items.specs.declared.item.Item.{Item}
 
 module _ {K X : Type 0} (test : K → Bool) where
@@ -36,11 +34,3 @@ same_there number items after lent item left is found wrote same =
     given_back (after ≡ set_value (is_at (nat_cmp number)) items left) lent item is wrote
     ∙ ap (set_value (is_at (nat_cmp number)) items) same
     ∙ set_same (is_at (nat_cmp number)) items item.now (lent_found lent (item_at number items) item is found)
-
--- the less of two numbers
-pub less_of : (a b : ℕ) → min a b ≡ nat_least a b
-less_of a b = by (leb a b) refl
-  where
-    by : (t : Bool) → leb a b ≡ t → min a b ≡ cond t a b
-    by true e = omega (arith, leb-true a b e)
-    by false e = omega (arith, leb-false a b e)

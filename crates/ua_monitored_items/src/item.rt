@@ -300,14 +300,17 @@ impl Item {
         Ok(())
     }
 
-    // Its oldest values were sent, so many; the last one ends a release. Takes no memory.
-    fn send(&mut self, count: usize)
+    // Its oldest values were sent, so many, and whether they are all that it holds; the last one ends a release. Takes no memory.
+    fn send(&mut self, count: usize, are_all: bool)
+        requires { are_all ≡ takes_last_spec count self.old }
         ensures { self.new ≡ gave count self.old }
     {
-        if self.takes_last(count) {
+        if are_all {
             self.released = false;
+            self.queue.clear();
+        } else {
+            self.queue.send(count);
         }
-        self.queue.send(count);
     }
 
     // Sends its oldest values, so many, by a message into which they are written. At an `Err` it is what it was, and a part of
@@ -321,8 +324,10 @@ impl Item {
         ensures message { OnOk result (message.new ≡ with_notes message.old (take count (notes_of self.old))) }
         ensures err { OnErr result (self.new ≡ self.old) }
     {
+        // Asked while the queue was just looked at, and not again behind the message.
+        let are_all = self.takes_last(count);
         self.tell(count, message)?;
-        self.send(count);
+        self.send(count, are_all);
         Ok(())
     }
 }

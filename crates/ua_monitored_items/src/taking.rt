@@ -1,11 +1,10 @@
 //! What a message takes of the items.
 
-ghost use Rattle.std.specs.Prelude.{◌≡◌, OnOk, OnErr, IfOk};
+ghost use Rattle.std.specs.Prelude.{◌≡◌, ◌-◌, Some, take, OnOk, OnErr, IfOk};
 ghost use Rattle.ua_monitored_items.specs.Counts.{recount_by, counts_with, AreCountsBy};
-ghost use Rattle.ua_monitored_items.specs.Item.{gave};
-ghost use Rattle.ua_monitored_items.specs.ItemTables.{item_at};
+ghost use Rattle.ua_monitored_items.specs.Item.{gave, notes_of, waiting_in};
 ghost use Rattle.ua_monitored_items.specs.Items.{nat_least, with_taken, nothing_taken, taken_of};
-ghost use Rattle.ua_monitored_items.specs.Taking.{waiting_at, TakenSome};
+ghost use Rattle.ua_monitored_items.specs.Taking.{TakenSome};
 ghost use Rattle.ua_subscription_messages.specs.DataChangeMessages.{with_notes};
 
 use crate::item::Item;
@@ -15,24 +14,19 @@ use std::alloc::AllocError;
 use std::collections::{BTreeMap, BTreeSet};
 use ua_subscription_messages::DataChangeMessage;
 
-// The oldest values of the item with this number are written into a message and sent, at most so many. Answers how many more
-// are wanted. At an `Err` the items are what they were.
-fn give_at(
-    items: &mut Slots<Item>,
-    near: &mut Near,
-    number: u32,
+// The oldest values of an item are written into a message and sent, at most so many. Answers how many more are wanted, and
+// whether the item had a value to send, and has one yet. At an `Err` it is what it was.
+fn give_some(
+    item: &mut Item,
     left: usize,
     message: &mut DataChangeMessage,
-) -> Result<(usize, Option<Recount>), AllocError>
-    ensures left { IfOk result (λ given. given.0 ≡ (with_taken (nothing_taken items.old left) number).left) }
-    ensures items { OnOk result (items.new ≡ (with_taken (nothing_taken items.old left) number).items) }
-    ensures message { OnOk result (message.new ≡ with_notes message.old (with_taken (nothing_taken items.old left) number).notes) }
-    ensures recount { IfOk result (λ given. given.1 ≡ recount_by (gave (nat_least left (waiting_at (item_at number items.old)))) (item_at number items.old)) }
-    ensures err { OnErr result (items.new ≡ items.old) }
+) -> Result<(usize, Recount), AllocError>
+    ensures left { IfOk result (λ given. given.0 ≡ left - nat_least left (waiting_in item.old)) }
+    ensures item { OnOk result (item.new ≡ gave (nat_least left (waiting_in item.old)) item.old) }
+    ensures message { OnOk result (message.new ≡ with_notes message.old (take (nat_least left (waiting_in item.old)) (notes_of item.old))) }
+    ensures recount { IfOk result (λ given. Some given.1 ≡ recount_by (gave (nat_least left (waiting_in item.old))) (Some item.old)) }
+    ensures err { OnErr result (item.new ≡ item.old) }
 {
-    let Some(item) = items.get_mut_near(near, number) else {
-        return Ok((left, None));
-    };
     let waiting = item.waiting();
     let count = left.min(waiting);
     item.give(count, message)?;
@@ -41,11 +35,12 @@ fn give_at(
         had: waiting > 0,
         has: waiting > count,
     };
-    Ok((left - count, Some(recount)))
+    Ok((left - count, recount))
 }
 
-// The same, and the counts follow.
-fn give_counted(
+// The oldest values of the item with this number are written into a message and sent, at most so many, and the counts follow.
+// Answers how many more are wanted. At an `Err` the items are what they were.
+fn give_at(
     items: &mut Slots<Item>,
     counts: &mut BTreeMap<u32, usize>,
     tally: &mut Tally,
@@ -62,10 +57,11 @@ fn give_counted(
     ensures counts { AreCountsBy (counts_with counts.new tally.new) items.new }
 {
     let most = items.len();
-    let (wanted, found) = give_at(items, near, number, left, message)?;
-    if let Some(recount) = found {
-        tally.follow(counts, recount, most);
-    }
+    let Some(item) = items.get_mut_near(near, number) else {
+        return Ok(left);
+    };
+    let (wanted, recount) = give_some(item, left, message)?;
+    tally.follow(counts, recount, most);
     Ok(wanted)
 }
 
@@ -91,7 +87,7 @@ pub(crate) fn give_all(
         if left == 0 {
             break;
         }
-        left = give_counted(items, counts, tally, &mut near, *number, left, message)?;
+        left = give_at(items, counts, tally, &mut near, *number, left, message)?;
     }
     Ok(())
 }
