@@ -17,6 +17,7 @@ use ua_types::{
 };
 use ua_values::{DataValue, Double, Float, Variant};
 use ua_views::*;
+use ua_walks::Walk;
 
 // What was read, how it is written again, and how many bytes are left.
 fn write_read<T: Wire + Debug>(
@@ -58,11 +59,11 @@ fn copied<'a, V: Viewed<'a>>(
     }
 }
 
-// Writes the lines of what was taken, and behind them those of its view where they aren't the same.
+// Writes the lines of what was taken, and behind them those of its view, or of what was read in two steps, where they aren't the same.
 fn write_both(taken: &[u8], viewed: &[u8], output: &mut Vec<u8>) -> io::Result<()> {
     output.write_all(taken)?;
     if taken != viewed {
-        output.write_all(b"but its view:\n".as_slice())?;
+        output.write_all(b"but otherwise:\n".as_slice())?;
         output.write_all(viewed)?;
     }
     Ok(())
@@ -112,18 +113,83 @@ fn write_message<T: Wire + Debug>(
     write_body(alloc, type_id, bytes, message::<T>(alloc, bytes), output)
 }
 
-// As `write_message`, where the message has a view, which is to say the same.
-fn write_message_viewed<'a, V: Viewed<'a>>(
+// The header of a message that a client sent, whose view is to say the same.
+fn write_header(alloc: Global, bytes: &[u8], output: &mut Vec<u8>) -> io::Result<()> {
+    let header = received::<RequestHeader>(alloc, bytes);
+    let mut taken = Vec::new(alloc);
+    write_body(alloc, READ_REQUEST, bytes, header, &mut taken)?;
+    let view = match header_view(bytes) {
+        Ok(headed) => Ok(headed.header.copied(alloc)?),
+        Err(fault) => Err(fault),
+    };
+    let mut viewed = Vec::new(alloc);
+    write_body(alloc, READ_REQUEST, bytes, view, &mut viewed)?;
+    write_both(taken.as_slice(), viewed.as_slice(), output)
+}
+
+// A request that is read in two steps: its header, and then the fields behind it.
+fn received_in_steps<F: Walk>(
+    alloc: Global,
+    bytes: &[u8],
+) -> Result<Result<Requested<F>, TakeFault>, AllocError> {
+    let headed = match header_view(bytes) {
+        Ok(headed) => headed,
+        Err(fault) => return Ok(Err(fault)),
+    };
+    match received_fields::<F>(alloc, headed.fields) {
+        Ok(fields) => Ok(Ok(Requested {
+            request_header: headed.header.copied(alloc)?,
+            fields,
+        })),
+        Err(fault) => Ok(Err(fault)),
+    }
+}
+
+// As `write_message`, of a request, which is the same where it is read in two steps.
+fn write_request<F: Walk + Debug>(
+    alloc: Global,
+    type_id: u32,
+    bytes: &[u8],
+    output: &mut Vec<u8>,
+) -> io::Result<()> {
+    let mut taken = Vec::new(alloc);
+    write_message::<Requested<F>>(alloc, type_id, bytes, &mut taken)?;
+    let steps = received_in_steps::<F>(alloc, bytes)?;
+    let mut stepped = Vec::new(alloc);
+    write_body(alloc, type_id, bytes, steps, &mut stepped)?;
+    write_both(taken.as_slice(), stepped.as_slice(), output)
+}
+
+// A request whose fields are looked at behind its header.
+fn viewed_in_steps<'a, V: Viewed<'a>>(
+    alloc: Global,
+    bytes: &'a [u8],
+) -> Result<Result<Requested<V::Value>, TakeFault>, AllocError> {
+    let headed = match header_view(bytes) {
+        Ok(headed) => headed,
+        Err(fault) => return Ok(Err(fault)),
+    };
+    match copied(alloc, fields_view::<V>(headed.fields))? {
+        Ok(fields) => Ok(Ok(Requested {
+            request_header: headed.header.copied(alloc)?,
+            fields,
+        })),
+        Err(fault) => Ok(Err(fault)),
+    }
+}
+
+// As `write_message`, of a request whose fields have a view, which is to say the same.
+fn write_request_viewed<'a, V: Viewed<'a>>(
     alloc: Global,
     type_id: u32,
     bytes: &'a [u8],
     output: &mut Vec<u8>,
 ) -> io::Result<()> {
     let mut taken = Vec::new(alloc);
-    write_message::<V::Value>(alloc, type_id, bytes, &mut taken)?;
-    let view = copied(alloc, message_view::<V>(bytes))?;
+    write_message::<Requested<V::Value>>(alloc, type_id, bytes, &mut taken)?;
+    let steps = viewed_in_steps::<V>(alloc, bytes)?;
     let mut viewed = Vec::new(alloc);
-    write_body(alloc, type_id, bytes, view, &mut viewed)?;
+    write_body(alloc, type_id, bytes, steps, &mut viewed)?;
     write_both(taken.as_slice(), viewed.as_slice(), output)
 }
 
@@ -202,7 +268,7 @@ fn write_of_subscriptions(
     output: &mut Vec<u8>,
 ) -> io::Result<()> {
     match name {
-        "CreateMonitoredItemsRequest" => write_message::<CreateMonitoredItemsRequest>(
+        "CreateMonitoredItemsRequest" => write_request::<CreateMonitoredItemsRequest>(
             alloc,
             CREATE_MONITORED_ITEMS_REQUEST,
             bytes,
@@ -214,7 +280,7 @@ fn write_of_subscriptions(
             bytes,
             output,
         ),
-        "ModifyMonitoredItemsRequest" => write_message::<ModifyMonitoredItemsRequest>(
+        "ModifyMonitoredItemsRequest" => write_request::<ModifyMonitoredItemsRequest>(
             alloc,
             MODIFY_MONITORED_ITEMS_REQUEST,
             bytes,
@@ -226,7 +292,7 @@ fn write_of_subscriptions(
             bytes,
             output,
         ),
-        "SetMonitoringModeRequest" => write_message::<SetMonitoringModeRequest>(
+        "SetMonitoringModeRequest" => write_request::<SetMonitoringModeRequest>(
             alloc,
             SET_MONITORING_MODE_REQUEST,
             bytes,
@@ -238,7 +304,7 @@ fn write_of_subscriptions(
             bytes,
             output,
         ),
-        "DeleteMonitoredItemsRequest" => write_message::<DeleteMonitoredItemsRequest>(
+        "DeleteMonitoredItemsRequest" => write_request::<DeleteMonitoredItemsRequest>(
             alloc,
             DELETE_MONITORED_ITEMS_REQUEST,
             bytes,
@@ -250,7 +316,7 @@ fn write_of_subscriptions(
             bytes,
             output,
         ),
-        "SetTriggeringRequest" => write_message::<SetTriggeringRequest>(
+        "SetTriggeringRequest" => write_request::<SetTriggeringRequest>(
             alloc,
             SET_TRIGGERING_REQUEST,
             bytes,
@@ -262,7 +328,7 @@ fn write_of_subscriptions(
             bytes,
             output,
         ),
-        "CreateSubscriptionRequest" => write_message::<CreateSubscriptionRequest>(
+        "CreateSubscriptionRequest" => write_request::<CreateSubscriptionRequest>(
             alloc,
             CREATE_SUBSCRIPTION_REQUEST,
             bytes,
@@ -274,7 +340,7 @@ fn write_of_subscriptions(
             bytes,
             output,
         ),
-        "ModifySubscriptionRequest" => write_message::<ModifySubscriptionRequest>(
+        "ModifySubscriptionRequest" => write_request::<ModifySubscriptionRequest>(
             alloc,
             MODIFY_SUBSCRIPTION_REQUEST,
             bytes,
@@ -286,7 +352,7 @@ fn write_of_subscriptions(
             bytes,
             output,
         ),
-        "SetPublishingModeRequest" => write_message::<SetPublishingModeRequest>(
+        "SetPublishingModeRequest" => write_request::<SetPublishingModeRequest>(
             alloc,
             SET_PUBLISHING_MODE_REQUEST,
             bytes,
@@ -298,7 +364,7 @@ fn write_of_subscriptions(
             bytes,
             output,
         ),
-        "DeleteSubscriptionsRequest" => write_message::<DeleteSubscriptionsRequest>(
+        "DeleteSubscriptionsRequest" => write_request::<DeleteSubscriptionsRequest>(
             alloc,
             DELETE_SUBSCRIPTIONS_REQUEST,
             bytes,
@@ -310,14 +376,14 @@ fn write_of_subscriptions(
             bytes,
             output,
         ),
-        "PublishRequest" => write_message::<PublishRequest>(alloc, PUBLISH_REQUEST, bytes, output),
+        "PublishRequest" => write_request::<PublishRequest>(alloc, PUBLISH_REQUEST, bytes, output),
         "PublishResponse" => write_message::<PublishResponse>(
             alloc,
             PUBLISH_RESPONSE,
             bytes,
             output,
         ),
-        "RepublishRequest" => write_message::<RepublishRequest>(
+        "RepublishRequest" => write_request::<RepublishRequest>(
             alloc,
             REPUBLISH_REQUEST,
             bytes,
@@ -358,7 +424,7 @@ fn write_of_services(
     output: &mut Vec<u8>,
 ) -> io::Result<()> {
     match name {
-        "CreateSessionRequest" => write_message::<CreateSessionRequest>(
+        "CreateSessionRequest" => write_request::<CreateSessionRequest>(
             alloc,
             CREATE_SESSION_REQUEST,
             bytes,
@@ -370,7 +436,7 @@ fn write_of_services(
             bytes,
             output,
         ),
-        "ActivateSessionRequest" => write_message::<ActivateSessionRequest>(
+        "ActivateSessionRequest" => write_request::<ActivateSessionRequest>(
             alloc,
             ACTIVATE_SESSION_REQUEST,
             bytes,
@@ -382,7 +448,7 @@ fn write_of_services(
             bytes,
             output,
         ),
-        "CloseSessionRequest" => write_message::<CloseSessionRequest>(
+        "CloseSessionRequest" => write_request::<CloseSessionRequest>(
             alloc,
             CLOSE_SESSION_REQUEST,
             bytes,
@@ -394,14 +460,14 @@ fn write_of_services(
             bytes,
             output,
         ),
-        "BrowseRequest" => write_message_viewed::<BrowseRequestView>(
+        "BrowseRequest" => write_request_viewed::<BrowseRequestView>(
             alloc,
             BROWSE_REQUEST,
             bytes,
             output,
         ),
         "BrowseResponse" => write_message::<BrowseResponse>(alloc, BROWSE_RESPONSE, bytes, output),
-        "BrowseNextRequest" => write_message_viewed::<BrowseNextRequestView>(
+        "BrowseNextRequest" => write_request_viewed::<BrowseNextRequestView>(
             alloc,
             BROWSE_NEXT_REQUEST,
             bytes,
@@ -413,21 +479,21 @@ fn write_of_services(
             bytes,
             output,
         ),
-        "ReadRequest" => write_message_viewed::<ReadRequestView>(
+        "ReadRequest" => write_request_viewed::<ReadRequestView>(
             alloc,
             READ_REQUEST,
             bytes,
             output,
         ),
         "ReadResponse" => write_message::<ReadResponse>(alloc, READ_RESPONSE, bytes, output),
-        "WriteRequest" => write_message_viewed::<WriteRequestView>(
+        "WriteRequest" => write_request_viewed::<WriteRequestView>(
             alloc,
             WRITE_REQUEST,
             bytes,
             output,
         ),
         "WriteResponse" => write_message::<WriteResponse>(alloc, WRITE_RESPONSE, bytes, output),
-        "HistoryReadRequest" => write_message_viewed::<HistoryReadRequestView>(
+        "HistoryReadRequest" => write_request_viewed::<HistoryReadRequestView>(
             alloc,
             HISTORY_READ_REQUEST,
             bytes,
@@ -463,7 +529,7 @@ fn write_of_channels(
     output: &mut Vec<u8>,
 ) -> io::Result<()> {
     match name {
-        "GetEndpointsRequest" => write_message::<GetEndpointsRequest>(
+        "GetEndpointsRequest" => write_request::<GetEndpointsRequest>(
             alloc,
             GET_ENDPOINTS_REQUEST,
             bytes,
@@ -494,12 +560,7 @@ fn write_of_channels(
             output,
         ),
         "ServiceFault" => write_message::<ServiceFault>(alloc, SERVICE_FAULT, bytes, output),
-        "RequestHeader" => write_message_viewed::<RequestHeaderView>(
-            alloc,
-            READ_REQUEST,
-            bytes,
-            output,
-        ),
+        "RequestHeader" => write_header(alloc, bytes, output),
         "DiagnosticInfo" => write_value::<DiagnosticInfo>(alloc, bytes, output),
         "DiagnosticInfos" => write_value::<DiagnosticInfos>(alloc, bytes, output),
         _ => write_of_services(alloc, name, bytes, output),

@@ -233,7 +233,6 @@ impl<'a> Viewed<'a> for ReadRequestView<'a> {
 
     fn copied(self, alloc: Global) -> Result<ReadRequest, AllocError> {
         Ok(ReadRequest {
-            request_header: self.request_header.copied(alloc)?,
             max_age: self.max_age,
             timestamps_to_return: self.timestamps_to_return,
             nodes_to_read: copies(alloc, self.nodes_to_read)?,
@@ -246,7 +245,6 @@ impl<'a> Viewed<'a> for WriteRequestView<'a> {
 
     fn copied(self, alloc: Global) -> Result<WriteRequest, AllocError> {
         Ok(WriteRequest {
-            request_header: self.request_header.copied(alloc)?,
             nodes_to_write: copies(alloc, self.nodes_to_write)?,
         })
     }
@@ -257,7 +255,6 @@ impl<'a> Viewed<'a> for BrowseRequestView<'a> {
 
     fn copied(self, alloc: Global) -> Result<BrowseRequest, AllocError> {
         Ok(BrowseRequest {
-            request_header: self.request_header.copied(alloc)?,
             view_id: self.view_id.copied(alloc)?,
             view_timestamp: self.view_timestamp,
             view_version: self.view_version,
@@ -272,7 +269,6 @@ impl<'a> Viewed<'a> for BrowseNextRequestView<'a> {
 
     fn copied(self, alloc: Global) -> Result<BrowseNextRequest, AllocError> {
         Ok(BrowseNextRequest {
-            request_header: self.request_header.copied(alloc)?,
             release_continuation_points: self.release_continuation_points,
             continuation_points: copies(alloc, self.continuation_points)?,
         })
@@ -284,7 +280,6 @@ impl<'a> Viewed<'a> for HistoryReadRequestView<'a> {
 
     fn copied(self, alloc: Global) -> Result<HistoryReadRequest, AllocError> {
         Ok(HistoryReadRequest {
-            request_header: self.request_header.copied(alloc)?,
             history_read_details: self.history_read_details.copied(alloc)?,
             timestamps_to_return: self.timestamps_to_return,
             release_continuation_points: self.release_continuation_points,

@@ -4,7 +4,7 @@ use crate::holding::holds;
 use std::cmp::Ordering;
 use std::test::*;
 use ua_binary::{Cursor, TakeFault};
-use ua_service_views::{ReadRequestView, RequestView, header_view, message_view};
+use ua_service_views::{ReadRequestView, fields_view, header_view};
 use ua_types::*;
 use ua_values::{Content, Shape, Variant};
 use ua_views::*;
@@ -157,16 +157,16 @@ const READ: [u8; 93] = [
 
 #[test]
 fn a_read_as_it_came(rt: HostRuntime) {
-    let read: Result<ReadRequestView<'_>, TakeFault> = message_view(&READ);
-    let Ok(mut request) = read else {
+    let Ok(headed) = header_view(&READ) else {
+        holds(&rt, "a header", false);
+        return;
+    };
+    holds(&rt, "its handle", headed.header.request_handle == 7);
+    holds(&rt, "60 bytes follow", headed.fields.len() == 60);
+    let Ok(mut request) = fields_view::<ReadRequestView<'_>>(headed.fields) else {
         holds(&rt, "a request", false);
         return;
     };
-    holds(
-        &rt,
-        "its handle",
-        request.request_header.request_handle == 7,
-    );
     holds(&rt, "two values", request.nodes_to_read.len() == 2);
     let Some(first) = request.nodes_to_read.next() else {
         holds(&rt, "the first", false);
@@ -186,19 +186,7 @@ fn a_read_as_it_came(rt: HostRuntime) {
 }
 
 #[test]
-fn a_read_behind_its_header(rt: HostRuntime) {
-    let Ok(headed) = header_view(&READ) else {
-        holds(&rt, "a header", false);
-        return;
-    };
-    holds(&rt, "its handle", headed.header.request_handle == 7);
-    holds(&rt, "60 bytes follow", headed.fields.rest().len() == 60);
-    let Ok(request) = headed.request::<ReadRequestView<'_>>() else {
-        holds(&rt, "a request", false);
-        return;
-    };
-    holds(&rt, "with it", request.header().request_handle == 7);
-    holds(&rt, "two values", request.nodes_to_read.len() == 2);
+fn no_header_in_twenty_bytes(rt: HostRuntime) {
     let cut = READ.get(..20).unwrap_or(&READ);
     let is_short = matches!(header_view(cut), Err(TakeFault::Short));
     holds(&rt, "no header in 20 bytes", is_short);

@@ -1,4 +1,4 @@
--- What each statement asks, as a message: fields that no word says are null or 0.
+-- What each statement asks, as the fields of a request behind its header: those that no word says are null or 0.
 use Rattle.std.specs.Prelude.{ℕ, ℤ, pos, Bool, true, false, List, [], ◌∷◌, map, Option, Some, None}
 use Rattle.ua_types.specs.NodeIds.{numeric_id}
 use Rattle.ua_messages.specs.Bodies.{body_encoding}
@@ -52,34 +52,31 @@ use Rattle.scenario_text.specs.declared.requests.RawValues.{RawValues}
 use Rattle.scenario_text.specs.declared.requests.References.{References}
 use Rattle.scenario_text.specs.declared.statement.Request.{Request}
 use Rattle.scenario_text.specs.declared.statement.Request.TheVariants as requests
-use Rattle.scenario_requests.specs.Bodies.{IsWholeBody}
+use Rattle.scenario_requests.specs.Bodies.{IsWholeBody, IsWholeRequest, request_encoding}
 use Rattle.scenario_requests.specs.Structures.{no_duration, no_time, no_object, no_signature, no_application, is_delete, is_on, request_type, attribute_sent, value_sent, description_sent, point_sent, details_sent, history_node_sent, new_item_sent, changed_item_sent, acknowledgement_sent, Links, links_of}
 
 -- ---- what sessions ask
 
-abbrev pub read_message : RequestHeader → ℤ → List Attribute → Option (List ℕ) → ReadRequest
-read_message header timestamps attributes range = record {
-  request_header = header;
+abbrev pub read_fields : ℤ → List Attribute → Option (List ℕ) → ReadRequest
+read_fields timestamps attributes range = record {
   max_age = no_duration;
   timestamps_to_return = record { 0 = timestamps };
   nodes_to_read = Some (map (attribute_sent range) attributes);
 }
 
 unfoldable pub read_body : RequestHeader → ℤ → List Attribute → Option (List ℕ) → List ℕ
-read_body header timestamps attributes range = body_encoding read_request_encoding READ_REQUEST (read_message header timestamps attributes range)
+read_body header timestamps attributes range = request_encoding read_request_encoding READ_REQUEST header (read_fields timestamps attributes range)
 
-abbrev pub write_message : RequestHeader → List NewValue → Option (List ℕ) → WriteRequest
-write_message header values range = record {
-  request_header = header;
+abbrev pub write_fields : List NewValue → Option (List ℕ) → WriteRequest
+write_fields values range = record {
   nodes_to_write = Some (map (value_sent range) values);
 }
 
 unfoldable pub write_body : RequestHeader → List NewValue → Option (List ℕ) → List ℕ
-write_body header values range = body_encoding write_request_encoding WRITE_REQUEST (write_message header values range)
+write_body header values range = request_encoding write_request_encoding WRITE_REQUEST header (write_fields values range)
 
-abbrev pub browse_message : RequestHeader → References → BrowseRequest
-browse_message header references = record {
-  request_header = header;
+abbrev pub browse_fields : References → BrowseRequest
+browse_fields references = record {
   view_id = numeric_id 0 0;
   view_timestamp = no_time;
   view_version = 0;
@@ -88,21 +85,19 @@ browse_message header references = record {
 }
 
 unfoldable pub browse_body : RequestHeader → References → List ℕ
-browse_body header references = body_encoding browse_request_encoding BROWSE_REQUEST (browse_message header references)
+browse_body header references = request_encoding browse_request_encoding BROWSE_REQUEST header (browse_fields references)
 
-abbrev pub browse_next_message : RequestHeader → Bool → List ℕ → BrowseNextRequest
-browse_next_message header is_release points = record {
-  request_header = header;
+abbrev pub browse_next_fields : Bool → List ℕ → BrowseNextRequest
+browse_next_fields is_release points = record {
   release_continuation_points = is_release;
   continuation_points = Some (map point_sent points);
 }
 
 unfoldable pub browse_next_body : RequestHeader → Bool → List ℕ → List ℕ
-browse_next_body header is_release points = body_encoding browse_next_request_encoding BROWSE_NEXT_REQUEST (browse_next_message header is_release points)
+browse_next_body header is_release points = request_encoding browse_next_request_encoding BROWSE_NEXT_REQUEST header (browse_next_fields is_release points)
 
-abbrev pub history_message : RequestHeader → RawValues → HistoryReadRequest
-history_message header values = record {
-  request_header = header;
+abbrev pub history_fields : RawValues → HistoryReadRequest
+history_fields values = record {
   history_read_details = object_around READ_RAW_MODIFIED_DETAILS (read_raw_modified_details_encoding (details_sent values));
   timestamps_to_return = record { 0 = values.timestamps };
   release_continuation_points = false;
@@ -110,11 +105,10 @@ history_message header values = record {
 }
 
 unfoldable pub history_body : RequestHeader → RawValues → List ℕ
-history_body header values = body_encoding history_read_request_encoding HISTORY_READ_REQUEST (history_message header values)
+history_body header values = request_encoding history_read_request_encoding HISTORY_READ_REQUEST header (history_fields values)
 
-abbrev pub activate_session_message : RequestHeader → ActivateSessionRequest
-activate_session_message header = record {
-  request_header = header;
+abbrev pub activate_session_fields : ActivateSessionRequest
+activate_session_fields = record {
   client_signature = no_signature;
   client_software_certificates = None;
   locale_ids = None;
@@ -123,20 +117,18 @@ activate_session_message header = record {
 }
 
 unfoldable pub activate_session_body : RequestHeader → List ℕ
-activate_session_body header = body_encoding activate_session_request_encoding ACTIVATE_SESSION_REQUEST (activate_session_message header)
+activate_session_body header = request_encoding activate_session_request_encoding ACTIVATE_SESSION_REQUEST header activate_session_fields
 
-abbrev pub close_session_message : RequestHeader → Subscriptions → CloseSessionRequest
-close_session_message header subscriptions = record {
-  request_header = header;
+abbrev pub close_session_fields : Subscriptions → CloseSessionRequest
+close_session_fields subscriptions = record {
   delete_subscriptions = is_delete subscriptions;
 }
 
 unfoldable pub close_session_body : RequestHeader → Subscriptions → List ℕ
-close_session_body header subscriptions = body_encoding close_session_request_encoding CLOSE_SESSION_REQUEST (close_session_message header subscriptions)
+close_session_body header subscriptions = request_encoding close_session_request_encoding CLOSE_SESSION_REQUEST header (close_session_fields subscriptions)
 
-abbrev pub create_subscription_message : RequestHeader → Counts → Publishing → CreateSubscriptionRequest
-create_subscription_message header counts publishing = record {
-  request_header = header;
+abbrev pub create_subscription_fields : Counts → Publishing → CreateSubscriptionRequest
+create_subscription_fields counts publishing = record {
   requested_publishing_interval = no_duration;
   requested_lifetime_count = counts.lifetime;
   requested_max_keep_alive_count = counts.max_keep_alive;
@@ -146,11 +138,10 @@ create_subscription_message header counts publishing = record {
 }
 
 unfoldable pub create_subscription_body : RequestHeader → Counts → Publishing → List ℕ
-create_subscription_body header counts publishing = body_encoding create_subscription_request_encoding CREATE_SUBSCRIPTION_REQUEST (create_subscription_message header counts publishing)
+create_subscription_body header counts publishing = request_encoding create_subscription_request_encoding CREATE_SUBSCRIPTION_REQUEST header (create_subscription_fields counts publishing)
 
-abbrev pub modify_subscription_message : RequestHeader → ℕ → Counts → ModifySubscriptionRequest
-modify_subscription_message header subscription counts = record {
-  request_header = header;
+abbrev pub modify_subscription_fields : ℕ → Counts → ModifySubscriptionRequest
+modify_subscription_fields subscription counts = record {
   subscription_id = subscription;
   requested_publishing_interval = no_duration;
   requested_lifetime_count = counts.lifetime;
@@ -160,54 +151,49 @@ modify_subscription_message header subscription counts = record {
 }
 
 unfoldable pub modify_subscription_body : RequestHeader → ℕ → Counts → List ℕ
-modify_subscription_body header subscription counts = body_encoding modify_subscription_request_encoding MODIFY_SUBSCRIPTION_REQUEST (modify_subscription_message header subscription counts)
+modify_subscription_body header subscription counts = request_encoding modify_subscription_request_encoding MODIFY_SUBSCRIPTION_REQUEST header (modify_subscription_fields subscription counts)
 
-abbrev pub set_publishing_message : RequestHeader → Publishing → List ℕ → SetPublishingModeRequest
-set_publishing_message header publishing subscriptions = record {
-  request_header = header;
+abbrev pub set_publishing_fields : Publishing → List ℕ → SetPublishingModeRequest
+set_publishing_fields publishing subscriptions = record {
   publishing_enabled = is_on publishing;
   subscription_ids = Some subscriptions;
 }
 
 unfoldable pub set_publishing_body : RequestHeader → Publishing → List ℕ → List ℕ
-set_publishing_body header publishing subscriptions = body_encoding set_publishing_mode_request_encoding SET_PUBLISHING_MODE_REQUEST (set_publishing_message header publishing subscriptions)
+set_publishing_body header publishing subscriptions = request_encoding set_publishing_mode_request_encoding SET_PUBLISHING_MODE_REQUEST header (set_publishing_fields publishing subscriptions)
 
-abbrev pub create_item_message : RequestHeader → NewItem → CreateMonitoredItemsRequest
-create_item_message header item = record {
-  request_header = header;
+abbrev pub create_item_fields : NewItem → CreateMonitoredItemsRequest
+create_item_fields item = record {
   subscription_id = item.subscription;
   timestamps_to_return = record { 0 = item.timestamps };
   items_to_create = Some (new_item_sent item ∷ []);
 }
 
 unfoldable pub create_item_body : RequestHeader → NewItem → List ℕ
-create_item_body header item = body_encoding create_monitored_items_request_encoding CREATE_MONITORED_ITEMS_REQUEST (create_item_message header item)
+create_item_body header item = request_encoding create_monitored_items_request_encoding CREATE_MONITORED_ITEMS_REQUEST header (create_item_fields item)
 
-abbrev pub modify_item_message : RequestHeader → ChangedItem → ModifyMonitoredItemsRequest
-modify_item_message header item = record {
-  request_header = header;
+abbrev pub modify_item_fields : ChangedItem → ModifyMonitoredItemsRequest
+modify_item_fields item = record {
   subscription_id = item.subscription;
   timestamps_to_return = record { 0 = item.timestamps };
   items_to_modify = Some (changed_item_sent item ∷ []);
 }
 
 unfoldable pub modify_item_body : RequestHeader → ChangedItem → List ℕ
-modify_item_body header item = body_encoding modify_monitored_items_request_encoding MODIFY_MONITORED_ITEMS_REQUEST (modify_item_message header item)
+modify_item_body header item = request_encoding modify_monitored_items_request_encoding MODIFY_MONITORED_ITEMS_REQUEST header (modify_item_fields item)
 
-abbrev pub set_item_mode_message : RequestHeader → ℕ → ℤ → List ℕ → SetMonitoringModeRequest
-set_item_mode_message header subscription mode items = record {
-  request_header = header;
+abbrev pub set_item_mode_fields : ℕ → ℤ → List ℕ → SetMonitoringModeRequest
+set_item_mode_fields subscription mode items = record {
   subscription_id = subscription;
   monitoring_mode = record { 0 = mode };
   monitored_item_ids = Some items;
 }
 
 unfoldable pub set_item_mode_body : RequestHeader → ℕ → ℤ → List ℕ → List ℕ
-set_item_mode_body header subscription mode items = body_encoding set_monitoring_mode_request_encoding SET_MONITORING_MODE_REQUEST (set_item_mode_message header subscription mode items)
+set_item_mode_body header subscription mode items = request_encoding set_monitoring_mode_request_encoding SET_MONITORING_MODE_REQUEST header (set_item_mode_fields subscription mode items)
 
-abbrev pub set_triggering_message : RequestHeader → ℕ → ℕ → Links → SetTriggeringRequest
-set_triggering_message header subscription triggering links = record {
-  request_header = header;
+abbrev pub set_triggering_fields : ℕ → ℕ → Links → SetTriggeringRequest
+set_triggering_fields subscription triggering links = record {
   subscription_id = subscription;
   triggering_item_id = triggering;
   links_to_add = Some links.added;
@@ -216,45 +202,41 @@ set_triggering_message header subscription triggering links = record {
 
 unfoldable pub set_triggering_body : RequestHeader → ℕ → ℕ → List LinkChange → List ℕ
 set_triggering_body header subscription triggering changes =
-    body_encoding set_triggering_request_encoding SET_TRIGGERING_REQUEST (set_triggering_message header subscription triggering (links_of changes))
+    request_encoding set_triggering_request_encoding SET_TRIGGERING_REQUEST header (set_triggering_fields subscription triggering (links_of changes))
 
-abbrev pub delete_items_message : RequestHeader → ℕ → List ℕ → DeleteMonitoredItemsRequest
-delete_items_message header subscription items = record {
-  request_header = header;
+abbrev pub delete_items_fields : ℕ → List ℕ → DeleteMonitoredItemsRequest
+delete_items_fields subscription items = record {
   subscription_id = subscription;
   monitored_item_ids = Some items;
 }
 
 unfoldable pub delete_items_body : RequestHeader → ℕ → List ℕ → List ℕ
-delete_items_body header subscription items = body_encoding delete_monitored_items_request_encoding DELETE_MONITORED_ITEMS_REQUEST (delete_items_message header subscription items)
+delete_items_body header subscription items = request_encoding delete_monitored_items_request_encoding DELETE_MONITORED_ITEMS_REQUEST header (delete_items_fields subscription items)
 
-abbrev pub publish_message : RequestHeader → List Acknowledgement → PublishRequest
-publish_message header acknowledgements = record {
-  request_header = header;
+abbrev pub publish_fields : List Acknowledgement → PublishRequest
+publish_fields acknowledgements = record {
   subscription_acknowledgements = Some (map acknowledgement_sent acknowledgements);
 }
 
 unfoldable pub publish_body : RequestHeader → List Acknowledgement → List ℕ
-publish_body header acknowledgements = body_encoding publish_request_encoding PUBLISH_REQUEST (publish_message header acknowledgements)
+publish_body header acknowledgements = request_encoding publish_request_encoding PUBLISH_REQUEST header (publish_fields acknowledgements)
 
-abbrev pub republish_message : RequestHeader → ℕ → ℕ → RepublishRequest
-republish_message header subscription sequence_number = record {
-  request_header = header;
+abbrev pub republish_fields : ℕ → ℕ → RepublishRequest
+republish_fields subscription sequence_number = record {
   subscription_id = subscription;
   retransmit_sequence_number = sequence_number;
 }
 
 unfoldable pub republish_body : RequestHeader → ℕ → ℕ → List ℕ
-republish_body header subscription sequence_number = body_encoding republish_request_encoding REPUBLISH_REQUEST (republish_message header subscription sequence_number)
+republish_body header subscription sequence_number = request_encoding republish_request_encoding REPUBLISH_REQUEST header (republish_fields subscription sequence_number)
 
-abbrev pub delete_subscriptions_message : RequestHeader → List ℕ → DeleteSubscriptionsRequest
-delete_subscriptions_message header subscriptions = record {
-  request_header = header;
+abbrev pub delete_subscriptions_fields : List ℕ → DeleteSubscriptionsRequest
+delete_subscriptions_fields subscriptions = record {
   subscription_ids = Some subscriptions;
 }
 
 unfoldable pub delete_subscriptions_body : RequestHeader → List ℕ → List ℕ
-delete_subscriptions_body header subscriptions = body_encoding delete_subscriptions_request_encoding DELETE_SUBSCRIPTIONS_REQUEST (delete_subscriptions_message header subscriptions)
+delete_subscriptions_body header subscriptions = request_encoding delete_subscriptions_request_encoding DELETE_SUBSCRIPTIONS_REQUEST header (delete_subscriptions_fields subscriptions)
 
 -- the body of what a session asks, with this header
 unfoldable pub request_body : RequestHeader → Request → List ℕ
@@ -280,42 +262,40 @@ request_body header (requests.DeleteSubscriptions subscriptions) = delete_subscr
 
 -- The body is the id of the request's type and its structure, is read again as that, and nothing is behind it.
 abbrev pub IsServiceBody : RequestHeader → Request → List ℕ → Type 0
-IsServiceBody header requests.ActivateSession body = IsWholeBody activate_session_request_reading ACTIVATE_SESSION_REQUEST (activate_session_message header) body
-IsServiceBody header (requests.CloseSession subscriptions) body = IsWholeBody close_session_request_reading CLOSE_SESSION_REQUEST (close_session_message header subscriptions) body
-IsServiceBody header (requests.Read timestamps attributes range) body = IsWholeBody read_request_reading READ_REQUEST (read_message header timestamps attributes range) body
-IsServiceBody header (requests.Write values range) body = IsWholeBody write_request_reading WRITE_REQUEST (write_message header values range) body
-IsServiceBody header (requests.Browse references) body = IsWholeBody browse_request_reading BROWSE_REQUEST (browse_message header references) body
-IsServiceBody header (requests.BrowseNext points) body = IsWholeBody browse_next_request_reading BROWSE_NEXT_REQUEST (browse_next_message header false points) body
-IsServiceBody header (requests.ReleasePoints points) body = IsWholeBody browse_next_request_reading BROWSE_NEXT_REQUEST (browse_next_message header true points) body
-IsServiceBody header (requests.ReadHistory values) body = IsWholeBody history_read_request_reading HISTORY_READ_REQUEST (history_message header values) body
-IsServiceBody header (requests.CreateSubscription counts publishing) body = IsWholeBody create_subscription_request_reading CREATE_SUBSCRIPTION_REQUEST (create_subscription_message header counts publishing) body
-IsServiceBody header (requests.ModifySubscription subscription counts) body = IsWholeBody modify_subscription_request_reading MODIFY_SUBSCRIPTION_REQUEST (modify_subscription_message header subscription counts) body
-IsServiceBody header (requests.SetPublishing publishing subscriptions) body = IsWholeBody set_publishing_mode_request_reading SET_PUBLISHING_MODE_REQUEST (set_publishing_message header publishing subscriptions) body
-IsServiceBody header (requests.CreateItem item) body = IsWholeBody create_monitored_items_request_reading CREATE_MONITORED_ITEMS_REQUEST (create_item_message header item) body
-IsServiceBody header (requests.ModifyItem item) body = IsWholeBody modify_monitored_items_request_reading MODIFY_MONITORED_ITEMS_REQUEST (modify_item_message header item) body
-IsServiceBody header (requests.SetItemMode subscription mode items) body = IsWholeBody set_monitoring_mode_request_reading SET_MONITORING_MODE_REQUEST (set_item_mode_message header subscription mode items) body
-IsServiceBody header (requests.SetTriggering subscription triggering changes) body = IsWholeBody set_triggering_request_reading SET_TRIGGERING_REQUEST (set_triggering_message header subscription triggering (links_of changes)) body
-IsServiceBody header (requests.DeleteItems subscription items) body = IsWholeBody delete_monitored_items_request_reading DELETE_MONITORED_ITEMS_REQUEST (delete_items_message header subscription items) body
-IsServiceBody header (requests.Publish acknowledgements) body = IsWholeBody publish_request_reading PUBLISH_REQUEST (publish_message header acknowledgements) body
-IsServiceBody header (requests.Republish subscription sequence_number) body = IsWholeBody republish_request_reading REPUBLISH_REQUEST (republish_message header subscription sequence_number) body
-IsServiceBody header (requests.DeleteSubscriptions subscriptions) body = IsWholeBody delete_subscriptions_request_reading DELETE_SUBSCRIPTIONS_REQUEST (delete_subscriptions_message header subscriptions) body
+IsServiceBody header requests.ActivateSession body = IsWholeRequest activate_session_request_reading ACTIVATE_SESSION_REQUEST header activate_session_fields body
+IsServiceBody header (requests.CloseSession subscriptions) body = IsWholeRequest close_session_request_reading CLOSE_SESSION_REQUEST header (close_session_fields subscriptions) body
+IsServiceBody header (requests.Read timestamps attributes range) body = IsWholeRequest read_request_reading READ_REQUEST header (read_fields timestamps attributes range) body
+IsServiceBody header (requests.Write values range) body = IsWholeRequest write_request_reading WRITE_REQUEST header (write_fields values range) body
+IsServiceBody header (requests.Browse references) body = IsWholeRequest browse_request_reading BROWSE_REQUEST header (browse_fields references) body
+IsServiceBody header (requests.BrowseNext points) body = IsWholeRequest browse_next_request_reading BROWSE_NEXT_REQUEST header (browse_next_fields false points) body
+IsServiceBody header (requests.ReleasePoints points) body = IsWholeRequest browse_next_request_reading BROWSE_NEXT_REQUEST header (browse_next_fields true points) body
+IsServiceBody header (requests.ReadHistory values) body = IsWholeRequest history_read_request_reading HISTORY_READ_REQUEST header (history_fields values) body
+IsServiceBody header (requests.CreateSubscription counts publishing) body = IsWholeRequest create_subscription_request_reading CREATE_SUBSCRIPTION_REQUEST header (create_subscription_fields counts publishing) body
+IsServiceBody header (requests.ModifySubscription subscription counts) body = IsWholeRequest modify_subscription_request_reading MODIFY_SUBSCRIPTION_REQUEST header (modify_subscription_fields subscription counts) body
+IsServiceBody header (requests.SetPublishing publishing subscriptions) body = IsWholeRequest set_publishing_mode_request_reading SET_PUBLISHING_MODE_REQUEST header (set_publishing_fields publishing subscriptions) body
+IsServiceBody header (requests.CreateItem item) body = IsWholeRequest create_monitored_items_request_reading CREATE_MONITORED_ITEMS_REQUEST header (create_item_fields item) body
+IsServiceBody header (requests.ModifyItem item) body = IsWholeRequest modify_monitored_items_request_reading MODIFY_MONITORED_ITEMS_REQUEST header (modify_item_fields item) body
+IsServiceBody header (requests.SetItemMode subscription mode items) body = IsWholeRequest set_monitoring_mode_request_reading SET_MONITORING_MODE_REQUEST header (set_item_mode_fields subscription mode items) body
+IsServiceBody header (requests.SetTriggering subscription triggering changes) body = IsWholeRequest set_triggering_request_reading SET_TRIGGERING_REQUEST header (set_triggering_fields subscription triggering (links_of changes)) body
+IsServiceBody header (requests.DeleteItems subscription items) body = IsWholeRequest delete_monitored_items_request_reading DELETE_MONITORED_ITEMS_REQUEST header (delete_items_fields subscription items) body
+IsServiceBody header (requests.Publish acknowledgements) body = IsWholeRequest publish_request_reading PUBLISH_REQUEST header (publish_fields acknowledgements) body
+IsServiceBody header (requests.Republish subscription sequence_number) body = IsWholeRequest republish_request_reading REPUBLISH_REQUEST header (republish_fields subscription sequence_number) body
+IsServiceBody header (requests.DeleteSubscriptions subscriptions) body = IsWholeRequest delete_subscriptions_request_reading DELETE_SUBSCRIPTIONS_REQUEST header (delete_subscriptions_fields subscriptions) body
 
 -- ---- what no session asks
 
-abbrev pub endpoints_message : RequestHeader → GetEndpointsRequest
-endpoints_message header = record {
-  request_header = header;
+abbrev pub endpoints_fields : GetEndpointsRequest
+endpoints_fields = record {
   endpoint_url = None;
   locale_ids = None;
   profile_uris = None;
 }
 
 unfoldable pub endpoints_body : RequestHeader → List ℕ
-endpoints_body header = body_encoding get_endpoints_request_encoding GET_ENDPOINTS_REQUEST (endpoints_message header)
+endpoints_body header = request_encoding get_endpoints_request_encoding GET_ENDPOINTS_REQUEST header endpoints_fields
 
-abbrev pub create_session_message : RequestHeader → CreateSessionRequest
-create_session_message header = record {
-  request_header = header;
+abbrev pub create_session_fields : CreateSessionRequest
+create_session_fields = record {
   client_description = no_application;
   server_uri = None;
   endpoint_url = None;
@@ -327,7 +307,7 @@ create_session_message header = record {
 }
 
 unfoldable pub create_session_body : RequestHeader → List ℕ
-create_session_body header = body_encoding create_session_request_encoding CREATE_SESSION_REQUEST (create_session_message header)
+create_session_body header = request_encoding create_session_request_encoding CREATE_SESSION_REQUEST header create_session_fields
 
 abbrev pub opening_message : RequestHeader → ChannelRequest → OpenSecureChannelRequest
 opening_message header request = record {
@@ -352,10 +332,10 @@ closing_body header = body_encoding close_secure_channel_request_encoding CLOSE_
 
 -- what these bodies are read as
 abbrev pub IsEndpointsBody : RequestHeader → List ℕ → Type 0
-IsEndpointsBody header body = IsWholeBody get_endpoints_request_reading GET_ENDPOINTS_REQUEST (endpoints_message header) body
+IsEndpointsBody header body = IsWholeRequest get_endpoints_request_reading GET_ENDPOINTS_REQUEST header endpoints_fields body
 
 abbrev pub IsSessionBody : RequestHeader → List ℕ → Type 0
-IsSessionBody header body = IsWholeBody create_session_request_reading CREATE_SESSION_REQUEST (create_session_message header) body
+IsSessionBody header body = IsWholeRequest create_session_request_reading CREATE_SESSION_REQUEST header create_session_fields body
 
 abbrev pub IsOpeningBody : RequestHeader → ChannelRequest → List ℕ → Type 0
 IsOpeningBody header request body = IsWholeBody open_secure_channel_request_reading OPEN_SECURE_CHANNEL_REQUEST (opening_message header request) body

@@ -3,7 +3,7 @@
 ghost use Rattle.std.specs.Prelude.{◌≡◌, IfOk};
 ghost use Rattle.scenario_requests.specs.Messages.{endpoints_body, create_session_body, opening_body, closing_body, IsEndpointsBody, IsSessionBody, IsOpeningBody, IsClosingBody};
 
-use crate::bodies::whole_body;
+use crate::bodies::{whole_body, whole_request};
 use crate::structures::{NO_DURATION, no_application, request_type};
 use scenario_text::ChannelRequest;
 use std::alloc::{AllocError, Global};
@@ -23,13 +23,12 @@ pub fn endpoints_body(alloc: Global, header: RequestHeader) -> Result<Vec<u8>, A
     ensures ok { IfOk result (λ bytes. bytes.items ≡ endpoints_body header) }
     ensures again { IfOk result (λ bytes. IsEndpointsBody header bytes.items) }
 {
-    let message = GetEndpointsRequest {
-        request_header: header,
+    let fields = GetEndpointsRequest {
         endpoint_url: Text::null(),
         locale_ids: Array::null(),
         profile_uris: Array::null(),
     };
-    whole_body(alloc, type_ids::GET_ENDPOINTS_REQUEST, &message)
+    whole_request(alloc, type_ids::GET_ENDPOINTS_REQUEST, header, fields)
 }
 
 /// The body of CreateSession, with this header.
@@ -38,8 +37,7 @@ pub fn create_session_body(alloc: Global, header: RequestHeader) -> Result<Vec<u
     ensures ok { IfOk result (λ bytes. bytes.items ≡ create_session_body header) }
     ensures again { IfOk result (λ bytes. IsSessionBody header bytes.items) }
 {
-    let message = CreateSessionRequest {
-        request_header: header,
+    let fields = CreateSessionRequest {
         client_description: no_application(),
         server_uri: Text::null(),
         endpoint_url: Text::null(),
@@ -49,7 +47,7 @@ pub fn create_session_body(alloc: Global, header: RequestHeader) -> Result<Vec<u
         requested_session_timeout: NO_DURATION,
         max_response_message_size: 0,
     };
-    whole_body(alloc, type_ids::CREATE_SESSION_REQUEST, &message)
+    whole_request(alloc, type_ids::CREATE_SESSION_REQUEST, header, fields)
 }
 
 /// The body of OpenSecureChannel, with this header.

@@ -1,8 +1,8 @@
 //! The bodies of what sessions ask.
 
 ghost use Rattle.std.specs.Prelude.{◌≡◌, IfOk, false, true};
-ghost use Rattle.scenario_requests.specs.Messages.{read_body, write_body, browse_body, browse_next_body, history_body, activate_session_body, close_session_body, create_subscription_body, modify_subscription_body, set_publishing_body, create_item_body, modify_item_body, set_item_mode_body, set_triggering_body, delete_items_body, publish_body, republish_body, delete_subscriptions_body, request_body, read_message, write_message, browse_message, browse_next_message, history_message, activate_session_message, close_session_message, create_subscription_message, modify_subscription_message, set_publishing_message, create_item_message, modify_item_message, set_item_mode_message, set_triggering_message, delete_items_message, publish_message, republish_message, delete_subscriptions_message, IsServiceBody};
-ghost use Rattle.scenario_requests.specs.Bodies.{IsWholeBody};
+ghost use Rattle.scenario_requests.specs.Messages.{read_body, write_body, browse_body, browse_next_body, history_body, activate_session_body, close_session_body, create_subscription_body, modify_subscription_body, set_publishing_body, create_item_body, modify_item_body, set_item_mode_body, set_triggering_body, delete_items_body, publish_body, republish_body, delete_subscriptions_body, request_body, read_fields, write_fields, browse_fields, browse_next_fields, history_fields, activate_session_fields, close_session_fields, create_subscription_fields, modify_subscription_fields, set_publishing_fields, create_item_fields, modify_item_fields, set_item_mode_fields, set_triggering_fields, delete_items_fields, publish_fields, republish_fields, delete_subscriptions_fields, IsServiceBody};
+ghost use Rattle.scenario_requests.specs.Bodies.{IsWholeRequest};
 ghost use Rattle.scenario_requests.specs.Structures.{links_of};
 ghost use Rattle.ua_service_messages.specs.Browsing.{browse_next_request_reading, browse_request_reading};
 ghost use Rattle.ua_service_messages.specs.History.{history_read_request_reading};
@@ -15,7 +15,7 @@ ghost use Rattle.ua_subscription_messages.specs.Subscriptions.{create_subscripti
 ghost use Rattle.ua_subscription_messages.specs.Triggering.{set_triggering_request_reading};
 ghost use Rattle.ua_messages.specs.declared.type_ids.TheConstants.{ACTIVATE_SESSION_REQUEST, BROWSE_NEXT_REQUEST, BROWSE_REQUEST, CLOSE_SESSION_REQUEST, CREATE_MONITORED_ITEMS_REQUEST, CREATE_SUBSCRIPTION_REQUEST, DELETE_MONITORED_ITEMS_REQUEST, DELETE_SUBSCRIPTIONS_REQUEST, HISTORY_READ_REQUEST, MODIFY_MONITORED_ITEMS_REQUEST, MODIFY_SUBSCRIPTION_REQUEST, PUBLISH_REQUEST, READ_REQUEST, REPUBLISH_REQUEST, SET_MONITORING_MODE_REQUEST, SET_PUBLISHING_MODE_REQUEST, SET_TRIGGERING_REQUEST, WRITE_REQUEST};
 
-use crate::bodies::whole_body;
+use crate::bodies::whole_request;
 use crate::sent::{Ranged, held, list, one, ranged_list};
 use crate::structures::{
     NO_DURATION, history_details, is_delete, is_on, last_point, no_name, no_object, no_signature,
@@ -48,15 +48,14 @@ fn read_body(
     range: Text,
 ) -> Result<Vec<u8>, AllocError>
     ensures ok { IfOk result (λ bytes. bytes.items ≡ read_body header timestamps attributes range) }
-    ensures again { IfOk result (λ bytes. IsWholeBody read_request_reading READ_REQUEST (read_message header timestamps attributes range) bytes.items) }
+    ensures again { IfOk result (λ bytes. IsWholeRequest read_request_reading READ_REQUEST header (read_fields timestamps attributes range) bytes.items) }
 {
-    let message = ReadRequest {
-        request_header: header,
+    let fields = ReadRequest {
         max_age: NO_DURATION,
         timestamps_to_return: TimestampsToReturn(timestamps),
         nodes_to_read: ranged_list(alloc, &range, attributes)?,
     };
-    whole_body(alloc, type_ids::READ_REQUEST, &message)
+    whole_request(alloc, type_ids::READ_REQUEST, header, fields)
 }
 
 #[tactic(auto, unfolding(crate::specs::Messages::write_body))]
@@ -67,13 +66,12 @@ fn write_body(
     range: Text,
 ) -> Result<Vec<u8>, AllocError>
     ensures ok { IfOk result (λ bytes. bytes.items ≡ write_body header values range) }
-    ensures again { IfOk result (λ bytes. IsWholeBody write_request_reading WRITE_REQUEST (write_message header values range) bytes.items) }
+    ensures again { IfOk result (λ bytes. IsWholeRequest write_request_reading WRITE_REQUEST header (write_fields values range) bytes.items) }
 {
-    let message = WriteRequest {
-        request_header: header,
+    let fields = WriteRequest {
         nodes_to_write: ranged_list(alloc, &range, values)?,
     };
-    whole_body(alloc, type_ids::WRITE_REQUEST, &message)
+    whole_request(alloc, type_ids::WRITE_REQUEST, header, fields)
 }
 
 #[tactic(auto, unfolding(crate::specs::Messages::browse_body))]
@@ -83,7 +81,7 @@ fn browse_body(
     references: References,
 ) -> Result<Vec<u8>, AllocError>
     ensures ok { IfOk result (λ bytes. bytes.items ≡ browse_body header references) }
-    ensures again { IfOk result (λ bytes. IsWholeBody browse_request_reading BROWSE_REQUEST (browse_message header references) bytes.items) }
+    ensures again { IfOk result (λ bytes. IsWholeRequest browse_request_reading BROWSE_REQUEST header (browse_fields references) bytes.items) }
 {
     let References {
         max_references,
@@ -102,15 +100,14 @@ fn browse_body(
         node_class_mask,
         result_mask,
     };
-    let message = BrowseRequest {
-        request_header: header,
+    let fields = BrowseRequest {
         view_id: NodeId::null(),
         view_timestamp: Moment(0),
         view_version: 0,
         requested_max_references_per_node: max_references,
         nodes_to_browse: one(alloc, description)?,
     };
-    whole_body(alloc, type_ids::BROWSE_REQUEST, &message)
+    whole_request(alloc, type_ids::BROWSE_REQUEST, header, fields)
 }
 
 #[tactic(auto, unfolding(crate::specs::Messages::browse_next_body))]
@@ -121,14 +118,13 @@ fn browse_next_body(
     points: Listed<u64>,
 ) -> Result<Vec<u8>, AllocError>
     ensures ok { IfOk result (λ bytes. bytes.items ≡ browse_next_body header is_release points) }
-    ensures again { IfOk result (λ bytes. IsWholeBody browse_next_request_reading BROWSE_NEXT_REQUEST (browse_next_message header is_release points) bytes.items) }
+    ensures again { IfOk result (λ bytes. IsWholeRequest browse_next_request_reading BROWSE_NEXT_REQUEST header (browse_next_fields is_release points) bytes.items) }
 {
-    let message = BrowseNextRequest {
-        request_header: header,
+    let fields = BrowseNextRequest {
         release_continuation_points: is_release,
         continuation_points: list(alloc, points)?,
     };
-    whole_body(alloc, type_ids::BROWSE_NEXT_REQUEST, &message)
+    whole_request(alloc, type_ids::BROWSE_NEXT_REQUEST, header, fields)
 }
 
 #[tactic(auto, unfolding(crate::specs::Messages::history_body))]
@@ -138,7 +134,7 @@ fn history_body(
     values: RawValues,
 ) -> Result<Vec<u8>, AllocError>
     ensures ok { IfOk result (λ bytes. bytes.items ≡ history_body header values) }
-    ensures again { IfOk result (λ bytes. IsWholeBody history_read_request_reading HISTORY_READ_REQUEST (history_message header values) bytes.items) }
+    ensures again { IfOk result (λ bytes. IsWholeRequest history_read_request_reading HISTORY_READ_REQUEST header (history_fields values) bytes.items) }
 {
     let RawValues {
         timestamps,
@@ -155,30 +151,28 @@ fn history_body(
         data_encoding: no_name(),
         continuation_point: last_point(alloc, point)?,
     };
-    let message = HistoryReadRequest {
-        request_header: header,
+    let fields = HistoryReadRequest {
         history_read_details: details,
         timestamps_to_return: TimestampsToReturn(timestamps),
         release_continuation_points: false,
         nodes_to_read: one(alloc, node)?,
     };
-    whole_body(alloc, type_ids::HISTORY_READ_REQUEST, &message)
+    whole_request(alloc, type_ids::HISTORY_READ_REQUEST, header, fields)
 }
 
 #[tactic(auto, unfolding(crate::specs::Messages::activate_session_body))]
 fn activate_session_body(alloc: Global, header: RequestHeader) -> Result<Vec<u8>, AllocError>
     ensures ok { IfOk result (λ bytes. bytes.items ≡ activate_session_body header) }
-    ensures again { IfOk result (λ bytes. IsWholeBody activate_session_request_reading ACTIVATE_SESSION_REQUEST (activate_session_message header) bytes.items) }
+    ensures again { IfOk result (λ bytes. IsWholeRequest activate_session_request_reading ACTIVATE_SESSION_REQUEST header activate_session_fields bytes.items) }
 {
-    let message = ActivateSessionRequest {
-        request_header: header,
+    let fields = ActivateSessionRequest {
         client_signature: no_signature(),
         client_software_certificates: Array::null(),
         locale_ids: Array::null(),
         user_identity_token: no_object(),
         user_token_signature: no_signature(),
     };
-    whole_body(alloc, type_ids::ACTIVATE_SESSION_REQUEST, &message)
+    whole_request(alloc, type_ids::ACTIVATE_SESSION_REQUEST, header, fields)
 }
 
 #[tactic(auto, unfolding(crate::specs::Messages::close_session_body))]
@@ -188,13 +182,12 @@ fn close_session_body(
     subscriptions: Subscriptions,
 ) -> Result<Vec<u8>, AllocError>
     ensures ok { IfOk result (λ bytes. bytes.items ≡ close_session_body header subscriptions) }
-    ensures again { IfOk result (λ bytes. IsWholeBody close_session_request_reading CLOSE_SESSION_REQUEST (close_session_message header subscriptions) bytes.items) }
+    ensures again { IfOk result (λ bytes. IsWholeRequest close_session_request_reading CLOSE_SESSION_REQUEST header (close_session_fields subscriptions) bytes.items) }
 {
-    let message = CloseSessionRequest {
-        request_header: header,
+    let fields = CloseSessionRequest {
         delete_subscriptions: is_delete(subscriptions),
     };
-    whole_body(alloc, type_ids::CLOSE_SESSION_REQUEST, &message)
+    whole_request(alloc, type_ids::CLOSE_SESSION_REQUEST, header, fields)
 }
 
 #[tactic(auto, unfolding(crate::specs::Messages::create_subscription_body))]
@@ -205,10 +198,9 @@ fn create_subscription_body(
     publishing: Publishing,
 ) -> Result<Vec<u8>, AllocError>
     ensures ok { IfOk result (λ bytes. bytes.items ≡ create_subscription_body header counts publishing) }
-    ensures again { IfOk result (λ bytes. IsWholeBody create_subscription_request_reading CREATE_SUBSCRIPTION_REQUEST (create_subscription_message header counts publishing) bytes.items) }
+    ensures again { IfOk result (λ bytes. IsWholeRequest create_subscription_request_reading CREATE_SUBSCRIPTION_REQUEST header (create_subscription_fields counts publishing) bytes.items) }
 {
-    let message = CreateSubscriptionRequest {
-        request_header: header,
+    let fields = CreateSubscriptionRequest {
         requested_publishing_interval: NO_DURATION,
         requested_lifetime_count: counts.lifetime,
         requested_max_keep_alive_count: counts.max_keep_alive,
@@ -216,7 +208,7 @@ fn create_subscription_body(
         publishing_enabled: is_on(publishing),
         priority: counts.priority,
     };
-    whole_body(alloc, type_ids::CREATE_SUBSCRIPTION_REQUEST, &message)
+    whole_request(alloc, type_ids::CREATE_SUBSCRIPTION_REQUEST, header, fields)
 }
 
 #[tactic(auto, unfolding(crate::specs::Messages::modify_subscription_body))]
@@ -227,10 +219,9 @@ fn modify_subscription_body(
     counts: Counts,
 ) -> Result<Vec<u8>, AllocError>
     ensures ok { IfOk result (λ bytes. bytes.items ≡ modify_subscription_body header subscription counts) }
-    ensures again { IfOk result (λ bytes. IsWholeBody modify_subscription_request_reading MODIFY_SUBSCRIPTION_REQUEST (modify_subscription_message header subscription counts) bytes.items) }
+    ensures again { IfOk result (λ bytes. IsWholeRequest modify_subscription_request_reading MODIFY_SUBSCRIPTION_REQUEST header (modify_subscription_fields subscription counts) bytes.items) }
 {
-    let message = ModifySubscriptionRequest {
-        request_header: header,
+    let fields = ModifySubscriptionRequest {
         subscription_id: subscription,
         requested_publishing_interval: NO_DURATION,
         requested_lifetime_count: counts.lifetime,
@@ -238,7 +229,7 @@ fn modify_subscription_body(
         max_notifications_per_publish: counts.max_notifications,
         priority: counts.priority,
     };
-    whole_body(alloc, type_ids::MODIFY_SUBSCRIPTION_REQUEST, &message)
+    whole_request(alloc, type_ids::MODIFY_SUBSCRIPTION_REQUEST, header, fields)
 }
 
 #[tactic(auto, unfolding(crate::specs::Messages::set_publishing_body))]
@@ -249,14 +240,13 @@ fn set_publishing_body(
     subscriptions: Listed<u32>,
 ) -> Result<Vec<u8>, AllocError>
     ensures ok { IfOk result (λ bytes. bytes.items ≡ set_publishing_body header publishing subscriptions) }
-    ensures again { IfOk result (λ bytes. IsWholeBody set_publishing_mode_request_reading SET_PUBLISHING_MODE_REQUEST (set_publishing_message header publishing subscriptions) bytes.items) }
+    ensures again { IfOk result (λ bytes. IsWholeRequest set_publishing_mode_request_reading SET_PUBLISHING_MODE_REQUEST header (set_publishing_fields publishing subscriptions) bytes.items) }
 {
-    let message = SetPublishingModeRequest {
-        request_header: header,
+    let fields = SetPublishingModeRequest {
         publishing_enabled: is_on(publishing),
         subscription_ids: held(subscriptions.into_vec())?,
     };
-    whole_body(alloc, type_ids::SET_PUBLISHING_MODE_REQUEST, &message)
+    whole_request(alloc, type_ids::SET_PUBLISHING_MODE_REQUEST, header, fields)
 }
 
 #[tactic(auto, unfolding(crate::specs::Messages::create_item_body))]
@@ -266,7 +256,7 @@ fn create_item_body(
     item: NewItem,
 ) -> Result<Vec<u8>, AllocError>
     ensures ok { IfOk result (λ bytes. bytes.items ≡ create_item_body header item) }
-    ensures again { IfOk result (λ bytes. IsWholeBody create_monitored_items_request_reading CREATE_MONITORED_ITEMS_REQUEST (create_item_message header item) bytes.items) }
+    ensures again { IfOk result (λ bytes. IsWholeRequest create_monitored_items_request_reading CREATE_MONITORED_ITEMS_REQUEST header (create_item_fields item) bytes.items) }
 {
     let NewItem {
         subscription,
@@ -280,13 +270,17 @@ fn create_item_body(
         monitoring_mode: MonitoringMode(mode),
         requested_parameters: parameters(alloc, monitoring)?,
     };
-    let message = CreateMonitoredItemsRequest {
-        request_header: header,
+    let fields = CreateMonitoredItemsRequest {
         subscription_id: subscription,
         timestamps_to_return: TimestampsToReturn(timestamps),
         items_to_create: one(alloc, create)?,
     };
-    whole_body(alloc, type_ids::CREATE_MONITORED_ITEMS_REQUEST, &message)
+    whole_request(
+        alloc,
+        type_ids::CREATE_MONITORED_ITEMS_REQUEST,
+        header,
+        fields,
+    )
 }
 
 #[tactic(auto, unfolding(crate::specs::Messages::modify_item_body))]
@@ -296,19 +290,23 @@ fn modify_item_body(
     item: ChangedItem,
 ) -> Result<Vec<u8>, AllocError>
     ensures ok { IfOk result (λ bytes. bytes.items ≡ modify_item_body header item) }
-    ensures again { IfOk result (λ bytes. IsWholeBody modify_monitored_items_request_reading MODIFY_MONITORED_ITEMS_REQUEST (modify_item_message header item) bytes.items) }
+    ensures again { IfOk result (λ bytes. IsWholeRequest modify_monitored_items_request_reading MODIFY_MONITORED_ITEMS_REQUEST header (modify_item_fields item) bytes.items) }
 {
     let modify = MonitoredItemModifyRequest {
         monitored_item_id: item.item,
         requested_parameters: parameters(alloc, item.monitoring)?,
     };
-    let message = ModifyMonitoredItemsRequest {
-        request_header: header,
+    let fields = ModifyMonitoredItemsRequest {
         subscription_id: item.subscription,
         timestamps_to_return: TimestampsToReturn(item.timestamps),
         items_to_modify: one(alloc, modify)?,
     };
-    whole_body(alloc, type_ids::MODIFY_MONITORED_ITEMS_REQUEST, &message)
+    whole_request(
+        alloc,
+        type_ids::MODIFY_MONITORED_ITEMS_REQUEST,
+        header,
+        fields,
+    )
 }
 
 #[tactic(auto, unfolding(crate::specs::Messages::set_item_mode_body))]
@@ -320,15 +318,14 @@ fn set_item_mode_body(
     items: Listed<u32>,
 ) -> Result<Vec<u8>, AllocError>
     ensures ok { IfOk result (λ bytes. bytes.items ≡ set_item_mode_body header subscription mode items) }
-    ensures again { IfOk result (λ bytes. IsWholeBody set_monitoring_mode_request_reading SET_MONITORING_MODE_REQUEST (set_item_mode_message header subscription mode items) bytes.items) }
+    ensures again { IfOk result (λ bytes. IsWholeRequest set_monitoring_mode_request_reading SET_MONITORING_MODE_REQUEST header (set_item_mode_fields subscription mode items) bytes.items) }
 {
-    let message = SetMonitoringModeRequest {
-        request_header: header,
+    let fields = SetMonitoringModeRequest {
         subscription_id: subscription,
         monitoring_mode: MonitoringMode(mode),
         monitored_item_ids: held(items.into_vec())?,
     };
-    whole_body(alloc, type_ids::SET_MONITORING_MODE_REQUEST, &message)
+    whole_request(alloc, type_ids::SET_MONITORING_MODE_REQUEST, header, fields)
 }
 
 // The items that are to be triggered from now on, and those that are to be no longer.
@@ -355,17 +352,16 @@ fn set_triggering_body(
     changes: Listed<LinkChange>,
 ) -> Result<Vec<u8>, AllocError>
     ensures ok { IfOk result (λ bytes. bytes.items ≡ set_triggering_body header subscription triggering changes) }
-    ensures again { IfOk result (λ bytes. IsWholeBody set_triggering_request_reading SET_TRIGGERING_REQUEST (set_triggering_message header subscription triggering (links_of changes)) bytes.items) }
+    ensures again { IfOk result (λ bytes. IsWholeRequest set_triggering_request_reading SET_TRIGGERING_REQUEST header (set_triggering_fields subscription triggering (links_of changes)) bytes.items) }
 {
     let (added, removed) = links_of(alloc, changes.into_vec())?;
-    let message = SetTriggeringRequest {
-        request_header: header,
+    let fields = SetTriggeringRequest {
         subscription_id: subscription,
         triggering_item_id: triggering,
         links_to_add: held(added)?,
         links_to_remove: held(removed)?,
     };
-    whole_body(alloc, type_ids::SET_TRIGGERING_REQUEST, &message)
+    whole_request(alloc, type_ids::SET_TRIGGERING_REQUEST, header, fields)
 }
 
 #[tactic(auto, unfolding(crate::specs::Messages::delete_items_body))]
@@ -376,14 +372,18 @@ fn delete_items_body(
     items: Listed<u32>,
 ) -> Result<Vec<u8>, AllocError>
     ensures ok { IfOk result (λ bytes. bytes.items ≡ delete_items_body header subscription items) }
-    ensures again { IfOk result (λ bytes. IsWholeBody delete_monitored_items_request_reading DELETE_MONITORED_ITEMS_REQUEST (delete_items_message header subscription items) bytes.items) }
+    ensures again { IfOk result (λ bytes. IsWholeRequest delete_monitored_items_request_reading DELETE_MONITORED_ITEMS_REQUEST header (delete_items_fields subscription items) bytes.items) }
 {
-    let message = DeleteMonitoredItemsRequest {
-        request_header: header,
+    let fields = DeleteMonitoredItemsRequest {
         subscription_id: subscription,
         monitored_item_ids: held(items.into_vec())?,
     };
-    whole_body(alloc, type_ids::DELETE_MONITORED_ITEMS_REQUEST, &message)
+    whole_request(
+        alloc,
+        type_ids::DELETE_MONITORED_ITEMS_REQUEST,
+        header,
+        fields,
+    )
 }
 
 #[tactic(auto, unfolding(crate::specs::Messages::publish_body))]
@@ -393,13 +393,12 @@ fn publish_body(
     acknowledgements: Listed<Acknowledgement>,
 ) -> Result<Vec<u8>, AllocError>
     ensures ok { IfOk result (λ bytes. bytes.items ≡ publish_body header acknowledgements) }
-    ensures again { IfOk result (λ bytes. IsWholeBody publish_request_reading PUBLISH_REQUEST (publish_message header acknowledgements) bytes.items) }
+    ensures again { IfOk result (λ bytes. IsWholeRequest publish_request_reading PUBLISH_REQUEST header (publish_fields acknowledgements) bytes.items) }
 {
-    let message = PublishRequest {
-        request_header: header,
+    let fields = PublishRequest {
         subscription_acknowledgements: list(alloc, acknowledgements)?,
     };
-    whole_body(alloc, type_ids::PUBLISH_REQUEST, &message)
+    whole_request(alloc, type_ids::PUBLISH_REQUEST, header, fields)
 }
 
 #[tactic(auto, unfolding(crate::specs::Messages::republish_body))]
@@ -410,14 +409,13 @@ fn republish_body(
     sequence_number: u32,
 ) -> Result<Vec<u8>, AllocError>
     ensures ok { IfOk result (λ bytes. bytes.items ≡ republish_body header subscription sequence_number) }
-    ensures again { IfOk result (λ bytes. IsWholeBody republish_request_reading REPUBLISH_REQUEST (republish_message header subscription sequence_number) bytes.items) }
+    ensures again { IfOk result (λ bytes. IsWholeRequest republish_request_reading REPUBLISH_REQUEST header (republish_fields subscription sequence_number) bytes.items) }
 {
-    let message = RepublishRequest {
-        request_header: header,
+    let fields = RepublishRequest {
         subscription_id: subscription,
         retransmit_sequence_number: sequence_number,
     };
-    whole_body(alloc, type_ids::REPUBLISH_REQUEST, &message)
+    whole_request(alloc, type_ids::REPUBLISH_REQUEST, header, fields)
 }
 
 #[tactic(auto, unfolding(crate::specs::Messages::delete_subscriptions_body))]
@@ -427,13 +425,17 @@ fn delete_subscriptions_body(
     subscriptions: Listed<u32>,
 ) -> Result<Vec<u8>, AllocError>
     ensures ok { IfOk result (λ bytes. bytes.items ≡ delete_subscriptions_body header subscriptions) }
-    ensures again { IfOk result (λ bytes. IsWholeBody delete_subscriptions_request_reading DELETE_SUBSCRIPTIONS_REQUEST (delete_subscriptions_message header subscriptions) bytes.items) }
+    ensures again { IfOk result (λ bytes. IsWholeRequest delete_subscriptions_request_reading DELETE_SUBSCRIPTIONS_REQUEST header (delete_subscriptions_fields subscriptions) bytes.items) }
 {
-    let message = DeleteSubscriptionsRequest {
-        request_header: header,
+    let fields = DeleteSubscriptionsRequest {
         subscription_ids: held(subscriptions.into_vec())?,
     };
-    whole_body(alloc, type_ids::DELETE_SUBSCRIPTIONS_REQUEST, &message)
+    whole_request(
+        alloc,
+        type_ids::DELETE_SUBSCRIPTIONS_REQUEST,
+        header,
+        fields,
+    )
 }
 
 /// The body of what a session asks, with this header.

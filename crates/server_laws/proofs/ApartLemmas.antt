@@ -12,9 +12,9 @@ use Rattle.ua_types.specs.NodeIds.{is_null_id}
 use Rattle.ua_types.specs.declared.status.Status.{Status}
 use Rattle.ua_types.specs.declared.status.TheConstants.Status as status
 use Rattle.ua_binary.specs.declared.fault.TakeFault.{TakeFault}
-use Rattle.ua_messages.specs.Bodies.{message_id_of, message_of}
+use Rattle.ua_messages.specs.Bodies.{message_id_of}
 use Rattle.ua_messages.specs.GetEndpoints.{get_endpoints_request_reading}
-use Rattle.ua_messages.specs.Headers.{request_header_reading}
+use Rattle.ua_messages.specs.Requests.{Headed, headed_of, fields_of}
 use Rattle.ua_messages.specs.declared.headers.RequestHeader.{RequestHeader}
 use Rattle.ua_messages.specs.declared.read_value_ids.ReadValueId.{ReadValueId}
 use Rattle.ua_messages.specs.declared.type_ids.TheConstants.{BROWSE_RESPONSE, BROWSE_NEXT_RESPONSE, HISTORY_READ_RESPONSE, SET_PUBLISHING_MODE_RESPONSE, DELETE_SUBSCRIPTIONS_RESPONSE, WRITE_REQUEST}
@@ -67,7 +67,7 @@ use Rattle.ua_subscriptions.specs.declared.call.Call.TheVariants as sub_call
 use Rattle.ua_browse.specs.Browsing.{page_size, browse_of}
 use Rattle.ua_session.specs.Sessions.{SessionsState, Named, named, points_of, with_points, create_of, activate_of, find_of, close_of, ticked, ended_by}
 use Rattle.ua_services.specs.ActivateSession.{is_anonymous, activate_session_body, activate_session_meaning}
-use Rattle.server_laws.specs.Apart.{NamesOnly, accepted_listed, accepted_found, accepted_by, accepted, is_write_id, is_write, KeepsApart}
+use Rattle.server_laws.specs.Apart.{NamesOnly, accepted_listed, accepted_found, accepted_read, accepted_by, accepted, is_write_id, is_write, KeepsApart}
 use Rattle.ua_services.specs.Browse.{browse_listed, browse_meaning}
 use Rattle.ua_services.specs.BrowseNext.{go_on_of, browse_next_listed, browse_next_meaning}
 use Rattle.ua_services.specs.BrowseResults.{browse_told}
@@ -103,7 +103,7 @@ use Rattle.ua_services.specs.Write.{sampled, write_listed, write_meaning}
 use Rattle.ua_services.specs.declared.caller.Caller.{Caller}
 use Rattle.ua_services.specs.declared.history_read.Wanted.{Wanted}
 use Rattle.server_laws.proofs.MovingLemmas.{Asks, created_asks, modified_asks, moded_asks, linked_asks, deleted_asks, items_left}
-use Rattle.server_laws.proofs.OtherSessions.{IsFresh, Keeps, unchanged, sessions_stay, named_given, fresh_after, ticked_fresh, activate_header, close_header, find_leaves, activate_leaves, close_leaves, create_stays, points_stay, stay_behind}
+use Rattle.server_laws.proofs.OtherSessions.{IsFresh, Keeps, unchanged, sessions_stay, named_given, fresh_after, ticked_fresh, find_leaves, activate_leaves, close_leaves, create_stays, points_stay, stay_behind}
 
 -- ---- what is left as it was
 
@@ -177,10 +177,10 @@ either : (session : ℕ) (state : Services) (b : Bool) (x y : Serving) → Apart
 either session state true x y p q = p
 either session state false x y p q = q
 
-by_fields : {A : Type 0} (session : ℕ) (meaning : Setting → Caller → A → Services → Serving) (setting : Setting) (caller : Caller) (state : Services) (r : Result A TakeFault) →
-    ((request : A) → r ≡ Ok request → KeepsRest session state (meaning setting caller request state).state) → Apart session state (served_by meaning setting caller state r)
-by_fields session meaning setting caller state (Ok request) f = record { stays = f request refl }
-by_fields session meaning setting caller state (Err fault) f = record { stays = none_stays session state }
+by_fields : {A : Type 0} (session : ℕ) (meaning : Setting → Caller → NodeId → A → Services → Serving) (setting : Setting) (caller : Caller) (token : NodeId) (state : Services) → ((request : A) → KeepsRest session state (meaning setting caller token request state).state) →
+    (r : Result A TakeFault) → Apart session state (served_by meaning setting caller token state r)
+by_fields session meaning setting caller token state f (Ok request) = record { stays = f request }
+by_fields session meaning setting caller token state f (Err fault) = record { stays = none_stays session state }
 
 -- ---- sessions
 
@@ -192,15 +192,14 @@ taken_stays : {A : Type 0} (session : ℕ) (caller : Caller) (state : Services) 
 taken_stays session caller state clock occurrences body (Ok x) sessions p = nothing_stays session state sessions p
 taken_stays session caller state clock occurrences body (Err code) sessions p = nothing_stays session state sessions p
 
-create_session_stays : (session : ℕ) (setting : Setting) (caller : Caller) (state : Services) (request : CreateSessionRequest) → KeepsRest session state (create_session_meaning setting caller request state).state
-create_session_stays session setting caller state request =
+create_session_stays : (session : ℕ) (setting : Setting) (caller : Caller) (token : NodeId) (state : Services) (request : CreateSessionRequest) → KeepsRest session state (create_session_meaning setting caller token request state).state
+create_session_stays session setting caller token state request =
     let s = create_of state.sessions caller.conn caller.key in
     taken_stays session caller state setting.clock (spent_by state.sessions) (create_session_body setting caller) s.answer s.state (create_stays session state.sessions caller.conn caller.key)
 
-activate_session_stays : (session : ℕ) (setting : Setting) (caller : Caller) (state : Services) (request : ActivateSessionRequest) → NamesIn session state request.request_header.authentication_token →
-    KeepsRest session state (activate_session_meaning setting caller request state).state
-activate_session_stays session setting caller state request only =
-    let token = request.request_header.authentication_token in
+activate_session_stays : (session : ℕ) (setting : Setting) (caller : Caller) (token : NodeId) (state : Services) (request : ActivateSessionRequest) → NamesIn session state token →
+    KeepsRest session state (activate_session_meaning setting caller token request state).state
+activate_session_stays session setting caller token state request only =
     let is_free = is_anonymous request.user_identity_token in
     let s = activate_of state.sessions token caller.conn caller.key is_free in
     taken_stays session caller state setting.clock (spent_by state.sessions) (activate_session_body setting caller) s.answer s.state
@@ -214,11 +213,11 @@ closed_stays session setting caller deleting state from (Ok number) sessions mad
     (told_stays session open_state from (session_ended number deleting (world_at setting open_state)) (Move.EndSession setting.clock number deleting) (λ so_far replies. refl) is)
 closed_stays session setting caller deleting state from (Err code) sessions made p is = nothing_stays session state sessions p
 
-close_session_stays : (session : ℕ) (setting : Setting) (caller : Caller) (state : Services) (from : CameBy state.subs state.items) (request : CloseSessionRequest) → NamesIn session state request.request_header.authentication_token →
-    KeepsRest session state (close_session_meaning setting caller request state).state
-close_session_stays session setting caller state from request only =
-    let s = close_of state.sessions request.request_header.authentication_token caller.conn in
-    let h = close_leaves session state.sessions request.request_header.authentication_token caller.conn only in
+close_session_stays : (session : ℕ) (setting : Setting) (caller : Caller) (token : NodeId) (state : Services) (from : CameBy state.subs state.items) (request : CloseSessionRequest) → NamesIn session state token →
+    KeepsRest session state (close_session_meaning setting caller token request state).state
+close_session_stays session setting caller token state from request only =
+    let s = close_of state.sessions token caller.conn in
+    let h = close_leaves session state.sessions token caller.conn only in
     closed_stays session setting caller request.delete_subscriptions state from s.answer s.state h.made h.stay h.answer
 
 -- ---- every service of a session
@@ -359,25 +358,25 @@ module _ (session : ℕ) (setting : Setting) (caller : Caller) (number : ℕ) (s
 
 -- ---- all services but Write
 
-module _ (session : ℕ) (setting : Setting) (caller : Caller) (token : NodeId) (body : List ℕ) (state : Services) (from : CameBy state.subs state.items) (only : NamesIn session state token) where
-  of_subscriptions_stay : (id : ℕ) → Apart session state (picked_of_subscriptions setting caller token body state id)
+module _ (session : ℕ) (setting : Setting) (caller : Caller) (token : NodeId) (fields : List ℕ) (state : Services) (from : CameBy state.subs state.items) (only : NamesIn session state token) where
+  of_subscriptions_stay : (id : ℕ) → Apart session state (picked_of_subscriptions setting caller token fields state id)
   of_subscriptions_stay id =
       let last : Apart session state (faulted state caller status.BAD_SERVICE_UNSUPPORTED setting.clock) = record { stays = none_stays session state } in
-      either session state _ _ _ (by_session session create_subscription_meaning setting caller token state from only (create_subscription_stays session setting caller) (message_of create_subscription_request_reading body))
-      (either session state _ _ _ (by_session session modify_subscription_meaning setting caller token state from only (modify_subscription_stays session setting caller) (message_of modify_subscription_request_reading body))
-      (either session state _ _ _ (by_session session set_publishing_mode_meaning setting caller token state from only (set_publishing_mode_stays session setting caller) (message_of set_publishing_mode_request_reading body))
-      (either session state _ _ _ (by_session session delete_subscriptions_meaning setting caller token state from only (delete_subscriptions_stays session setting caller) (message_of delete_subscriptions_request_reading body))
-      (either session state _ _ _ (by_session session publish_meaning setting caller token state from only (publish_stays session setting caller) (message_of publish_request_reading body))
-      (either session state _ _ _ (by_session session republish_meaning setting caller token state from only (republish_stays session setting caller) (message_of republish_request_reading body))
+      either session state _ _ _ (by_session session create_subscription_meaning setting caller token state from only (create_subscription_stays session setting caller) (fields_of create_subscription_request_reading fields))
+      (either session state _ _ _ (by_session session modify_subscription_meaning setting caller token state from only (modify_subscription_stays session setting caller) (fields_of modify_subscription_request_reading fields))
+      (either session state _ _ _ (by_session session set_publishing_mode_meaning setting caller token state from only (set_publishing_mode_stays session setting caller) (fields_of set_publishing_mode_request_reading fields))
+      (either session state _ _ _ (by_session session delete_subscriptions_meaning setting caller token state from only (delete_subscriptions_stays session setting caller) (fields_of delete_subscriptions_request_reading fields))
+      (either session state _ _ _ (by_session session publish_meaning setting caller token state from only (publish_stays session setting caller) (fields_of publish_request_reading fields))
+      (either session state _ _ _ (by_session session republish_meaning setting caller token state from only (republish_stays session setting caller) (fields_of republish_request_reading fields))
       last)))))
 
-  of_items_stay : (id : ℕ) → Apart session state (picked_of_items setting caller token body state id)
+  of_items_stay : (id : ℕ) → Apart session state (picked_of_items setting caller token fields state id)
   of_items_stay id =
-      either session state _ _ _ (by_session session create_monitored_items_meaning setting caller token state from only (λ request after came. items_stay session setting caller request.subscription_id after came (items_created setting caller request after) (create_asked setting request after) (created_asks setting caller request after)) (message_of create_monitored_items_request_reading body))
-      (either session state _ _ _ (by_session session modify_monitored_items_meaning setting caller token state from only (λ request after came. items_stay session setting caller request.subscription_id after came (items_modified setting caller request after) (modify_asked setting request after) (modified_asks setting caller request after)) (message_of modify_monitored_items_request_reading body))
-      (either session state _ _ _ (by_session session set_monitoring_mode_meaning setting caller token state from only (λ request after came. items_stay session setting caller request.subscription_id after came (items_moded setting caller request after) (mode_asked setting request after) (moded_asks setting caller request after)) (message_of set_monitoring_mode_request_reading body))
-      (either session state _ _ _ (by_session session set_triggering_meaning setting caller token state from only (λ request after came. items_stay session setting caller request.subscription_id after came (items_linked setting caller request after) (link_asked setting request after) (linked_asks setting caller request after)) (message_of set_triggering_request_reading body))
-      (either session state _ _ _ (by_session session delete_monitored_items_meaning setting caller token state from only (λ request after came. items_stay session setting caller request.subscription_id after came (items_deleted setting caller request after) (delete_asked setting request after) (deleted_asks setting caller request after)) (message_of delete_monitored_items_request_reading body))
+      either session state _ _ _ (by_session session create_monitored_items_meaning setting caller token state from only (λ request after came. items_stay session setting caller request.subscription_id after came (items_created setting caller request after) (create_asked setting request after) (created_asks setting caller request after)) (fields_of create_monitored_items_request_reading fields))
+      (either session state _ _ _ (by_session session modify_monitored_items_meaning setting caller token state from only (λ request after came. items_stay session setting caller request.subscription_id after came (items_modified setting caller request after) (modify_asked setting request after) (modified_asks setting caller request after)) (fields_of modify_monitored_items_request_reading fields))
+      (either session state _ _ _ (by_session session set_monitoring_mode_meaning setting caller token state from only (λ request after came. items_stay session setting caller request.subscription_id after came (items_moded setting caller request after) (mode_asked setting request after) (moded_asks setting caller request after)) (fields_of set_monitoring_mode_request_reading fields))
+      (either session state _ _ _ (by_session session set_triggering_meaning setting caller token state from only (λ request after came. items_stay session setting caller request.subscription_id after came (items_linked setting caller request after) (link_asked setting request after) (linked_asks setting caller request after)) (fields_of set_triggering_request_reading fields))
+      (either session state _ _ _ (by_session session delete_monitored_items_meaning setting caller token state from only (λ request after came. items_stay session setting caller request.subscription_id after came (items_deleted setting caller request after) (delete_asked setting request after) (deleted_asks setting caller request after)) (fields_of delete_monitored_items_request_reading fields))
       (of_subscriptions_stay id)))))
 
   -- where the type isn't that of a Write
@@ -385,20 +384,17 @@ module _ (session : ℕ) (setting : Setting) (caller : Caller) (token : NodeId) 
   unless_write true x y e q = absurd (false≢true (sym e))
   unless_write false x y e q = q
 
-  picked_stays : (id : ℕ) → (id == WRITE_REQUEST) ≡ false →
-      ((request : ActivateSessionRequest) → message_of activate_session_request_reading body ≡ Ok request → NamesIn session state request.request_header.authentication_token) →
-      ((request : CloseSessionRequest) → message_of close_session_request_reading body ≡ Ok request → NamesIn session state request.request_header.authentication_token) →
-      Apart session state (picked setting caller token body state id)
-  picked_stays id other activating closing =
-      either session state _ _ _ (by_fields session get_endpoints_meaning setting caller state (message_of get_endpoints_request_reading body) (λ request e. none_stays session state))
-      (either session state _ _ _ (by_fields session create_session_meaning setting caller state (message_of create_session_request_reading body) (λ request e. create_session_stays session setting caller state request))
-      (either session state _ _ _ (by_fields session activate_session_meaning setting caller state (message_of activate_session_request_reading body) (λ request e. activate_session_stays session setting caller state request (activating request e)))
-      (either session state _ _ _ (by_fields session close_session_meaning setting caller state (message_of close_session_request_reading body) (λ request e. close_session_stays session setting caller state from request (closing request e)))
-      (either session state _ _ _ (by_session session read_meaning setting caller token state from only (λ request after came. read_stays session setting caller request after) (message_of read_request_reading body))
+  picked_stays : (id : ℕ) → (id == WRITE_REQUEST) ≡ false → Apart session state (picked setting caller token fields state id)
+  picked_stays id other =
+      either session state _ _ _ (by_fields session get_endpoints_meaning setting caller token state (λ request. none_stays session state) (fields_of get_endpoints_request_reading fields))
+      (either session state _ _ _ (by_fields session create_session_meaning setting caller token state (create_session_stays session setting caller token state) (fields_of create_session_request_reading fields))
+      (either session state _ _ _ (by_fields session activate_session_meaning setting caller token state (λ request. activate_session_stays session setting caller token state request only) (fields_of activate_session_request_reading fields))
+      (either session state _ _ _ (by_fields session close_session_meaning setting caller token state (λ request. close_session_stays session setting caller token state from request only) (fields_of close_session_request_reading fields))
+      (either session state _ _ _ (by_session session read_meaning setting caller token state from only (λ request after came. read_stays session setting caller request after) (fields_of read_request_reading fields))
       (unless_write (id == WRITE_REQUEST) _ _ other
-      (either session state _ _ _ (by_session session browse_meaning setting caller token state from only (λ request after came. browse_stays session setting caller request after) (message_of browse_request_reading body))
-      (either session state _ _ _ (by_session session browse_next_meaning setting caller token state from only (λ request after came. browse_next_stays session setting caller request after) (message_of browse_next_request_reading body))
-      (either session state _ _ _ (by_session session history_read_meaning setting caller token state from only (λ request after came. history_read_stays session setting caller request after) (message_of history_read_request_reading body))
+      (either session state _ _ _ (by_session session browse_meaning setting caller token state from only (λ request after came. browse_stays session setting caller request after) (fields_of browse_request_reading fields))
+      (either session state _ _ _ (by_session session browse_next_meaning setting caller token state from only (λ request after came. browse_next_stays session setting caller request after) (fields_of browse_next_request_reading fields))
+      (either session state _ _ _ (by_session session history_read_meaning setting caller token state from only (λ request after came. history_read_stays session setting caller request after) (fields_of history_read_request_reading fields))
       (of_items_stay id)))))))))
 
 -- ---- Write
@@ -416,47 +412,44 @@ write_found session setting caller state write (Err code) sessions p = none_show
 -- ---- all services
 
 module _ (setting : Setting) (request : Request) (state : Services) (from : CameBy state.subs state.items) where
-  abbrev Only : ℕ → Result RequestHeader TakeFault → Type 0
-  Only session header = IfOk header (λ (h : RequestHeader). NamesIn session state h.authentication_token)
+  abbrev Only : ℕ → Result Headed TakeFault → Type 0
+  Only session headed = IfOk headed (λ (h : Headed). NamesIn session state h.header.authentication_token)
 
-  others_by : (session : ℕ) (id : Result ℕ TakeFault) (header : Result RequestHeader TakeFault) → message_of request_header_reading request.body ≡ header → Only session header → is_write_id id ≡ false →
-      KeepsRest session state (serving_by setting request state id header).state
-  others_by session (Ok id) (Ok header) e only other =
-      (picked_stays session setting (call_of request header.request_handle) header.authentication_token request.body state from only id other
-      (λ activating read. subst (λ (h : RequestHeader). NamesIn session state h.authentication_token) (sym (activate_header request.body activating header read e)) only)
-      (λ closing read. subst (λ (h : RequestHeader). NamesIn session state h.authentication_token) (sym (close_header request.body closing header read e)) only)).stays
-  others_by session (Ok id) (Err fault) e only other = none_stays session state
-  others_by session (Err fault) header e only other = none_stays session state
+  others_by : (session : ℕ) (id : Result ℕ TakeFault) (headed : Result Headed TakeFault) → Only session headed → is_write_id id ≡ false →
+      KeepsRest session state (serving_by setting request state id headed).state
+  others_by session (Ok id) (Ok headed) only other =
+      (picked_stays session setting (call_of request headed.header.request_handle) headed.header.authentication_token headed.fields state from only id other).stays
+  others_by session (Ok id) (Err fault) only other = none_stays session state
+  others_by session (Err fault) headed only other = none_stays session state
 
   write_served : (session : ℕ) (header : RequestHeader) → NamesIn session state header.authentication_token → (r : Result WriteRequest TakeFault) →
-      KeepsShown session (accepted_by setting request state (Ok header) r) state
+      KeepsShown session (accepted_read setting request state header r) state
       (served_in_session write_meaning setting (call_of request header.request_handle) header.authentication_token state r).state
   write_served session header only (Ok write) =
       let s = find_of state.sessions header.authentication_token request.conn in
       write_found session setting (call_of request header.request_handle) state write s.answer s.state (find_leaves session state.sessions header.authentication_token request.conn only).stay
   write_served session header only (Err fault) = not_shown session state
 
-  picked_written : (session : ℕ) (header : RequestHeader) → NamesIn session state header.authentication_token → (id : ℕ) → id ≡ WRITE_REQUEST →
-      KeepsShown session (accepted_by setting request state (Ok header) (message_of write_request_reading request.body)) state
-      (picked setting (call_of request header.request_handle) header.authentication_token request.body state id).state
-  picked_written session header only id is =
-      let write = message_of write_request_reading request.body in
-      subst (λ (n : ℕ). KeepsShown session (accepted_by setting request state (Ok header) write) state (picked setting (call_of request header.request_handle) header.authentication_token request.body state n).state) (sym is)
-      (write_served session header only write)
+  picked_written : (session : ℕ) (headed : Headed) → NamesIn session state headed.header.authentication_token → (id : ℕ) → id ≡ WRITE_REQUEST →
+      KeepsShown session (accepted_by setting request state (Ok headed)) state
+      (picked setting (call_of request headed.header.request_handle) headed.header.authentication_token headed.fields state id).state
+  picked_written session headed only id is =
+      subst (λ (n : ℕ). KeepsShown session (accepted_by setting request state (Ok headed)) state (picked setting (call_of request headed.header.request_handle) headed.header.authentication_token headed.fields state n).state) (sym is)
+      (write_served session headed.header only (fields_of write_request_reading headed.fields))
 
-  written_by : (session : ℕ) (id : Result ℕ TakeFault) (header : Result RequestHeader TakeFault) → Only session header → is_write_id id ≡ true →
-      KeepsShown session (accepted_by setting request state header (message_of write_request_reading request.body)) state (serving_by setting request state id header).state
-  written_by session (Ok id) (Ok header) only is = picked_written session header only id (eqb-true id WRITE_REQUEST is)
+  written_by : (session : ℕ) (id : Result ℕ TakeFault) (headed : Result Headed TakeFault) → Only session headed → is_write_id id ≡ true →
+      KeepsShown session (accepted_by setting request state headed) state (serving_by setting request state id headed).state
+  written_by session (Ok id) (Ok headed) only is = picked_written session headed only id (eqb-true id WRITE_REQUEST is)
   written_by session (Ok id) (Err fault) only is = not_shown session state
-  written_by session (Err fault) header only is = absurd (false≢true is)
+  written_by session (Err fault) headed only is = absurd (false≢true is)
 
   others : (session : ℕ) → NamesOnly session state request → is_write request ≡ false → KeepsRest session state (serving_of setting request state).state
   unfolding serving_of
-  others session only other = others_by session (message_id_of request.body) (message_of request_header_reading request.body) refl only other
+  others session only other = others_by session (message_id_of request.body) (headed_of request.body) only other
 
   written : (session : ℕ) → NamesOnly session state request → is_write request ≡ true → KeepsShown session (accepted setting request state) state (serving_of setting request state).state
   unfolding serving_of
-  written session only is = written_by session (message_id_of request.body) (message_of request_header_reading request.body) only is
+  written session only is = written_by session (message_id_of request.body) (headed_of request.body) only is
 
   pub keeps_apart : IsFresh state.sessions → KeepsApart setting request state
   keeps_apart fresh = record {
@@ -476,17 +469,17 @@ module _ (setting : Setting) (request : Request) (state : Services) (from : Came
       by true is = (written session only is).sessions
       by false is = (others session only is).sessions
 
-  fresh_by : IsFresh state.sessions → (header : Result RequestHeader TakeFault) → ((session : ℕ) → Only session header → Keeps session state.sessions (serving_of setting request state).state.sessions) → IsFresh (serving_of setting request state).state.sessions
+  fresh_by : IsFresh state.sessions → (headed : Result Headed TakeFault) → ((session : ℕ) → Only session headed → Keeps session state.sessions (serving_of setting request state).state.sessions) → IsFresh (serving_of setting request state).state.sessions
   fresh_by fresh (Err fault) keeps = fresh_after 0 state.sessions (serving_of setting request state).state.sessions (omega arith) fresh (keeps 0 tt)
-  fresh_by fresh (Ok header) keeps = by (named state.sessions header.authentication_token) refl (λ session only. keeps session only)
+  fresh_by fresh (Ok headed) keeps = by (named state.sessions headed.header.authentication_token) refl (λ session only. keeps session only)
     where
-      by : (o : Option Named) → named state.sessions header.authentication_token ≡ o → ((session : ℕ) → IfSome o (λ (n : Named). n.number ≡ session) → Keeps session state.sessions (serving_of setting request state).state.sessions) →
+      by : (o : Option Named) → named state.sessions headed.header.authentication_token ≡ o → ((session : ℕ) → IfSome o (λ (n : Named). n.number ≡ session) → Keeps session state.sessions (serving_of setting request state).state.sessions) →
           IsFresh (serving_of setting request state).state.sessions
       by None e k = fresh_after 0 state.sessions (serving_of setting request state).state.sessions (omega arith) fresh (k 0 tt)
-      by (Some n) e k = fresh_after n.number state.sessions (serving_of setting request state).state.sessions (named_given state.sessions header.authentication_token n fresh e) fresh (k n.number refl)
+      by (Some n) e k = fresh_after n.number state.sessions (serving_of setting request state).state.sessions (named_given state.sessions headed.header.authentication_token n fresh e) fresh (k n.number refl)
 
   pub stays_fresh : IsFresh state.sessions → IsFresh (serving_of setting request state).state.sessions
-  stays_fresh fresh = fresh_by fresh (message_of request_header_reading request.body) session_kept
+  stays_fresh fresh = fresh_by fresh (headed_of request.body) session_kept
 
 -- a tick ends sessions, and makes none
 timed_out_sessions : (setting : Setting) (numbers : List ℕ) (s : Serving) → (fold (timed_out setting) s numbers).state.sessions ≡ s.state.sessions

@@ -9,10 +9,9 @@ use Rattle.ua_types.specs.NodeIds.{is_null_id}
 use Rattle.ua_types.specs.declared.status.Status.{Status}
 use Rattle.ua_types.specs.declared.status.TheConstants.Status as status
 use Rattle.ua_binary.specs.declared.fault.TakeFault.{TakeFault}
-use Rattle.ua_messages.specs.Bodies.{message_id_of, message_of}
+use Rattle.ua_messages.specs.Bodies.{message_id_of}
 use Rattle.ua_messages.specs.GetEndpoints.{get_endpoints_request_reading}
-use Rattle.ua_messages.specs.Headers.{request_header_reading}
-use Rattle.ua_messages.specs.declared.headers.RequestHeader.{RequestHeader}
+use Rattle.ua_messages.specs.Requests.{Headed, headed_of, fields_of}
 use Rattle.ua_messages.specs.declared.read_value_ids.ReadValueId.{ReadValueId}
 use Rattle.ua_messages.specs.declared.type_ids.TheConstants.{BROWSE_RESPONSE, BROWSE_NEXT_RESPONSE, HISTORY_READ_RESPONSE, SET_PUBLISHING_MODE_RESPONSE, DELETE_SUBSCRIPTIONS_RESPONSE}
 use Rattle.server_messages.specs.declared.fired.Fired.{Fired}
@@ -214,16 +213,16 @@ either : (state : Services) (b : Bool) (x y : Serving) (xs ys : List Move) → I
 either state true x y xs ys p q = p
 either state false x y xs ys p q = q
 
-by_fields : {A : Type 0} (meaning : Setting → Caller → A → Services → Serving) (setting : Setting) (caller : Caller) (state : Services) (moves : A → List Move) →
-    ((request : A) → ComesOnBy state (moves request) (meaning setting caller request state)) → (r : Result A TakeFault) → IsOn state (if_read moves r) (served_by meaning setting caller state r)
-by_fields meaning setting caller state moves f (Ok request) = record { goes = f request }
-by_fields meaning setting caller state moves f (Err fault) = record { goes = still state }
+by_fields : {A : Type 0} (meaning : Setting → Caller → NodeId → A → Services → Serving) (setting : Setting) (caller : Caller) (token : NodeId) (state : Services) (moves : A → List Move) →
+    ((request : A) → ComesOnBy state (moves request) (meaning setting caller token request state)) → (r : Result A TakeFault) → IsOn state (if_read moves r) (served_by meaning setting caller token state r)
+by_fields meaning setting caller token state moves f (Ok request) = record { goes = f request }
+by_fields meaning setting caller token state moves f (Err fault) = record { goes = still state }
 
 -- a service that comes to no call
-none_by_fields : {A : Type 0} (meaning : Setting → Caller → A → Services → Serving) (setting : Setting) (caller : Caller) (state : Services) →
-    ((request : A) → ComesOnBy state [] (meaning setting caller request state)) → (r : Result A TakeFault) → IsOn state [] (served_by meaning setting caller state r)
-none_by_fields meaning setting caller state f (Ok request) = record { goes = f request }
-none_by_fields meaning setting caller state f (Err fault) = record { goes = still state }
+none_by_fields : {A : Type 0} (meaning : Setting → Caller → NodeId → A → Services → Serving) (setting : Setting) (caller : Caller) (token : NodeId) (state : Services) →
+    ((request : A) → ComesOnBy state [] (meaning setting caller token request state)) → (r : Result A TakeFault) → IsOn state [] (served_by meaning setting caller token state r)
+none_by_fields meaning setting caller token state f (Ok request) = record { goes = f request }
+none_by_fields meaning setting caller token state f (Err fault) = record { goes = still state }
 
 -- ---- sessions
 
@@ -235,14 +234,14 @@ taken_on caller state clock occurrences body e (Err code) sessions = still state
 no_rows_spent : (sessions : SessionsState) → rows_of (spent_by sessions) ≡ []
 no_rows_spent sessions = no_rows (is_spent sessions)
 
-create_session_on : (setting : Setting) (caller : Caller) (state : Services) (request : CreateSessionRequest) → ComesOnBy state [] (create_session_meaning setting caller request state)
-create_session_on setting caller state request =
+create_session_on : (setting : Setting) (caller : Caller) (token : NodeId) (state : Services) (request : CreateSessionRequest) → ComesOnBy state [] (create_session_meaning setting caller token request state)
+create_session_on setting caller token state request =
     let s = create_of state.sessions caller.conn caller.key in
     taken_on caller state setting.clock (spent_by state.sessions) (create_session_body setting caller) (no_rows_spent state.sessions) s.answer s.state
 
-activate_session_on : (setting : Setting) (caller : Caller) (state : Services) (request : ActivateSessionRequest) → ComesOnBy state [] (activate_session_meaning setting caller request state)
-activate_session_on setting caller state request =
-    let s = activate_of state.sessions request.request_header.authentication_token caller.conn caller.key (is_anonymous request.user_identity_token) in
+activate_session_on : (setting : Setting) (caller : Caller) (token : NodeId) (state : Services) (request : ActivateSessionRequest) → ComesOnBy state [] (activate_session_meaning setting caller token request state)
+activate_session_on setting caller token state request =
+    let s = activate_of state.sessions token caller.conn caller.key (is_anonymous request.user_identity_token) in
     taken_on caller state setting.clock (spent_by state.sessions) (activate_session_body setting caller) (no_rows_spent state.sessions) s.answer s.state
 
 over_on : (setting : Setting) (deleting : Bool) (number : ℕ) (state : Services) → ComesOnBy state (Move.EndSession setting.clock number deleting ∷ []) (session_over setting deleting number state)
@@ -263,9 +262,9 @@ closed_on setting caller deleting state (Ok number) sessions =
     (over_on setting deleting number (with_sessions state sessions)) (λ (after : Services). still after)
 closed_on setting caller deleting state (Err code) sessions = still state
 
-close_session_on : (setting : Setting) (caller : Caller) (state : Services) (request : CloseSessionRequest) → ComesOnBy state (close_session_moves setting caller state request) (close_session_meaning setting caller request state)
-close_session_on setting caller state request =
-    let s = close_of state.sessions request.request_header.authentication_token caller.conn in
+close_session_on : (setting : Setting) (caller : Caller) (token : NodeId) (state : Services) (request : CloseSessionRequest) → ComesOnBy state (close_session_moves setting caller token state request) (close_session_meaning setting caller token request state)
+close_session_on setting caller token state request =
+    let s = close_of state.sessions token caller.conn in
     closed_on setting caller request.delete_subscriptions state s.answer s.state
 
 if_found_on : (serve : ℕ → Services → Serving) (moves : ℕ → Services → List Move) (setting : Setting) (caller : Caller) (state : Services) → ((number : ℕ) (after : Services) → ComesOnBy after (moves number after) (serve number after)) →
@@ -517,47 +516,47 @@ module _ (setting : Setting) (caller : Caller) (number : ℕ) (state : Services)
 
 -- ---- all services
 
-of_subscriptions_on : (setting : Setting) (caller : Caller) (token : NodeId) (body : List ℕ) (state : Services) (id : ℕ) → IsOn state (moves_of_subscriptions setting caller token body state id) (picked_of_subscriptions setting caller token body state id)
-of_subscriptions_on setting caller token body state id =
+of_subscriptions_on : (setting : Setting) (caller : Caller) (token : NodeId) (fields : List ℕ) (state : Services) (id : ℕ) → IsOn state (moves_of_subscriptions setting caller token fields state id) (picked_of_subscriptions setting caller token fields state id)
+of_subscriptions_on setting caller token fields state id =
     let last : IsOn state [] (faulted state caller status.BAD_SERVICE_UNSUPPORTED setting.clock) = record { goes = still state } in
-    either state _ _ _ _ _ (by_session create_subscription_meaning setting caller token state (create_subscription_moves setting) (create_subscription_on setting caller) (message_of create_subscription_request_reading body))
-    (either state _ _ _ _ _ (by_session modify_subscription_meaning setting caller token state (modify_subscription_moves setting) (modify_subscription_on setting caller) (message_of modify_subscription_request_reading body))
-    (either state _ _ _ _ _ (by_session set_publishing_mode_meaning setting caller token state (set_publishing_mode_moves setting) (set_publishing_mode_on setting caller) (message_of set_publishing_mode_request_reading body))
-    (either state _ _ _ _ _ (by_session delete_subscriptions_meaning setting caller token state (delete_subscriptions_moves setting) (delete_subscriptions_on setting caller) (message_of delete_subscriptions_request_reading body))
-    (either state _ _ _ _ _ (by_session publish_meaning setting caller token state (publish_moves setting caller) (publish_on setting caller) (message_of publish_request_reading body))
-    (either state _ _ _ _ _ (by_session republish_meaning setting caller token state (republish_moves setting) (republish_on setting caller) (message_of republish_request_reading body))
+    either state _ _ _ _ _ (by_session create_subscription_meaning setting caller token state (create_subscription_moves setting) (create_subscription_on setting caller) (fields_of create_subscription_request_reading fields))
+    (either state _ _ _ _ _ (by_session modify_subscription_meaning setting caller token state (modify_subscription_moves setting) (modify_subscription_on setting caller) (fields_of modify_subscription_request_reading fields))
+    (either state _ _ _ _ _ (by_session set_publishing_mode_meaning setting caller token state (set_publishing_mode_moves setting) (set_publishing_mode_on setting caller) (fields_of set_publishing_mode_request_reading fields))
+    (either state _ _ _ _ _ (by_session delete_subscriptions_meaning setting caller token state (delete_subscriptions_moves setting) (delete_subscriptions_on setting caller) (fields_of delete_subscriptions_request_reading fields))
+    (either state _ _ _ _ _ (by_session publish_meaning setting caller token state (publish_moves setting caller) (publish_on setting caller) (fields_of publish_request_reading fields))
+    (either state _ _ _ _ _ (by_session republish_meaning setting caller token state (republish_moves setting) (republish_on setting caller) (fields_of republish_request_reading fields))
     last)))))
 
-of_items_on : (setting : Setting) (caller : Caller) (token : NodeId) (body : List ℕ) (state : Services) (id : ℕ) → IsOn state (moves_of_items setting caller token body state id) (picked_of_items setting caller token body state id)
-of_items_on setting caller token body state id =
-    either state _ _ _ _ _ (by_session create_monitored_items_meaning setting caller token state (λ session request at. items_moves setting session request.subscription_id (create_asked setting request at) at) (λ session request after. items_on setting caller request.subscription_id after (items_created setting caller request after) (create_asked setting request after) (created_asks setting caller request after) session) (message_of create_monitored_items_request_reading body))
-    (either state _ _ _ _ _ (by_session modify_monitored_items_meaning setting caller token state (λ session request at. items_moves setting session request.subscription_id (modify_asked setting request at) at) (λ session request after. items_on setting caller request.subscription_id after (items_modified setting caller request after) (modify_asked setting request after) (modified_asks setting caller request after) session) (message_of modify_monitored_items_request_reading body))
-    (either state _ _ _ _ _ (by_session set_monitoring_mode_meaning setting caller token state (λ session request at. items_moves setting session request.subscription_id (mode_asked setting request at) at) (λ session request after. items_on setting caller request.subscription_id after (items_moded setting caller request after) (mode_asked setting request after) (moded_asks setting caller request after) session) (message_of set_monitoring_mode_request_reading body))
-    (either state _ _ _ _ _ (by_session set_triggering_meaning setting caller token state (λ session request at. items_moves setting session request.subscription_id (link_asked setting request at) at) (λ session request after. items_on setting caller request.subscription_id after (items_linked setting caller request after) (link_asked setting request after) (linked_asks setting caller request after) session) (message_of set_triggering_request_reading body))
-    (either state _ _ _ _ _ (by_session delete_monitored_items_meaning setting caller token state (λ session request at. items_moves setting session request.subscription_id (delete_asked setting request at) at) (λ session request after. items_on setting caller request.subscription_id after (items_deleted setting caller request after) (delete_asked setting request after) (deleted_asks setting caller request after) session) (message_of delete_monitored_items_request_reading body))
-    (of_subscriptions_on setting caller token body state id)))))
+of_items_on : (setting : Setting) (caller : Caller) (token : NodeId) (fields : List ℕ) (state : Services) (id : ℕ) → IsOn state (moves_of_items setting caller token fields state id) (picked_of_items setting caller token fields state id)
+of_items_on setting caller token fields state id =
+    either state _ _ _ _ _ (by_session create_monitored_items_meaning setting caller token state (λ session request at. items_moves setting session request.subscription_id (create_asked setting request at) at) (λ session request after. items_on setting caller request.subscription_id after (items_created setting caller request after) (create_asked setting request after) (created_asks setting caller request after) session) (fields_of create_monitored_items_request_reading fields))
+    (either state _ _ _ _ _ (by_session modify_monitored_items_meaning setting caller token state (λ session request at. items_moves setting session request.subscription_id (modify_asked setting request at) at) (λ session request after. items_on setting caller request.subscription_id after (items_modified setting caller request after) (modify_asked setting request after) (modified_asks setting caller request after) session) (fields_of modify_monitored_items_request_reading fields))
+    (either state _ _ _ _ _ (by_session set_monitoring_mode_meaning setting caller token state (λ session request at. items_moves setting session request.subscription_id (mode_asked setting request at) at) (λ session request after. items_on setting caller request.subscription_id after (items_moded setting caller request after) (mode_asked setting request after) (moded_asks setting caller request after) session) (fields_of set_monitoring_mode_request_reading fields))
+    (either state _ _ _ _ _ (by_session set_triggering_meaning setting caller token state (λ session request at. items_moves setting session request.subscription_id (link_asked setting request at) at) (λ session request after. items_on setting caller request.subscription_id after (items_linked setting caller request after) (link_asked setting request after) (linked_asks setting caller request after) session) (fields_of set_triggering_request_reading fields))
+    (either state _ _ _ _ _ (by_session delete_monitored_items_meaning setting caller token state (λ session request at. items_moves setting session request.subscription_id (delete_asked setting request at) at) (λ session request after. items_on setting caller request.subscription_id after (items_deleted setting caller request after) (delete_asked setting request after) (deleted_asks setting caller request after) session) (fields_of delete_monitored_items_request_reading fields))
+    (of_subscriptions_on setting caller token fields state id)))))
 
-picked_on : (setting : Setting) (caller : Caller) (token : NodeId) (body : List ℕ) (state : Services) (id : ℕ) → IsOn state (moves_picked setting caller token body state id) (picked setting caller token body state id)
-picked_on setting caller token body state id =
-    either state _ _ _ _ _ (none_by_fields get_endpoints_meaning setting caller state (λ request. still state) (message_of get_endpoints_request_reading body))
-    (either state _ _ _ _ _ (none_by_fields create_session_meaning setting caller state (create_session_on setting caller state) (message_of create_session_request_reading body))
-    (either state _ _ _ _ _ (none_by_fields activate_session_meaning setting caller state (activate_session_on setting caller state) (message_of activate_session_request_reading body))
-    (either state _ _ _ _ _ (by_fields close_session_meaning setting caller state (close_session_moves setting caller state) (close_session_on setting caller state) (message_of close_session_request_reading body))
-    (either state _ _ _ _ _ (none_by_session read_meaning setting caller token state (read_on setting caller) (message_of read_request_reading body))
-    (either state _ _ _ _ _ (by_session write_meaning setting caller token state (write_moves setting) (write_on setting caller) (message_of write_request_reading body))
-    (either state _ _ _ _ _ (none_by_session browse_meaning setting caller token state (browse_on setting caller) (message_of browse_request_reading body))
-    (either state _ _ _ _ _ (none_by_session browse_next_meaning setting caller token state (browse_next_on setting caller) (message_of browse_next_request_reading body))
-    (either state _ _ _ _ _ (none_by_session history_read_meaning setting caller token state (history_read_on setting caller) (message_of history_read_request_reading body))
-    (of_items_on setting caller token body state id)))))))))
+picked_on : (setting : Setting) (caller : Caller) (token : NodeId) (fields : List ℕ) (state : Services) (id : ℕ) → IsOn state (moves_picked setting caller token fields state id) (picked setting caller token fields state id)
+picked_on setting caller token fields state id =
+    either state _ _ _ _ _ (none_by_fields get_endpoints_meaning setting caller token state (λ request. still state) (fields_of get_endpoints_request_reading fields))
+    (either state _ _ _ _ _ (none_by_fields create_session_meaning setting caller token state (create_session_on setting caller token state) (fields_of create_session_request_reading fields))
+    (either state _ _ _ _ _ (none_by_fields activate_session_meaning setting caller token state (activate_session_on setting caller token state) (fields_of activate_session_request_reading fields))
+    (either state _ _ _ _ _ (by_fields close_session_meaning setting caller token state (close_session_moves setting caller token state) (close_session_on setting caller token state) (fields_of close_session_request_reading fields))
+    (either state _ _ _ _ _ (none_by_session read_meaning setting caller token state (read_on setting caller) (fields_of read_request_reading fields))
+    (either state _ _ _ _ _ (by_session write_meaning setting caller token state (write_moves setting) (write_on setting caller) (fields_of write_request_reading fields))
+    (either state _ _ _ _ _ (none_by_session browse_meaning setting caller token state (browse_on setting caller) (fields_of browse_request_reading fields))
+    (either state _ _ _ _ _ (none_by_session browse_next_meaning setting caller token state (browse_next_on setting caller) (fields_of browse_next_request_reading fields))
+    (either state _ _ _ _ _ (none_by_session history_read_meaning setting caller token state (history_read_on setting caller) (fields_of history_read_request_reading fields))
+    (of_items_on setting caller token fields state id)))))))))
 
-by_header : (setting : Setting) (request : Request) (state : Services) (id : Result ℕ TakeFault) (header : Result RequestHeader TakeFault) → ComesOnBy state (serving_moves_by setting request state id header) (serving_by setting request state id header)
-by_header setting request state (Ok id) (Ok header) = (picked_on setting (call_of request header.request_handle) header.authentication_token request.body state id).goes
+by_header : (setting : Setting) (request : Request) (state : Services) (id : Result ℕ TakeFault) (headed : Result Headed TakeFault) → ComesOnBy state (serving_moves_by setting request state id headed) (serving_by setting request state id headed)
+by_header setting request state (Ok id) (Ok headed) = (picked_on setting (call_of request headed.header.request_handle) headed.header.authentication_token headed.fields state id).goes
 by_header setting request state (Ok id) (Err fault) = still state
-by_header setting request state (Err fault) header = still state
+by_header setting request state (Err fault) headed = still state
 
 pub serving_on : (setting : Setting) (request : Request) (state : Services) → ComesOnBy state (serving_moves setting request state) (serving_of setting request state)
 unfolding serving_of serving_moves
-serving_on setting request state = by_header setting request state (message_id_of request.body) (message_of request_header_reading request.body)
+serving_on setting request state = by_header setting request state (message_id_of request.body) (headed_of request.body)
 
 timers_on : (setting : Setting) (state : Services) → ComesOnBy state (Move.Timers setting.clock ∷ []) (timers_met setting state)
 timers_on setting state = told_call state (timed (world_at setting state)) (Move.Timers setting.clock) (λ so_far replies. refl)

@@ -1,5 +1,5 @@
 -- What a request of one session leaves of the session table, and which session its header names.
-use Rattle.std.proofs.Common.{◌≡◌, ◌≢◌, ◌⊎◌, inl, inr, ℕ, ◌+◌, ◌==◌, ◌≤◌, ◌<◌, arith, Bool, true, false, not, ◌&&◌, cond, List, [], ◌∷◌, Option, Some, None, Result, Ok, Err, refl, sym, ap, subst, ◌∙◌}
+use Rattle.std.proofs.Common.{◌≡◌, ◌≢◌, ◌⊎◌, inl, inr, ℕ, ◌+◌, ◌==◌, ◌≤◌, ◌<◌, arith, Bool, true, false, not, ◌&&◌, cond, List, [], ◌∷◌, Option, Some, None, refl, sym, subst, ◌∙◌}
 use Rattle.std.proofs.lemmas.Bool.{leb-false, leb-true}
 use Rattle.std.specs.Cmp.{nat_cmp_total}
 use Rattle.std.specs.FinMap.{FinMap, get, remove, get-remove}
@@ -12,19 +12,6 @@ use Rattle.ua_types.specs.declared.moment.Moment.{Moment}
 use Rattle.ua_types.specs.declared.node_id.NodeId.{NodeId}
 use Rattle.ua_types.specs.declared.status.Status.{Status}
 use Rattle.ua_types.specs.declared.status.TheConstants.Status as status
-use Rattle.ua_binary.specs.Arrays.{array_reading}
-use Rattle.ua_binary.specs.ExtensionObjects.{extension_object_reading}
-use Rattle.ua_binary.specs.NodeIds.{node_id_reading}
-use Rattle.ua_binary.specs.Numbers.{boolean_reading}
-use Rattle.ua_binary.specs.Reading.{Reading, go_on, ◌>>=◌, done}
-use Rattle.ua_binary.specs.Texts.{text_reading}
-use Rattle.ua_binary.specs.declared.fault.TakeFault.{TakeFault}
-use Rattle.ua_messages.specs.Bodies.{only_value, message_of}
-use Rattle.ua_messages.specs.Headers.{request_header_reading}
-use Rattle.ua_messages.specs.declared.headers.RequestHeader.{RequestHeader}
-use Rattle.ua_service_messages.specs.Sessions.{signature_data_reading, signed_software_certificate_reading, activate_session_request_reading, close_session_request_reading}
-use Rattle.ua_service_messages.specs.declared.sessions.ActivateSessionRequest.{ActivateSessionRequest}
-use Rattle.ua_service_messages.specs.declared.sessions.CloseSessionRequest.{CloseSessionRequest}
 use Rattle.ua_session.specs.Points.{PointsState}
 use Rattle.ua_session.specs.Sessions.{SessionsState, Named, if_secret, named_by, named, without, ticked, ended_by, with_session, with_points, refused, is_full, found, find_of, activated, activate_of, closed, close_of, create_of}
 use Rattle.ua_session.specs.Tokens.{parts_of}
@@ -224,78 +211,3 @@ without_none {V = V} (k ∷ ks) m n e = without_none ks (remove m k) n (get-remo
 
 pub ticked_fresh : (s : SessionsState) (now : Moment) → IsFresh s → IsFresh (ticked s now)
 ticked_fresh s now fresh number above = without_none (ended_by s now) s.sessions number (fresh number above)
-
--- ---- a request's own header
-
--- all that a reading gives is so
-abbrev pub Yields : {A : Type 0} → Reading A → (A → Type 0) → Type 0
-Yields reading P = (bytes : List ℕ) → IfOk (reading bytes) (λ x. P x.0)
-
-pub then_yields : {A B : Type 0} (first : Reading A) (rest : A → Reading B) (P : B → Type 0) → ((x : A) → Yields (rest x) P) → Yields (first >>= rest) P
-then_yields {A = A} first rest P f bytes = by (first bytes)
-  where
-    by : (r : Result (A × List ℕ) TakeFault) → IfOk (go_on r rest) (λ x. P x.0)
-    by (Ok x) = f x.0 x.1
-    by (Err e) = tt
-
--- a message that begins with a header, and keeps it, has the header that is read from its body
-pub same_header : {A : Type 0} (header_in : A → RequestHeader) (rest : RequestHeader → Reading A) → ((h : RequestHeader) → Yields (rest h) (λ x. header_in x ≡ h)) →
-    (body : List ℕ) (x : A) (header : RequestHeader) → message_of (request_header_reading >>= rest) body ≡ Ok x → message_of request_header_reading body ≡ Ok header → header_in x ≡ header
-unfolding message_of
-same_header {A = A} header_in rest keeps body x header = by_id (node_id_reading body)
-  where
-    same_ok : {B : Type 0} (a b : B) → ◌≡◌ {A = Result B TakeFault} (Ok a) (Ok b) → a ≡ b
-    same_ok a b e = cc
-
-    by_rest : (h : RequestHeader) (r : Result (A × List ℕ) TakeFault) → IfOk r (λ y. header_in y.0 ≡ h) → only_value (go_on r (λ m. done m)) ≡ Ok x → h ≡ header → header_in x ≡ header
-    by_rest h (Ok y) kept e is = ap header_in (sym (same_ok y.0 x e)) ∙ kept ∙ is
-    by_rest h (Err fault) kept e is = absurd (cc)
-
-    by_header : (r : Result (RequestHeader × List ℕ) TakeFault) → only_value (go_on (go_on r rest) (λ m. done m)) ≡ Ok x → only_value (go_on r (λ m. done m)) ≡ Ok header → header_in x ≡ header
-    by_header (Ok h) e f = by_rest h.0 (rest h.0 h.1) (keeps h.0 h.1) e (same_ok h.0 header f)
-    by_header (Err fault) e f = absurd (cc)
-
-    by_id : (r : Result (NodeId × List ℕ) TakeFault) → only_value (go_on r (λ id. (request_header_reading >>= rest) >>= (λ m. done m))) ≡ Ok x →
-        only_value (go_on r (λ id. request_header_reading >>= (λ m. done m))) ≡ Ok header → header_in x ≡ header
-    by_id (Ok id) e f = by_header (request_header_reading id.1) e f
-    by_id (Err fault) e f = absurd (cc)
-
-abbrev closing_rest : RequestHeader → Reading CloseSessionRequest
-closing_rest request_header = do
-  delete_subscriptions ← boolean_reading
-  done (record { request_header = request_header; delete_subscriptions = delete_subscriptions })
-
-closing_keeps : (h : RequestHeader) → Yields (closing_rest h) (λ (x : CloseSessionRequest). x.request_header ≡ h)
-closing_keeps h = then_yields boolean_reading _ (λ (x : CloseSessionRequest). x.request_header ≡ h) (λ deletes bytes. refl)
-
-pub close_header : (body : List ℕ) (request : CloseSessionRequest) (header : RequestHeader) → message_of close_session_request_reading body ≡ Ok request → message_of request_header_reading body ≡ Ok header →
-    request.request_header ≡ header
-unfolding close_session_request_reading
-close_header body request header = same_header (λ (x : CloseSessionRequest). x.request_header) closing_rest closing_keeps body request header
-
-abbrev activating_rest : RequestHeader → Reading ActivateSessionRequest
-activating_rest request_header = do
-  client_signature ← signature_data_reading
-  client_software_certificates ← array_reading signed_software_certificate_reading
-  locale_ids ← array_reading text_reading
-  user_identity_token ← extension_object_reading
-  user_token_signature ← signature_data_reading
-  done (record {
-    request_header = request_header;
-    client_signature = client_signature;
-    client_software_certificates = client_software_certificates;
-    locale_ids = locale_ids;
-    user_identity_token = user_identity_token;
-    user_token_signature = user_token_signature;
-  })
-
-activating_keeps : (h : RequestHeader) → Yields (activating_rest h) (λ (x : ActivateSessionRequest). x.request_header ≡ h)
-activating_keeps h =
-    let Keeps : ActivateSessionRequest → Type 0 = λ (x : ActivateSessionRequest). x.request_header ≡ h in
-    then_yields signature_data_reading _ Keeps (λ signature. then_yields (array_reading signed_software_certificate_reading) _ Keeps (λ certificates. then_yields (array_reading text_reading) _ Keeps
-    (λ locales. then_yields extension_object_reading _ Keeps (λ identity. then_yields signature_data_reading _ Keeps (λ user bytes. refl)))))
-
-pub activate_header : (body : List ℕ) (request : ActivateSessionRequest) (header : RequestHeader) → message_of activate_session_request_reading body ≡ Ok request → message_of request_header_reading body ≡ Ok header →
-    request.request_header ≡ header
-unfolding activate_session_request_reading
-activate_header body request header = same_header (λ (x : ActivateSessionRequest). x.request_header) activating_rest activating_keeps body request header

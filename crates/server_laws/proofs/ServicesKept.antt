@@ -7,10 +7,9 @@ use Rattle.ua_types.specs.declared.node_id.NodeId.{NodeId}
 use Rattle.ua_types.specs.declared.status.Status.{Status}
 use Rattle.ua_types.specs.declared.status.TheConstants.Status as status
 use Rattle.ua_binary.specs.declared.fault.TakeFault.{TakeFault}
-use Rattle.ua_messages.specs.Bodies.{message_id_of, message_of}
+use Rattle.ua_messages.specs.Bodies.{message_id_of}
 use Rattle.ua_messages.specs.GetEndpoints.{get_endpoints_request_reading}
-use Rattle.ua_messages.specs.Headers.{request_header_reading}
-use Rattle.ua_messages.specs.declared.headers.RequestHeader.{RequestHeader}
+use Rattle.ua_messages.specs.Requests.{Headed, headed_of, fields_of}
 use Rattle.ua_service_messages.specs.Browsing.{browse_request_reading, browse_next_request_reading}
 use Rattle.ua_service_messages.specs.History.{history_read_request_reading}
 use Rattle.ua_service_messages.specs.Reading.{read_request_reading}
@@ -99,10 +98,10 @@ module _ (P : SessionsState → Type 0) (H : HistoryState → Type 0) (k : AreKe
   either true x y p q = p
   either false x y p q = q
 
-  by_fields : {A : Type 0} (meaning : Setting → Caller → A → Services → Serving) (setting : Setting) (caller : Caller) (state : Services) → Keeps state → ((request : A) → Left (meaning setting caller request state)) →
-      (r : Result A TakeFault) → Left (served_by meaning setting caller state r)
-  by_fields meaning setting caller state p f (Ok request) = f request
-  by_fields meaning setting caller state p f (Err fault) = record { keeps = p }
+  by_fields : {A : Type 0} (meaning : Setting → Caller → NodeId → A → Services → Serving) (setting : Setting) (caller : Caller) (token : NodeId) (state : Services) → Keeps state → ((request : A) → Left (meaning setting caller token request state)) →
+      (r : Result A TakeFault) → Left (served_by meaning setting caller token state r)
+  by_fields meaning setting caller token state p f (Ok request) = f request
+  by_fields meaning setting caller token state p f (Err fault) = record { keeps = p }
 
   taken_left : {A : Type 0} (state : Services) (caller : Caller) (clock : Moment) (occurrences : List Occurrence) (body : A → List ℕ) (answer : Result A Status) (sessions : SessionsState) → P sessions → H state.history →
       Left (taken state caller clock occurrences body answer sessions)
@@ -192,61 +191,61 @@ module _ (P : SessionsState → Type 0) (H : HistoryState → Type 0) (k : AreKe
   items_left setting caller number state done p None = record { keeps = p }
   items_left setting caller number state done p (Some before) = record { keeps = p }
 
-  subscriptions_left : (setting : Setting) (caller : Caller) (token : NodeId) (body : List ℕ) (state : Services) (id : ℕ) → Keeps state → Left (picked_of_subscriptions setting caller token body state id)
-  subscriptions_left setting caller token body state id p =
+  subscriptions_left : (setting : Setting) (caller : Caller) (token : NodeId) (fields : List ℕ) (state : Services) (id : ℕ) → Keeps state → Left (picked_of_subscriptions setting caller token fields state id)
+  subscriptions_left setting caller token fields state id p =
       let none : Left (faulted state caller status.BAD_SERVICE_UNSUPPORTED setting.clock) = record { keeps = p } in
-      either _ _ _ (by_session create_subscription_meaning setting caller token state p (λ session request after q. record { keeps = q }) (message_of create_subscription_request_reading body))
-      (either _ _ _ (by_session modify_subscription_meaning setting caller token state p (λ session request after q. record { keeps = q }) (message_of modify_subscription_request_reading body))
+      either _ _ _ (by_session create_subscription_meaning setting caller token state p (λ session request after q. record { keeps = q }) (fields_of create_subscription_request_reading fields))
+      (either _ _ _ (by_session modify_subscription_meaning setting caller token state p (λ session request after q. record { keeps = q }) (fields_of modify_subscription_request_reading fields))
       (either _ _ _ (by_session set_publishing_mode_meaning setting caller token state p
-      (λ session request after q. publishing_listed_left setting caller session request.publishing_enabled after q (operations_of setting.config request.subscription_ids)) (message_of set_publishing_mode_request_reading body))
+      (λ session request after q. publishing_listed_left setting caller session request.publishing_enabled after q (operations_of setting.config request.subscription_ids)) (fields_of set_publishing_mode_request_reading fields))
       (either _ _ _ (by_session delete_subscriptions_meaning setting caller token state p (λ session request after q. deleted_left setting caller session after q (operations_of setting.config request.subscription_ids))
-      (message_of delete_subscriptions_request_reading body))
-      (either _ _ _ (by_session publish_meaning setting caller token state p (publish_left setting caller) (message_of publish_request_reading body))
-      (either _ _ _ (by_session republish_meaning setting caller token state p (λ session request after q. record { keeps = q }) (message_of republish_request_reading body)) none)))))
+      (fields_of delete_subscriptions_request_reading fields))
+      (either _ _ _ (by_session publish_meaning setting caller token state p (publish_left setting caller) (fields_of publish_request_reading fields))
+      (either _ _ _ (by_session republish_meaning setting caller token state p (λ session request after q. record { keeps = q }) (fields_of republish_request_reading fields)) none)))))
 
-  picked_items_left : (setting : Setting) (caller : Caller) (token : NodeId) (body : List ℕ) (state : Services) (id : ℕ) → Keeps state → Left (picked_of_items setting caller token body state id)
-  picked_items_left setting caller token body state id p =
+  picked_items_left : (setting : Setting) (caller : Caller) (token : NodeId) (fields : List ℕ) (state : Services) (id : ℕ) → Keeps state → Left (picked_of_items setting caller token fields state id)
+  picked_items_left setting caller token fields state id p =
       either _ _ _ (by_session create_monitored_items_meaning setting caller token state p (λ session request after q. items_left setting caller request.subscription_id after (items_created setting caller request after) q (own_vars session request.subscription_id after))
-      (message_of create_monitored_items_request_reading body))
+      (fields_of create_monitored_items_request_reading fields))
       (either _ _ _ (by_session modify_monitored_items_meaning setting caller token state p (λ session request after q. items_left setting caller request.subscription_id after (items_modified setting caller request after) q (own_vars session request.subscription_id after))
-      (message_of modify_monitored_items_request_reading body))
+      (fields_of modify_monitored_items_request_reading fields))
       (either _ _ _ (by_session set_monitoring_mode_meaning setting caller token state p (λ session request after q. items_left setting caller request.subscription_id after (items_moded setting caller request after) q (own_vars session request.subscription_id after))
-      (message_of set_monitoring_mode_request_reading body))
+      (fields_of set_monitoring_mode_request_reading fields))
       (either _ _ _ (by_session set_triggering_meaning setting caller token state p (λ session request after q. items_left setting caller request.subscription_id after (items_linked setting caller request after) q (own_vars session request.subscription_id after))
-      (message_of set_triggering_request_reading body))
+      (fields_of set_triggering_request_reading fields))
       (either _ _ _ (by_session delete_monitored_items_meaning setting caller token state p (λ session request after q. items_left setting caller request.subscription_id after (items_deleted setting caller request after) q (own_vars session request.subscription_id after))
-      (message_of delete_monitored_items_request_reading body)) (subscriptions_left setting caller token body state id p)))))
+      (fields_of delete_monitored_items_request_reading fields)) (subscriptions_left setting caller token fields state id p)))))
 
-  picked_left : (setting : Setting) (caller : Caller) (token : NodeId) (body : List ℕ) (state : Services) (id : ℕ) → Keeps state → Left (picked setting caller token body state id)
-  picked_left setting caller token body state id p =
-      either _ _ _ (by_fields get_endpoints_meaning setting caller state p (λ request. record { keeps = p }) (message_of get_endpoints_request_reading body))
-      (either _ _ _ (by_fields create_session_meaning setting caller state p
+  picked_left : (setting : Setting) (caller : Caller) (token : NodeId) (fields : List ℕ) (state : Services) (id : ℕ) → Keeps state → Left (picked setting caller token fields state id)
+  picked_left setting caller token fields state id p =
+      either _ _ _ (by_fields get_endpoints_meaning setting caller token state p (λ request. record { keeps = p }) (fields_of get_endpoints_request_reading fields))
+      (either _ _ _ (by_fields create_session_meaning setting caller token state p
       (λ request. let s = create_of state.sessions caller.conn caller.key in
-      taken_left state caller setting.clock (spent_by state.sessions) (create_session_body setting caller) s.answer s.state (k.created state.sessions caller.conn caller.key p.0) p.1) (message_of create_session_request_reading body))
-      (either _ _ _ (by_fields activate_session_meaning setting caller state p
-      (λ request. let s = activate_of state.sessions request.request_header.authentication_token caller.conn caller.key (is_anonymous request.user_identity_token) in
+      taken_left state caller setting.clock (spent_by state.sessions) (create_session_body setting caller) s.answer s.state (k.created state.sessions caller.conn caller.key p.0) p.1) (fields_of create_session_request_reading fields))
+      (either _ _ _ (by_fields activate_session_meaning setting caller token state p
+      (λ request. let s = activate_of state.sessions token caller.conn caller.key (is_anonymous request.user_identity_token) in
       taken_left state caller setting.clock (spent_by state.sessions) (activate_session_body setting caller) s.answer s.state
-      (k.activated state.sessions request.request_header.authentication_token caller.conn caller.key (is_anonymous request.user_identity_token) p.0) p.1) (message_of activate_session_request_reading body))
-      (either _ _ _ (by_fields close_session_meaning setting caller state p
-      (λ request. let s = close_of state.sessions request.request_header.authentication_token caller.conn in
-      closed_left setting caller request.delete_subscriptions state s.answer s.state (k.closed state.sessions request.request_header.authentication_token caller.conn p.0) p.1) (message_of close_session_request_reading body))
-      (either _ _ _ (by_session read_meaning setting caller token state p (λ session request after q. read_timed_left setting caller after request.nodes_to_read q (timestamps_of request.timestamps_to_return)) (message_of read_request_reading body))
-      (either _ _ _ (by_session write_meaning setting caller token state p (λ session request after q. write_listed_left setting caller after q (operations_of setting.config request.nodes_to_write)) (message_of write_request_reading body))
-      (either _ _ _ (by_session browse_meaning setting caller token state p (browse_left setting caller) (message_of browse_request_reading body))
+      (k.activated state.sessions token caller.conn caller.key (is_anonymous request.user_identity_token) p.0) p.1) (fields_of activate_session_request_reading fields))
+      (either _ _ _ (by_fields close_session_meaning setting caller token state p
+      (λ request. let s = close_of state.sessions token caller.conn in
+      closed_left setting caller request.delete_subscriptions state s.answer s.state (k.closed state.sessions token caller.conn p.0) p.1) (fields_of close_session_request_reading fields))
+      (either _ _ _ (by_session read_meaning setting caller token state p (λ session request after q. read_timed_left setting caller after request.nodes_to_read q (timestamps_of request.timestamps_to_return)) (fields_of read_request_reading fields))
+      (either _ _ _ (by_session write_meaning setting caller token state p (λ session request after q. write_listed_left setting caller after q (operations_of setting.config request.nodes_to_write)) (fields_of write_request_reading fields))
+      (either _ _ _ (by_session browse_meaning setting caller token state p (browse_left setting caller) (fields_of browse_request_reading fields))
       (either _ _ _ (by_session browse_next_meaning setting caller token state p
-      (λ session request after q. browse_next_left setting caller session request.release_continuation_points after q (operations_of setting.config request.continuation_points)) (message_of browse_next_request_reading body))
+      (λ session request after q. browse_next_left setting caller session request.release_continuation_points after q (operations_of setting.config request.continuation_points)) (fields_of browse_next_request_reading fields))
       (either _ _ _ (by_session history_read_meaning setting caller token state p
-      (λ session request after q. history_timed_left setting caller session request after q (some_times (timestamps_of request.timestamps_to_return))) (message_of history_read_request_reading body))
-      (picked_items_left setting caller token body state id p)))))))))
+      (λ session request after q. history_timed_left setting caller session request after q (some_times (timestamps_of request.timestamps_to_return))) (fields_of history_read_request_reading fields))
+      (picked_items_left setting caller token fields state id p)))))))))
 
-  by_header : (setting : Setting) (request : Request) (state : Services) (id : Result ℕ TakeFault) (header : Result RequestHeader TakeFault) → Keeps state → Left (serving_by setting request state id header)
-  by_header setting request state (Ok id) (Ok header) p = picked_left setting (call_of request header.request_handle) header.authentication_token request.body state id p
+  by_header : (setting : Setting) (request : Request) (state : Services) (id : Result ℕ TakeFault) (headed : Result Headed TakeFault) → Keeps state → Left (serving_by setting request state id headed)
+  by_header setting request state (Ok id) (Ok headed) p = picked_left setting (call_of request headed.header.request_handle) headed.header.authentication_token headed.fields state id p
   by_header setting request state (Ok id) (Err fault) p = record { keeps = p }
-  by_header setting request state (Err fault) header p = record { keeps = p }
+  by_header setting request state (Err fault) headed p = record { keeps = p }
 
   pub serving_keeps : (setting : Setting) (request : Request) (state : Services) → Keeps state → Keeps (serving_of setting request state).state
   unfolding serving_of
-  serving_keeps setting request state p = (by_header setting request state (message_id_of request.body) (message_of request_header_reading request.body) p).keeps
+  serving_keeps setting request state p = (by_header setting request state (message_id_of request.body) (headed_of request.body) p).keeps
 
   -- once all sessions have ended
   pub shutting_keeps : (setting : Setting) (state : Services) → Keeps state → Keeps (shutting_of setting state).state

@@ -3,8 +3,8 @@ use Rattle.std.specs.Prelude.{◌≡◌, ◌≢◌, ◌⊎◌, ◌<◌, ℕ, ◌
 use Rattle.std.specs.FinMap.{get}
 use Rattle.ua_types.specs.declared.status.Status.{Status}
 use Rattle.ua_binary.specs.declared.fault.TakeFault.{TakeFault}
-use Rattle.ua_messages.specs.Bodies.{message_id_of, message_of}
-use Rattle.ua_messages.specs.Headers.{request_header_reading}
+use Rattle.ua_messages.specs.Bodies.{message_id_of}
+use Rattle.ua_messages.specs.Requests.{Headed, headed_of, fields_of}
 use Rattle.ua_messages.specs.declared.headers.RequestHeader.{RequestHeader}
 use Rattle.ua_messages.specs.declared.type_ids.TheConstants.{WRITE_REQUEST}
 use Rattle.ua_service_messages.specs.Writing.{write_request_reading}
@@ -25,7 +25,7 @@ use Rattle.ua_services.specs.declared.services.Services.{Services}
 -- the token in a request's header names this session, or none
 abbrev pub NamesOnly : ℕ → Services → Request → Type 0
 NamesOnly session state request =
-    IfOk (message_of request_header_reading request.body) (λ (header : RequestHeader). IfSome (named state.sessions header.authentication_token) (λ (n : Named). n.number ≡ session))
+    IfOk (headed_of request.body) (λ (headed : Headed). IfSome (named state.sessions headed.header.authentication_token) (λ (n : Named). n.number ≡ session))
 
 -- each other session that is there stays as it was: the secret of its token, its connection, whether it is activated, its
 -- deadline, and its continuation points; and none appears but with a number that wasn't given yet
@@ -50,14 +50,19 @@ abbrev pub accepted_found : Setting → Services → WriteRequest → Result ℕ
 accepted_found setting state write (Ok session) = accepted_listed setting state (operations_of setting.config write.nodes_to_write)
 accepted_found setting state write (Err code) = []
 
--- nor where its header or its fields can't be read
-abbrev pub accepted_by : Setting → Request → Services → Result RequestHeader TakeFault → Result WriteRequest TakeFault → List Change
-accepted_by setting request state (Ok header) (Ok write) = accepted_found setting state write (find_of state.sessions header.authentication_token request.conn).answer
-accepted_by setting request state header write = []
+-- nor where its fields can't be read
+abbrev pub accepted_read : Setting → Request → Services → RequestHeader → Result WriteRequest TakeFault → List Change
+accepted_read setting request state header (Ok write) = accepted_found setting state write (find_of state.sessions header.authentication_token request.conn).answer
+accepted_read setting request state header (Err fault) = []
+
+-- nor where its header can't
+abbrev pub accepted_by : Setting → Request → Services → Result Headed TakeFault → List Change
+accepted_by setting request state (Ok headed) = accepted_read setting request state headed.header (fields_of write_request_reading headed.fields)
+accepted_by setting request state (Err fault) = []
 
 -- the values that a request accepts, taken as a Write
 abbrev pub accepted : Setting → Request → Services → List Change
-accepted setting request state = accepted_by setting request state (message_of request_header_reading request.body) (message_of write_request_reading request.body)
+accepted setting request state = accepted_by setting request state (headed_of request.body)
 
 -- a Write leaves all subscriptions, notes and queued requests as they were, and other sessions; the items see the values that
 -- it accepts, and nothing else of them changes

@@ -10,9 +10,8 @@ use Rattle.ua_tcp.specs.Feeding.{Framing, framed_of}
 use Rattle.ua_tcp.specs.Frames.{End, Rest, Broken}
 use Rattle.ua_tcp.specs.Pieces.{all_handled}
 use Rattle.ua_tcp.specs.declared.frame.Frame.{Frame}
-use Rattle.ua_messages.specs.Bodies.{message_id_of, message_of}
-use Rattle.ua_messages.specs.Headers.{request_header_reading}
-use Rattle.ua_messages.specs.declared.headers.RequestHeader.{RequestHeader}
+use Rattle.ua_messages.specs.Bodies.{message_id_of}
+use Rattle.ua_messages.specs.Requests.{Headed, headed_of, fields_of}
 use Rattle.ua_messages.specs.declared.type_ids.TheConstants.{GET_ENDPOINTS_REQUEST, CREATE_SESSION_REQUEST, ACTIVATE_SESSION_REQUEST, CLOSE_SESSION_REQUEST, READ_REQUEST, WRITE_REQUEST, BROWSE_REQUEST, BROWSE_NEXT_REQUEST, HISTORY_READ_REQUEST, CREATE_MONITORED_ITEMS_REQUEST, MODIFY_MONITORED_ITEMS_REQUEST, SET_MONITORING_MODE_REQUEST, SET_TRIGGERING_REQUEST, DELETE_MONITORED_ITEMS_REQUEST, CREATE_SUBSCRIPTION_REQUEST, MODIFY_SUBSCRIPTION_REQUEST, SET_PUBLISHING_MODE_REQUEST, DELETE_SUBSCRIPTIONS_REQUEST, PUBLISH_REQUEST, REPUBLISH_REQUEST}
 use Rattle.server_messages.specs.declared.request.Request.{Request}
 use Rattle.server_messages.specs.declared.setting.Setting.{Setting}
@@ -98,9 +97,9 @@ abbrev pub close_moves : Setting → Bool → Result ℕ Status → List Move
 close_moves setting deleting (Ok number) = Move.EndSession setting.clock number deleting ∷ []
 close_moves setting deleting (Err code) = []
 
-abbrev pub close_session_moves : Setting → Caller → Services → CloseSessionRequest → List Move
-close_session_moves setting caller state request =
-    close_moves setting request.delete_subscriptions (close_of state.sessions request.request_header.authentication_token caller.conn).answer
+abbrev pub close_session_moves : Setting → Caller → NodeId → Services → CloseSessionRequest → List Move
+close_session_moves setting caller token state request =
+    close_moves setting request.delete_subscriptions (close_of state.sessions token caller.conn).answer
 
 -- the items are shown every value that is accepted
 abbrev pub write_moves : Setting → ℕ → WriteRequest → Services → List Move
@@ -197,45 +196,45 @@ items_moves setting session number asked state = items_moves_by setting number a
 
 -- by its type id: what is watched, and what is told of it
 abbrev pub moves_of_subscriptions : Setting → Caller → NodeId → List ℕ → Services → ℕ → List Move
-moves_of_subscriptions setting caller token body state id =
-    if id == CREATE_SUBSCRIPTION_REQUEST then if_read (in_session (create_subscription_moves setting) caller token state) (message_of create_subscription_request_reading body)
-    else if id == MODIFY_SUBSCRIPTION_REQUEST then if_read (in_session (modify_subscription_moves setting) caller token state) (message_of modify_subscription_request_reading body)
-    else if id == SET_PUBLISHING_MODE_REQUEST then if_read (in_session (set_publishing_mode_moves setting) caller token state) (message_of set_publishing_mode_request_reading body)
-    else if id == DELETE_SUBSCRIPTIONS_REQUEST then if_read (in_session (delete_subscriptions_moves setting) caller token state) (message_of delete_subscriptions_request_reading body)
-    else if id == PUBLISH_REQUEST then if_read (in_session (publish_moves setting caller) caller token state) (message_of publish_request_reading body)
-    else if id == REPUBLISH_REQUEST then if_read (in_session (republish_moves setting) caller token state) (message_of republish_request_reading body)
+moves_of_subscriptions setting caller token fields state id =
+    if id == CREATE_SUBSCRIPTION_REQUEST then if_read (in_session (create_subscription_moves setting) caller token state) (fields_of create_subscription_request_reading fields)
+    else if id == MODIFY_SUBSCRIPTION_REQUEST then if_read (in_session (modify_subscription_moves setting) caller token state) (fields_of modify_subscription_request_reading fields)
+    else if id == SET_PUBLISHING_MODE_REQUEST then if_read (in_session (set_publishing_mode_moves setting) caller token state) (fields_of set_publishing_mode_request_reading fields)
+    else if id == DELETE_SUBSCRIPTIONS_REQUEST then if_read (in_session (delete_subscriptions_moves setting) caller token state) (fields_of delete_subscriptions_request_reading fields)
+    else if id == PUBLISH_REQUEST then if_read (in_session (publish_moves setting caller) caller token state) (fields_of publish_request_reading fields)
+    else if id == REPUBLISH_REQUEST then if_read (in_session (republish_moves setting) caller token state) (fields_of republish_request_reading fields)
     else []
 
 abbrev pub moves_of_items : Setting → Caller → NodeId → List ℕ → Services → ℕ → List Move
-moves_of_items setting caller token body state id =
-    if id == CREATE_MONITORED_ITEMS_REQUEST then if_read (in_session (λ session request at. items_moves setting session request.subscription_id (create_asked setting request at) at) caller token state) (message_of create_monitored_items_request_reading body)
-    else if id == MODIFY_MONITORED_ITEMS_REQUEST then if_read (in_session (λ session request at. items_moves setting session request.subscription_id (modify_asked setting request at) at) caller token state) (message_of modify_monitored_items_request_reading body)
-    else if id == SET_MONITORING_MODE_REQUEST then if_read (in_session (λ session request at. items_moves setting session request.subscription_id (mode_asked setting request at) at) caller token state) (message_of set_monitoring_mode_request_reading body)
-    else if id == SET_TRIGGERING_REQUEST then if_read (in_session (λ session request at. items_moves setting session request.subscription_id (link_asked setting request at) at) caller token state) (message_of set_triggering_request_reading body)
-    else if id == DELETE_MONITORED_ITEMS_REQUEST then if_read (in_session (λ session request at. items_moves setting session request.subscription_id (delete_asked setting request at) at) caller token state) (message_of delete_monitored_items_request_reading body)
-    else moves_of_subscriptions setting caller token body state id
+moves_of_items setting caller token fields state id =
+    if id == CREATE_MONITORED_ITEMS_REQUEST then if_read (in_session (λ session request at. items_moves setting session request.subscription_id (create_asked setting request at) at) caller token state) (fields_of create_monitored_items_request_reading fields)
+    else if id == MODIFY_MONITORED_ITEMS_REQUEST then if_read (in_session (λ session request at. items_moves setting session request.subscription_id (modify_asked setting request at) at) caller token state) (fields_of modify_monitored_items_request_reading fields)
+    else if id == SET_MONITORING_MODE_REQUEST then if_read (in_session (λ session request at. items_moves setting session request.subscription_id (mode_asked setting request at) at) caller token state) (fields_of set_monitoring_mode_request_reading fields)
+    else if id == SET_TRIGGERING_REQUEST then if_read (in_session (λ session request at. items_moves setting session request.subscription_id (link_asked setting request at) at) caller token state) (fields_of set_triggering_request_reading fields)
+    else if id == DELETE_MONITORED_ITEMS_REQUEST then if_read (in_session (λ session request at. items_moves setting session request.subscription_id (delete_asked setting request at) at) caller token state) (fields_of delete_monitored_items_request_reading fields)
+    else moves_of_subscriptions setting caller token fields state id
 
 -- discovery, sessions other than one that ends, and what only reads come to none
 abbrev pub moves_picked : Setting → Caller → NodeId → List ℕ → Services → ℕ → List Move
-moves_picked setting caller token body state id =
+moves_picked setting caller token fields state id =
     if id == GET_ENDPOINTS_REQUEST then []
     else if id == CREATE_SESSION_REQUEST then []
     else if id == ACTIVATE_SESSION_REQUEST then []
-    else if id == CLOSE_SESSION_REQUEST then if_read (close_session_moves setting caller state) (message_of close_session_request_reading body)
+    else if id == CLOSE_SESSION_REQUEST then if_read (close_session_moves setting caller token state) (fields_of close_session_request_reading fields)
     else if id == READ_REQUEST then []
-    else if id == WRITE_REQUEST then if_read (in_session (write_moves setting) caller token state) (message_of write_request_reading body)
+    else if id == WRITE_REQUEST then if_read (in_session (write_moves setting) caller token state) (fields_of write_request_reading fields)
     else if id == BROWSE_REQUEST then []
     else if id == BROWSE_NEXT_REQUEST then []
     else if id == HISTORY_READ_REQUEST then []
-    else moves_of_items setting caller token body state id
+    else moves_of_items setting caller token fields state id
 
-abbrev pub serving_moves_by : Setting → Request → Services → Result ℕ TakeFault → Result RequestHeader TakeFault → List Move
-serving_moves_by setting request state (Ok id) (Ok header) = moves_picked setting (call_of request header.request_handle) header.authentication_token request.body state id
-serving_moves_by setting request state id header = []
+abbrev pub serving_moves_by : Setting → Request → Services → Result ℕ TakeFault → Result Headed TakeFault → List Move
+serving_moves_by setting request state (Ok id) (Ok headed) = moves_picked setting (call_of request headed.header.request_handle) headed.header.authentication_token headed.fields state id
+serving_moves_by setting request state id headed = []
 
 -- the calls that a request comes to, served or refused
 unfoldable pub serving_moves : Setting → Request → Services → List Move
-serving_moves setting request state = serving_moves_by setting request state (message_id_of request.body) (message_of request_header_reading request.body)
+serving_moves setting request state = serving_moves_by setting request state (message_id_of request.body) (headed_of request.body)
 
 -- ---- a tick, and a connection that is no more
 

@@ -3,3 +3,4 @@ pub mod ResultLemmas
 pub mod RoomLemmas
 pub mod StructuresAgain
 pub mod SizedLemmas
+pub mod RequestLemmas

@@ -6,16 +6,14 @@ use Rattle.ua_binary.specs.Reading.{Reading, ◌>>=◌, done}
 use Rattle.ua_binary.specs.Texts.{text_reading, text_encoding}
 use Rattle.ua_binary.specs.Arrays.{array_reading, array_encoding}
 use Rattle.ua_messages.specs.Descriptions.{endpoint_description_reading, endpoint_description_encoding}
-use Rattle.ua_messages.specs.Headers.{request_header_reading, response_header_reading, request_header_encoding, response_header_encoding}
+use Rattle.ua_messages.specs.Headers.{response_header_reading, response_header_encoding}
 
 unfoldable pub get_endpoints_request_reading : Reading GetEndpointsRequest
 get_endpoints_request_reading = do
-  request_header ← request_header_reading
   endpoint_url ← text_reading
   locale_ids ← array_reading text_reading
   profile_uris ← array_reading text_reading
   done (record {
-    request_header = request_header;
     endpoint_url = endpoint_url;
     locale_ids = locale_ids;
     profile_uris = profile_uris;
@@ -23,8 +21,7 @@ get_endpoints_request_reading = do
 
 unfoldable pub get_endpoints_request_encoding : GetEndpointsRequest → List ℕ
 get_endpoints_request_encoding v =
-    request_header_encoding v.request_header
-    ++ text_encoding v.endpoint_url
+    text_encoding v.endpoint_url
     ++ array_encoding text_encoding v.locale_ids
     ++ array_encoding text_encoding v.profile_uris
 

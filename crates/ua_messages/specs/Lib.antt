@@ -2,6 +2,7 @@ pub mod Diagnostics
 pub mod Enumerations
 pub mod Headers
 pub mod Bodies
+pub mod Requests
 pub mod ServiceFaults
 pub mod ResultLists
 pub mod Structures

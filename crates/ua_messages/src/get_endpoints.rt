@@ -3,7 +3,7 @@
 ghost use Rattle.ua_messages.specs.GetEndpoints.{get_endpoints_request_reading, get_endpoints_request_encoding, get_endpoints_response_reading, get_endpoints_response_encoding};
 
 use crate::descriptions::EndpointDescription;
-use crate::headers::{RequestHeader, ResponseHeader};
+use crate::headers::ResponseHeader;
 use std::alloc::{AllocError, Global};
 use ua_binary::{Cursor, TakeFault, Wire};
 use ua_types::{Array, Text};
@@ -12,7 +12,6 @@ use ua_walks::Walk;
 /// Asks for the endpoints of a server (GetEndpoints, IEC 62541-4, section 5, Discovery Service Set).
 #[derive(Debug, Drop)]
 pub struct GetEndpointsRequest {
-    pub request_header: RequestHeader,
     /// The URL by which the client reached the server.
     pub endpoint_url: Text,
     /// The languages in which the client likes to have texts, the best first.
@@ -21,7 +20,7 @@ pub struct GetEndpointsRequest {
     pub profile_uris: Array<Text>,
 }
 
-#[tactic(auto, using(ua_binary::proofs::Fields::fields4), unfolding(crate::specs::GetEndpoints::get_endpoints_request_reading, crate::specs::GetEndpoints::get_endpoints_request_encoding))]
+#[tactic(auto, using(ua_binary::proofs::Fields::fields3), unfolding(crate::specs::GetEndpoints::get_endpoints_request_reading, crate::specs::GetEndpoints::get_endpoints_request_encoding))]
 impl Wire for GetEndpointsRequest {
     ghost reading = { get_endpoints_request_reading };
 
@@ -29,7 +28,6 @@ impl Wire for GetEndpointsRequest {
 
     fn decode(alloc: Global, cursor: &mut Cursor<'_>) -> Result<GetEndpointsRequest, TakeFault> {
         Ok(GetEndpointsRequest {
-            request_header: RequestHeader::decode(alloc, cursor)?,
             endpoint_url: Text::decode(alloc, cursor)?,
             locale_ids: Array::<Text>::decode(alloc, cursor)?,
             profile_uris: Array::<Text>::decode(alloc, cursor)?,
@@ -37,7 +35,6 @@ impl Wire for GetEndpointsRequest {
     }
 
     fn encode(&self, out: &mut Vec<u8>) -> Result<(), AllocError> {
-        self.request_header.encode(out)?;
         self.endpoint_url.encode(out)?;
         self.locale_ids.encode(out)?;
         self.profile_uris.encode(out)?;
@@ -48,7 +45,6 @@ impl Wire for GetEndpointsRequest {
 #[tactic(auto, unfolding(crate::specs::GetEndpoints::get_endpoints_request_reading))]
 impl Walk for GetEndpointsRequest {
     fn walk(cursor: &mut Cursor<'_>) -> Result<(), TakeFault> {
-        RequestHeader::skip(cursor)?;
         Text::skip(cursor)?;
         Array::<Text>::skip(cursor)?;
         Array::<Text>::skip(cursor)?;

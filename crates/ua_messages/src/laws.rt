@@ -1,12 +1,16 @@
-//! What holds of the numbers that the standard gives.
+//! What holds of the numbers that the standard gives, and of requests.
 
-ghost use Rattle.std.specs.Prelude.{◌≡◌, pos};
+ghost use Rattle.std.specs.Prelude.{◌≡◌, pos, ℕ, List};
+ghost use Rattle.ua_messages.specs.Bodies.{message_of};
+ghost use Rattle.ua_messages.specs.Requests.{headed_of, request_by, requested_reading};
 ghost use Rattle.ua_messages.specs.declared.enumerations.TheConstants.ApplicationType as application_type;
 ghost use Rattle.ua_messages.specs.declared.enumerations.TheConstants.MessageSecurityMode as security_mode;
 ghost use Rattle.ua_messages.specs.declared.enumerations.TheConstants.SecurityTokenRequestType as request_type;
 ghost use Rattle.ua_messages.specs.declared.enumerations.TheConstants.TimestampsToReturn as timestamps;
 ghost use Rattle.ua_messages.specs.declared.enumerations.TheConstants.UserTokenType as token_type;
 ghost use Rattle.ua_messages.specs.declared.type_ids.TheConstants as type_id;
+
+use ua_binary::Wire;
 
 /// Each encoding has the id of the standard (IEC 62541-6, Annex A).
 pub fn encodings_have_the_standards_ids()
@@ -81,4 +85,11 @@ pub fn enumerations_have_the_standards_numbers()
     ensures timestamps_server { timestamps.SERVER.0 ≡ pos 1 }
     ensures timestamps_both { timestamps.BOTH.0 ≡ pos 2 }
     ensures timestamps_neither { timestamps.NEITHER.0 ≡ pos 3 }
+{}
+
+/// A body whose request is read in two steps, its header and then the fields behind it, holds that request, and has the same
+/// fault where it can't be read.
+#[tactic(auto, using(crate::proofs::RequestLemmas::in_two_steps))]
+pub fn requests_are_read_in_two_steps<F: Wire>()
+    ensures { (body : List ℕ) → message_of (requested_reading F.reading) body ≡ request_by F.reading (headed_of body) }
 {}

@@ -7,7 +7,8 @@
 //! trait says that what is written is read again. A *body* is the id of a message's encoding, and then
 //! the message. [`message_id`] tells which message a body holds, [`message`] reads it, [`body`] writes
 //! one, and [`fault`] writes the answer to a request that failed; both give a [`MessageBody`], which has room for what stands
-//! before it in a frame. [`Results`] is the response that has one
+//! before it in a frame. A request's struct has the fields of its kind, which follow a header: [`Requested`] is the two together,
+//! and [`received_fields`] reads the fields behind a header that was looked at. [`Results`] is the response that has one
 //! result for each thing asked for, and [`results_body`] writes it from results that stand elsewhere.
 //! [`structure`] reads what an ExtensionObject holds, [`extension_object`] makes one, and [`write_structure`] writes one
 //! into the message that it stands in. A server reads what a client sent by [`received`] and [`received_structure`],
@@ -29,6 +30,7 @@ mod headers;
 pub mod laws;
 mod message_body;
 mod read_value_ids;
+mod requests;
 mod results;
 mod secure_channels;
 mod security_policies;
@@ -48,6 +50,7 @@ pub use get_endpoints::{GetEndpointsRequest, GetEndpointsResponse};
 pub use headers::{RequestHeader, ResponseHeader};
 pub use message_body::{HEAD_SIZE, MessageBody};
 pub use read_value_ids::ReadValueId;
+pub use requests::{Requested, received_fields};
 pub use results::{Results, results_body};
 pub use secure_channels::{
     CloseSecureChannelRequest, OpenSecureChannelRequest, OpenSecureChannelResponse,

@@ -17,7 +17,6 @@ use Rattle.ua_binary.specs.NodeIds.{node_id_reading, node_id_encoding}
 use Rattle.ua_binary.specs.ExpandedNodeIds.{expanded_node_id_reading, expanded_node_id_encoding}
 use Rattle.ua_binary.specs.QualifiedNames.{qualified_name_reading, qualified_name_encoding}
 use Rattle.ua_binary.specs.LocalizedTexts.{localized_text_reading, localized_text_encoding}
-use Rattle.ua_messages.specs.Headers.{request_header_reading, request_header_encoding}
 
 abbrev pub browse_direction_reading : Reading BrowseDirection
 browse_direction_reading = enumeration_reading (λ n. record { 0 = n })
@@ -53,14 +52,12 @@ browse_description_encoding v =
 
 unfoldable pub browse_request_reading : Reading BrowseRequest
 browse_request_reading = do
-  request_header ← request_header_reading
   view_id ← node_id_reading
   view_timestamp ← moment_reading
   view_version ← number_reading w32
   requested_max_references_per_node ← number_reading w32
   nodes_to_browse ← array_reading browse_description_reading
   done (record {
-    request_header = request_header;
     view_id = view_id;
     view_timestamp = view_timestamp;
     view_version = view_version;
@@ -70,8 +67,7 @@ browse_request_reading = do
 
 unfoldable pub browse_request_encoding : BrowseRequest → List ℕ
 browse_request_encoding v =
-    request_header_encoding v.request_header
-    ++ node_id_encoding v.view_id
+    node_id_encoding v.view_id
     ++ moment_encoding v.view_timestamp
     ++ number_encoding w32 v.view_version
     ++ number_encoding w32 v.requested_max_references_per_node
@@ -125,17 +121,14 @@ browse_result_encoding v =
 
 unfoldable pub browse_next_request_reading : Reading BrowseNextRequest
 browse_next_request_reading = do
-  request_header ← request_header_reading
   release_continuation_points ← boolean_reading
   continuation_points ← array_reading byte_string_reading
   done (record {
-    request_header = request_header;
     release_continuation_points = release_continuation_points;
     continuation_points = continuation_points;
   })
 
 unfoldable pub browse_next_request_encoding : BrowseNextRequest → List ℕ
 browse_next_request_encoding v =
-    request_header_encoding v.request_header
-    ++ boolean_encoding v.release_continuation_points
+    boolean_encoding v.release_continuation_points
     ++ array_encoding byte_string_encoding v.continuation_points

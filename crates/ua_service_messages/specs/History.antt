@@ -17,7 +17,6 @@ use Rattle.ua_binary.specs.QualifiedNames.{qualified_name_reading, qualified_nam
 use Rattle.ua_binary.specs.ExtensionObjects.{extension_object_reading, extension_object_encoding}
 use Rattle.ua_binary.specs.DataValues.{data_value_reading, data_value_encoding}
 use Rattle.ua_messages.specs.Enumerations.{timestamps_to_return_reading, timestamps_to_return_encoding}
-use Rattle.ua_messages.specs.Headers.{request_header_reading, request_header_encoding}
 
 unfoldable pub read_raw_modified_details_reading : Reading ReadRawModifiedDetails
 read_raw_modified_details_reading = do
@@ -72,13 +71,11 @@ history_read_value_id_encoding v =
 
 unfoldable pub history_read_request_reading : Reading HistoryReadRequest
 history_read_request_reading = do
-  request_header ← request_header_reading
   history_read_details ← extension_object_reading
   timestamps_to_return ← timestamps_to_return_reading
   release_continuation_points ← boolean_reading
   nodes_to_read ← array_reading history_read_value_id_reading
   done (record {
-    request_header = request_header;
     history_read_details = history_read_details;
     timestamps_to_return = timestamps_to_return;
     release_continuation_points = release_continuation_points;
@@ -87,8 +84,7 @@ history_read_request_reading = do
 
 unfoldable pub history_read_request_encoding : HistoryReadRequest → List ℕ
 history_read_request_encoding v =
-    request_header_encoding v.request_header
-    ++ extension_object_encoding v.history_read_details
+    extension_object_encoding v.history_read_details
     ++ timestamps_to_return_encoding v.timestamps_to_return
     ++ boolean_encoding v.release_continuation_points
     ++ array_encoding history_read_value_id_encoding v.nodes_to_read

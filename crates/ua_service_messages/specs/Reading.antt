@@ -5,17 +5,14 @@ use Rattle.ua_binary.specs.Reading.{Reading, ◌>>=◌, done}
 use Rattle.ua_binary.specs.Scalars.{duration_reading, duration_encoding}
 use Rattle.ua_binary.specs.Arrays.{array_reading, array_encoding}
 use Rattle.ua_messages.specs.Enumerations.{timestamps_to_return_reading, timestamps_to_return_encoding}
-use Rattle.ua_messages.specs.Headers.{request_header_reading, request_header_encoding}
 use Rattle.ua_messages.specs.ReadValueIds.{read_value_id_reading, read_value_id_encoding}
 
 unfoldable pub read_request_reading : Reading ReadRequest
 read_request_reading = do
-  request_header ← request_header_reading
   max_age ← duration_reading
   timestamps_to_return ← timestamps_to_return_reading
   nodes_to_read ← array_reading read_value_id_reading
   done (record {
-    request_header = request_header;
     max_age = max_age;
     timestamps_to_return = timestamps_to_return;
     nodes_to_read = nodes_to_read;
@@ -23,7 +20,6 @@ read_request_reading = do
 
 unfoldable pub read_request_encoding : ReadRequest → List ℕ
 read_request_encoding v =
-    request_header_encoding v.request_header
-    ++ duration_encoding v.max_age
+    duration_encoding v.max_age
     ++ timestamps_to_return_encoding v.timestamps_to_return
     ++ array_encoding read_value_id_encoding v.nodes_to_read

@@ -20,7 +20,7 @@ use Rattle.ua_binary.specs.NodeIds.{node_id_reading, node_id_encoding}
 use Rattle.ua_binary.specs.ExtensionObjects.{extension_object_reading, extension_object_encoding}
 use Rattle.ua_messages.specs.Descriptions.{application_description_reading, application_description_encoding, endpoint_description_reading, endpoint_description_encoding}
 use Rattle.ua_messages.specs.Diagnostics.{diagnostic_infos_reading, diagnostic_infos_encoding}
-use Rattle.ua_messages.specs.Headers.{request_header_reading, request_header_encoding, response_header_reading, response_header_encoding}
+use Rattle.ua_messages.specs.Headers.{response_header_reading, response_header_encoding}
 
 unfoldable pub signature_data_reading : Reading SignatureData
 signature_data_reading = do
@@ -54,7 +54,6 @@ anonymous_identity_token_encoding v = text_encoding v.policy_id
 
 unfoldable pub create_session_request_reading : Reading CreateSessionRequest
 create_session_request_reading = do
-  request_header ← request_header_reading
   client_description ← application_description_reading
   server_uri ← text_reading
   endpoint_url ← text_reading
@@ -64,7 +63,6 @@ create_session_request_reading = do
   requested_session_timeout ← duration_reading
   max_response_message_size ← number_reading w32
   done (record {
-    request_header = request_header;
     client_description = client_description;
     server_uri = server_uri;
     endpoint_url = endpoint_url;
@@ -77,8 +75,7 @@ create_session_request_reading = do
 
 unfoldable pub create_session_request_encoding : CreateSessionRequest → List ℕ
 create_session_request_encoding v =
-    request_header_encoding v.request_header
-    ++ application_description_encoding v.client_description
+    application_description_encoding v.client_description
     ++ text_encoding v.server_uri
     ++ text_encoding v.endpoint_url
     ++ text_encoding v.session_name
@@ -127,14 +124,12 @@ create_session_response_encoding v =
 
 unfoldable pub activate_session_request_reading : Reading ActivateSessionRequest
 activate_session_request_reading = do
-  request_header ← request_header_reading
   client_signature ← signature_data_reading
   client_software_certificates ← array_reading signed_software_certificate_reading
   locale_ids ← array_reading text_reading
   user_identity_token ← extension_object_reading
   user_token_signature ← signature_data_reading
   done (record {
-    request_header = request_header;
     client_signature = client_signature;
     client_software_certificates = client_software_certificates;
     locale_ids = locale_ids;
@@ -144,8 +139,7 @@ activate_session_request_reading = do
 
 unfoldable pub activate_session_request_encoding : ActivateSessionRequest → List ℕ
 activate_session_request_encoding v =
-    request_header_encoding v.request_header
-    ++ signature_data_encoding v.client_signature
+    signature_data_encoding v.client_signature
     ++ array_encoding signed_software_certificate_encoding v.client_software_certificates
     ++ array_encoding text_encoding v.locale_ids
     ++ extension_object_encoding v.user_identity_token
@@ -173,14 +167,11 @@ activate_session_response_encoding v =
 
 unfoldable pub close_session_request_reading : Reading CloseSessionRequest
 close_session_request_reading = do
-  request_header ← request_header_reading
   delete_subscriptions ← boolean_reading
-  done (record { request_header = request_header; delete_subscriptions = delete_subscriptions })
+  done (record { delete_subscriptions = delete_subscriptions })
 
 unfoldable pub close_session_request_encoding : CloseSessionRequest → List ℕ
-close_session_request_encoding v =
-    request_header_encoding v.request_header
-    ++ boolean_encoding v.delete_subscriptions
+close_session_request_encoding v = boolean_encoding v.delete_subscriptions
 
 unfoldable pub close_session_response_reading : Reading CloseSessionResponse
 close_session_response_reading = do

@@ -9,7 +9,6 @@ use Rattle.ua_binary.specs.Texts.{text_reading, text_encoding}
 use Rattle.ua_binary.specs.Arrays.{array_reading, array_encoding}
 use Rattle.ua_binary.specs.NodeIds.{node_id_reading, node_id_encoding}
 use Rattle.ua_binary.specs.DataValues.{data_value_reading, data_value_encoding}
-use Rattle.ua_messages.specs.Headers.{request_header_reading, request_header_encoding}
 
 unfoldable pub write_value_reading : Reading WriteValue
 write_value_reading = do
@@ -33,11 +32,8 @@ write_value_encoding v =
 
 unfoldable pub write_request_reading : Reading WriteRequest
 write_request_reading = do
-  request_header ← request_header_reading
   nodes_to_write ← array_reading write_value_reading
-  done (record { request_header = request_header; nodes_to_write = nodes_to_write })
+  done (record { nodes_to_write = nodes_to_write })
 
 unfoldable pub write_request_encoding : WriteRequest → List ℕ
-write_request_encoding v =
-    request_header_encoding v.request_header
-    ++ array_encoding write_value_encoding v.nodes_to_write
+write_request_encoding v = array_encoding write_value_encoding v.nodes_to_write

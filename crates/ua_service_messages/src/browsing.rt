@@ -6,7 +6,7 @@ ghost use Rattle.ua_service_messages.specs.Browsing.{browse_description_reading,
 use std::alloc::{AllocError, Global};
 use std::marker::Model;
 use ua_binary::{Cursor, Enumeration, TakeFault, Wire, Written, write_local_id};
-use ua_messages::{RequestHeader, Results};
+use ua_messages::Results;
 use ua_types::{
     Array, ByteString, ExpandedNodeId, LocalizedText, Moment, NodeId, QualifiedName, Status,
 };
@@ -132,7 +132,6 @@ impl Walk for BrowseDescription {
 /// The fields from `view_id` to `view_version` are a ViewDescription in the standard.
 #[derive(Debug, Drop)]
 pub struct BrowseRequest {
-    pub request_header: RequestHeader,
     /// The view that bounds what is seen, null for the whole address space.
     pub view_id: NodeId,
     /// The version of the view by its time, or 0.
@@ -144,7 +143,7 @@ pub struct BrowseRequest {
     pub nodes_to_browse: Array<BrowseDescription>,
 }
 
-#[tactic(auto, using(ua_binary::proofs::Fields::fields6), unfolding(crate::specs::Browsing::browse_request_reading, crate::specs::Browsing::browse_request_encoding))]
+#[tactic(auto, using(ua_binary::proofs::Fields::fields5), unfolding(crate::specs::Browsing::browse_request_reading, crate::specs::Browsing::browse_request_encoding))]
 impl Wire for BrowseRequest {
     ghost reading = { browse_request_reading };
 
@@ -152,7 +151,6 @@ impl Wire for BrowseRequest {
 
     fn decode(alloc: Global, cursor: &mut Cursor<'_>) -> Result<BrowseRequest, TakeFault> {
         Ok(BrowseRequest {
-            request_header: RequestHeader::decode(alloc, cursor)?,
             view_id: NodeId::decode(alloc, cursor)?,
             view_timestamp: Moment::decode(alloc, cursor)?,
             view_version: u32::decode(alloc, cursor)?,
@@ -162,7 +160,6 @@ impl Wire for BrowseRequest {
     }
 
     fn encode(&self, out: &mut Vec<u8>) -> Result<(), AllocError> {
-        self.request_header.encode(out)?;
         self.view_id.encode(out)?;
         self.view_timestamp.encode(out)?;
         self.view_version.encode(out)?;
@@ -175,7 +172,6 @@ impl Wire for BrowseRequest {
 #[tactic(auto, unfolding(crate::specs::Browsing::browse_request_reading))]
 impl Walk for BrowseRequest {
     fn walk(cursor: &mut Cursor<'_>) -> Result<(), TakeFault> {
-        RequestHeader::skip(cursor)?;
         NodeId::skip(cursor)?;
         Moment::skip(cursor)?;
         u32::skip(cursor)?;
@@ -314,13 +310,12 @@ pub type BrowseResponse = Results<BrowseResult>;
 /// Asks for further references, or gives them up (BrowseNext, IEC 62541-4, section 5, View Service Set).
 #[derive(Debug, Drop)]
 pub struct BrowseNextRequest {
-    pub request_header: RequestHeader,
     /// Whether the points are only given up.
     pub release_continuation_points: bool,
     pub continuation_points: Array<ByteString>,
 }
 
-#[tactic(auto, using(ua_binary::proofs::Fields::fields3), unfolding(crate::specs::Browsing::browse_next_request_reading, crate::specs::Browsing::browse_next_request_encoding))]
+#[tactic(auto, using(ua_binary::proofs::Fields::fields2), unfolding(crate::specs::Browsing::browse_next_request_reading, crate::specs::Browsing::browse_next_request_encoding))]
 impl Wire for BrowseNextRequest {
     ghost reading = { browse_next_request_reading };
 
@@ -328,14 +323,12 @@ impl Wire for BrowseNextRequest {
 
     fn decode(alloc: Global, cursor: &mut Cursor<'_>) -> Result<BrowseNextRequest, TakeFault> {
         Ok(BrowseNextRequest {
-            request_header: RequestHeader::decode(alloc, cursor)?,
             release_continuation_points: bool::decode(alloc, cursor)?,
             continuation_points: Array::<ByteString>::decode(alloc, cursor)?,
         })
     }
 
     fn encode(&self, out: &mut Vec<u8>) -> Result<(), AllocError> {
-        self.request_header.encode(out)?;
         self.release_continuation_points.encode(out)?;
         self.continuation_points.encode(out)?;
         Ok(())
@@ -345,7 +338,6 @@ impl Wire for BrowseNextRequest {
 #[tactic(auto, unfolding(crate::specs::Browsing::browse_next_request_reading))]
 impl Walk for BrowseNextRequest {
     fn walk(cursor: &mut Cursor<'_>) -> Result<(), TakeFault> {
-        RequestHeader::skip(cursor)?;
         bool::skip(cursor)?;
         Array::<ByteString>::skip(cursor)?;
         Ok(())

@@ -5,7 +5,7 @@ ghost use Rattle.ua_service_messages.specs.History.{read_raw_modified_details_re
 
 use std::alloc::{AllocError, Global};
 use ua_binary::{Cursor, TakeFault, Wire};
-use ua_messages::{RequestHeader, Results, TimestampsToReturn};
+use ua_messages::{Results, TimestampsToReturn};
 use ua_types::{Array, ByteString, ExtensionObject, Moment, NodeId, QualifiedName, Status, Text};
 use ua_values::DataValue;
 use ua_walks::Walk;
@@ -140,7 +140,6 @@ impl Walk for HistoryReadValueId {
 /// Asks for the history of nodes (HistoryRead, IEC 62541-4, section 5, Attribute Service Set).
 #[derive(Debug, Drop)]
 pub struct HistoryReadRequest {
-    pub request_header: RequestHeader,
     /// What of the history is wanted: [`ReadRawModifiedDetails`] for raw values.
     pub history_read_details: ExtensionObject,
     pub timestamps_to_return: TimestampsToReturn,
@@ -149,7 +148,7 @@ pub struct HistoryReadRequest {
     pub nodes_to_read: Array<HistoryReadValueId>,
 }
 
-#[tactic(auto, using(ua_binary::proofs::Fields::fields5), unfolding(crate::specs::History::history_read_request_reading, crate::specs::History::history_read_request_encoding))]
+#[tactic(auto, using(ua_binary::proofs::Fields::fields4), unfolding(crate::specs::History::history_read_request_reading, crate::specs::History::history_read_request_encoding))]
 impl Wire for HistoryReadRequest {
     ghost reading = { history_read_request_reading };
 
@@ -157,7 +156,6 @@ impl Wire for HistoryReadRequest {
 
     fn decode(alloc: Global, cursor: &mut Cursor<'_>) -> Result<HistoryReadRequest, TakeFault> {
         Ok(HistoryReadRequest {
-            request_header: RequestHeader::decode(alloc, cursor)?,
             history_read_details: ExtensionObject::decode(alloc, cursor)?,
             timestamps_to_return: TimestampsToReturn::decode(alloc, cursor)?,
             release_continuation_points: bool::decode(alloc, cursor)?,
@@ -166,7 +164,6 @@ impl Wire for HistoryReadRequest {
     }
 
     fn encode(&self, out: &mut Vec<u8>) -> Result<(), AllocError> {
-        self.request_header.encode(out)?;
         self.history_read_details.encode(out)?;
         self.timestamps_to_return.encode(out)?;
         self.release_continuation_points.encode(out)?;
@@ -178,7 +175,6 @@ impl Wire for HistoryReadRequest {
 #[tactic(auto, unfolding(crate::specs::History::history_read_request_reading))]
 impl Walk for HistoryReadRequest {
     fn walk(cursor: &mut Cursor<'_>) -> Result<(), TakeFault> {
-        RequestHeader::skip(cursor)?;
         ExtensionObject::skip(cursor)?;
         TimestampsToReturn::skip(cursor)?;
         bool::skip(cursor)?;

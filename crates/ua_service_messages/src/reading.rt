@@ -4,7 +4,7 @@ ghost use Rattle.ua_service_messages.specs.Reading.{read_request_reading, read_r
 
 use std::alloc::{AllocError, Global};
 use ua_binary::{Cursor, TakeFault, Wire};
-use ua_messages::{ReadValueId, RequestHeader, Results, TimestampsToReturn};
+use ua_messages::{ReadValueId, Results, TimestampsToReturn};
 use ua_types::{Array, Duration};
 use ua_values::DataValue;
 use ua_walks::Walk;
@@ -12,14 +12,13 @@ use ua_walks::Walk;
 /// Asks for attributes of nodes (Read, IEC 62541-4, section 5, Attribute Service Set).
 #[derive(Debug, Drop)]
 pub struct ReadRequest {
-    pub request_header: RequestHeader,
     /// How old a value may be, in milliseconds.
     pub max_age: Duration,
     pub timestamps_to_return: TimestampsToReturn,
     pub nodes_to_read: Array<ReadValueId>,
 }
 
-#[tactic(auto, using(ua_binary::proofs::Fields::fields4), unfolding(crate::specs::Reading::read_request_reading, crate::specs::Reading::read_request_encoding))]
+#[tactic(auto, using(ua_binary::proofs::Fields::fields3), unfolding(crate::specs::Reading::read_request_reading, crate::specs::Reading::read_request_encoding))]
 impl Wire for ReadRequest {
     ghost reading = { read_request_reading };
 
@@ -27,7 +26,6 @@ impl Wire for ReadRequest {
 
     fn decode(alloc: Global, cursor: &mut Cursor<'_>) -> Result<ReadRequest, TakeFault> {
         Ok(ReadRequest {
-            request_header: RequestHeader::decode(alloc, cursor)?,
             max_age: Duration::decode(alloc, cursor)?,
             timestamps_to_return: TimestampsToReturn::decode(alloc, cursor)?,
             nodes_to_read: Array::<ReadValueId>::decode(alloc, cursor)?,
@@ -35,7 +33,6 @@ impl Wire for ReadRequest {
     }
 
     fn encode(&self, out: &mut Vec<u8>) -> Result<(), AllocError> {
-        self.request_header.encode(out)?;
         self.max_age.encode(out)?;
         self.timestamps_to_return.encode(out)?;
         self.nodes_to_read.encode(out)?;
@@ -46,7 +43,6 @@ impl Wire for ReadRequest {
 #[tactic(auto, unfolding(crate::specs::Reading::read_request_reading))]
 impl Walk for ReadRequest {
     fn walk(cursor: &mut Cursor<'_>) -> Result<(), TakeFault> {
-        RequestHeader::skip(cursor)?;
         Duration::skip(cursor)?;
         TimestampsToReturn::skip(cursor)?;
         Array::<ReadValueId>::skip(cursor)?;

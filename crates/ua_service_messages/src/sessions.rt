@@ -5,9 +5,7 @@ ghost use Rattle.ua_service_messages.specs.Sessions.{signature_data_reading, sig
 
 use std::alloc::{AllocError, Global};
 use ua_binary::{Cursor, TakeFault, Wire};
-use ua_messages::{
-    ApplicationDescription, DiagnosticInfos, EndpointDescription, RequestHeader, ResponseHeader,
-};
+use ua_messages::{ApplicationDescription, DiagnosticInfos, EndpointDescription, ResponseHeader};
 use ua_types::{Array, ByteString, Duration, ExtensionObject, NodeId, Status, Text};
 use ua_walks::Walk;
 
@@ -125,7 +123,6 @@ impl Walk for AnonymousIdentityToken {
 /// Asks for a session (CreateSession, IEC 62541-4, section 5, Session Service Set).
 #[derive(Debug, Drop)]
 pub struct CreateSessionRequest {
-    pub request_header: RequestHeader,
     pub client_description: ApplicationDescription,
     /// The server that is meant, where the endpoint is that of a gateway.
     pub server_uri: Text,
@@ -143,7 +140,7 @@ pub struct CreateSessionRequest {
     pub max_response_message_size: u32,
 }
 
-#[tactic(auto, using(ua_binary::proofs::Fields::fields9), unfolding(crate::specs::Sessions::create_session_request_reading, crate::specs::Sessions::create_session_request_encoding))]
+#[tactic(auto, using(ua_binary::proofs::Fields::fields8), unfolding(crate::specs::Sessions::create_session_request_reading, crate::specs::Sessions::create_session_request_encoding))]
 impl Wire for CreateSessionRequest {
     ghost reading = { create_session_request_reading };
 
@@ -151,7 +148,6 @@ impl Wire for CreateSessionRequest {
 
     fn decode(alloc: Global, cursor: &mut Cursor<'_>) -> Result<CreateSessionRequest, TakeFault> {
         Ok(CreateSessionRequest {
-            request_header: RequestHeader::decode(alloc, cursor)?,
             client_description: ApplicationDescription::decode(alloc, cursor)?,
             server_uri: Text::decode(alloc, cursor)?,
             endpoint_url: Text::decode(alloc, cursor)?,
@@ -164,7 +160,6 @@ impl Wire for CreateSessionRequest {
     }
 
     fn encode(&self, out: &mut Vec<u8>) -> Result<(), AllocError> {
-        self.request_header.encode(out)?;
         self.client_description.encode(out)?;
         self.server_uri.encode(out)?;
         self.endpoint_url.encode(out)?;
@@ -180,7 +175,6 @@ impl Wire for CreateSessionRequest {
 #[tactic(auto, unfolding(crate::specs::Sessions::create_session_request_reading))]
 impl Walk for CreateSessionRequest {
     fn walk(cursor: &mut Cursor<'_>) -> Result<(), TakeFault> {
-        RequestHeader::skip(cursor)?;
         ApplicationDescription::skip(cursor)?;
         Text::skip(cursor)?;
         Text::skip(cursor)?;
@@ -257,7 +251,6 @@ impl Wire for CreateSessionResponse {
 /// (ActivateSession, IEC 62541-4, section 5, Session Service Set).
 #[derive(Debug, Drop)]
 pub struct ActivateSessionRequest {
-    pub request_header: RequestHeader,
     pub client_signature: SignatureData,
     pub client_software_certificates: Array<SignedSoftwareCertificate>,
     /// The languages in which the client likes to have texts, the best first.
@@ -267,7 +260,7 @@ pub struct ActivateSessionRequest {
     pub user_token_signature: SignatureData,
 }
 
-#[tactic(auto, using(ua_binary::proofs::Fields::fields6), unfolding(crate::specs::Sessions::activate_session_request_reading, crate::specs::Sessions::activate_session_request_encoding))]
+#[tactic(auto, using(ua_binary::proofs::Fields::fields5), unfolding(crate::specs::Sessions::activate_session_request_reading, crate::specs::Sessions::activate_session_request_encoding))]
 impl Wire for ActivateSessionRequest {
     ghost reading = { activate_session_request_reading };
 
@@ -275,7 +268,6 @@ impl Wire for ActivateSessionRequest {
 
     fn decode(alloc: Global, cursor: &mut Cursor<'_>) -> Result<ActivateSessionRequest, TakeFault> {
         Ok(ActivateSessionRequest {
-            request_header: RequestHeader::decode(alloc, cursor)?,
             client_signature: SignatureData::decode(alloc, cursor)?,
             client_software_certificates: Array::<SignedSoftwareCertificate>::decode(
                 alloc, cursor,
@@ -287,7 +279,6 @@ impl Wire for ActivateSessionRequest {
     }
 
     fn encode(&self, out: &mut Vec<u8>) -> Result<(), AllocError> {
-        self.request_header.encode(out)?;
         self.client_signature.encode(out)?;
         self.client_software_certificates.encode(out)?;
         self.locale_ids.encode(out)?;
@@ -300,7 +291,6 @@ impl Wire for ActivateSessionRequest {
 #[tactic(auto, unfolding(crate::specs::Sessions::activate_session_request_reading))]
 impl Walk for ActivateSessionRequest {
     fn walk(cursor: &mut Cursor<'_>) -> Result<(), TakeFault> {
-        RequestHeader::skip(cursor)?;
         SignatureData::skip(cursor)?;
         Array::<SignedSoftwareCertificate>::skip(cursor)?;
         Array::<Text>::skip(cursor)?;
@@ -351,12 +341,11 @@ impl Wire for ActivateSessionResponse {
 /// Ends a session (CloseSession, IEC 62541-4, section 5, Session Service Set).
 #[derive(Debug, Drop)]
 pub struct CloseSessionRequest {
-    pub request_header: RequestHeader,
     /// Whether the subscriptions of the session end with it.
     pub delete_subscriptions: bool,
 }
 
-#[tactic(auto, using(ua_binary::proofs::Fields::fields2), unfolding(crate::specs::Sessions::close_session_request_reading, crate::specs::Sessions::close_session_request_encoding))]
+#[tactic(auto, using(ua_binary::proofs::Fields::fields1), unfolding(crate::specs::Sessions::close_session_request_reading, crate::specs::Sessions::close_session_request_encoding))]
 impl Wire for CloseSessionRequest {
     ghost reading = { close_session_request_reading };
 
@@ -364,13 +353,11 @@ impl Wire for CloseSessionRequest {
 
     fn decode(alloc: Global, cursor: &mut Cursor<'_>) -> Result<CloseSessionRequest, TakeFault> {
         Ok(CloseSessionRequest {
-            request_header: RequestHeader::decode(alloc, cursor)?,
             delete_subscriptions: bool::decode(alloc, cursor)?,
         })
     }
 
     fn encode(&self, out: &mut Vec<u8>) -> Result<(), AllocError> {
-        self.request_header.encode(out)?;
         self.delete_subscriptions.encode(out)?;
         Ok(())
     }
@@ -379,7 +366,6 @@ impl Wire for CloseSessionRequest {
 #[tactic(auto, unfolding(crate::specs::Sessions::close_session_request_reading))]
 impl Walk for CloseSessionRequest {
     fn walk(cursor: &mut Cursor<'_>) -> Result<(), TakeFault> {
-        RequestHeader::skip(cursor)?;
         bool::skip(cursor)?;
         Ok(())
     }

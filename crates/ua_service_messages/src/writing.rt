@@ -5,7 +5,7 @@ ghost use Rattle.ua_service_messages.specs.Writing.{write_value_reading, write_v
 
 use std::alloc::{AllocError, Global};
 use ua_binary::{Cursor, TakeFault, Wire};
-use ua_messages::{RequestHeader, Results};
+use ua_messages::Results;
 use ua_types::{Array, NodeId, Status, Text};
 use ua_values::DataValue;
 use ua_walks::Walk;
@@ -63,11 +63,10 @@ impl Walk for WriteValue {
 /// Asks to write attributes of nodes (Write, IEC 62541-4, section 5, Attribute Service Set).
 #[derive(Debug, Drop)]
 pub struct WriteRequest {
-    pub request_header: RequestHeader,
     pub nodes_to_write: Array<WriteValue>,
 }
 
-#[tactic(auto, using(ua_binary::proofs::Fields::fields2), unfolding(crate::specs::Writing::write_request_reading, crate::specs::Writing::write_request_encoding))]
+#[tactic(auto, using(ua_binary::proofs::Fields::fields1), unfolding(crate::specs::Writing::write_request_reading, crate::specs::Writing::write_request_encoding))]
 impl Wire for WriteRequest {
     ghost reading = { write_request_reading };
 
@@ -75,13 +74,11 @@ impl Wire for WriteRequest {
 
     fn decode(alloc: Global, cursor: &mut Cursor<'_>) -> Result<WriteRequest, TakeFault> {
         Ok(WriteRequest {
-            request_header: RequestHeader::decode(alloc, cursor)?,
             nodes_to_write: Array::<WriteValue>::decode(alloc, cursor)?,
         })
     }
 
     fn encode(&self, out: &mut Vec<u8>) -> Result<(), AllocError> {
-        self.request_header.encode(out)?;
         self.nodes_to_write.encode(out)?;
         Ok(())
     }
@@ -90,7 +87,6 @@ impl Wire for WriteRequest {
 #[tactic(auto, unfolding(crate::specs::Writing::write_request_reading))]
 impl Walk for WriteRequest {
     fn walk(cursor: &mut Cursor<'_>) -> Result<(), TakeFault> {
-        RequestHeader::skip(cursor)?;
         Array::<WriteValue>::skip(cursor)?;
         Ok(())
     }

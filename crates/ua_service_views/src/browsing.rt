@@ -3,8 +3,6 @@
 ghost use Rattle.std.specs.Prelude.{◌≡◌, IfOk};
 ghost use Rattle.ua_service_messages.specs.Browsing.{browse_description_reading, browse_request_reading, browse_next_request_reading};
 
-use crate::headers::RequestHeaderView;
-use crate::requests::RequestView;
 use std::alloc::{AllocError, Global};
 use std::marker::Model;
 use ua_binary::{Cursor, TakeFault};
@@ -77,7 +75,6 @@ impl<'a> View<'a> for BrowseDescriptionView<'a> {
 /// A [`ua_service_messages::BrowseRequest`] in the bytes that it stands in.
 #[derive(Debug, Drop)]
 pub struct BrowseRequestView<'a> {
-    pub request_header: RequestHeaderView<'a>,
     /// The view that bounds what is seen, null for the whole address space.
     pub view_id: NodeIdView<'a>,
     /// The version of the view by its time, or 0.
@@ -94,7 +91,7 @@ impl<'a> Model for BrowseRequestView<'a> {
 
     ghost Value = { BrowseRequest };
 
-    ghost view = { λ v. record { request_header = v.request_header; view_id = v.view_id; view_timestamp = v.view_timestamp; view_version = v.view_version; requested_max_references_per_node = v.requested_max_references_per_node; nodes_to_browse = v.nodes_to_browse } };
+    ghost view = { λ v. record { view_id = v.view_id; view_timestamp = v.view_timestamp; view_version = v.view_version; requested_max_references_per_node = v.requested_max_references_per_node; nodes_to_browse = v.nodes_to_browse } };
 }
 
 impl<'a> Readable for BrowseRequestView<'a> {
@@ -104,25 +101,7 @@ impl<'a> Readable for BrowseRequestView<'a> {
 #[tactic(auto, unfolding(ua_service_messages::specs::Browsing::browse_request_reading))]
 impl<'a> View<'a> for BrowseRequestView<'a> {
     fn look(cursor: &mut Cursor<'a>) -> Result<BrowseRequestView<'a>, TakeFault> {
-        let header = RequestHeaderView::look(cursor)?;
-        Self::behind(header, cursor)
-    }
-
-    fn pass(cursor: &mut Cursor<'a>) -> Result<(), TakeFault> {
-        BrowseRequest::skip(cursor)
-    }
-}
-
-#[tactic(auto, unfolding(ua_service_messages::specs::Browsing::browse_request_reading))]
-impl<'a> RequestView<'a> for BrowseRequestView<'a> {
-    ghost header_of = { λ request. request.request_header };
-
-    fn behind(
-        header: RequestHeaderView<'a>,
-        cursor: &mut Cursor<'a>,
-    ) -> Result<BrowseRequestView<'a>, TakeFault> {
         Ok(BrowseRequestView {
-            request_header: header,
             view_id: NodeIdView::look(cursor)?,
             view_timestamp: Moment::look(cursor)?,
             view_version: u32::look(cursor)?,
@@ -131,15 +110,14 @@ impl<'a> RequestView<'a> for BrowseRequestView<'a> {
         })
     }
 
-    fn header(&self) -> &RequestHeaderView<'a> {
-        &self.request_header
+    fn pass(cursor: &mut Cursor<'a>) -> Result<(), TakeFault> {
+        BrowseRequest::skip(cursor)
     }
 }
 
 /// A [`ua_service_messages::BrowseNextRequest`] in the bytes that it stands in.
 #[derive(Debug, Drop)]
 pub struct BrowseNextRequestView<'a> {
-    pub request_header: RequestHeaderView<'a>,
     /// Whether the points are only given up.
     pub release_continuation_points: bool,
     pub continuation_points: ArrayView<'a, ByteStringView<'a>>,
@@ -150,7 +128,7 @@ impl<'a> Model for BrowseNextRequestView<'a> {
 
     ghost Value = { BrowseNextRequest };
 
-    ghost view = { λ v. record { request_header = v.request_header; release_continuation_points = v.release_continuation_points; continuation_points = v.continuation_points } };
+    ghost view = { λ v. record { release_continuation_points = v.release_continuation_points; continuation_points = v.continuation_points } };
 }
 
 impl<'a> Readable for BrowseNextRequestView<'a> {
@@ -160,31 +138,13 @@ impl<'a> Readable for BrowseNextRequestView<'a> {
 #[tactic(auto, unfolding(ua_service_messages::specs::Browsing::browse_next_request_reading))]
 impl<'a> View<'a> for BrowseNextRequestView<'a> {
     fn look(cursor: &mut Cursor<'a>) -> Result<BrowseNextRequestView<'a>, TakeFault> {
-        let header = RequestHeaderView::look(cursor)?;
-        Self::behind(header, cursor)
-    }
-
-    fn pass(cursor: &mut Cursor<'a>) -> Result<(), TakeFault> {
-        BrowseNextRequest::skip(cursor)
-    }
-}
-
-#[tactic(auto, unfolding(ua_service_messages::specs::Browsing::browse_next_request_reading))]
-impl<'a> RequestView<'a> for BrowseNextRequestView<'a> {
-    ghost header_of = { λ request. request.request_header };
-
-    fn behind(
-        header: RequestHeaderView<'a>,
-        cursor: &mut Cursor<'a>,
-    ) -> Result<BrowseNextRequestView<'a>, TakeFault> {
         Ok(BrowseNextRequestView {
-            request_header: header,
             release_continuation_points: bool::look(cursor)?,
             continuation_points: ArrayView::<ByteStringView<'a>>::look(cursor)?,
         })
     }
 
-    fn header(&self) -> &RequestHeaderView<'a> {
-        &self.request_header
+    fn pass(cursor: &mut Cursor<'a>) -> Result<(), TakeFault> {
+        BrowseNextRequest::skip(cursor)
     }
 }

@@ -3,8 +3,6 @@
 ghost use Rattle.std.specs.Prelude.{◌≡◌, IfOk};
 ghost use Rattle.ua_service_messages.specs.History.{read_raw_modified_details_reading, history_read_value_id_reading, history_read_request_reading};
 
-use crate::headers::RequestHeaderView;
-use crate::requests::RequestView;
 use std::alloc::{AllocError, Global};
 use std::marker::Model;
 use ua_binary::{Cursor, TakeFault};
@@ -118,7 +116,6 @@ impl<'a> View<'a> for HistoryReadValueIdView<'a> {
 /// A [`ua_service_messages::HistoryReadRequest`] in the bytes that it stands in.
 #[derive(Debug, Drop)]
 pub struct HistoryReadRequestView<'a> {
-    pub request_header: RequestHeaderView<'a>,
     /// What of the history is wanted: [`ua_service_messages::ReadRawModifiedDetails`] for raw values.
     pub history_read_details: ExtensionObjectView<'a>,
     pub timestamps_to_return: TimestampsToReturn,
@@ -132,7 +129,7 @@ impl<'a> Model for HistoryReadRequestView<'a> {
 
     ghost Value = { HistoryReadRequest };
 
-    ghost view = { λ v. record { request_header = v.request_header; history_read_details = v.history_read_details; timestamps_to_return = v.timestamps_to_return; release_continuation_points = v.release_continuation_points; nodes_to_read = v.nodes_to_read } };
+    ghost view = { λ v. record { history_read_details = v.history_read_details; timestamps_to_return = v.timestamps_to_return; release_continuation_points = v.release_continuation_points; nodes_to_read = v.nodes_to_read } };
 }
 
 impl<'a> Readable for HistoryReadRequestView<'a> {
@@ -142,25 +139,7 @@ impl<'a> Readable for HistoryReadRequestView<'a> {
 #[tactic(auto, unfolding(ua_service_messages::specs::History::history_read_request_reading))]
 impl<'a> View<'a> for HistoryReadRequestView<'a> {
     fn look(cursor: &mut Cursor<'a>) -> Result<HistoryReadRequestView<'a>, TakeFault> {
-        let header = RequestHeaderView::look(cursor)?;
-        Self::behind(header, cursor)
-    }
-
-    fn pass(cursor: &mut Cursor<'a>) -> Result<(), TakeFault> {
-        HistoryReadRequest::skip(cursor)
-    }
-}
-
-#[tactic(auto, unfolding(ua_service_messages::specs::History::history_read_request_reading))]
-impl<'a> RequestView<'a> for HistoryReadRequestView<'a> {
-    ghost header_of = { λ request. request.request_header };
-
-    fn behind(
-        header: RequestHeaderView<'a>,
-        cursor: &mut Cursor<'a>,
-    ) -> Result<HistoryReadRequestView<'a>, TakeFault> {
         Ok(HistoryReadRequestView {
-            request_header: header,
             history_read_details: ExtensionObjectView::look(cursor)?,
             timestamps_to_return: look_enumeration::<TimestampsToReturn>(cursor)?,
             release_continuation_points: bool::look(cursor)?,
@@ -168,7 +147,7 @@ impl<'a> RequestView<'a> for HistoryReadRequestView<'a> {
         })
     }
 
-    fn header(&self) -> &RequestHeaderView<'a> {
-        &self.request_header
+    fn pass(cursor: &mut Cursor<'a>) -> Result<(), TakeFault> {
+        HistoryReadRequest::skip(cursor)
     }
 }

@@ -1,9 +1,8 @@
 //! Views of the requests of services (IEC 62541-4), which are looked at in the bodies in which they came.
 //!
-//! [`message_view`] gives the view of a body's message, as [`ua_messages::received`] gives the message, [`header_view`] that of
-//! its header, behind which the request can be looked at ([`RequestView`]), and
-//! [`structure_view`] that of what an ExtensionObject holds. Each view has
-//! the fields of the structure of its name, and contracts see it as that structure, by the same *reading*; a list of it
+//! [`header_view`] gives the view of a request's header, [`fields_view`] that of the fields behind it, as
+//! [`ua_messages::received_fields`] gives the fields, and [`structure_view`] that of what an ExtensionObject holds. Each view
+//! has the fields of the structure of its name, and contracts see it as that structure, by the same *reading*; a list of it
 //! gives its elements one by one ([`ua_views::ArrayView`]). No view takes memory, and `to_value` makes a copy to keep.
 //!
 //! Nothing here decides anything: the readings are those of `ua_messages` and `ua_service_messages`.
@@ -14,7 +13,6 @@
 mod browsing;
 mod headers;
 mod history;
-mod messages;
 mod reading;
 mod requests;
 mod structures;
@@ -23,8 +21,7 @@ mod writing;
 pub use browsing::{BrowseDescriptionView, BrowseNextRequestView, BrowseRequestView};
 pub use headers::RequestHeaderView;
 pub use history::{HistoryReadRequestView, HistoryReadValueIdView, ReadRawModifiedDetailsView};
-pub use messages::message_view;
 pub use reading::{ReadRequestView, ReadValueIdView};
-pub use requests::{Headed, RequestView, header_view};
+pub use requests::{Headed, fields_view, header_view};
 pub use structures::structure_view;
 pub use writing::{WriteRequestView, WriteValueView};

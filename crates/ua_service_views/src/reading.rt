@@ -4,8 +4,6 @@ ghost use Rattle.std.specs.Prelude.{◌≡◌, IfOk};
 ghost use Rattle.ua_messages.specs.ReadValueIds.{read_value_id_reading};
 ghost use Rattle.ua_service_messages.specs.Reading.{read_request_reading};
 
-use crate::headers::RequestHeaderView;
-use crate::requests::RequestView;
 use std::alloc::{AllocError, Global};
 use std::marker::Model;
 use ua_binary::{Cursor, TakeFault};
@@ -77,7 +75,6 @@ impl<'a> View<'a> for ReadValueIdView<'a> {
 /// A [`ua_service_messages::ReadRequest`] in the bytes that it stands in.
 #[derive(Debug, Drop)]
 pub struct ReadRequestView<'a> {
-    pub request_header: RequestHeaderView<'a>,
     /// How old a value may be, in milliseconds.
     pub max_age: Duration,
     pub timestamps_to_return: TimestampsToReturn,
@@ -89,7 +86,7 @@ impl<'a> Model for ReadRequestView<'a> {
 
     ghost Value = { ReadRequest };
 
-    ghost view = { λ v. record { request_header = v.request_header; max_age = v.max_age; timestamps_to_return = v.timestamps_to_return; nodes_to_read = v.nodes_to_read } };
+    ghost view = { λ v. record { max_age = v.max_age; timestamps_to_return = v.timestamps_to_return; nodes_to_read = v.nodes_to_read } };
 }
 
 impl<'a> Readable for ReadRequestView<'a> {
@@ -99,32 +96,14 @@ impl<'a> Readable for ReadRequestView<'a> {
 #[tactic(auto, unfolding(ua_service_messages::specs::Reading::read_request_reading))]
 impl<'a> View<'a> for ReadRequestView<'a> {
     fn look(cursor: &mut Cursor<'a>) -> Result<ReadRequestView<'a>, TakeFault> {
-        let header = RequestHeaderView::look(cursor)?;
-        Self::behind(header, cursor)
-    }
-
-    fn pass(cursor: &mut Cursor<'a>) -> Result<(), TakeFault> {
-        ReadRequest::skip(cursor)
-    }
-}
-
-#[tactic(auto, unfolding(ua_service_messages::specs::Reading::read_request_reading))]
-impl<'a> RequestView<'a> for ReadRequestView<'a> {
-    ghost header_of = { λ request. request.request_header };
-
-    fn behind(
-        header: RequestHeaderView<'a>,
-        cursor: &mut Cursor<'a>,
-    ) -> Result<ReadRequestView<'a>, TakeFault> {
         Ok(ReadRequestView {
-            request_header: header,
             max_age: Duration::look(cursor)?,
             timestamps_to_return: look_enumeration::<TimestampsToReturn>(cursor)?,
             nodes_to_read: ArrayView::<ReadValueIdView<'a>>::look(cursor)?,
         })
     }
 
-    fn header(&self) -> &RequestHeaderView<'a> {
-        &self.request_header
+    fn pass(cursor: &mut Cursor<'a>) -> Result<(), TakeFault> {
+        ReadRequest::skip(cursor)
     }
 }

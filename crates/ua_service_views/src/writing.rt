@@ -3,8 +3,6 @@
 ghost use Rattle.std.specs.Prelude.{◌≡◌, IfOk};
 ghost use Rattle.ua_service_messages.specs.Writing.{write_value_reading, write_request_reading};
 
-use crate::headers::RequestHeaderView;
-use crate::requests::RequestView;
 use std::alloc::{AllocError, Global};
 use std::marker::Model;
 use ua_binary::{Cursor, TakeFault};
@@ -71,7 +69,6 @@ impl<'a> View<'a> for WriteValueView<'a> {
 /// A [`ua_service_messages::WriteRequest`] in the bytes that it stands in.
 #[derive(Debug, Drop)]
 pub struct WriteRequestView<'a> {
-    pub request_header: RequestHeaderView<'a>,
     pub nodes_to_write: ArrayView<'a, WriteValueView<'a>>,
 }
 
@@ -80,7 +77,7 @@ impl<'a> Model for WriteRequestView<'a> {
 
     ghost Value = { WriteRequest };
 
-    ghost view = { λ v. record { request_header = v.request_header; nodes_to_write = v.nodes_to_write } };
+    ghost view = { λ v. record { nodes_to_write = v.nodes_to_write } };
 }
 
 impl<'a> Readable for WriteRequestView<'a> {
@@ -90,30 +87,12 @@ impl<'a> Readable for WriteRequestView<'a> {
 #[tactic(auto, unfolding(ua_service_messages::specs::Writing::write_request_reading))]
 impl<'a> View<'a> for WriteRequestView<'a> {
     fn look(cursor: &mut Cursor<'a>) -> Result<WriteRequestView<'a>, TakeFault> {
-        let header = RequestHeaderView::look(cursor)?;
-        Self::behind(header, cursor)
-    }
-
-    fn pass(cursor: &mut Cursor<'a>) -> Result<(), TakeFault> {
-        WriteRequest::skip(cursor)
-    }
-}
-
-#[tactic(auto, unfolding(ua_service_messages::specs::Writing::write_request_reading))]
-impl<'a> RequestView<'a> for WriteRequestView<'a> {
-    ghost header_of = { λ request. request.request_header };
-
-    fn behind(
-        header: RequestHeaderView<'a>,
-        cursor: &mut Cursor<'a>,
-    ) -> Result<WriteRequestView<'a>, TakeFault> {
         Ok(WriteRequestView {
-            request_header: header,
             nodes_to_write: ArrayView::<WriteValueView<'a>>::look(cursor)?,
         })
     }
 
-    fn header(&self) -> &RequestHeaderView<'a> {
-        &self.request_header
+    fn pass(cursor: &mut Cursor<'a>) -> Result<(), TakeFault> {
+        WriteRequest::skip(cursor)
     }
 }

@@ -3,10 +3,9 @@ use Rattle.std.proofs.Common.{◌≡◌, ◌≢◌, ℕ, Bool, true, false, not,
 use Rattle.std.specs.Prelude.{nat_lt}
 use Rattle.ua_types.specs.declared.status.TheConstants.Status as status
 use Rattle.ua_binary.specs.declared.fault.TakeFault.{TakeFault}
-use Rattle.ua_messages.specs.Bodies.{message_id_of, message_of}
+use Rattle.ua_messages.specs.Bodies.{message_id_of}
 use Rattle.ua_messages.specs.GetEndpoints.{get_endpoints_request_reading}
-use Rattle.ua_messages.specs.Headers.{request_header_reading}
-use Rattle.ua_messages.specs.declared.headers.RequestHeader.{RequestHeader}
+use Rattle.ua_messages.specs.Requests.{Headed, headed_of, fields_of}
 use Rattle.ua_messages.specs.declared.get_endpoints.GetEndpointsRequest.{GetEndpointsRequest}
 use Rattle.server_messages.specs.declared.request.Request.{Request}
 use Rattle.server_messages.specs.declared.setting.Setting.{Setting}
@@ -106,26 +105,26 @@ module _ (Such : ℕ → Type 0) where
   either true x y p q = p
   either false x y p q = q
 
-  by_fields : {A : Type 0} (meaning : Setting → Caller → A → Services → Serving) (setting : Setting) (caller : Caller) (state : Services) → OwesOnly Such state → Such caller.conn →
-      ((request : A) → ServesOnly Such (meaning setting caller request state)) → (r : Result A TakeFault) → ServesOnly Such (served_by meaning setting caller state r)
-  by_fields meaning setting caller state p q f (Ok request) = f request
-  by_fields meaning setting caller state p q f (Err fault) = record { state = p; replies = (q, tt) }
+  by_fields : {A : Type 0} (meaning : Setting → Caller → NodeId → A → Services → Serving) (setting : Setting) (caller : Caller) (token : NodeId) (state : Services) → OwesOnly Such state → Such caller.conn →
+      ((request : A) → ServesOnly Such (meaning setting caller token request state)) → (r : Result A TakeFault) → ServesOnly Such (served_by meaning setting caller token state r)
+  by_fields meaning setting caller token state p q f (Ok request) = f request
+  by_fields meaning setting caller token state p q f (Err fault) = record { state = p; replies = (q, tt) }
 
-  get_endpoints_only : (setting : Setting) (caller : Caller) (state : Services) → OwesOnly Such state → Such caller.conn → (request : GetEndpointsRequest) → ServesOnly Such (get_endpoints_meaning setting caller request state)
-  get_endpoints_only setting caller state p q request = record { state = p; replies = (q, tt) }
+  get_endpoints_only : (setting : Setting) (caller : Caller) (token : NodeId) (state : Services) → OwesOnly Such state → Such caller.conn → (request : GetEndpointsRequest) → ServesOnly Such (get_endpoints_meaning setting caller token request state)
+  get_endpoints_only setting caller token state p q request = record { state = p; replies = (q, tt) }
 
   taken_only : {A : Type 0} (caller : Caller) (state : Services) (clock : Moment) (occurrences : List Occurrence) (body : A → List ℕ) → OwesOnly Such state → Such caller.conn → (answer : Result A Status) (sessions : SessionsState) → ServesOnly Such (taken state caller clock occurrences body answer sessions)
   taken_only caller state clock occurrences body p q (Ok x) sessions = record { state = p; replies = (q, tt) }
   taken_only caller state clock occurrences body p q (Err code) sessions = record { state = p; replies = (q, tt) }
 
-  create_session_only : (setting : Setting) (caller : Caller) (state : Services) → OwesOnly Such state → Such caller.conn → (request : CreateSessionRequest) → ServesOnly Such (create_session_meaning setting caller request state)
-  create_session_only setting caller state p q request =
+  create_session_only : (setting : Setting) (caller : Caller) (token : NodeId) (state : Services) → OwesOnly Such state → Such caller.conn → (request : CreateSessionRequest) → ServesOnly Such (create_session_meaning setting caller token request state)
+  create_session_only setting caller token state p q request =
       let s = create_of state.sessions caller.conn caller.key in
       taken_only caller state setting.clock (spent_by state.sessions) (create_session_body setting caller) p q s.answer s.state
 
-  activate_session_only : (setting : Setting) (caller : Caller) (state : Services) → OwesOnly Such state → Such caller.conn → (request : ActivateSessionRequest) → ServesOnly Such (activate_session_meaning setting caller request state)
-  activate_session_only setting caller state p q request =
-      let s = activate_of state.sessions request.request_header.authentication_token caller.conn caller.key (is_anonymous request.user_identity_token) in
+  activate_session_only : (setting : Setting) (caller : Caller) (token : NodeId) (state : Services) → OwesOnly Such state → Such caller.conn → (request : ActivateSessionRequest) → ServesOnly Such (activate_session_meaning setting caller token request state)
+  activate_session_only setting caller token state p q request =
+      let s = activate_of state.sessions token caller.conn caller.key (is_anonymous request.user_identity_token) in
       taken_only caller state setting.clock (spent_by state.sessions) (activate_session_body setting caller) p q s.answer s.state
 
   -- ---- calls of the subscriptions
@@ -163,9 +162,9 @@ module _ (Such : ℕ → Type 0) where
       (over_only setting deleting number (with_sessions state sessions) p) (λ after owes. record { state = owes; replies = (q, tt) })
   closed_only setting caller deleting state p q (Err code) sessions = record { state = p; replies = (q, tt) }
 
-  close_session_only : (setting : Setting) (caller : Caller) (state : Services) → OwesOnly Such state → Such caller.conn → (request : CloseSessionRequest) → ServesOnly Such (close_session_meaning setting caller request state)
-  close_session_only setting caller state p q request =
-      let s = close_of state.sessions request.request_header.authentication_token caller.conn in
+  close_session_only : (setting : Setting) (caller : Caller) (token : NodeId) (state : Services) → OwesOnly Such state → Such caller.conn → (request : CloseSessionRequest) → ServesOnly Such (close_session_meaning setting caller token request state)
+  close_session_only setting caller token state p q request =
+      let s = close_of state.sessions token caller.conn in
       closed_only setting caller request.delete_subscriptions state p q s.answer s.state
 
   if_found_only : (serve : ℕ → Services → Serving) (setting : Setting) (caller : Caller) (state : Services) → OwesOnly Such state → Such caller.conn → ((number : ℕ) (after : Services) → OwesOnly Such after → ServesOnly Such (serve number after)) → (answer : Result ℕ Status) (sessions : SessionsState) →
@@ -276,48 +275,48 @@ module _ (Such : ℕ → Type 0) where
   items_called_only setting caller number state done p q (Some before) =
       first_only (with_items state done.items) caller (λ (x : Unit {0}). done.body) (told state.subs (met (world_at setting (with_items state done.items)) number (Items before))) q (items_owes_only Such state.subs done.items setting.clock number before p.0) p.1
 
-  subscriptions_only : (setting : Setting) (caller : Caller) (token : NodeId) (body : List ℕ) (state : Services) (id : ℕ) → OwesOnly Such state → Such caller.conn → ServesOnly Such (picked_of_subscriptions setting caller token body state id)
-  subscriptions_only setting caller token body state id p q =
+  subscriptions_only : (setting : Setting) (caller : Caller) (token : NodeId) (fields : List ℕ) (state : Services) (id : ℕ) → OwesOnly Such state → Such caller.conn → ServesOnly Such (picked_of_subscriptions setting caller token fields state id)
+  subscriptions_only setting caller token fields state id p q =
       let none : ServesOnly Such (faulted state caller status.BAD_SERVICE_UNSUPPORTED setting.clock) = record { state = p; replies = (q, tt) } in
-      either _ _ _ (by_session create_subscription_meaning setting caller token state p q (create_subscription_only setting caller q) (message_of create_subscription_request_reading body))
-      (either _ _ _ (by_session modify_subscription_meaning setting caller token state p q (modify_subscription_only setting caller q) (message_of modify_subscription_request_reading body))
-      (either _ _ _ (by_session set_publishing_mode_meaning setting caller token state p q (set_publishing_mode_only setting caller q) (message_of set_publishing_mode_request_reading body))
-      (either _ _ _ (by_session delete_subscriptions_meaning setting caller token state p q (delete_subscriptions_only setting caller q) (message_of delete_subscriptions_request_reading body))
-      (either _ _ _ (by_session publish_meaning setting caller token state p q (publish_only setting caller q) (message_of publish_request_reading body))
-      (either _ _ _ (by_session republish_meaning setting caller token state p q (republish_only setting caller q) (message_of republish_request_reading body))
+      either _ _ _ (by_session create_subscription_meaning setting caller token state p q (create_subscription_only setting caller q) (fields_of create_subscription_request_reading fields))
+      (either _ _ _ (by_session modify_subscription_meaning setting caller token state p q (modify_subscription_only setting caller q) (fields_of modify_subscription_request_reading fields))
+      (either _ _ _ (by_session set_publishing_mode_meaning setting caller token state p q (set_publishing_mode_only setting caller q) (fields_of set_publishing_mode_request_reading fields))
+      (either _ _ _ (by_session delete_subscriptions_meaning setting caller token state p q (delete_subscriptions_only setting caller q) (fields_of delete_subscriptions_request_reading fields))
+      (either _ _ _ (by_session publish_meaning setting caller token state p q (publish_only setting caller q) (fields_of publish_request_reading fields))
+      (either _ _ _ (by_session republish_meaning setting caller token state p q (republish_only setting caller q) (fields_of republish_request_reading fields))
       none)))))
 
-  items_only : (setting : Setting) (caller : Caller) (token : NodeId) (body : List ℕ) (state : Services) (id : ℕ) → OwesOnly Such state → Such caller.conn → ServesOnly Such (picked_of_items setting caller token body state id)
-  items_only setting caller token body state id p q =
-      either _ _ _ (by_session create_monitored_items_meaning setting caller token state p q (λ session request after owes. items_called_only setting caller request.subscription_id after (items_created setting caller request after) owes q (own_vars session request.subscription_id after)) (message_of create_monitored_items_request_reading body))
-      (either _ _ _ (by_session modify_monitored_items_meaning setting caller token state p q (λ session request after owes. items_called_only setting caller request.subscription_id after (items_modified setting caller request after) owes q (own_vars session request.subscription_id after)) (message_of modify_monitored_items_request_reading body))
-      (either _ _ _ (by_session set_monitoring_mode_meaning setting caller token state p q (λ session request after owes. items_called_only setting caller request.subscription_id after (items_moded setting caller request after) owes q (own_vars session request.subscription_id after)) (message_of set_monitoring_mode_request_reading body))
-      (either _ _ _ (by_session set_triggering_meaning setting caller token state p q (λ session request after owes. items_called_only setting caller request.subscription_id after (items_linked setting caller request after) owes q (own_vars session request.subscription_id after)) (message_of set_triggering_request_reading body))
-      (either _ _ _ (by_session delete_monitored_items_meaning setting caller token state p q (λ session request after owes. items_called_only setting caller request.subscription_id after (items_deleted setting caller request after) owes q (own_vars session request.subscription_id after)) (message_of delete_monitored_items_request_reading body))
-      (subscriptions_only setting caller token body state id p q)))))
+  items_only : (setting : Setting) (caller : Caller) (token : NodeId) (fields : List ℕ) (state : Services) (id : ℕ) → OwesOnly Such state → Such caller.conn → ServesOnly Such (picked_of_items setting caller token fields state id)
+  items_only setting caller token fields state id p q =
+      either _ _ _ (by_session create_monitored_items_meaning setting caller token state p q (λ session request after owes. items_called_only setting caller request.subscription_id after (items_created setting caller request after) owes q (own_vars session request.subscription_id after)) (fields_of create_monitored_items_request_reading fields))
+      (either _ _ _ (by_session modify_monitored_items_meaning setting caller token state p q (λ session request after owes. items_called_only setting caller request.subscription_id after (items_modified setting caller request after) owes q (own_vars session request.subscription_id after)) (fields_of modify_monitored_items_request_reading fields))
+      (either _ _ _ (by_session set_monitoring_mode_meaning setting caller token state p q (λ session request after owes. items_called_only setting caller request.subscription_id after (items_moded setting caller request after) owes q (own_vars session request.subscription_id after)) (fields_of set_monitoring_mode_request_reading fields))
+      (either _ _ _ (by_session set_triggering_meaning setting caller token state p q (λ session request after owes. items_called_only setting caller request.subscription_id after (items_linked setting caller request after) owes q (own_vars session request.subscription_id after)) (fields_of set_triggering_request_reading fields))
+      (either _ _ _ (by_session delete_monitored_items_meaning setting caller token state p q (λ session request after owes. items_called_only setting caller request.subscription_id after (items_deleted setting caller request after) owes q (own_vars session request.subscription_id after)) (fields_of delete_monitored_items_request_reading fields))
+      (subscriptions_only setting caller token fields state id p q)))))
 
-  picked_only : (setting : Setting) (caller : Caller) (token : NodeId) (body : List ℕ) (state : Services) (id : ℕ) → OwesOnly Such state → Such caller.conn → ServesOnly Such (picked setting caller token body state id)
-  picked_only setting caller token body state id p q =
-      either _ _ _ (by_fields get_endpoints_meaning setting caller state p q (get_endpoints_only setting caller state p q) (message_of get_endpoints_request_reading body))
-      (either _ _ _ (by_fields create_session_meaning setting caller state p q (create_session_only setting caller state p q) (message_of create_session_request_reading body))
-      (either _ _ _ (by_fields activate_session_meaning setting caller state p q (activate_session_only setting caller state p q) (message_of activate_session_request_reading body))
-      (either _ _ _ (by_fields close_session_meaning setting caller state p q (close_session_only setting caller state p q) (message_of close_session_request_reading body))
-      (either _ _ _ (by_session read_meaning setting caller token state p q (read_only setting caller q) (message_of read_request_reading body))
-      (either _ _ _ (by_session write_meaning setting caller token state p q (write_only setting caller q) (message_of write_request_reading body))
-      (either _ _ _ (by_session browse_meaning setting caller token state p q (browse_only setting caller q) (message_of browse_request_reading body))
-      (either _ _ _ (by_session browse_next_meaning setting caller token state p q (browse_next_only setting caller q) (message_of browse_next_request_reading body))
-      (either _ _ _ (by_session history_read_meaning setting caller token state p q (history_read_only setting caller q) (message_of history_read_request_reading body))
-      (items_only setting caller token body state id p q)))))))))
+  picked_only : (setting : Setting) (caller : Caller) (token : NodeId) (fields : List ℕ) (state : Services) (id : ℕ) → OwesOnly Such state → Such caller.conn → ServesOnly Such (picked setting caller token fields state id)
+  picked_only setting caller token fields state id p q =
+      either _ _ _ (by_fields get_endpoints_meaning setting caller token state p q (get_endpoints_only setting caller token state p q) (fields_of get_endpoints_request_reading fields))
+      (either _ _ _ (by_fields create_session_meaning setting caller token state p q (create_session_only setting caller token state p q) (fields_of create_session_request_reading fields))
+      (either _ _ _ (by_fields activate_session_meaning setting caller token state p q (activate_session_only setting caller token state p q) (fields_of activate_session_request_reading fields))
+      (either _ _ _ (by_fields close_session_meaning setting caller token state p q (close_session_only setting caller token state p q) (fields_of close_session_request_reading fields))
+      (either _ _ _ (by_session read_meaning setting caller token state p q (read_only setting caller q) (fields_of read_request_reading fields))
+      (either _ _ _ (by_session write_meaning setting caller token state p q (write_only setting caller q) (fields_of write_request_reading fields))
+      (either _ _ _ (by_session browse_meaning setting caller token state p q (browse_only setting caller q) (fields_of browse_request_reading fields))
+      (either _ _ _ (by_session browse_next_meaning setting caller token state p q (browse_next_only setting caller q) (fields_of browse_next_request_reading fields))
+      (either _ _ _ (by_session history_read_meaning setting caller token state p q (history_read_only setting caller q) (fields_of history_read_request_reading fields))
+      (items_only setting caller token fields state id p q)))))))))
 
-  by_header : (setting : Setting) (request : Request) (state : Services) (id : Result ℕ TakeFault) (header : Result RequestHeader TakeFault) → OwesOnly Such state → Such request.conn →
-      ServesOnly Such (serving_by setting request state id header)
-  by_header setting request state (Ok id) (Ok header) p q = picked_only setting (call_of request header.request_handle) header.authentication_token request.body state id p q
+  by_header : (setting : Setting) (request : Request) (state : Services) (id : Result ℕ TakeFault) (headed : Result Headed TakeFault) → OwesOnly Such state → Such request.conn →
+      ServesOnly Such (serving_by setting request state id headed)
+  by_header setting request state (Ok id) (Ok headed) p q = picked_only setting (call_of request headed.header.request_handle) headed.header.authentication_token headed.fields state id p q
   by_header setting request state (Ok id) (Err fault) p q = record { state = p; replies = (q, tt) }
-  by_header setting request state (Err fault) header p q = record { state = p; replies = (q, tt) }
+  by_header setting request state (Err fault) headed p q = record { state = p; replies = (q, tt) }
 
   pub serving_only : (setting : Setting) (request : Request) (state : Services) → OwesOnly Such state → Such request.conn → ServesOnly Such (serving_of setting request state)
   unfolding serving_of
-  serving_only setting request state p q = by_header setting request state (message_id_of request.body) (message_of request_header_reading request.body) p q
+  serving_only setting request state p q = by_header setting request state (message_id_of request.body) (headed_of request.body) p q
 
   pub ticking_only : (setting : Setting) (state : Services) → OwesOnly Such state → ServesOnly Such (ticking_of setting state)
   ticking_only setting state p =

@@ -4,6 +4,7 @@ use Rattle.ua_types.specs.declared.extension_object.ExtensionObject.{ExtensionOb
 use Rattle.ua_types.specs.declared.extension_object.ExtensionObjectBody.{ExtensionObjectBody}
 use Rattle.ua_types.specs.declared.extension_object.ExtensionObjectBody.TheVariants.{Absent}
 use Rattle.ua_types.specs.declared.moment.Moment.{Moment}
+use Rattle.ua_types.specs.declared.node_id.NodeId.{NodeId}
 use Rattle.ua_messages.specs.Bodies.{body_encoding}
 use Rattle.ua_messages.specs.Headers.{plain_header}
 use Rattle.ua_messages.specs.Structures.{structure_of}
@@ -42,8 +43,8 @@ abbrev pub activate_session_body : Setting → Caller → List ℕ → List ℕ
 activate_session_body setting caller nonce =
     body_encoding activate_session_response_encoding ACTIVATE_SESSION_RESPONSE (activate_session_response setting.clock caller.handle nonce)
 
--- the session that the request's header names belongs to the connection that the request came by
-abbrev pub activate_session_meaning : Setting → Caller → ActivateSessionRequest → Services → Serving
-activate_session_meaning setting caller request state =
+-- the session that the token in the request's header names belongs to the connection that the request came by
+abbrev pub activate_session_meaning : Setting → Caller → NodeId → ActivateSessionRequest → Services → Serving
+activate_session_meaning setting caller token request state =
     stepped state caller setting.clock (spent_by state.sessions) (activate_session_body setting caller)
-    (activate_of state.sessions request.request_header.authentication_token caller.conn caller.key (is_anonymous request.user_identity_token))
+    (activate_of state.sessions token caller.conn caller.key (is_anonymous request.user_identity_token))

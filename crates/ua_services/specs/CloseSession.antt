@@ -1,6 +1,7 @@
 -- The service CloseSession.
 use Rattle.std.specs.Prelude.{ℕ, Bool, List, Result, Ok, Err}
 use Rattle.ua_types.specs.Answers.{Step}
+use Rattle.ua_types.specs.declared.node_id.NodeId.{NodeId}
 use Rattle.ua_types.specs.declared.status.Status.{Status}
 use Rattle.ua_messages.specs.Bodies.{body_encoding}
 use Rattle.ua_messages.specs.Headers.{plain_header}
@@ -28,7 +29,7 @@ closed_by setting caller deleting state (Err code) sessions = faulted (with_sess
 abbrev pub closed : Setting → Caller → Bool → Services → Step ℕ Status SessionsState → Serving
 closed setting caller deleting state step = closed_by setting caller deleting state step.answer step.state
 
--- the session that the request's header names is no more; its subscriptions are deleted, or left to their lifetime
-abbrev pub close_session_meaning : Setting → Caller → CloseSessionRequest → Services → Serving
-close_session_meaning setting caller request state =
-    closed setting caller request.delete_subscriptions state (close_of state.sessions request.request_header.authentication_token caller.conn)
+-- the session that the token in the request's header names is no more; its subscriptions are deleted, or left to their lifetime
+abbrev pub close_session_meaning : Setting → Caller → NodeId → CloseSessionRequest → Services → Serving
+close_session_meaning setting caller token request state =
+    closed setting caller request.delete_subscriptions state (close_of state.sessions token caller.conn)

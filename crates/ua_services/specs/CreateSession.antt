@@ -2,6 +2,7 @@
 use Rattle.std.specs.Prelude.{ℕ, List, [], ◌∷◌, Some, None}
 use Rattle.ua_types.specs.Configuration.{Configuration}
 use Rattle.ua_types.specs.declared.moment.Moment.{Moment}
+use Rattle.ua_types.specs.declared.node_id.NodeId.{NodeId}
 use Rattle.ua_messages.specs.Bodies.{body_encoding}
 use Rattle.ua_messages.specs.Headers.{plain_header}
 use Rattle.ua_messages.specs.declared.type_ids.TheConstants.{CREATE_SESSION_RESPONSE}
@@ -38,6 +39,6 @@ create_session_body setting caller session =
     body_encoding create_session_response_encoding CREATE_SESSION_RESPONSE (create_session_response setting.config setting.clock caller.handle session)
 
 -- a session for the client of the connection that the request came by
-abbrev pub create_session_meaning : Setting → Caller → CreateSessionRequest → Services → Serving
-create_session_meaning setting caller request state =
+abbrev pub create_session_meaning : Setting → Caller → NodeId → CreateSessionRequest → Services → Serving
+create_session_meaning setting caller token request state =
     stepped state caller setting.clock (spent_by state.sessions) (create_session_body setting caller) (create_of state.sessions caller.conn caller.key)

@@ -4,10 +4,9 @@ use Rattle.std.specs.Option.{is_some}
 use Rattle.ua_types.specs.declared.node_id.NodeId.{NodeId}
 use Rattle.ua_types.specs.declared.status.TheConstants.Status as status
 use Rattle.ua_binary.specs.declared.fault.TakeFault.{TakeFault}
-use Rattle.ua_messages.specs.Bodies.{message_id_of, message_of}
+use Rattle.ua_messages.specs.Bodies.{message_id_of}
 use Rattle.ua_messages.specs.GetEndpoints.{get_endpoints_request_reading}
-use Rattle.ua_messages.specs.Headers.{request_header_reading}
-use Rattle.ua_messages.specs.declared.headers.RequestHeader.{RequestHeader}
+use Rattle.ua_messages.specs.Requests.{Headed, headed_of, fields_of}
 use Rattle.ua_messages.specs.declared.type_ids.TheConstants.{GET_ENDPOINTS_REQUEST, CREATE_SESSION_REQUEST, ACTIVATE_SESSION_REQUEST, CLOSE_SESSION_REQUEST, READ_REQUEST, WRITE_REQUEST, BROWSE_REQUEST, BROWSE_NEXT_REQUEST, HISTORY_READ_REQUEST, CREATE_MONITORED_ITEMS_REQUEST, MODIFY_MONITORED_ITEMS_REQUEST, SET_MONITORING_MODE_REQUEST, SET_TRIGGERING_REQUEST, DELETE_MONITORED_ITEMS_REQUEST, CREATE_SUBSCRIPTION_REQUEST, MODIFY_SUBSCRIPTION_REQUEST, SET_PUBLISHING_MODE_REQUEST, DELETE_SUBSCRIPTIONS_REQUEST, PUBLISH_REQUEST, REPUBLISH_REQUEST}
 use Rattle.server_messages.specs.declared.request.Request.{Request}
 use Rattle.server_messages.specs.declared.setting.Setting.{Setting}
@@ -55,48 +54,48 @@ use Rattle.ua_services.specs.declared.caller.Caller.{Caller}
 abbrev pub call_of : Request → ℕ → Caller
 call_of request handle = record { conn = request.conn; key = request.key; id = request.id; handle = handle }
 
--- by its type id: what is watched, and what is told of it
+-- by its type id, from the token in its header and the bytes behind that: what is watched, and what is told of it
 abbrev pub picked_of_subscriptions : Setting → Caller → NodeId → List ℕ → Services → ℕ → Serving
-picked_of_subscriptions setting caller token body state id =
-    if id == CREATE_SUBSCRIPTION_REQUEST then served_in_session create_subscription_meaning setting caller token state (message_of create_subscription_request_reading body)
-    else if id == MODIFY_SUBSCRIPTION_REQUEST then served_in_session modify_subscription_meaning setting caller token state (message_of modify_subscription_request_reading body)
-    else if id == SET_PUBLISHING_MODE_REQUEST then served_in_session set_publishing_mode_meaning setting caller token state (message_of set_publishing_mode_request_reading body)
-    else if id == DELETE_SUBSCRIPTIONS_REQUEST then served_in_session delete_subscriptions_meaning setting caller token state (message_of delete_subscriptions_request_reading body)
-    else if id == PUBLISH_REQUEST then served_in_session publish_meaning setting caller token state (message_of publish_request_reading body)
-    else if id == REPUBLISH_REQUEST then served_in_session republish_meaning setting caller token state (message_of republish_request_reading body)
+picked_of_subscriptions setting caller token fields state id =
+    if id == CREATE_SUBSCRIPTION_REQUEST then served_in_session create_subscription_meaning setting caller token state (fields_of create_subscription_request_reading fields)
+    else if id == MODIFY_SUBSCRIPTION_REQUEST then served_in_session modify_subscription_meaning setting caller token state (fields_of modify_subscription_request_reading fields)
+    else if id == SET_PUBLISHING_MODE_REQUEST then served_in_session set_publishing_mode_meaning setting caller token state (fields_of set_publishing_mode_request_reading fields)
+    else if id == DELETE_SUBSCRIPTIONS_REQUEST then served_in_session delete_subscriptions_meaning setting caller token state (fields_of delete_subscriptions_request_reading fields)
+    else if id == PUBLISH_REQUEST then served_in_session publish_meaning setting caller token state (fields_of publish_request_reading fields)
+    else if id == REPUBLISH_REQUEST then served_in_session republish_meaning setting caller token state (fields_of republish_request_reading fields)
     else faulted state caller status.BAD_SERVICE_UNSUPPORTED setting.clock
 
 abbrev pub picked_of_items : Setting → Caller → NodeId → List ℕ → Services → ℕ → Serving
-picked_of_items setting caller token body state id =
-    if id == CREATE_MONITORED_ITEMS_REQUEST then served_in_session create_monitored_items_meaning setting caller token state (message_of create_monitored_items_request_reading body)
-    else if id == MODIFY_MONITORED_ITEMS_REQUEST then served_in_session modify_monitored_items_meaning setting caller token state (message_of modify_monitored_items_request_reading body)
-    else if id == SET_MONITORING_MODE_REQUEST then served_in_session set_monitoring_mode_meaning setting caller token state (message_of set_monitoring_mode_request_reading body)
-    else if id == SET_TRIGGERING_REQUEST then served_in_session set_triggering_meaning setting caller token state (message_of set_triggering_request_reading body)
-    else if id == DELETE_MONITORED_ITEMS_REQUEST then served_in_session delete_monitored_items_meaning setting caller token state (message_of delete_monitored_items_request_reading body)
-    else picked_of_subscriptions setting caller token body state id
+picked_of_items setting caller token fields state id =
+    if id == CREATE_MONITORED_ITEMS_REQUEST then served_in_session create_monitored_items_meaning setting caller token state (fields_of create_monitored_items_request_reading fields)
+    else if id == MODIFY_MONITORED_ITEMS_REQUEST then served_in_session modify_monitored_items_meaning setting caller token state (fields_of modify_monitored_items_request_reading fields)
+    else if id == SET_MONITORING_MODE_REQUEST then served_in_session set_monitoring_mode_meaning setting caller token state (fields_of set_monitoring_mode_request_reading fields)
+    else if id == SET_TRIGGERING_REQUEST then served_in_session set_triggering_meaning setting caller token state (fields_of set_triggering_request_reading fields)
+    else if id == DELETE_MONITORED_ITEMS_REQUEST then served_in_session delete_monitored_items_meaning setting caller token state (fields_of delete_monitored_items_request_reading fields)
+    else picked_of_subscriptions setting caller token fields state id
 
 -- all that is served
 abbrev pub picked : Setting → Caller → NodeId → List ℕ → Services → ℕ → Serving
-picked setting caller token body state id =
-    if id == GET_ENDPOINTS_REQUEST then served_by get_endpoints_meaning setting caller state (message_of get_endpoints_request_reading body)
-    else if id == CREATE_SESSION_REQUEST then served_by create_session_meaning setting caller state (message_of create_session_request_reading body)
-    else if id == ACTIVATE_SESSION_REQUEST then served_by activate_session_meaning setting caller state (message_of activate_session_request_reading body)
-    else if id == CLOSE_SESSION_REQUEST then served_by close_session_meaning setting caller state (message_of close_session_request_reading body)
-    else if id == READ_REQUEST then served_in_session read_meaning setting caller token state (message_of read_request_reading body)
-    else if id == WRITE_REQUEST then served_in_session write_meaning setting caller token state (message_of write_request_reading body)
-    else if id == BROWSE_REQUEST then served_in_session browse_meaning setting caller token state (message_of browse_request_reading body)
-    else if id == BROWSE_NEXT_REQUEST then served_in_session browse_next_meaning setting caller token state (message_of browse_next_request_reading body)
-    else if id == HISTORY_READ_REQUEST then served_in_session history_read_meaning setting caller token state (message_of history_read_request_reading body)
-    else picked_of_items setting caller token body state id
+picked setting caller token fields state id =
+    if id == GET_ENDPOINTS_REQUEST then served_by get_endpoints_meaning setting caller token state (fields_of get_endpoints_request_reading fields)
+    else if id == CREATE_SESSION_REQUEST then served_by create_session_meaning setting caller token state (fields_of create_session_request_reading fields)
+    else if id == ACTIVATE_SESSION_REQUEST then served_by activate_session_meaning setting caller token state (fields_of activate_session_request_reading fields)
+    else if id == CLOSE_SESSION_REQUEST then served_by close_session_meaning setting caller token state (fields_of close_session_request_reading fields)
+    else if id == READ_REQUEST then served_in_session read_meaning setting caller token state (fields_of read_request_reading fields)
+    else if id == WRITE_REQUEST then served_in_session write_meaning setting caller token state (fields_of write_request_reading fields)
+    else if id == BROWSE_REQUEST then served_in_session browse_meaning setting caller token state (fields_of browse_request_reading fields)
+    else if id == BROWSE_NEXT_REQUEST then served_in_session browse_next_meaning setting caller token state (fields_of browse_next_request_reading fields)
+    else if id == HISTORY_READ_REQUEST then served_in_session history_read_meaning setting caller token state (fields_of history_read_request_reading fields)
+    else picked_of_items setting caller token fields state id
 
-abbrev pub serving_by : Setting → Request → Services → Result ℕ TakeFault → Result RequestHeader TakeFault → Serving
-serving_by setting request state (Ok id) (Ok header) = picked setting (call_of request header.request_handle) header.authentication_token request.body state id
-serving_by setting request state id header = faulted state (call_of request 0) status.BAD_DECODING_ERROR setting.clock
+abbrev pub serving_by : Setting → Request → Services → Result ℕ TakeFault → Result Headed TakeFault → Serving
+serving_by setting request state (Ok id) (Ok headed) = picked setting (call_of request headed.header.request_handle) headed.header.authentication_token headed.fields state id
+serving_by setting request state id headed = faulted state (call_of request 0) status.BAD_DECODING_ERROR setting.clock
 
 -- The order in which a request is judged: its type id and header, whether the type is served, its fields, the service
 unfoldable pub serving_of : Setting → Request → Services → Serving
 serving_of setting request state =
-    serving_by setting request state (message_id_of request.body) (message_of request_header_reading request.body)
+    serving_by setting request state (message_id_of request.body) (headed_of request.body)
 
 -- what is due as time passes: sessions end that weren't used, by rising number, and leave their subscriptions to their
 -- lifetime; then the timers of subscriptions come, the best first

@@ -2,6 +2,7 @@
 use Rattle.std.specs.Prelude.{◌≡◌, ⊤, ℕ, Bool, true, false, not, List, [], ◌∷◌, Result, Ok, Err}
 use Rattle.std.specs.List.{list_any}
 use Rattle.ua_types.specs.declared.moment.Moment.{Moment}
+use Rattle.ua_types.specs.declared.node_id.NodeId.{NodeId}
 use Rattle.ua_types.specs.declared.refusal.Refusal.{Refusal}
 use Rattle.ua_types.specs.declared.refusal.Refusal.TheVariants as refusals
 use Rattle.ua_types.specs.declared.status.Status.{Status}
@@ -42,10 +43,10 @@ answered state caller body = record { state = state; replies = reply_of caller b
 abbrev pub faulted : Services → Caller → Status → Moment → Serving
 faulted state caller code clock = record (answered state caller (fault_body caller.handle code clock)) { is_refused = true }
 
--- every service: a request whose fields can't be read is answered by a fault
-abbrev pub served_by : {A : Type 0} → (Setting → Caller → A → Services → Serving) → Setting → Caller → Services → Result A TakeFault → Serving
-served_by meaning setting caller state (Ok request) = meaning setting caller request state
-served_by meaning setting caller state (Err fault) = faulted state caller status.BAD_DECODING_ERROR setting.clock
+-- every service, which is told the token in its request's header: a request whose fields can't be read is answered by a fault
+abbrev pub served_by : {A : Type 0} → (Setting → Caller → NodeId → A → Services → Serving) → Setting → Caller → NodeId → Services → Result A TakeFault → Serving
+served_by meaning setting caller token state (Ok request) = meaning setting caller token request state
+served_by meaning setting caller token state (Err fault) = faulted state caller status.BAD_DECODING_ERROR setting.clock
 
 -- the refusal that a status tells, or for which the server halts
 abbrev pub refusal_by : Result Status Halt → Refusal

@@ -56,14 +56,14 @@ impl Service for ActivateSession {
         alloc: Global,
         setting: &Setting,
         caller: &Caller,
+        token: &NodeIdView<'_>,
         request: ActivateSessionRequest,
         services: &mut Services,
     ) -> Result<Served, Unserved> {
         let is_anonymous = is_anonymous(&request.user_identity_token);
-        let token = NodeIdView::of(&request.request_header.authentication_token);
         match services
             .sessions
-            .activate(&token, caller.conn, &caller.key, is_anonymous)
+            .activate(token, caller.conn, &caller.key, is_anonymous)
         {
             Ok(nonce) => {
                 let response = response(alloc, setting, caller.handle, &nonce)?;

@@ -43,11 +43,11 @@ impl Service for CloseSession {
         alloc: Global,
         setting: &Setting,
         caller: &Caller,
+        token: &NodeIdView<'_>,
         request: CloseSessionRequest,
         services: &mut Services,
     ) -> Result<Served, Unserved> {
-        let token = NodeIdView::of(&request.request_header.authentication_token);
-        let number = match services.sessions.close(&token, caller.conn) {
+        let number = match services.sessions.close(token, caller.conn) {
             Ok(number) => number,
             Err(status) => return Err(Unserved::Fault(status)),
         };

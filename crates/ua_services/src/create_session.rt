@@ -18,6 +18,7 @@ use ua_messages::{MessageBody, ResponseHeader, type_ids};
 use ua_service_messages::{CreateSessionRequest, SignatureData, SignedSoftwareCertificate};
 use ua_session::{Created, session_id};
 use ua_types::{Array, ByteString, NodeId, Status, Text};
+use ua_views::NodeIdView;
 
 // The body of the response that tells of a new session. The endpoint is written from where the configuration stands.
 #[tactic(auto, using(ua_binary::proofs::Fields::fields10), unfolding(ua_service_messages::specs::Sessions::create_session_response_encoding))]
@@ -53,7 +54,7 @@ fn response_body(
 /// Makes a session for the client, which it activates next.
 ///
 /// The fault is `BAD_TOO_MANY_SESSIONS` where as many are held as the configuration allows, or their
-/// numbers are used up. Of the request nothing is used but its header.
+/// numbers are used up. Of the request nothing is used.
 pub struct CreateSession;
 
 impl Service for CreateSession {
@@ -65,6 +66,7 @@ impl Service for CreateSession {
         alloc: Global,
         setting: &Setting,
         caller: &Caller,
+        _token: &NodeIdView<'_>,
         _request: CreateSessionRequest,
         services: &mut Services,
     ) -> Result<Served, Unserved> {

@@ -10,6 +10,7 @@ use crate::unserved::Unserved;
 use server_messages::{Served, Setting};
 use std::alloc::Global;
 use ua_messages::GetEndpointsRequest;
+use ua_views::NodeIdView;
 
 /// Says by which endpoints the server is reached.
 pub struct GetEndpoints;
@@ -23,6 +24,7 @@ impl Service for GetEndpoints {
         alloc: Global,
         setting: &Setting,
         caller: &Caller,
+        _token: &NodeIdView<'_>,
         request: GetEndpointsRequest,
         _services: &mut Services,
     ) -> Result<Served, Unserved> {

@@ -1,7 +1,8 @@
 //! What every service is.
 
 ghost use Rattle.std.specs.Prelude.{◌≡◌, ℕ, List, IfOk, ◌∷◌, [], is_ok};
-ghost use Rattle.ua_messages.specs.Bodies.{message_of};
+ghost use Rattle.ua_types.specs.declared.node_id.NodeId.{NodeId};
+ghost use Rattle.ua_messages.specs.Requests.{fields_of};
 ghost use Rattle.ua_messages.specs.ServiceFaults.{fault_body};
 ghost use Rattle.server_messages.specs.declared.setting.Setting.{Setting};
 ghost use Rattle.ua_services.specs.ServicesState.{Services};
@@ -15,8 +16,10 @@ use server_messages::{Halt, Reply, Served, Setting};
 use short_lists::ShortList;
 use std::alloc::{AllocError, Global};
 use ua_binary::TakeFault;
-use ua_messages::{MessageBody, fault, received};
+use ua_messages::{MessageBody, fault, received_fields};
+use ua_service_views::Headed;
 use ua_types::{Listed, Moment, Refusal, Status};
+use ua_views::NodeIdView;
 use ua_walks::Walk;
 
 /// The reply to a call, with this body.
@@ -69,32 +72,35 @@ pub trait Service {
     type Request: Walk;
 
     /// What a request comes to.
-    ghost meaning: { Setting → Caller → Self.Request → Services → Serving };
+    ghost meaning: { Setting → Caller → NodeId → Self.Request → Services → Serving };
 
-    /// Does what a request asks for, or refuses it. Want of memory is answered to a request that isn't refused.
+    /// Does what a request asks for, or refuses it. `token` is the one in the request's header, which may name a session. Want of
+    /// memory is answered to a request that isn't refused.
     fn serve(
         alloc: Global,
         setting: &Setting,
         caller: &Caller,
+        token: &NodeIdView<'_>,
         request: Self::Request,
         services: &mut Services,
     ) -> Result<Served, Unserved>
-        ensures { Judges setting.now caller.now result services.new (meaning setting.now caller.now request services.old) };
+        ensures { Judges setting.now caller.now result services.new (meaning setting.now caller.now token.now request services.old) };
 
-    /// Reads a request's fields and serves it. One whose fields can't be read is refused with
+    /// Reads a request's fields from the bytes behind its header, and serves it. One whose fields can't be read is refused with
     /// `BAD_DECODING_ERROR`, however little memory there is.
     final fn take(
         alloc: Global,
         setting: &Setting,
         caller: &Caller,
-        body: &[u8],
+        headed: &Headed<'_>,
         services: &mut Services,
     ) -> Result<Served, Unserved>
-        ensures { Answers setting.now caller.now (is_ok (message_of Self.Request.reading body.now)) result services.new
-            (served_by meaning setting.now caller.now services.old (message_of Self.Request.reading body.now)) }
+        ensures { Answers setting.now caller.now (is_ok (fields_of Self.Request.reading headed.now.fields.now)) result services.new
+            (served_by meaning setting.now caller.now headed.now.header.authentication_token services.old (fields_of Self.Request.reading headed.now.fields.now)) }
     {
-        match received::<Self::Request>(alloc, body) {
-            Ok(request) => Self::serve(alloc, setting, caller, request, services),
+        let token = &headed.header.authentication_token;
+        match received_fields::<Self::Request>(alloc, headed.fields) {
+            Ok(request) => Self::serve(alloc, setting, caller, token, request, services),
             Err(TakeFault::Memory) => Err(Unserved::Halted(Halt::Memory)),
             Err(_) => Err(Unserved::Fault(Status::BAD_DECODING_ERROR)),
         }

@@ -1,7 +1,6 @@
 //! What is served.
 
 ghost use Rattle.std.specs.Prelude.{◌≡◌, true, IsOk, IfOk};
-ghost use Rattle.ua_service_views.specs.Headed.{IsHeaded};
 ghost use Rattle.ua_space.specs.Histories.{without_histories};
 ghost use Rattle.ua_services.specs.Serving.{Answers, Serves};
 ghost use Rattle.ua_services.specs.ServicesState.{no_services_used};
@@ -109,40 +108,36 @@ impl Services {
             return Ok(refuse(alloc, &caller, Status::BAD_DECODING_ERROR, setting.clock)?);
         };
         caller.handle = headed.header.request_handle;
-        match self.pick(alloc, setting, &caller, type_id, headed, body) {
+        match self.pick(alloc, setting, &caller, type_id, &headed) {
             Ok(served) => Ok(served),
             Err(Unserved::Fault(status)) => Ok(refuse(alloc, &caller, status, setting.clock)?),
             Err(Unserved::Halted(halt)) => Err(halt),
         }
     }
 
-    // Does what a request of this type asks for, or refuses it. Its header was looked at. What is looked at in place is looked
-    // at behind it, and what is taken is read from the front of the body.
-    fn pick<'a>(
+    // Does what a request of this type asks for, or refuses it. Its header was looked at.
+    fn pick(
         &mut self,
         alloc: Global,
         setting: &Setting,
         caller: &Caller,
         type_id: u32,
-        headed: Headed<'a>,
-        body: &'a [u8],
+        headed: &Headed<'_>,
     ) -> Result<Served, Unserved>
-        requires { IsHeaded body.now headed.header headed.fields }
-        ensures { Answers setting.now caller.now true result self.new (picked setting.now caller.now headed.entry.header.authentication_token body.now self.old type_id) }
+        ensures { Answers setting.now caller.now true result self.new (picked setting.now caller.now headed.now.header.authentication_token headed.now.fields.now self.old type_id) }
     {
-        let token = &headed.header.authentication_token;
         match type_id {
             type_ids::GET_ENDPOINTS_REQUEST => {
-                GetEndpoints::take(alloc, setting, caller, body, self)
+                GetEndpoints::take(alloc, setting, caller, headed, self)
             }
             type_ids::CREATE_SESSION_REQUEST => {
-                CreateSession::take(alloc, setting, caller, body, self)
+                CreateSession::take(alloc, setting, caller, headed, self)
             }
             type_ids::ACTIVATE_SESSION_REQUEST => {
-                ActivateSession::take(alloc, setting, caller, body, self)
+                ActivateSession::take(alloc, setting, caller, headed, self)
             }
             type_ids::CLOSE_SESSION_REQUEST => {
-                CloseSession::take(alloc, setting, caller, body, self)
+                CloseSession::take(alloc, setting, caller, headed, self)
             }
             type_ids::READ_REQUEST => Read::take(alloc, setting, caller, headed, self),
             type_ids::WRITE_REQUEST => Write::take(alloc, setting, caller, headed, self),
@@ -154,36 +149,34 @@ impl Services {
                 HistoryRead::take(alloc, setting, caller, headed, self)
             }
             type_ids::CREATE_MONITORED_ITEMS_REQUEST => {
-                CreateMonitoredItems::take(alloc, setting, caller, token, body, self)
+                CreateMonitoredItems::take(alloc, setting, caller, headed, self)
             }
             type_ids::MODIFY_MONITORED_ITEMS_REQUEST => {
-                ModifyMonitoredItems::take(alloc, setting, caller, token, body, self)
+                ModifyMonitoredItems::take(alloc, setting, caller, headed, self)
             }
             type_ids::SET_MONITORING_MODE_REQUEST => {
-                SetMonitoringMode::take(alloc, setting, caller, token, body, self)
+                SetMonitoringMode::take(alloc, setting, caller, headed, self)
             }
             type_ids::SET_TRIGGERING_REQUEST => {
-                SetTriggering::take(alloc, setting, caller, token, body, self)
+                SetTriggering::take(alloc, setting, caller, headed, self)
             }
             type_ids::DELETE_MONITORED_ITEMS_REQUEST => {
-                DeleteMonitoredItems::take(alloc, setting, caller, token, body, self)
+                DeleteMonitoredItems::take(alloc, setting, caller, headed, self)
             }
             type_ids::CREATE_SUBSCRIPTION_REQUEST => {
-                CreateSubscription::take(alloc, setting, caller, token, body, self)
+                CreateSubscription::take(alloc, setting, caller, headed, self)
             }
             type_ids::MODIFY_SUBSCRIPTION_REQUEST => {
-                ModifySubscription::take(alloc, setting, caller, token, body, self)
+                ModifySubscription::take(alloc, setting, caller, headed, self)
             }
             type_ids::SET_PUBLISHING_MODE_REQUEST => {
-                SetPublishingMode::take(alloc, setting, caller, token, body, self)
+                SetPublishingMode::take(alloc, setting, caller, headed, self)
             }
             type_ids::DELETE_SUBSCRIPTIONS_REQUEST => {
-                DeleteSubscriptions::take(alloc, setting, caller, token, body, self)
+                DeleteSubscriptions::take(alloc, setting, caller, headed, self)
             }
-            type_ids::PUBLISH_REQUEST => Publish::take(alloc, setting, caller, token, body, self),
-            type_ids::REPUBLISH_REQUEST => {
-                Republish::take(alloc, setting, caller, token, body, self)
-            }
+            type_ids::PUBLISH_REQUEST => Publish::take(alloc, setting, caller, headed, self),
+            type_ids::REPUBLISH_REQUEST => { Republish::take(alloc, setting, caller, headed, self) }
             _ => Err(Unserved::Fault(Status::BAD_SERVICE_UNSUPPORTED)),
         }
     }

@@ -1,7 +1,7 @@
 //! What every service of a session is.
 
 ghost use Rattle.std.specs.Prelude.{ℕ};
-ghost use Rattle.ua_messages.specs.Bodies.{message_of};
+ghost use Rattle.ua_messages.specs.Requests.{fields_of};
 ghost use Rattle.server_messages.specs.declared.setting.Setting.{Setting};
 ghost use Rattle.ua_services.specs.InSession.{served_in_session, is_admitted};
 ghost use Rattle.ua_services.specs.ServicesState.{Services};
@@ -14,9 +14,9 @@ use crate::unserved::Unserved;
 use server_messages::{Halt, Served, Setting};
 use std::alloc::Global;
 use ua_binary::TakeFault;
-use ua_messages::received;
+use ua_messages::received_fields;
+use ua_service_views::Headed;
 use ua_types::Status;
-use ua_views::NodeIdView;
 use ua_walks::Walk;
 
 /// A service of a session: a type of request, and what is done about it once its session is found.
@@ -44,7 +44,7 @@ pub trait SessionService {
     ) -> Result<Served, Unserved>
         ensures { Judges setting.now caller.now result services.new (meaning setting.now caller.now session request services.old) };
 
-    /// Reads a request's fields, finds the session that the token in its header names, and serves it.
+    /// Reads a request's fields behind its header, finds the session that the token there names, and serves it.
     ///
     /// The faults, in this order: `BAD_DECODING_ERROR` where the fields can't be read,
     /// `BAD_SESSION_ID_INVALID` where no session has the token, `BAD_SECURE_CHANNEL_ID_INVALID` on another
@@ -54,18 +54,18 @@ pub trait SessionService {
         alloc: Global,
         setting: &Setting,
         caller: &Caller,
-        token: &NodeIdView<'_>,
-        body: &[u8],
+        headed: &Headed<'_>,
         services: &mut Services,
     ) -> Result<Served, Unserved>
-        ensures { Answers setting.now caller.now (is_admitted token.now caller.now.conn services.old.sessions (message_of Self.Request.reading body.now)) result services.new
-            (served_in_session meaning setting.now caller.now token.now services.old (message_of Self.Request.reading body.now)) }
+        ensures { Answers setting.now caller.now (is_admitted headed.now.header.authentication_token caller.now.conn services.old.sessions (fields_of Self.Request.reading headed.now.fields.now)) result services.new
+            (served_in_session meaning setting.now caller.now headed.now.header.authentication_token services.old (fields_of Self.Request.reading headed.now.fields.now)) }
     {
-        let request = match received::<Self::Request>(alloc, body) {
+        let request = match received_fields::<Self::Request>(alloc, headed.fields) {
             Ok(request) => Some(request),
             Err(TakeFault::Memory) => None,
             Err(_) => return Err(Unserved::Fault(Status::BAD_DECODING_ERROR)),
         };
+        let token = &headed.header.authentication_token;
         let session = match services.sessions.find(token, caller.conn) {
             Ok(session) => session,
             Err(status) => return Err(Unserved::Fault(status)),

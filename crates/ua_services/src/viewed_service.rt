@@ -1,8 +1,7 @@
 //! What a service of a session is that looks at its requests where they came.
 
-ghost use Rattle.std.specs.Prelude.{ℕ, List};
-ghost use Rattle.ua_messages.specs.Bodies.{message_of};
-ghost use Rattle.ua_service_views.specs.Headed.{IsHeaded};
+ghost use Rattle.std.specs.Prelude.{ℕ};
+ghost use Rattle.ua_messages.specs.Requests.{fields_of};
 ghost use Rattle.server_messages.specs.declared.setting.Setting.{Setting};
 ghost use Rattle.ua_services.specs.InSession.{served_in_session, is_admitted};
 ghost use Rattle.ua_services.specs.ServicesState.{Services};
@@ -14,8 +13,9 @@ use crate::services::Services;
 use crate::unserved::Unserved;
 use server_messages::{Served, Setting};
 use std::alloc::Global;
-use ua_service_views::{Headed, RequestView};
+use ua_service_views::{Headed, fields_view};
 use ua_types::Status;
+use ua_views::View;
 
 /// A service of a session whose requests are looked at in the bytes in which they came, as
 /// [`crate::session_service::SessionService`] is one whose requests are taken from them.
@@ -24,7 +24,7 @@ use ua_types::Status;
 /// fields can't be read and one whose session may not be used ([`ua_session::Sessions::find`]).
 pub trait ViewedService<'a> {
     /// The request's fields. Contracts see it as the request that was sent.
-    type Request: RequestView<'a>;
+    type Request: View<'a>;
 
     /// What a request comes to.
     ghost meaning: { Setting → Caller → ℕ → Self.Request → Services → Serving };
@@ -52,17 +52,17 @@ pub trait ViewedService<'a> {
         alloc: Global,
         setting: &Setting,
         caller: &Caller,
-        headed: Headed<'a>,
+        headed: &Headed<'a>,
         services: &mut Services,
     ) -> Result<Served, Unserved>
-        ensures { (body : List ℕ) → IsHeaded body headed.entry.header headed.entry.fields → Answers setting.now caller.now (is_admitted headed.entry.header.authentication_token caller.now.conn services.old.sessions (message_of Self.Request.reading body)) result services.new
-            (served_in_session meaning setting.now caller.now headed.entry.header.authentication_token services.old (message_of Self.Request.reading body)) }
+        ensures { Answers setting.now caller.now (is_admitted headed.now.header.authentication_token caller.now.conn services.old.sessions (fields_of Self.Request.reading headed.now.fields.now)) result services.new
+            (served_in_session meaning setting.now caller.now headed.now.header.authentication_token services.old (fields_of Self.Request.reading headed.now.fields.now)) }
     {
-        let request = match headed.request::<Self::Request>() {
+        let request = match fields_view::<Self::Request>(headed.fields) {
             Ok(request) => request,
             Err(_) => return Err(Unserved::Fault(Status::BAD_DECODING_ERROR)),
         };
-        let token = &request.header().authentication_token;
+        let token = &headed.header.authentication_token;
         let session = match services.sessions.find(token, caller.conn) {
             Ok(session) => session,
             Err(status) => return Err(Unserved::Fault(status)),

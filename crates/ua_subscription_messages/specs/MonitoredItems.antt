@@ -16,7 +16,6 @@ use Rattle.ua_binary.specs.Arrays.{array_reading, array_encoding}
 use Rattle.ua_binary.specs.Scalars.{duration_reading, status_reading, duration_encoding, status_encoding}
 use Rattle.ua_binary.specs.ExtensionObjects.{extension_object_reading, extension_object_encoding}
 use Rattle.ua_messages.specs.Enumerations.{timestamps_to_return_reading, timestamps_to_return_encoding}
-use Rattle.ua_messages.specs.Headers.{request_header_reading, request_header_encoding}
 use Rattle.ua_messages.specs.ReadValueIds.{read_value_id_reading, read_value_id_encoding}
 use Rattle.ua_subscription_messages.specs.Enumerations.{monitoring_mode_reading, monitoring_mode_encoding}
 use Rattle.ua_subscription_messages.specs.MonitoringParameters.{monitoring_parameters_reading, monitoring_parameters_encoding}
@@ -40,12 +39,10 @@ monitored_item_create_request_encoding v =
 
 unfoldable pub create_monitored_items_request_reading : Reading CreateMonitoredItemsRequest
 create_monitored_items_request_reading = do
-  request_header ← request_header_reading
   subscription_id ← number_reading w32
   timestamps_to_return ← timestamps_to_return_reading
   items_to_create ← array_reading monitored_item_create_request_reading
   done (record {
-    request_header = request_header;
     subscription_id = subscription_id;
     timestamps_to_return = timestamps_to_return;
     items_to_create = items_to_create;
@@ -53,8 +50,7 @@ create_monitored_items_request_reading = do
 
 unfoldable pub create_monitored_items_request_encoding : CreateMonitoredItemsRequest → List ℕ
 create_monitored_items_request_encoding v =
-    request_header_encoding v.request_header
-    ++ number_encoding w32 v.subscription_id
+    number_encoding w32 v.subscription_id
     ++ timestamps_to_return_encoding v.timestamps_to_return
     ++ array_encoding monitored_item_create_request_encoding v.items_to_create
 
@@ -94,12 +90,10 @@ monitored_item_modify_request_encoding v =
 
 unfoldable pub modify_monitored_items_request_reading : Reading ModifyMonitoredItemsRequest
 modify_monitored_items_request_reading = do
-  request_header ← request_header_reading
   subscription_id ← number_reading w32
   timestamps_to_return ← timestamps_to_return_reading
   items_to_modify ← array_reading monitored_item_modify_request_reading
   done (record {
-    request_header = request_header;
     subscription_id = subscription_id;
     timestamps_to_return = timestamps_to_return;
     items_to_modify = items_to_modify;
@@ -107,8 +101,7 @@ modify_monitored_items_request_reading = do
 
 unfoldable pub modify_monitored_items_request_encoding : ModifyMonitoredItemsRequest → List ℕ
 modify_monitored_items_request_encoding v =
-    request_header_encoding v.request_header
-    ++ number_encoding w32 v.subscription_id
+    number_encoding w32 v.subscription_id
     ++ timestamps_to_return_encoding v.timestamps_to_return
     ++ array_encoding monitored_item_modify_request_encoding v.items_to_modify
 
@@ -134,12 +127,10 @@ monitored_item_modify_result_encoding v =
 
 unfoldable pub set_monitoring_mode_request_reading : Reading SetMonitoringModeRequest
 set_monitoring_mode_request_reading = do
-  request_header ← request_header_reading
   subscription_id ← number_reading w32
   monitoring_mode ← monitoring_mode_reading
   monitored_item_ids ← array_reading (number_reading w32)
   done (record {
-    request_header = request_header;
     subscription_id = subscription_id;
     monitoring_mode = monitoring_mode;
     monitored_item_ids = monitored_item_ids;
@@ -147,24 +138,20 @@ set_monitoring_mode_request_reading = do
 
 unfoldable pub set_monitoring_mode_request_encoding : SetMonitoringModeRequest → List ℕ
 set_monitoring_mode_request_encoding v =
-    request_header_encoding v.request_header
-    ++ number_encoding w32 v.subscription_id
+    number_encoding w32 v.subscription_id
     ++ monitoring_mode_encoding v.monitoring_mode
     ++ array_encoding (number_encoding w32) v.monitored_item_ids
 
 unfoldable pub delete_monitored_items_request_reading : Reading DeleteMonitoredItemsRequest
 delete_monitored_items_request_reading = do
-  request_header ← request_header_reading
   subscription_id ← number_reading w32
   monitored_item_ids ← array_reading (number_reading w32)
   done (record {
-    request_header = request_header;
     subscription_id = subscription_id;
     monitored_item_ids = monitored_item_ids;
   })
 
 unfoldable pub delete_monitored_items_request_encoding : DeleteMonitoredItemsRequest → List ℕ
 delete_monitored_items_request_encoding v =
-    request_header_encoding v.request_header
-    ++ number_encoding w32 v.subscription_id
+    number_encoding w32 v.subscription_id
     ++ array_encoding (number_encoding w32) v.monitored_item_ids

@@ -18,7 +18,7 @@ use Rattle.ua_binary.specs.Scalars.{moment_reading, status_reading, moment_encod
 use Rattle.ua_binary.specs.ExtensionObjects.{extension_object_reading, extension_object_encoding}
 use Rattle.ua_binary.specs.DataValues.{data_value_reading, data_value_encoding}
 use Rattle.ua_messages.specs.Diagnostics.{diagnostic_info_reading, diagnostic_infos_reading, diagnostic_info_encoding, diagnostic_infos_encoding}
-use Rattle.ua_messages.specs.Headers.{request_header_reading, response_header_reading, request_header_encoding, response_header_encoding}
+use Rattle.ua_messages.specs.Headers.{response_header_reading, response_header_encoding}
 
 unfoldable pub subscription_acknowledgement_reading : Reading SubscriptionAcknowledgement
 subscription_acknowledgement_reading = do
@@ -33,14 +33,12 @@ subscription_acknowledgement_encoding v =
 
 unfoldable pub publish_request_reading : Reading PublishRequest
 publish_request_reading = do
-  request_header ← request_header_reading
   subscription_acknowledgements ← array_reading subscription_acknowledgement_reading
-  done (record { request_header = request_header; subscription_acknowledgements = subscription_acknowledgements })
+  done (record { subscription_acknowledgements = subscription_acknowledgements })
 
 unfoldable pub publish_request_encoding : PublishRequest → List ℕ
 publish_request_encoding v =
-    request_header_encoding v.request_header
-    ++ array_encoding subscription_acknowledgement_encoding v.subscription_acknowledgements
+    array_encoding subscription_acknowledgement_encoding v.subscription_acknowledgements
 
 unfoldable pub notification_message_reading : Reading NotificationMessage
 notification_message_reading = do
@@ -123,19 +121,16 @@ status_change_notification_encoding v =
 
 unfoldable pub republish_request_reading : Reading RepublishRequest
 republish_request_reading = do
-  request_header ← request_header_reading
   subscription_id ← number_reading w32
   retransmit_sequence_number ← number_reading w32
   done (record {
-    request_header = request_header;
     subscription_id = subscription_id;
     retransmit_sequence_number = retransmit_sequence_number;
   })
 
 unfoldable pub republish_request_encoding : RepublishRequest → List ℕ
 republish_request_encoding v =
-    request_header_encoding v.request_header
-    ++ number_encoding w32 v.subscription_id
+    number_encoding w32 v.subscription_id
     ++ number_encoding w32 v.retransmit_sequence_number
 
 unfoldable pub republish_response_reading : Reading RepublishResponse

@@ -12,11 +12,10 @@ use Rattle.ua_binary.specs.Reading.{Reading, ◌>>=◌, done}
 use Rattle.ua_binary.specs.Numbers.{boolean_reading, byte_reading, number_reading, boolean_encoding, byte_encoding, number_encoding}
 use Rattle.ua_binary.specs.Arrays.{array_reading, array_encoding}
 use Rattle.ua_binary.specs.Scalars.{duration_reading, duration_encoding}
-use Rattle.ua_messages.specs.Headers.{request_header_reading, response_header_reading, request_header_encoding, response_header_encoding}
+use Rattle.ua_messages.specs.Headers.{response_header_reading, response_header_encoding}
 
 unfoldable pub create_subscription_request_reading : Reading CreateSubscriptionRequest
 create_subscription_request_reading = do
-  request_header ← request_header_reading
   requested_publishing_interval ← duration_reading
   requested_lifetime_count ← number_reading w32
   requested_max_keep_alive_count ← number_reading w32
@@ -24,7 +23,6 @@ create_subscription_request_reading = do
   publishing_enabled ← boolean_reading
   priority ← byte_reading
   done (record {
-    request_header = request_header;
     requested_publishing_interval = requested_publishing_interval;
     requested_lifetime_count = requested_lifetime_count;
     requested_max_keep_alive_count = requested_max_keep_alive_count;
@@ -35,8 +33,7 @@ create_subscription_request_reading = do
 
 unfoldable pub create_subscription_request_encoding : CreateSubscriptionRequest → List ℕ
 create_subscription_request_encoding v =
-    request_header_encoding v.request_header
-    ++ duration_encoding v.requested_publishing_interval
+    duration_encoding v.requested_publishing_interval
     ++ number_encoding w32 v.requested_lifetime_count
     ++ number_encoding w32 v.requested_max_keep_alive_count
     ++ number_encoding w32 v.max_notifications_per_publish
@@ -68,7 +65,6 @@ create_subscription_response_encoding v =
 
 unfoldable pub modify_subscription_request_reading : Reading ModifySubscriptionRequest
 modify_subscription_request_reading = do
-  request_header ← request_header_reading
   subscription_id ← number_reading w32
   requested_publishing_interval ← duration_reading
   requested_lifetime_count ← number_reading w32
@@ -76,7 +72,6 @@ modify_subscription_request_reading = do
   max_notifications_per_publish ← number_reading w32
   priority ← byte_reading
   done (record {
-    request_header = request_header;
     subscription_id = subscription_id;
     requested_publishing_interval = requested_publishing_interval;
     requested_lifetime_count = requested_lifetime_count;
@@ -87,8 +82,7 @@ modify_subscription_request_reading = do
 
 unfoldable pub modify_subscription_request_encoding : ModifySubscriptionRequest → List ℕ
 modify_subscription_request_encoding v =
-    request_header_encoding v.request_header
-    ++ number_encoding w32 v.subscription_id
+    number_encoding w32 v.subscription_id
     ++ duration_encoding v.requested_publishing_interval
     ++ number_encoding w32 v.requested_lifetime_count
     ++ number_encoding w32 v.requested_max_keep_alive_count
@@ -117,28 +111,23 @@ modify_subscription_response_encoding v =
 
 unfoldable pub set_publishing_mode_request_reading : Reading SetPublishingModeRequest
 set_publishing_mode_request_reading = do
-  request_header ← request_header_reading
   publishing_enabled ← boolean_reading
   subscription_ids ← array_reading (number_reading w32)
   done (record {
-    request_header = request_header;
     publishing_enabled = publishing_enabled;
     subscription_ids = subscription_ids;
   })
 
 unfoldable pub set_publishing_mode_request_encoding : SetPublishingModeRequest → List ℕ
 set_publishing_mode_request_encoding v =
-    request_header_encoding v.request_header
-    ++ boolean_encoding v.publishing_enabled
+    boolean_encoding v.publishing_enabled
     ++ array_encoding (number_encoding w32) v.subscription_ids
 
 unfoldable pub delete_subscriptions_request_reading : Reading DeleteSubscriptionsRequest
 delete_subscriptions_request_reading = do
-  request_header ← request_header_reading
   subscription_ids ← array_reading (number_reading w32)
-  done (record { request_header = request_header; subscription_ids = subscription_ids })
+  done (record { subscription_ids = subscription_ids })
 
 unfoldable pub delete_subscriptions_request_encoding : DeleteSubscriptionsRequest → List ℕ
 delete_subscriptions_request_encoding v =
-    request_header_encoding v.request_header
-    ++ array_encoding (number_encoding w32) v.subscription_ids
+    array_encoding (number_encoding w32) v.subscription_ids

@@ -8,17 +8,15 @@ use Rattle.ua_binary.specs.Numbers.{number_reading, number_encoding}
 use Rattle.ua_binary.specs.Arrays.{array_reading, array_encoding}
 use Rattle.ua_binary.specs.Scalars.{status_reading, status_encoding}
 use Rattle.ua_messages.specs.Diagnostics.{diagnostic_infos_reading, diagnostic_infos_encoding}
-use Rattle.ua_messages.specs.Headers.{request_header_reading, request_header_encoding, response_header_reading, response_header_encoding}
+use Rattle.ua_messages.specs.Headers.{response_header_reading, response_header_encoding}
 
 unfoldable pub set_triggering_request_reading : Reading SetTriggeringRequest
 set_triggering_request_reading = do
-  request_header ← request_header_reading
   subscription_id ← number_reading w32
   triggering_item_id ← number_reading w32
   links_to_add ← array_reading (number_reading w32)
   links_to_remove ← array_reading (number_reading w32)
   done (record {
-    request_header = request_header;
     subscription_id = subscription_id;
     triggering_item_id = triggering_item_id;
     links_to_add = links_to_add;
@@ -27,8 +25,7 @@ set_triggering_request_reading = do
 
 unfoldable pub set_triggering_request_encoding : SetTriggeringRequest → List ℕ
 set_triggering_request_encoding v =
-    request_header_encoding v.request_header
-    ++ number_encoding w32 v.subscription_id
+    number_encoding w32 v.subscription_id
     ++ number_encoding w32 v.triggering_item_id
     ++ array_encoding (number_encoding w32) v.links_to_add
     ++ array_encoding (number_encoding w32) v.links_to_remove

@@ -6,7 +6,7 @@ use crate::enumerations::MonitoringMode;
 use crate::monitoring_parameters::MonitoringParameters;
 use std::alloc::{AllocError, Global};
 use ua_binary::{Cursor, TakeFault, Wire};
-use ua_messages::{ReadValueId, RequestHeader, Results, TimestampsToReturn};
+use ua_messages::{ReadValueId, Results, TimestampsToReturn};
 use ua_types::{Array, Duration, ExtensionObject, Status};
 use ua_walks::Walk;
 
@@ -59,14 +59,13 @@ impl Walk for MonitoredItemCreateRequest {
 /// MonitoredItem Service Set).
 #[derive(Debug, Drop)]
 pub struct CreateMonitoredItemsRequest {
-    pub request_header: RequestHeader,
     pub subscription_id: u32,
     /// Which times the values in notifications are to have.
     pub timestamps_to_return: TimestampsToReturn,
     pub items_to_create: Array<MonitoredItemCreateRequest>,
 }
 
-#[tactic(auto, using(ua_binary::proofs::Fields::fields4), unfolding(crate::specs::MonitoredItems::create_monitored_items_request_reading, crate::specs::MonitoredItems::create_monitored_items_request_encoding))]
+#[tactic(auto, using(ua_binary::proofs::Fields::fields3), unfolding(crate::specs::MonitoredItems::create_monitored_items_request_reading, crate::specs::MonitoredItems::create_monitored_items_request_encoding))]
 impl Wire for CreateMonitoredItemsRequest {
     ghost reading = { create_monitored_items_request_reading };
 
@@ -77,7 +76,6 @@ impl Wire for CreateMonitoredItemsRequest {
         cursor: &mut Cursor<'_>,
     ) -> Result<CreateMonitoredItemsRequest, TakeFault> {
         Ok(CreateMonitoredItemsRequest {
-            request_header: RequestHeader::decode(alloc, cursor)?,
             subscription_id: u32::decode(alloc, cursor)?,
             timestamps_to_return: TimestampsToReturn::decode(alloc, cursor)?,
             items_to_create: Array::<MonitoredItemCreateRequest>::decode(alloc, cursor)?,
@@ -85,7 +83,6 @@ impl Wire for CreateMonitoredItemsRequest {
     }
 
     fn encode(&self, out: &mut Vec<u8>) -> Result<(), AllocError> {
-        self.request_header.encode(out)?;
         self.subscription_id.encode(out)?;
         self.timestamps_to_return.encode(out)?;
         self.items_to_create.encode(out)?;
@@ -96,7 +93,6 @@ impl Wire for CreateMonitoredItemsRequest {
 #[tactic(auto, unfolding(crate::specs::MonitoredItems::create_monitored_items_request_reading))]
 impl Walk for CreateMonitoredItemsRequest {
     fn walk(cursor: &mut Cursor<'_>) -> Result<(), TakeFault> {
-        RequestHeader::skip(cursor)?;
         u32::skip(cursor)?;
         TimestampsToReturn::skip(cursor)?;
         Array::<MonitoredItemCreateRequest>::skip(cursor)?;
@@ -197,14 +193,13 @@ impl Walk for MonitoredItemModifyRequest {
 /// MonitoredItem Service Set).
 #[derive(Debug, Drop)]
 pub struct ModifyMonitoredItemsRequest {
-    pub request_header: RequestHeader,
     pub subscription_id: u32,
     /// Which times the values in notifications are to have.
     pub timestamps_to_return: TimestampsToReturn,
     pub items_to_modify: Array<MonitoredItemModifyRequest>,
 }
 
-#[tactic(auto, using(ua_binary::proofs::Fields::fields4), unfolding(crate::specs::MonitoredItems::modify_monitored_items_request_reading, crate::specs::MonitoredItems::modify_monitored_items_request_encoding))]
+#[tactic(auto, using(ua_binary::proofs::Fields::fields3), unfolding(crate::specs::MonitoredItems::modify_monitored_items_request_reading, crate::specs::MonitoredItems::modify_monitored_items_request_encoding))]
 impl Wire for ModifyMonitoredItemsRequest {
     ghost reading = { modify_monitored_items_request_reading };
 
@@ -215,7 +210,6 @@ impl Wire for ModifyMonitoredItemsRequest {
         cursor: &mut Cursor<'_>,
     ) -> Result<ModifyMonitoredItemsRequest, TakeFault> {
         Ok(ModifyMonitoredItemsRequest {
-            request_header: RequestHeader::decode(alloc, cursor)?,
             subscription_id: u32::decode(alloc, cursor)?,
             timestamps_to_return: TimestampsToReturn::decode(alloc, cursor)?,
             items_to_modify: Array::<MonitoredItemModifyRequest>::decode(alloc, cursor)?,
@@ -223,7 +217,6 @@ impl Wire for ModifyMonitoredItemsRequest {
     }
 
     fn encode(&self, out: &mut Vec<u8>) -> Result<(), AllocError> {
-        self.request_header.encode(out)?;
         self.subscription_id.encode(out)?;
         self.timestamps_to_return.encode(out)?;
         self.items_to_modify.encode(out)?;
@@ -234,7 +227,6 @@ impl Wire for ModifyMonitoredItemsRequest {
 #[tactic(auto, unfolding(crate::specs::MonitoredItems::modify_monitored_items_request_reading))]
 impl Walk for ModifyMonitoredItemsRequest {
     fn walk(cursor: &mut Cursor<'_>) -> Result<(), TakeFault> {
-        RequestHeader::skip(cursor)?;
         u32::skip(cursor)?;
         TimestampsToReturn::skip(cursor)?;
         Array::<MonitoredItemModifyRequest>::skip(cursor)?;
@@ -291,13 +283,12 @@ pub type ModifyMonitoredItemsResponse = Results<MonitoredItemModifyResult>;
 /// MonitoredItem Service Set).
 #[derive(Debug, Drop)]
 pub struct SetMonitoringModeRequest {
-    pub request_header: RequestHeader,
     pub subscription_id: u32,
     pub monitoring_mode: MonitoringMode,
     pub monitored_item_ids: Array<u32>,
 }
 
-#[tactic(auto, using(ua_binary::proofs::Fields::fields4), unfolding(crate::specs::MonitoredItems::set_monitoring_mode_request_reading, crate::specs::MonitoredItems::set_monitoring_mode_request_encoding))]
+#[tactic(auto, using(ua_binary::proofs::Fields::fields3), unfolding(crate::specs::MonitoredItems::set_monitoring_mode_request_reading, crate::specs::MonitoredItems::set_monitoring_mode_request_encoding))]
 impl Wire for SetMonitoringModeRequest {
     ghost reading = { set_monitoring_mode_request_reading };
 
@@ -308,7 +299,6 @@ impl Wire for SetMonitoringModeRequest {
         cursor: &mut Cursor<'_>,
     ) -> Result<SetMonitoringModeRequest, TakeFault> {
         Ok(SetMonitoringModeRequest {
-            request_header: RequestHeader::decode(alloc, cursor)?,
             subscription_id: u32::decode(alloc, cursor)?,
             monitoring_mode: MonitoringMode::decode(alloc, cursor)?,
             monitored_item_ids: Array::<u32>::decode(alloc, cursor)?,
@@ -316,7 +306,6 @@ impl Wire for SetMonitoringModeRequest {
     }
 
     fn encode(&self, out: &mut Vec<u8>) -> Result<(), AllocError> {
-        self.request_header.encode(out)?;
         self.subscription_id.encode(out)?;
         self.monitoring_mode.encode(out)?;
         self.monitored_item_ids.encode(out)?;
@@ -327,7 +316,6 @@ impl Wire for SetMonitoringModeRequest {
 #[tactic(auto, unfolding(crate::specs::MonitoredItems::set_monitoring_mode_request_reading))]
 impl Walk for SetMonitoringModeRequest {
     fn walk(cursor: &mut Cursor<'_>) -> Result<(), TakeFault> {
-        RequestHeader::skip(cursor)?;
         u32::skip(cursor)?;
         MonitoringMode::skip(cursor)?;
         Array::<u32>::skip(cursor)?;
@@ -343,12 +331,11 @@ pub type SetMonitoringModeResponse = Results<Status>;
 /// Service Set).
 #[derive(Debug, Drop)]
 pub struct DeleteMonitoredItemsRequest {
-    pub request_header: RequestHeader,
     pub subscription_id: u32,
     pub monitored_item_ids: Array<u32>,
 }
 
-#[tactic(auto, using(ua_binary::proofs::Fields::fields3), unfolding(crate::specs::MonitoredItems::delete_monitored_items_request_reading, crate::specs::MonitoredItems::delete_monitored_items_request_encoding))]
+#[tactic(auto, using(ua_binary::proofs::Fields::fields2), unfolding(crate::specs::MonitoredItems::delete_monitored_items_request_reading, crate::specs::MonitoredItems::delete_monitored_items_request_encoding))]
 impl Wire for DeleteMonitoredItemsRequest {
     ghost reading = { delete_monitored_items_request_reading };
 
@@ -359,14 +346,12 @@ impl Wire for DeleteMonitoredItemsRequest {
         cursor: &mut Cursor<'_>,
     ) -> Result<DeleteMonitoredItemsRequest, TakeFault> {
         Ok(DeleteMonitoredItemsRequest {
-            request_header: RequestHeader::decode(alloc, cursor)?,
             subscription_id: u32::decode(alloc, cursor)?,
             monitored_item_ids: Array::<u32>::decode(alloc, cursor)?,
         })
     }
 
     fn encode(&self, out: &mut Vec<u8>) -> Result<(), AllocError> {
-        self.request_header.encode(out)?;
         self.subscription_id.encode(out)?;
         self.monitored_item_ids.encode(out)?;
         Ok(())
@@ -376,7 +361,6 @@ impl Wire for DeleteMonitoredItemsRequest {
 #[tactic(auto, unfolding(crate::specs::MonitoredItems::delete_monitored_items_request_reading))]
 impl Walk for DeleteMonitoredItemsRequest {
     fn walk(cursor: &mut Cursor<'_>) -> Result<(), TakeFault> {
-        RequestHeader::skip(cursor)?;
         u32::skip(cursor)?;
         Array::<u32>::skip(cursor)?;
         Ok(())

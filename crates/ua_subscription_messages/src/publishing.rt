@@ -6,7 +6,7 @@ ghost use Rattle.ua_subscription_messages.specs.Publishing.{subscription_acknowl
 
 use std::alloc::{AllocError, Global};
 use ua_binary::{Cursor, TakeFault, Wire};
-use ua_messages::{DiagnosticInfo, DiagnosticInfos, RequestHeader, ResponseHeader};
+use ua_messages::{DiagnosticInfo, DiagnosticInfos, ResponseHeader};
 use ua_types::{Array, ExtensionObject, Moment, Status};
 use ua_values::DataValue;
 use ua_walks::Walk;
@@ -58,11 +58,10 @@ impl Walk for SubscriptionAcknowledgement {
 /// IEC 62541-4, section 5, Subscription Service Set).
 #[derive(Debug, Drop)]
 pub struct PublishRequest {
-    pub request_header: RequestHeader,
     pub subscription_acknowledgements: Array<SubscriptionAcknowledgement>,
 }
 
-#[tactic(auto, using(ua_binary::proofs::Fields::fields2), unfolding(crate::specs::Publishing::publish_request_reading, crate::specs::Publishing::publish_request_encoding))]
+#[tactic(auto, using(ua_binary::proofs::Fields::fields1), unfolding(crate::specs::Publishing::publish_request_reading, crate::specs::Publishing::publish_request_encoding))]
 impl Wire for PublishRequest {
     ghost reading = { publish_request_reading };
 
@@ -70,7 +69,6 @@ impl Wire for PublishRequest {
 
     fn decode(alloc: Global, cursor: &mut Cursor<'_>) -> Result<PublishRequest, TakeFault> {
         Ok(PublishRequest {
-            request_header: RequestHeader::decode(alloc, cursor)?,
             subscription_acknowledgements: Array::<SubscriptionAcknowledgement>::decode(
                 alloc, cursor,
             )?,
@@ -78,7 +76,6 @@ impl Wire for PublishRequest {
     }
 
     fn encode(&self, out: &mut Vec<u8>) -> Result<(), AllocError> {
-        self.request_header.encode(out)?;
         self.subscription_acknowledgements.encode(out)?;
         Ok(())
     }
@@ -87,7 +84,6 @@ impl Wire for PublishRequest {
 #[tactic(auto, unfolding(crate::specs::Publishing::publish_request_reading))]
 impl Walk for PublishRequest {
     fn walk(cursor: &mut Cursor<'_>) -> Result<(), TakeFault> {
-        RequestHeader::skip(cursor)?;
         Array::<SubscriptionAcknowledgement>::skip(cursor)?;
         Ok(())
     }
@@ -274,13 +270,12 @@ impl Wire for StatusChangeNotification {
 /// Asks for a message once more (Republish, IEC 62541-4, section 5, Subscription Service Set).
 #[derive(Debug, Drop)]
 pub struct RepublishRequest {
-    pub request_header: RequestHeader,
     pub subscription_id: u32,
     /// The message's number in its subscription.
     pub retransmit_sequence_number: u32,
 }
 
-#[tactic(auto, using(ua_binary::proofs::Fields::fields3), unfolding(crate::specs::Publishing::republish_request_reading, crate::specs::Publishing::republish_request_encoding))]
+#[tactic(auto, using(ua_binary::proofs::Fields::fields2), unfolding(crate::specs::Publishing::republish_request_reading, crate::specs::Publishing::republish_request_encoding))]
 impl Wire for RepublishRequest {
     ghost reading = { republish_request_reading };
 
@@ -288,14 +283,12 @@ impl Wire for RepublishRequest {
 
     fn decode(alloc: Global, cursor: &mut Cursor<'_>) -> Result<RepublishRequest, TakeFault> {
         Ok(RepublishRequest {
-            request_header: RequestHeader::decode(alloc, cursor)?,
             subscription_id: u32::decode(alloc, cursor)?,
             retransmit_sequence_number: u32::decode(alloc, cursor)?,
         })
     }
 
     fn encode(&self, out: &mut Vec<u8>) -> Result<(), AllocError> {
-        self.request_header.encode(out)?;
         self.subscription_id.encode(out)?;
         self.retransmit_sequence_number.encode(out)?;
         Ok(())
@@ -305,7 +298,6 @@ impl Wire for RepublishRequest {
 #[tactic(auto, unfolding(crate::specs::Publishing::republish_request_reading))]
 impl Walk for RepublishRequest {
     fn walk(cursor: &mut Cursor<'_>) -> Result<(), TakeFault> {
-        RequestHeader::skip(cursor)?;
         u32::skip(cursor)?;
         u32::skip(cursor)?;
         Ok(())

@@ -4,14 +4,13 @@ ghost use Rattle.ua_subscription_messages.specs.Subscriptions.{create_subscripti
 
 use std::alloc::{AllocError, Global};
 use ua_binary::{Cursor, TakeFault, Wire};
-use ua_messages::{RequestHeader, ResponseHeader, Results};
+use ua_messages::{ResponseHeader, Results};
 use ua_types::{Array, Duration, Status};
 use ua_walks::Walk;
 
 /// Asks for a subscription (CreateSubscription, IEC 62541-4, section 5, Subscription Service Set).
 #[derive(Debug, Drop)]
 pub struct CreateSubscriptionRequest {
-    pub request_header: RequestHeader,
     /// How often a publishing cycle is to begin, as a double of milliseconds.
     pub requested_publishing_interval: Duration,
     /// How many cycles in a row may find no Publish request before the subscription ends.
@@ -26,7 +25,7 @@ pub struct CreateSubscriptionRequest {
     pub priority: u8,
 }
 
-#[tactic(auto, using(ua_binary::proofs::Fields::fields7), unfolding(crate::specs::Subscriptions::create_subscription_request_reading, crate::specs::Subscriptions::create_subscription_request_encoding))]
+#[tactic(auto, using(ua_binary::proofs::Fields::fields6), unfolding(crate::specs::Subscriptions::create_subscription_request_reading, crate::specs::Subscriptions::create_subscription_request_encoding))]
 impl Wire for CreateSubscriptionRequest {
     ghost reading = { create_subscription_request_reading };
 
@@ -37,7 +36,6 @@ impl Wire for CreateSubscriptionRequest {
         cursor: &mut Cursor<'_>,
     ) -> Result<CreateSubscriptionRequest, TakeFault> {
         Ok(CreateSubscriptionRequest {
-            request_header: RequestHeader::decode(alloc, cursor)?,
             requested_publishing_interval: Duration::decode(alloc, cursor)?,
             requested_lifetime_count: u32::decode(alloc, cursor)?,
             requested_max_keep_alive_count: u32::decode(alloc, cursor)?,
@@ -48,7 +46,6 @@ impl Wire for CreateSubscriptionRequest {
     }
 
     fn encode(&self, out: &mut Vec<u8>) -> Result<(), AllocError> {
-        self.request_header.encode(out)?;
         self.requested_publishing_interval.encode(out)?;
         self.requested_lifetime_count.encode(out)?;
         self.requested_max_keep_alive_count.encode(out)?;
@@ -62,7 +59,6 @@ impl Wire for CreateSubscriptionRequest {
 #[tactic(auto, unfolding(crate::specs::Subscriptions::create_subscription_request_reading))]
 impl Walk for CreateSubscriptionRequest {
     fn walk(cursor: &mut Cursor<'_>) -> Result<(), TakeFault> {
-        RequestHeader::skip(cursor)?;
         Duration::skip(cursor)?;
         u32::skip(cursor)?;
         u32::skip(cursor)?;
@@ -116,7 +112,6 @@ impl Wire for CreateSubscriptionResponse {
 /// Changes a subscription (ModifySubscription, IEC 62541-4, section 5, Subscription Service Set).
 #[derive(Debug, Drop)]
 pub struct ModifySubscriptionRequest {
-    pub request_header: RequestHeader,
     pub subscription_id: u32,
     /// How often a publishing cycle is to begin, as a double of milliseconds.
     pub requested_publishing_interval: Duration,
@@ -130,7 +125,7 @@ pub struct ModifySubscriptionRequest {
     pub priority: u8,
 }
 
-#[tactic(auto, using(ua_binary::proofs::Fields::fields7), unfolding(crate::specs::Subscriptions::modify_subscription_request_reading, crate::specs::Subscriptions::modify_subscription_request_encoding))]
+#[tactic(auto, using(ua_binary::proofs::Fields::fields6), unfolding(crate::specs::Subscriptions::modify_subscription_request_reading, crate::specs::Subscriptions::modify_subscription_request_encoding))]
 impl Wire for ModifySubscriptionRequest {
     ghost reading = { modify_subscription_request_reading };
 
@@ -141,7 +136,6 @@ impl Wire for ModifySubscriptionRequest {
         cursor: &mut Cursor<'_>,
     ) -> Result<ModifySubscriptionRequest, TakeFault> {
         Ok(ModifySubscriptionRequest {
-            request_header: RequestHeader::decode(alloc, cursor)?,
             subscription_id: u32::decode(alloc, cursor)?,
             requested_publishing_interval: Duration::decode(alloc, cursor)?,
             requested_lifetime_count: u32::decode(alloc, cursor)?,
@@ -152,7 +146,6 @@ impl Wire for ModifySubscriptionRequest {
     }
 
     fn encode(&self, out: &mut Vec<u8>) -> Result<(), AllocError> {
-        self.request_header.encode(out)?;
         self.subscription_id.encode(out)?;
         self.requested_publishing_interval.encode(out)?;
         self.requested_lifetime_count.encode(out)?;
@@ -166,7 +159,6 @@ impl Wire for ModifySubscriptionRequest {
 #[tactic(auto, unfolding(crate::specs::Subscriptions::modify_subscription_request_reading))]
 impl Walk for ModifySubscriptionRequest {
     fn walk(cursor: &mut Cursor<'_>) -> Result<(), TakeFault> {
-        RequestHeader::skip(cursor)?;
         u32::skip(cursor)?;
         Duration::skip(cursor)?;
         u32::skip(cursor)?;
@@ -218,12 +210,11 @@ impl Wire for ModifySubscriptionResponse {
 /// section 5, Subscription Service Set).
 #[derive(Debug, Drop)]
 pub struct SetPublishingModeRequest {
-    pub request_header: RequestHeader,
     pub publishing_enabled: bool,
     pub subscription_ids: Array<u32>,
 }
 
-#[tactic(auto, using(ua_binary::proofs::Fields::fields3), unfolding(crate::specs::Subscriptions::set_publishing_mode_request_reading, crate::specs::Subscriptions::set_publishing_mode_request_encoding))]
+#[tactic(auto, using(ua_binary::proofs::Fields::fields2), unfolding(crate::specs::Subscriptions::set_publishing_mode_request_reading, crate::specs::Subscriptions::set_publishing_mode_request_encoding))]
 impl Wire for SetPublishingModeRequest {
     ghost reading = { set_publishing_mode_request_reading };
 
@@ -234,14 +225,12 @@ impl Wire for SetPublishingModeRequest {
         cursor: &mut Cursor<'_>,
     ) -> Result<SetPublishingModeRequest, TakeFault> {
         Ok(SetPublishingModeRequest {
-            request_header: RequestHeader::decode(alloc, cursor)?,
             publishing_enabled: bool::decode(alloc, cursor)?,
             subscription_ids: Array::<u32>::decode(alloc, cursor)?,
         })
     }
 
     fn encode(&self, out: &mut Vec<u8>) -> Result<(), AllocError> {
-        self.request_header.encode(out)?;
         self.publishing_enabled.encode(out)?;
         self.subscription_ids.encode(out)?;
         Ok(())
@@ -251,7 +240,6 @@ impl Wire for SetPublishingModeRequest {
 #[tactic(auto, unfolding(crate::specs::Subscriptions::set_publishing_mode_request_reading))]
 impl Walk for SetPublishingModeRequest {
     fn walk(cursor: &mut Cursor<'_>) -> Result<(), TakeFault> {
-        RequestHeader::skip(cursor)?;
         bool::skip(cursor)?;
         Array::<u32>::skip(cursor)?;
         Ok(())
@@ -265,11 +253,10 @@ pub type SetPublishingModeResponse = Results<Status>;
 /// Deletes subscriptions (DeleteSubscriptions, IEC 62541-4, section 5, Subscription Service Set).
 #[derive(Debug, Drop)]
 pub struct DeleteSubscriptionsRequest {
-    pub request_header: RequestHeader,
     pub subscription_ids: Array<u32>,
 }
 
-#[tactic(auto, using(ua_binary::proofs::Fields::fields2), unfolding(crate::specs::Subscriptions::delete_subscriptions_request_reading, crate::specs::Subscriptions::delete_subscriptions_request_encoding))]
+#[tactic(auto, using(ua_binary::proofs::Fields::fields1), unfolding(crate::specs::Subscriptions::delete_subscriptions_request_reading, crate::specs::Subscriptions::delete_subscriptions_request_encoding))]
 impl Wire for DeleteSubscriptionsRequest {
     ghost reading = { delete_subscriptions_request_reading };
 
@@ -280,13 +267,11 @@ impl Wire for DeleteSubscriptionsRequest {
         cursor: &mut Cursor<'_>,
     ) -> Result<DeleteSubscriptionsRequest, TakeFault> {
         Ok(DeleteSubscriptionsRequest {
-            request_header: RequestHeader::decode(alloc, cursor)?,
             subscription_ids: Array::<u32>::decode(alloc, cursor)?,
         })
     }
 
     fn encode(&self, out: &mut Vec<u8>) -> Result<(), AllocError> {
-        self.request_header.encode(out)?;
         self.subscription_ids.encode(out)?;
         Ok(())
     }
@@ -295,7 +280,6 @@ impl Wire for DeleteSubscriptionsRequest {
 #[tactic(auto, unfolding(crate::specs::Subscriptions::delete_subscriptions_request_reading))]
 impl Walk for DeleteSubscriptionsRequest {
     fn walk(cursor: &mut Cursor<'_>) -> Result<(), TakeFault> {
-        RequestHeader::skip(cursor)?;
         Array::<u32>::skip(cursor)?;
         Ok(())
     }

@@ -4,7 +4,7 @@ ghost use Rattle.ua_subscription_messages.specs.Triggering.{set_triggering_reque
 
 use std::alloc::{AllocError, Global};
 use ua_binary::{Cursor, TakeFault, Wire};
-use ua_messages::{DiagnosticInfos, RequestHeader, ResponseHeader};
+use ua_messages::{DiagnosticInfos, ResponseHeader};
 use ua_types::{Array, Status};
 use ua_walks::Walk;
 
@@ -12,7 +12,6 @@ use ua_walks::Walk;
 /// (SetTriggering, IEC 62541-4, section 5, MonitoredItem Service Set).
 #[derive(Debug, Drop)]
 pub struct SetTriggeringRequest {
-    pub request_header: RequestHeader,
     pub subscription_id: u32,
     /// The item that triggers the others.
     pub triggering_item_id: u32,
@@ -22,7 +21,7 @@ pub struct SetTriggeringRequest {
     pub links_to_remove: Array<u32>,
 }
 
-#[tactic(auto, using(ua_binary::proofs::Fields::fields5), unfolding(crate::specs::Triggering::set_triggering_request_reading, crate::specs::Triggering::set_triggering_request_encoding))]
+#[tactic(auto, using(ua_binary::proofs::Fields::fields4), unfolding(crate::specs::Triggering::set_triggering_request_reading, crate::specs::Triggering::set_triggering_request_encoding))]
 impl Wire for SetTriggeringRequest {
     ghost reading = { set_triggering_request_reading };
 
@@ -30,7 +29,6 @@ impl Wire for SetTriggeringRequest {
 
     fn decode(alloc: Global, cursor: &mut Cursor<'_>) -> Result<SetTriggeringRequest, TakeFault> {
         Ok(SetTriggeringRequest {
-            request_header: RequestHeader::decode(alloc, cursor)?,
             subscription_id: u32::decode(alloc, cursor)?,
             triggering_item_id: u32::decode(alloc, cursor)?,
             links_to_add: Array::<u32>::decode(alloc, cursor)?,
@@ -39,7 +37,6 @@ impl Wire for SetTriggeringRequest {
     }
 
     fn encode(&self, out: &mut Vec<u8>) -> Result<(), AllocError> {
-        self.request_header.encode(out)?;
         self.subscription_id.encode(out)?;
         self.triggering_item_id.encode(out)?;
         self.links_to_add.encode(out)?;
@@ -51,7 +48,6 @@ impl Wire for SetTriggeringRequest {
 #[tactic(auto, unfolding(crate::specs::Triggering::set_triggering_request_reading))]
 impl Walk for SetTriggeringRequest {
     fn walk(cursor: &mut Cursor<'_>) -> Result<(), TakeFault> {
-        RequestHeader::skip(cursor)?;
         u32::skip(cursor)?;
         u32::skip(cursor)?;
         Array::<u32>::skip(cursor)?;

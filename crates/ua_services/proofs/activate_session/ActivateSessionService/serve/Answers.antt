@@ -9,7 +9,6 @@ returns c =
     let state = c.args.services.now in
     let setting = c.args.setting.now in
     let caller = c.args.caller.now in
-    let token = c.args.request.request_header.authentication_token in
-    let seen = subst (λ id. TakesNonce (Err c.in-Err.refusal) state.sessions c.activate.new.self (activate_of state.sessions id caller.conn caller.key c.is_anonymous-is_anonymous.result)) c.of-token.ensures c.in-Err.ensures.taken in
-    let takes = subst (λ flag. TakesNonce (Err c.in-Err.refusal) state.sessions c.activate.new.self (activate_of state.sessions token caller.conn caller.key flag)) c.is_anonymous-is_anonymous.ensures seen in
+    let token = c.args.token.now in
+    let takes = subst (λ flag. TakesNonce (Err c.in-Err.refusal) state.sessions c.activate.new.self (activate_of state.sessions token caller.conn caller.key flag)) c.is_anonymous-is_anonymous.ensures c.in-Err.ensures.taken in
     refused_as state caller setting (activate_session_body setting caller) (activate_of state.sessions token caller.conn caller.key (is_anonymous c.args.request.user_identity_token)) c.activate.new.self c.in-Err.refusal c.why_unserved.result c.why_unserved.ensures takes

@@ -20,7 +20,6 @@ returns c =
     let session = c.args.session in
     let inside = c.request.inside in
     let request : BrowseRequest = record {
-      request_header = inside.request_header;
       view_id = inside.view_id;
       view_timestamp = inside.view_timestamp;
       view_version = inside.view_version;
