@@ -55,6 +55,8 @@ def bodies(stored):
         "Write of one value": stored[WRITE][HEAD:],
         "Browse of one node with four references": b"\x01\0\x0f\x02" + header + struct.pack("<HqIII", 0, 0, 0, 0, 1) + ALL_OF_OBJECTS,
         "GetEndpoints": stored[ENDPOINTS][HEAD:],
+        "ActivateSession": stored[ACTIVATE][HEAD:],
+        "SetPublishingMode of one subscription": b"\x01\0\x1f\x03" + header + struct.pack("<BII", 1, 1, 1),
     }
 
 
