@@ -156,18 +156,27 @@ const READ: [u8; 93] = [
 ];
 
 #[test]
-fn a_read_as_it_came(rt: HostRuntime) {
+fn a_read_behind_its_header(rt: HostRuntime) {
     let Ok(headed) = header_view(&READ) else {
         holds(&rt, "a header", false);
         return;
     };
     holds(&rt, "its handle", headed.header.request_handle == 7);
     holds(&rt, "60 bytes follow", headed.fields.len() == 60);
-    let Ok(mut request) = fields_view::<ReadRequestView<'_>>(headed.fields) else {
+    let Ok(request) = fields_view::<ReadRequestView<'_>>(headed.fields) else {
         holds(&rt, "a request", false);
         return;
     };
     holds(&rt, "two values", request.nodes_to_read.len() == 2);
+}
+
+#[test]
+fn the_ids_of_a_read(rt: HostRuntime) {
+    let fields = READ.get(33..).unwrap_or(&READ);
+    let Ok(mut request) = fields_view::<ReadRequestView<'_>>(fields) else {
+        holds(&rt, "a request", false);
+        return;
+    };
     let Some(first) = request.nodes_to_read.next() else {
         holds(&rt, "the first", false);
         return;
