@@ -15,6 +15,7 @@ use crate::text_file::{FileFault, TextFile};
 use crate::watching::{Tracing, Visitors};
 use command_line::{Command, Stop, parse};
 use node_loader::{Cause, Loaded, load};
+use number_slots::Numbered;
 use scenario_lines::Lines;
 use server_core::{Event, Server, StepFault};
 use socket_server::{Serve, ServeFault};
@@ -28,7 +29,7 @@ use std::time::Clock;
 use stream_server::{Pump, PumpFault};
 use stream_taps::{Tap, put_bytes};
 use ua_space::{Node, Space, SpaceFault, Triple};
-use ua_types::{Config, Numbered};
+use ua_types::Config;
 
 /// The one connection of `pipe`.
 const CONNECTION: u64 = 1;

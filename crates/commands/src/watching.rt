@@ -1,19 +1,19 @@
 //! What is told while the program serves: the connections on standard error, and with a trace the rows of the
 //! subscriptions' state table that fire on standard output.
 
-ghost use Rattle.std.specs.Prelude.{◌≡◌, ℕ, []};
+ghost use Rattle.std.specs.Prelude.{ℕ, []};
 ghost use Rattle.scenario_lines.specs.TraceText.{rows_text};
 ghost use Rattle.scenario_lines.specs.Held.{place};
 ghost use Rattle.socket_server.specs.Output.{PutsOrFails, no_output};
 ghost use Rattle.commands.specs.Serving.{output_at};
 
+use number_slots::Numbered;
 use scenario_lines::{PrintFault, put_rows};
 use server_core::Fired;
 use socket_server::{Observer, ServeFault};
 use std::io::Write;
 use std::net::SocketAddr;
 use stream_taps::Tap;
-use ua_types::Numbered;
 
 // Where there is no memory for the address, the end of the connection won't be told.
 fn tell_connected<E: Write>(

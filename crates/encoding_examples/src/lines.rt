@@ -113,84 +113,77 @@ fn write_message<T: Wire + Debug>(
     write_body(alloc, type_id, bytes, message::<T>(alloc, bytes), output)
 }
 
-// The header of a message that a client sent, whose view is to say the same.
-fn write_header(alloc: Global, bytes: &[u8], output: &mut Vec<u8>) -> io::Result<()> {
-    let header = received::<RequestHeader>(alloc, bytes);
+// As `write_message`, of a message that is read in another way too, which is to say the same.
+fn write_twice<T: Wire + Debug>(
+    alloc: Global,
+    type_id: u32,
+    bytes: &[u8],
+    otherwise: Result<T, TakeFault>,
+    output: &mut Vec<u8>,
+) -> io::Result<()> {
     let mut taken = Vec::new(alloc);
-    write_body(alloc, READ_REQUEST, bytes, header, &mut taken)?;
-    let view = match header_view(bytes) {
+    write_message::<T>(alloc, type_id, bytes, &mut taken)?;
+    let mut again = Vec::new(alloc);
+    write_body(alloc, type_id, bytes, otherwise, &mut again)?;
+    write_both(taken.as_slice(), again.as_slice(), output)
+}
+
+// The header of a request, which is looked at too.
+fn write_header(alloc: Global, bytes: &[u8], output: &mut Vec<u8>) -> io::Result<()> {
+    let viewed = match header_view(bytes) {
         Ok(headed) => Ok(headed.header.copied(alloc)?),
         Err(fault) => Err(fault),
     };
-    let mut viewed = Vec::new(alloc);
-    write_body(alloc, READ_REQUEST, bytes, view, &mut viewed)?;
-    write_both(taken.as_slice(), viewed.as_slice(), output)
+    write_twice::<RequestHeader>(alloc, READ_REQUEST, bytes, viewed, output)
 }
 
-// A request that is read in two steps: its header, and then the fields behind it.
-fn received_in_steps<F: Walk>(
+// A request, of a header that was looked at and of what was read behind it.
+fn whole<F: Drop>(
     alloc: Global,
-    bytes: &[u8],
+    header: RequestHeaderView<'_>,
+    fields: Result<F, TakeFault>,
 ) -> Result<Result<Requested<F>, TakeFault>, AllocError> {
-    let headed = match header_view(bytes) {
-        Ok(headed) => headed,
-        Err(fault) => return Ok(Err(fault)),
-    };
-    match received_fields::<F>(alloc, headed.fields) {
+    match fields {
         Ok(fields) => Ok(Ok(Requested {
-            request_header: headed.header.copied(alloc)?,
+            request_header: header.copied(alloc)?,
             fields,
         })),
         Err(fault) => Ok(Err(fault)),
     }
 }
 
-// As `write_message`, of a request, which is the same where it is read in two steps.
+// A request, which is read in two steps too.
 fn write_request<F: Walk + Debug>(
     alloc: Global,
     type_id: u32,
     bytes: &[u8],
     output: &mut Vec<u8>,
 ) -> io::Result<()> {
-    let mut taken = Vec::new(alloc);
-    write_message::<Requested<F>>(alloc, type_id, bytes, &mut taken)?;
-    let steps = received_in_steps::<F>(alloc, bytes)?;
-    let mut stepped = Vec::new(alloc);
-    write_body(alloc, type_id, bytes, steps, &mut stepped)?;
-    write_both(taken.as_slice(), stepped.as_slice(), output)
-}
-
-// A request whose fields are looked at behind its header.
-fn viewed_in_steps<'a, V: Viewed<'a>>(
-    alloc: Global,
-    bytes: &'a [u8],
-) -> Result<Result<Requested<V::Value>, TakeFault>, AllocError> {
-    let headed = match header_view(bytes) {
-        Ok(headed) => headed,
-        Err(fault) => return Ok(Err(fault)),
+    let stepped = match header_view(bytes) {
+        Ok(headed) => {
+            let fields = received_fields::<F>(alloc, headed.fields);
+            whole(alloc, headed.header, fields)?
+        }
+        Err(fault) => Err(fault),
     };
-    match copied(alloc, fields_view::<V>(headed.fields))? {
-        Ok(fields) => Ok(Ok(Requested {
-            request_header: headed.header.copied(alloc)?,
-            fields,
-        })),
-        Err(fault) => Ok(Err(fault)),
-    }
+    write_twice::<Requested<F>>(alloc, type_id, bytes, stepped, output)
 }
 
-// As `write_message`, of a request whose fields have a view, which is to say the same.
+// A request, whose fields are looked at behind its header too.
 fn write_request_viewed<'a, V: Viewed<'a>>(
     alloc: Global,
     type_id: u32,
     bytes: &'a [u8],
     output: &mut Vec<u8>,
 ) -> io::Result<()> {
-    let mut taken = Vec::new(alloc);
-    write_message::<Requested<V::Value>>(alloc, type_id, bytes, &mut taken)?;
-    let steps = viewed_in_steps::<V>(alloc, bytes)?;
-    let mut viewed = Vec::new(alloc);
-    write_body(alloc, type_id, bytes, steps, &mut viewed)?;
-    write_both(taken.as_slice(), viewed.as_slice(), output)
+    let viewed = match header_view(bytes) {
+        Ok(headed) => {
+            let fields = copied(alloc, fields_view::<V>(headed.fields))?;
+            whole(alloc, headed.header, fields)?
+        }
+        Err(fault) => Err(fault),
+    };
+    write_twice::<Requested<V::Value>>(alloc, type_id, bytes, viewed, output)
 }
 
 // The structure that an object holds, and the object around it, or why it holds none.

@@ -1,6 +1,7 @@
 //! Limits of an address space, what its faults print where no node file has them, and a type of lists, which no node file makes.
 
 use crate::holding::holds;
+use number_slots::Near;
 use std::alloc::{AllocError, Global};
 use std::test::*;
 use ua_binary::{Cursor, Wire as _, Written as _};
@@ -179,7 +180,14 @@ fn attribute(alloc: Global, space: &Space, attribute_id: u32) -> Result<Vec<u8>,
     entry.put(&mut request)?;
     let mut bytes = Vec::new(alloc);
     if let Ok(asked) = ReadValueIdView::view(&mut Cursor::new(&request)) {
-        read(space, Moment(9), Timestamps::Neither, &asked).write(&mut bytes)?;
+        read(
+            space,
+            &mut Near::new(),
+            Moment(9),
+            Timestamps::Neither,
+            &asked,
+        )
+        .write(&mut bytes)?;
     }
     Ok(bytes)
 }

@@ -109,6 +109,14 @@ module _ {V : Type 0} where
         by None has rest = absurd has
         by (Some slot) has rest = ap suc rest
 
+    keys_held : (es : List (ℕ × ℕ)) → AreNumbered slots es → keys_of (held_in slots es) ≡ keys_of es
+    keys_held [] p = refl
+    keys_held (e ∷ es) p = by (slot_at slots e.1) p.0 (keys_held es p.1)
+      where
+        by : (slot : Option (Slot V)) → Has e.0 slot → keys_of (held_in slots es) ≡ keys_of es → keys_of (held_at e.0 slot (held_in slots es)) ≡ keys_of (e ∷ es)
+        by None has rest = absurd has
+        by (Some slot) has rest = ap (λ (ks : List ℕ). e.0 ∷ ks) rest
+
     -- a number leads to a slot that is filled with it
     pub number_at : (es : List (ℕ × ℕ)) → AreNumbered slots es → (q key : ℕ) → at q es ≡ Some key → Has q (slot_at slots key)
     number_at [] p q key f = absurd (no_Some key (sym f))
@@ -295,8 +303,19 @@ removed_nowhere test (e ∷ es) none = by (test e.0) none (removed_nowhere test 
 
 module _ {V : Type 0} (slots : List (Option (Slot V))) (es : List (ℕ × ℕ)) (h : IsHeld slots es) where
   -- a slot that is filled is that of its number
-  pub guessed : (key : ℕ) (slot : Slot V) → slot_at slots key ≡ Some slot → (n : ℕ) → slot.number ≡ n → Some key ≡ at n es
-  guessed key slot there n is = sym (subst (λ (m : ℕ). at m es ≡ Some key) is (h.led key slot there))
+  pub guessed : (key n : ℕ) → IsSomeAnd (slot_at slots key) (λ slot. slot.number ≡ n) → Some key ≡ at n es
+  guessed key n = by (slot_at slots key) refl
+    where
+      by : (slot : Option (Slot V)) → slot_at slots key ≡ slot → Has n slot → Some key ≡ at n es
+      by None there has = absurd has
+      by (Some slot) there has = sym (subst (λ (m : ℕ). at m es ≡ Some key) has (h.led key slot there))
+
+  -- the numbers of the values are those of the slots, and rise
+  pub held_keys : keys_of (held_in slots es) ≡ keys_of es
+  held_keys = keys_held slots es h.numbered
+
+  pub held_rising : IsStrictlySortedBy nat_cmp (keys_of (held_in slots es))
+  held_rising = subst (IsStrictlySortedBy nat_cmp) (sym held_keys) h.rising
 
   -- a number leads to no empty slot
   pub leads_to_one : (n key : ℕ) → at n es ≡ Some key → slot_at slots key ≡ None → ⊥

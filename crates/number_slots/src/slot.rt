@@ -5,9 +5,9 @@ ghost use Rattle.std.specs.Borrow.{sem};
 ghost use Rattle.number_slots.specs.SlotLends.{lends_held};
 
 /// A value in its slot, with its number.
-#[derive(Drop)]
+#[derive(Debug, Drop)]
 pub struct Slot<V> {
-    pub number: u32,
+    pub number: u64,
     pub value: V,
 }
 

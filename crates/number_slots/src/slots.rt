@@ -1,28 +1,29 @@
 //! Values under numbers, in slots.
 
-ghost use Rattle.std.specs.Prelude.{◌≡◌, [], None, length, OnOk, OnErr, IfErr, IfNone};
+ghost use Rattle.std.specs.Prelude.{◌≡◌, [], None, true, length, OnOk, OnErr, IfErr, IfNone, IfOk, IsSomeAnd};
 ghost use Rattle.std.specs.Borrow.{sem};
 ghost use Rattle.std.specs.BTreeMap.{is_at, insert_entry};
-ghost use Rattle.std.specs.Map.{lookup, remove_entry};
+ghost use Rattle.std.specs.List.Sorted.{IsStrictlySortedBy};
+ghost use Rattle.std.specs.Map.{keys_of, lookup, remove_entry};
 ghost use Rattle.std.specs.Option.{option_copied, option_copied_mut};
 ghost use Rattle.std.specs.Ordering.{nat_cmp};
-ghost use Rattle.number_slots.specs.Slots.{IsHeld};
+ghost use Rattle.number_slots.specs.Slots.{slot_at, IsHeld};
 ghost use Rattle.number_slots.specs.SlotLends.{lends_value};
 
 use crate::near::Near;
 use crate::slot::Slot;
 use slab::Slab;
-use std::alloc::Global;
+use std::alloc::{AllocError, Global};
 use std::collections::BTreeMap;
 use std::marker::Model;
 
 /// Values under their numbers. Contracts see the list of both, by rising number.
 ///
 /// The values lie in a slab, whose slots are used again. An ordered map leads from a number to its slot.
-#[derive(Drop)]
+#[derive(Debug, Drop)]
 pub struct Slots<V> {
     slots: Slab<Slot<V>>,
-    places: BTreeMap<u32, usize>,
+    places: BTreeMap<u64, usize>,
 }
 
 impl<V> Model for Slots<V> {
@@ -36,24 +37,51 @@ impl<V> Model for Slots<V> {
     ghost invariant = { λ s. IsHeld s.slots.slots s.places.entries };
 }
 
-// The slot of the value under this number, looked for where it is likely to be, and then by a search.
+// Whether the value under this number lies in this slot.
+fn lies_in<V>(slots: &Slab<Slot<V>>, slot: usize, number: u64) -> bool
+    ensures { result ≡ true → IsSomeAnd (slot_at slots.now.slots slot) (λ held. held.number ≡ number) }
+{
+    match slots.get(slot) {
+        Some(held) => held.number == number,
+        None => false,
+    }
+}
+
+// The slot of the value under this number, looked for at two places at which it is likely to be, and then by a search.
 #[tactic(auto, using(crate::proofs::SlotLemmas::guessed))]
 fn slot_of<V>(
     slots: &Slab<Slot<V>>,
-    places: &BTreeMap<u32, usize>,
+    places: &BTreeMap<u64, usize>,
     near: &Near,
-    number: u32,
+    number: u64,
 ) -> Option<usize>
     requires { IsHeld slots.now.slots places.now.entries }
     ensures { result ≡ lookup (is_at (nat_cmp number)) places.now.entries }
 {
-    let guess = near.guess();
-    if let Some(held) = slots.get(guess) {
-        if held.number == number {
-            return Some(guess);
-        }
+    let first = near.first();
+    if lies_in(slots, first, number) {
+        return Some(first);
+    }
+    let second = near.second();
+    if lies_in(slots, second, number) {
+        return Some(second);
     }
     places.get(&number).copied()
+}
+
+// The keys of a map, rising. There are about so many.
+fn keys_of<V>(
+    alloc: Global,
+    count: usize,
+    entries: &BTreeMap<u64, V>,
+) -> Result<Vec<u64>, AllocError>
+    ensures { IfOk result (λ keys. keys.items ≡ keys_of entries.now.entries) }
+{
+    let mut keys = Vec::with_capacity(alloc, count)?;
+    for (number, _) in entries {
+        keys.push(*number)?;
+    }
+    Ok(keys)
 }
 
 impl<V> Slots<V> {
@@ -68,16 +96,26 @@ impl<V> Slots<V> {
     }
 
     /// How many there are.
-    #[tactic(auto, using(crate::proofs::SlotLemmas::held_count))]
+    #[tactic(auto, using(crate::proofs::SlotLemmas::held_count, crate::proofs::SlotLemmas::held_rising))]
     pub fn len(&self) -> usize
-        ensures { result ≡ length self.now }
+        ensures count { result ≡ length self.now }
+        ensures rising { IsStrictlySortedBy nat_cmp (keys_of self.now) }
     {
         self.places.len()
     }
 
+    /// The numbers, rising.
+    #[tactic(auto, using(crate::proofs::SlotLemmas::held_keys, crate::proofs::SlotLemmas::held_rising))]
+    pub fn numbers(&self, alloc: Global) -> Result<Vec<u64>, AllocError>
+        ensures numbers { IfOk result (λ numbers. numbers.items ≡ keys_of self.now) }
+        ensures rising { IsStrictlySortedBy nat_cmp (keys_of self.now) }
+    {
+        keys_of(alloc, self.places.len(), &self.places)
+    }
+
     /// The value under this number.
     #[tactic(auto, using(crate::proofs::SlotLemmas::found))]
-    pub fn get(&self, number: u32) -> Option<&V>
+    pub fn get(&self, number: u64) -> Option<&V>
         ensures { option_copied result ≡ lookup (is_at (nat_cmp number)) self.now }
     {
         let slot = self.places.get(&number)?;
@@ -85,8 +123,27 @@ impl<V> Slots<V> {
         Some(&held.value)
     }
 
+    /// The same, looked for first where it is likely to be.
+    #[tactic(auto, using(crate::proofs::SlotLemmas::found))]
+    pub fn get_near(&self, near: &Near, number: u64) -> Option<&V>
+        ensures { option_copied result ≡ lookup (is_at (nat_cmp number)) self.now }
+    {
+        let slot = slot_of(&self.slots, &self.places, near, number)?;
+        let held = self.slots.get(slot)?;
+        Some(&held.value)
+    }
+
+    /// Where the value under this number lies, for who asks for it again.
+    pub fn near(&self, near: &Near, number: u64) -> Near {
+        let mut near = *near;
+        if let Some(slot) = slot_of(&self.slots, &self.places, &near, number) {
+            near.found(slot);
+        }
+        near
+    }
+
     /// The value under this number, to be changed in its place. Takes no memory.
-    pub fn get_mut(&mut self, number: u32) -> Option<&mut V>
+    pub fn get_mut(&mut self, number: u64) -> Option<&mut V>
         ensures* writes_back { sem 𝓛 (lends_value V.row self.entry number result) }
         ensures value { option_copied_mut result ≡ lookup (is_at (nat_cmp number)) self.old }
     {
@@ -94,7 +151,7 @@ impl<V> Slots<V> {
     }
 
     /// The same, looked for first where it is likely to be. Takes no memory.
-    pub fn get_mut_near(&mut self, near: &mut Near, number: u32) -> Option<&mut V>
+    pub fn get_mut_near(&mut self, near: &mut Near, number: u64) -> Option<&mut V>
         ensures* writes_back { sem 𝓛 (lends_value V.row self.entry number result) }
         ensures value { option_copied_mut result ≡ lookup (is_at (nat_cmp number)) self.old }
     {
@@ -111,7 +168,7 @@ impl<V> Slots<V> {
     }
 
     /// One more value, under a number that none has. At an `Err` nothing changed, and the value comes back.
-    pub fn insert(&mut self, number: u32, value: V) -> Result<(), V>
+    pub fn insert(&mut self, number: u64, value: V) -> Result<(), V>
         requires { lookup (is_at (nat_cmp number)) self.old ≡ None }
         ensures ok { OnOk result (self.new ≡ insert_entry nat_cmp self.old number value) }
         ensures back { IfErr result (λ back. back ≡ value) }
@@ -129,7 +186,9 @@ impl<V> Slots<V> {
     }
 
     /// Takes the value under this number out. Takes no memory.
-    pub fn remove(&mut self, number: u32) -> Option<V>
+    #[tactic(auto, using(crate::proofs::SlotLemmas::held_rising))]
+    pub fn remove(&mut self, number: u64) -> Option<V>
+        ensures rising { IsStrictlySortedBy nat_cmp (keys_of self.old) }
         ensures value { result ≡ lookup (is_at (nat_cmp number)) self.old }
         ensures entries { self.new ≡ remove_entry (is_at (nat_cmp number)) self.old }
         ensures unchanged { IfNone result (self.new ≡ self.old) }

@@ -1,7 +1,6 @@
 //! What lines come to.
 
-ghost use Rattle.std.specs.Prelude.{◌≡◌, ◌++◌, ◌∷◌, [], length, Ok, IfOk, OnOk};
-ghost use Rattle.ua_types.specs.Answers.{GivesAs};
+ghost use Rattle.std.specs.Prelude.{◌≡◌, length, Ok, IfOk, OnOk};
 ghost use Rattle.scenario_text.specs.declared.fault.Cause.TheVariants.{Memory};
 ghost use Rattle.std.specs.Option.{option_copied};
 ghost use Rattle.ua_channel.specs.SequenceNumbers.{sequence_number_after as sequence_number_after_spec};
@@ -10,13 +9,14 @@ ghost use Rattle.scenario_events.specs.ReadBodies.{IsRead};
 ghost use Rattle.scenario_events.specs.Members.{Assembles, nothing_sent, client_of as client_of_spec, sending, channels_after as channels_after_spec, assembled_opening, token_in as token_in_spec, token_at as token_at_spec, with_session, assembled_service, assembled_of};
 
 use crate::clients::{Client, closing, hello, new_client, opening, service};
+use number_slots::Numbered;
 use scenario_requests::{create_session_body, endpoints_body, request_body, request_header};
 use scenario_text::{Cause, ChannelRequest, Request, Statement};
 use server_core::Event;
 use std::alloc::{AllocError, Global};
 use ua_channel::sequence_number_after;
 use ua_session::{session_secret, session_token};
-use ua_types::{Listed, NodeId, Numbered};
+use ua_types::{Listed, NodeId};
 
 /// A session that was asked for.
 #[derive(Clone, Copy, Debug)]

@@ -21,8 +21,8 @@ use Rattle.server_connections.specs.Connecting.{reacted, taking_by, taking_of, b
 use Rattle.server_connections.specs.Delivering.{said_by, too_large_sent, reply_sent, delivered_to, delivered, delivery_of}
 use Rattle.server_connections.specs.Apart.{unsent_channel, unsent_phase, unsent, with_known, KeepsOthers}
 use Rattle.server_connections.proofs.CoherentLemmas.{at_insert_at}
-use Rattle.ua_types.proofs.NumberMaps.{get_inserted_elsewhere}
-use Rattle.ua_types.proofs.NumberMaps.{get_inserted}
+use Rattle.number_slots.proofs.NumberMaps.{get_inserted_elsewhere}
+use Rattle.number_slots.proofs.NumberMaps.{get_inserted}
 
 -- ---- frames
 

@@ -34,8 +34,8 @@ use Rattle.server_connections.specs.Connecting.{Taking, is_known, is_new, is_abo
 use Rattle.server_connections.specs.Delivering.{Delivery, said_by, reply_sent, delivered_on, delivered_to, delivered, delivery_of}
 use Rattle.server_connections.specs.Coherent.{IsAgreed, IsAgreedIn, IsAgreedAt, AreAgreed, is_talking, has_channel, Talks, IsFresh, is_going_on, is_open_at, is_open}
 use Rattle.server_connections.proofs.AgreedLemmas.{of_unchanged, of_taken, good_frame, IsGood, reply_unchanged, granted_unchanged}
-use Rattle.ua_types.proofs.NumberMaps.{get_inserted_elsewhere, get_removed_elsewhere}
-use Rattle.ua_types.proofs.NumberMaps.{get_inserted}
+use Rattle.number_slots.proofs.NumberMaps.{get_inserted_elsewhere, get_removed_elsewhere}
+use Rattle.number_slots.proofs.NumberMaps.{get_inserted}
 
 -- ---- one connection set
 

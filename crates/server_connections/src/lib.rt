@@ -5,7 +5,7 @@
 //! channels, joins chunks and refuses what has to be refused. [`Connections::deliver`] sends replies,
 //! each on the connection that its request came by. Nothing here knows of sessions, nodes and
 //! services, nor of the bytes of a frame that is still to come: framers are kept beside, in a
-//! [`ua_types::Numbered`] of their own.
+//! [`number_slots::Numbered`] of their own.
 //!
 //! Read [`Connections`] first. `specs/Reactions` defines what a frame does to its connection,
 //! `Connecting` what frames, openings and endings do to all of them, `Delivering` how replies are

@@ -7,7 +7,7 @@ use Rattle.ua_tcp.specs.Frames.{End, Rest, Broken}
 use Rattle.ua_tcp.specs.Pieces.{Done, Stepped, and_then, all_handled, at_end}
 use Rattle.ua_tcp.specs.declared.frame.Frame.{Frame}
 use Rattle.ua_tcp.specs.declared.frame.FrameFault.{FrameFault}
-use Rattle.ua_types.proofs.NumberMaps.{get_inserted, get_removed}
+use Rattle.number_slots.proofs.NumberMaps.{get_inserted, get_removed}
 use Rattle.server_messages.specs.declared.reply.Reply.{Reply}
 use Rattle.server_messages.specs.declared.setting.Setting.{Setting}
 use Rattle.server_connections.specs.Apart.{SeesAlike, is_on, is_for}

@@ -15,7 +15,7 @@ use Rattle.server_connections.specs.declared.frame_outcome.FrameOutcome.TheVaria
 use Rattle.server_connections.specs.declared.connections.Connections.{Connections}
 use Rattle.server_messages.specs.declared.out.Out.{Out}
 use Rattle.server_connections.proofs.ApartLemmas.{taking_apart, break_apart, delivery_apart, then_sent}
-use Rattle.ua_types.proofs.NumberMaps.{get_inserted_elsewhere, get_removed_elsewhere}
+use Rattle.number_slots.proofs.NumberMaps.{get_inserted_elsewhere, get_removed_elsewhere}
 use Rattle.ua_services.specs.declared.services.Services.{Services}
 use Rattle.ua_services.specs.Services.{serving_of}
 use Rattle.server_core.specs.Apart.{with_parts, KeepsOthers}

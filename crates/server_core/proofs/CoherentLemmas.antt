@@ -30,7 +30,7 @@ use Rattle.server_connections.specs.declared.connection.Phase.TheVariants.{Greet
 use Rattle.server_connections.specs.declared.connections.Connections.{Connections}
 use Rattle.server_messages.specs.declared.out.Out.{Out}
 use Rattle.server_connections.proofs.CoherentLemmas.{FitsAt, IsDelivered, taken_right, broken_right, broken_closes, delivered_right, opened_agreed, opened_talks, opened_open, opened_fresh, gone_agreed, gone_talks, gone_open, gone_fresh, talks_open}
-use Rattle.ua_types.proofs.NumberMaps.{same_number, numbers_same}
+use Rattle.number_slots.proofs.NumberMaps.{same_number, numbers_same}
 use Rattle.ua_services.specs.declared.services.Services.{Services}
 use Rattle.ua_space.specs.Nodes.{SpaceState}
 use Rattle.ua_services.specs.Owing.{OwesOnly, ServesOnly}

@@ -6,7 +6,7 @@ use Rattle.ua_tcp.specs.Feeding.{Framing, framed_of}
 use Rattle.ua_tcp.specs.Pieces.{Stepped, all_handled, at_end, piece_on, piece_served, then_step}
 use Rattle.ua_tcp.specs.declared.frame.FrameFault.TheVariants.{Failed}
 use Rattle.ua_tcp.proofs.PiecesLemmas.{cut_held}
-use Rattle.ua_types.proofs.NumberMaps.{get_inserted, get_removed, remove_inserted}
+use Rattle.number_slots.proofs.NumberMaps.{get_inserted, get_removed, remove_inserted}
 use Rattle.server_core.specs.Effects.{Effect}
 use Rattle.server_core.specs.World.{World, Core}
 use Rattle.server_core.specs.Handling.{handled, broken}

@@ -3,7 +3,7 @@ use Rattle.std.proofs.Common.{◌≡◌, ℕ, Bool, true, false, cond, if◌then
 use Rattle.std.proofs.lemmas.Bool.{false≢true}
 use Rattle.std.specs.Ordering.{nat_cmp}
 use Rattle.std.specs.FinMap.{FinMap, get, insert, remove}
-use Rattle.ua_types.proofs.NumberMaps.{insert_removed, remove_given}
+use Rattle.number_slots.proofs.NumberMaps.{insert_removed, remove_given}
 use Rattle.ua_tcp.specs.Feeding.{Feeding, Framing, feeding, feeding_of, framed_of}
 use Rattle.ua_tcp.specs.Frames.{End, Rest, Broken, held_at, fault_at}
 use Rattle.ua_tcp.specs.Pieces.{Done, Stepped, and_then, all_handled, refused_if, at_end}

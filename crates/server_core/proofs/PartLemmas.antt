@@ -19,7 +19,7 @@ use Rattle.server_connections.specs.declared.frame_outcome.FrameOutcome.TheVaria
 use Rattle.server_connections.specs.declared.connection.Connection.{Connection}
 use Rattle.server_connections.specs.declared.connection.Phase.{Phase}
 use Rattle.server_connections.specs.declared.connection.Phase.TheVariants.{Greeting, Talking, Closed}
-use Rattle.ua_types.proofs.NumberMaps.{get_inserted_elsewhere}
+use Rattle.number_slots.proofs.NumberMaps.{get_inserted_elsewhere}
 use Rattle.server_core.specs.Apart.{is_part_taken, is_part_in, is_part_of, are_parts, is_rest, completes_none_in, completes_none, with_connections_of, KeepsAllElse}
 use Rattle.server_core.specs.Effects.{Effect}
 use Rattle.server_core.specs.Handling.{handled_by, handled, broken}

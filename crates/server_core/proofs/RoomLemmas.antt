@@ -7,7 +7,7 @@ use Rattle.std.specs.FinMap.{FinMap, get, insert, remove, empty, len, contains_k
 use Rattle.ua_types.specs.Configuration.{Configuration}
 use Rattle.ua_space.specs.Nodes.{SpaceState}
 use Rattle.ua_tcp.specs.Feeding.{Framing, unfed}
-use Rattle.ua_types.proofs.NumberMaps.{insert_removed}
+use Rattle.number_slots.proofs.NumberMaps.{insert_removed}
 use Rattle.server_core.specs.Stepping.{with_held, fed_to, fed, has_room, greeted, forgotten}
 use Rattle.server_core.specs.World.{World, opening}
 use Rattle.server_core.proofs.ApartLemmas.{fed_apart}

@@ -12,13 +12,14 @@ use crate::event::Event;
 use crate::out::{Ran, Step, StepFault};
 use crate::parts::Core;
 use crate::world::World;
+use number_slots::Numbered;
 use server_connections::Connections;
 use server_messages::Setting;
 use std::alloc::{AllocError, Global};
 use ua_services::Services;
 use ua_space::Space;
 use ua_state_table::Vars;
-use ua_types::{Config, Listed, Numbered};
+use ua_types::{Config, Listed};
 
 /// An OPC UA server without a socket, a clock and a source of random numbers.
 ///

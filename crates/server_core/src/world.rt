@@ -1,6 +1,6 @@
 //! All that the server is, and what an event does to it.
 
-ghost use Rattle.std.specs.Prelude.{◌≡◌, [], true, false, None, Err, IsOk, OnOk};
+ghost use Rattle.std.specs.Prelude.{◌≡◌, true, false, None, Err, IsOk, OnOk};
 ghost use Rattle.std.specs.FinMap.{get};
 ghost use Rattle.server_connections.specs.Connecting.{is_new, is_known};
 ghost use Rattle.server_core.specs.Stepping.{Feeds, fed, greeted, has_room as has_room_spec, refusal_of, opened, shut_down, step_of, Matches, takes_no_memory};
@@ -10,10 +10,11 @@ use crate::event::Event;
 use crate::out::{Step, StepFault};
 use crate::parts::Core;
 use bytes::Bytes;
+use number_slots::Numbered;
 use server_messages::Halt;
 use std::alloc::{AllocError, Global};
 use ua_tcp::Framer;
-use ua_types::{Numbered, Status};
+use ua_types::Status;
 
 /// The framers of the open connections, and the rest. So nothing but a framer touches the bytes that
 /// are held of a frame.

@@ -3,6 +3,7 @@
 use crate::events::base_server;
 use crate::holding::holds;
 use commands::{Tracing, Visitors};
+use number_slots::Numbered;
 use scenario_events::assemble;
 use server_core::Server;
 use socket_server::Observer;
@@ -10,7 +11,6 @@ use std::alloc::Global;
 use std::net::SocketAddr;
 use std::test::*;
 use stream_taps::Tap;
-use ua_types::Numbered;
 
 // A subscription whose client never sends a Publish request: it is late at the first tick.
 const IS_LATE: &str = "open 1 0000000000000000000000000000000000000000000000000000000000000000

@@ -1,17 +1,17 @@
 //! All sockets, under their numbers.
 
-ghost use Rattle.std.specs.Prelude.{◌≡◌, ℕ, ◌+◌, ◌<◌, ◌==◌, not, true, [], IfOk, OnOk, OnErr, length, slice_get, Some};
+ghost use Rattle.std.specs.Prelude.{◌≡◌, ◌+◌, ◌<◌, ◌==◌, not, true, [], IfOk, OnOk, OnErr, length, Some};
 ghost use Rattle.std.specs.FinMap as map;
 ghost use Rattle.socket_peers.specs.Peers.{nobody, number_after, with_joined, listed_if, woken_if, reported, owed_out, owed_all, Departs, LetsGo, ReadsAt, LosesAt, FlushesAt, LooksAt, FlushesAll};
 
 use crate::peer::{Heard, Peer, Readiness};
 use crate::socket::Socket;
+use number_slots::Numbered;
 use server_messages::Out;
 use short_lists::ShortList;
 use std::alloc::{AllocError, Global};
 use std::marker::Model;
 use std::mem;
-use ua_types::Numbered;
 
 // The most bytes of a piece.
 const PIECE: usize = 4096;

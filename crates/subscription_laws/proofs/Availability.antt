@@ -6,7 +6,7 @@ use Rattle.std.specs.BTreeMap.{is_at}
 use Rattle.std.specs.Map.{set_value}
 use Rattle.std.specs.Ordering.{nat_cmp, is_eq}
 use Rattle.std.specs.Prelude.{◌==◌, ◌&&◌, fold, nat_lt}
-use Rattle.ua_types.proofs.NumberMaps.{same_number}
+use Rattle.number_slots.proofs.NumberMaps.{same_number}
 use Rattle.ua_types.specs.Configuration.{Configuration}
 use Rattle.ua_values.specs.declared.data_value.DataValue.{DataValue}
 use Rattle.ua_read_write.specs.declared.writing.Change.{Change}

@@ -10,7 +10,7 @@ use Rattle.std.specs.declared.cmp.Ordering.{Ordering}
 use Rattle.std.specs.declared.cmp.Ordering.TheVariants.{Less, Equal, Greater}
 use Rattle.ua_types.specs.Configuration.{Configuration}
 use Rattle.ua_types.specs.declared.moment.Moment.{Moment}
-use Rattle.ua_types.proofs.NumberMaps.{same_number}
+use Rattle.number_slots.proofs.NumberMaps.{same_number}
 use Rattle.ua_monitored_items.specs.Items.{ItemsState}
 use Rattle.ua_state_table.specs.declared.event.TableEvent.TheVariants as event
 use Rattle.ua_subscriptions.specs.declared.call.Call.{Call}
@@ -23,7 +23,7 @@ use Rattle.ua_subscriptions.specs.Ranks.{rank_cmp, rank_of, number_of, with_rank
 use Rattle.ua_subscriptions.specs.SubscriptionCalls.{world_of}
 use Rattle.ua_subscriptions.specs.Tables.{World, with_call, without_closed, met_found, met, subscription_at, vars_by}
 use Rattle.subscription_laws.specs.Calm.{AreAbove, AreRising, is_listed}
-use Rattle.subscription_laws.specs.Concern.{Concern, if_live, one_concerned, each_concerned, concerned}
+use Rattle.subscription_laws.specs.Concern.{Concern, if_live, each_concerned, concerned}
 use Rattle.subscription_laws.specs.Concern as concern
 use Rattle.subscription_laws.specs.Precedence.{and_then, precedence, IsBeforeFirst, AreBestFirst}
 use Rattle.subscription_laws.specs.Runs.{Move, run}

@@ -10,7 +10,7 @@ use Rattle.std.specs.Ordering.{nat_cmp, match_ordering, is_eq}
 use Rattle.std.specs.Set.{remove_key}
 use Rattle.std.specs.declared.cmp.Ordering.{Ordering}
 use Rattle.std.specs.declared.cmp.Ordering.TheVariants.{Less, Equal, Greater}
-use Rattle.ua_types.proofs.NumberMaps.{same_number, numbers_same, told_apart}
+use Rattle.number_slots.proofs.NumberMaps.{same_number, numbers_same, told_apart}
 use Rattle.subscription_laws.specs.Calm.{AreAbove, AreRising, AreNumbersAbove, AreNumbersRising, is_listed}
 
 -- ---- numbers that are the same, and those that aren't

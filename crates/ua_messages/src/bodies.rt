@@ -1,6 +1,6 @@
 //! Bodies: the id of a message's encoding, and then the message.
 
-ghost use Rattle.std.specs.Prelude.{◌≡◌, ◌≢◌, Ok, Err, IfOk, IfErr, OnOk, IsOk};
+ghost use Rattle.std.specs.Prelude.{◌≡◌, Ok, Err, IfOk, IfErr};
 ghost use Rattle.ua_binary.specs.declared.fault.TakeFault.TheVariants.{Memory};
 ghost use Rattle.ua_types.specs.Answers.{Gives};
 ghost use Rattle.ua_messages.specs.Bodies.{message_id_of, message_of, body_encoding};
@@ -9,7 +9,6 @@ use crate::message_body::MessageBody;
 use std::alloc::{AllocError, Global};
 use ua_binary::{Cursor, TakeFault, Wire};
 use ua_types::NodeId;
-use ua_walks::Walk;
 
 /// The number of the id that a body begins with (one of `type_ids`), or 0 where the id is of another
 /// namespace or isn't a number.
@@ -62,36 +61,6 @@ pub fn message<T: Wire>(alloc: Global, body: &[u8]) -> Result<T, TakeFault>
     let mut cursor = Cursor::new(body);
     NodeId::decode(alloc, &mut cursor)?;
     T::decode(alloc, &mut cursor)
-}
-
-// Walks over the message of a body.
-#[tactic(auto, unfolding(crate::specs::Bodies::message_of))]
-fn skip_message<T: Walk>(body: &[u8]) -> Result<(), TakeFault>
-    ensures ok { OnOk result (IsOk (message_of T.reading body.now)) }
-    ensures err { IfErr result (λ e. message_of T.reading body.now ≡ Err e) }
-    ensures no_memory { result ≢ Err Memory }
-{
-    let mut cursor = Cursor::new(body);
-    NodeId::skip(&mut cursor)?;
-    T::skip(&mut cursor)?;
-    Ok(())
-}
-
-/// The message of a body that a client sent, as [`message`] gives it.
-///
-/// A body that can't be read as such a message is answered by its first fault, however little memory there is:
-/// `Memory` comes only where the body is one.
-pub fn received<T: Walk>(alloc: Global, body: &[u8]) -> Result<T, TakeFault>
-    ensures gives { Gives Memory result (message_of T.reading body.now) }
-    ensures memory { result ≡ Err Memory → IsOk (message_of T.reading body.now) }
-{
-    match message(alloc, body) {
-        Err(TakeFault::Memory) => {
-            skip_message::<T>(body)?;
-            Err(TakeFault::Memory)
-        }
-        answer => answer,
-    }
 }
 
 /// The body of a message: the id with this number in namespace 0, and then the fields.

@@ -8,16 +8,17 @@
 //! the message. [`message_id`] tells which message a body holds, [`message`] reads it, [`body`] writes
 //! one, and [`fault`] writes the answer to a request that failed; both give a [`MessageBody`], which has room for what stands
 //! before it in a frame. A request's struct has the fields of its kind, which follow a header: [`Requested`] is the two together,
-//! and [`received_fields`] reads the fields behind a header that was looked at. [`Results`] is the response that has one
+//! and [`received_fields`] reads the fields behind a header that was looked at. The two requests of secure channels, which no
+//! session serves, have their header as a field. [`Results`] is the response that has one
 //! result for each thing asked for, and [`results_body`] writes it from results that stand elsewhere.
 //! [`structure`] reads what an ExtensionObject holds, [`extension_object`] makes one, and [`write_structure`] writes one
-//! into the message that it stands in. A server reads what a client sent by [`received`] and [`received_structure`],
+//! into the message that it stands in. A server reads what a client sent by [`received_fields`] and [`received_structure`],
 //! which answer a fault also where there is no memory: the types that clients send are [`ua_walks::Walk`] too.
 //!
 //! Nothing here decides anything: no field is judged beyond its form, no session is looked up, and no
 //! clock is read. Frames and chunks are other crates' work.
 //!
-//! Read [`RequestHeader`] and [`ResponseHeader`] first, then [`GetEndpointsRequest`] for a whole
+//! Read [`RequestHeader`] and [`ResponseHeader`] first, then [`GetEndpointsResponse`] for a whole
 //! message. The numbers of all encodings that the server knows are in [`type_ids`].
 #![tactic(auto)]
 
@@ -39,7 +40,7 @@ mod structures;
 mod structures_in_place;
 pub mod type_ids;
 
-pub use bodies::{body, message, message_id, received};
+pub use bodies::{body, message, message_id};
 pub use descriptions::{ApplicationDescription, EndpointDescription, UserTokenPolicy};
 pub use diagnostics::{DiagnosticInfo, DiagnosticInfos};
 pub use enumerations::{

@@ -8,7 +8,7 @@ use Rattle.std.specs.BTreeMap.{insert_entry, is_at}
 use Rattle.std.specs.BTreeSet.{insert_key}
 use Rattle.std.specs.Map.{set_value, remove_entry}
 use Rattle.std.specs.Ordering.{nat_cmp}
-use Rattle.ua_types.proofs.NumberMaps.{same_number}
+use Rattle.number_slots.proofs.NumberMaps.{same_number}
 use Rattle.ua_types.specs.declared.moment.Moment.{Moment}
 use Rattle.ua_values.specs.declared.data_value.DataValue.{DataValue}
 use Rattle.ua_space.specs.Nodes.{Nodes}

@@ -4,7 +4,7 @@ use Rattle.std.specs.BTreeMap.{BTreeMap, insert_entry, is_at}
 use Rattle.std.specs.BTreeSet.{BTreeSet, insert_key}
 use Rattle.std.specs.Map.{lookup, set_value, remove_entry}
 use Rattle.std.specs.Set.{remove_key}
-use Rattle.ua_types.proofs.NumberMaps.{same_number}
+use Rattle.number_slots.proofs.NumberMaps.{same_number}
 use Rattle.std.proofs.lemmas.Bool.{false≢true}
 use Rattle.std.specs.Cmp.{nat_cmp_is, nat_cmp_total, eq_by_cmp_equiv}
 use Rattle.std.specs.Prelude.{◌==◌, ◌&&◌, fold, not, OnOk, OnErr}

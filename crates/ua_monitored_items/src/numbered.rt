@@ -62,7 +62,7 @@ fn modify_at(
     ensures items { items.new ≡ with_item number (modified_with timestamps modification parameters.now) items.old }
     ensures recount { result ≡ recount_by (modified_with timestamps modification parameters.now) (item_at number items.old) }
 {
-    let item = items.get_mut(number)?;
+    let item = items.get_mut(number as u64)?;
     let had = item.waiting() > 0;
     item.modify(timestamps, modification, parameters);
     Some(Recount {
@@ -81,7 +81,7 @@ fn set_mode_at(
     ensures items { items.new ≡ with_item number (moded_from mode first) items.old }
     ensures recount { result ≡ recount_by (moded_from mode first) (item_at number items.old) }
 {
-    let item = items.get_mut(number)?;
+    let item = items.get_mut(number as u64)?;
     let had = item.waiting() > 0;
     item.set_mode(mode, first);
     Some(Recount {
@@ -95,7 +95,7 @@ fn release_at(items: &mut Slots<Item>, release: Release) -> Option<Recount>
     ensures items { items.new ≡ with_item release.number (released_in release.subscription) items.old }
     ensures recount { result ≡ recount_by (released_in release.subscription) (item_at release.number items.old) }
 {
-    let item = items.get_mut(release.number)?;
+    let item = items.get_mut(release.number as u64)?;
     let had = item.waiting() > 0;
     item.release(release.subscription);
     Some(Recount {
@@ -109,7 +109,7 @@ fn set_links_at(items: &mut Slots<Item>, number: u32, links: Links) -> Option<Re
     ensures items { items.new ≡ with_item number (with_links links) items.old }
     ensures recount { result ≡ recount_by (with_links links) (item_at number items.old) }
 {
-    let item = items.get_mut(number)?;
+    let item = items.get_mut(number as u64)?;
     let had = item.waiting() > 0;
     item.set_links(links);
     Some(Recount {
@@ -136,7 +136,7 @@ fn visit_at(
     ensures err { OnErr result (items.new ≡ items.old) }
     ensures takes { OnErr result (visit_takes (record { number = number; value = value.now }) (item_at number items.old) ≡ true) }
 {
-    let Some(item) = items.get_mut_near(near, number) else {
+    let Some(item) = items.get_mut_near(near, number as u64) else {
         return Ok(None);
     };
     let had = item.waiting() > 0;
@@ -163,7 +163,7 @@ impl Numbered {
     pub fn get(&self, number: u32) -> Option<&Item>
         ensures { option_copied result ≡ item_at number self.now }
     {
-        self.items.get(number)
+        self.items.get(number as u64)
     }
 
     /// Puts an item under a number that none has. At an `Err` nothing changed, and the item comes back.
@@ -181,7 +181,7 @@ impl Numbered {
         let Ok(()) = hold(&mut self.counts, item.subscription) else {
             return Err(item);
         };
-        self.items.insert(number, item)?;
+        self.items.insert(number as u64, item)?;
         count(&mut self.counts, recount, self.items.len());
         Ok(())
     }
@@ -193,7 +193,7 @@ impl Numbered {
         ensures unchanged { IfNone result (self.new ≡ self.old) }
     {
         let most = self.items.len();
-        let item = self.items.remove(number)?;
+        let item = self.items.remove(number as u64)?;
         let recount = Recount {
             subscription: item.subscription,
             had: item.waiting() > 0,

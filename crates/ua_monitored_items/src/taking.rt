@@ -57,7 +57,7 @@ fn give_at(
     ensures counts { AreCountsBy (counts_with counts.new tally.new) items.new }
 {
     let most = items.len();
-    let Some(item) = items.get_mut_near(near, number) else {
+    let Some(item) = items.get_mut_near(near, number as u64) else {
         return Ok(left);
     };
     let (wanted, recount) = give_some(item, left, message)?;

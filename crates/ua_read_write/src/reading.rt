@@ -17,6 +17,7 @@ use crate::answer::{Answer, copied, refused};
 use crate::attributes::{Attribute, attribute_at};
 use crate::index_range::{IndexRange, asked_range};
 use crate::timestamps::Timestamps;
+use number_slots::Near;
 use std::alloc::{AllocError, Global};
 use ua_messages::{DiagnosticInfos, MessageBody, ReadValueId, ResponseHeader, type_ids};
 use ua_service_views::ReadValueIdView;
@@ -104,7 +105,7 @@ fn told<'a>(
 }
 
 /// What the service Read answers to one of its requests at this clock (IEC 62541-4, "Read"). Takes no
-/// memory.
+/// memory. The node is looked for first near the last one ([`Space::find_near`]).
 ///
 /// It refuses in this order: no node has the id, `BAD_NODE_ID_UNKNOWN`; the node's class doesn't have the
 /// attribute, `BAD_ATTRIBUTE_ID_INVALID`; an index range is given that can't be read, `BAD_INDEX_RANGE_INVALID`; it is the
@@ -113,13 +114,14 @@ fn told<'a>(
 #[tactic(auto, unfolding(crate::specs::Reading::told))]
 pub fn read<'a>(
     space: &'a Space,
+    near: &mut Near,
     clock: Moment,
     timestamps: Timestamps,
     request: &ReadValueIdView<'_>,
 ) -> Answer<'a>
     ensures { result ≡ read_of space.now.nodes clock timestamps request.now }
 {
-    let node = space.find(&request.node_id);
+    let node = space.find_near(near, &request.node_id);
     let attribute = told(node, request.attribute_id, request.index_range.as_str());
     Answer::new(attribute, clock, timestamps)
 }
@@ -173,8 +175,9 @@ fn write_answers<'a>(
     ensures { OnOk result (body.new ≡ body.old ++ array_encoding data_value_encoding (Some (all_read space.now.nodes clock timestamps (or_none requests.entry)))) }
 {
     body.write(&(requests.len() as u32))?;
+    let mut near = Near::new();
     for request in requests {
-        body.write(&read(space, clock, timestamps, &request))?;
+        body.write(&read(space, &mut near, clock, timestamps, &request))?;
     }
     Ok(())
 }

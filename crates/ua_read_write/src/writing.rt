@@ -10,6 +10,7 @@ ghost use Rattle.ua_types.specs.declared.refusal.Refusal.TheVariants.{Memory};
 ghost use Rattle.ua_views.specs.Views.{or_none};
 
 use crate::judging::{judged, made};
+use number_slots::Near;
 use std::alloc::{AllocError, Global};
 use ua_service_views::WriteValueView;
 use ua_space::Space;
@@ -67,6 +68,7 @@ pub struct AcceptedValue {
 pub fn accepted<'a>(
     alloc: Global,
     space: &Space,
+    near: &mut Near,
     clock: Moment,
     write: &WriteValueView<'a>,
 ) -> Result<AcceptedValue, Refusal>
@@ -75,7 +77,7 @@ pub fn accepted<'a>(
     ensures place { IfOk result (λ accepted. place_of write.now.node_id space.now.nodes ≡ Some accepted.place) }
     ensures taken { IfOk result (λ accepted. takes_at write.now.node_id accepted.value space.now.nodes ≡ true) }
 {
-    let Some(place) = space.place(&write.node_id) else {
+    let Some(place) = space.place(near, &write.node_id) else {
         return Err(Refusal::Service(Status::BAD_NODE_ID_UNKNOWN));
     };
     let new = judged(space.node_in_order(place), write)?;
@@ -93,6 +95,7 @@ pub fn accepted<'a>(
 fn write_one<'a>(
     alloc: Global,
     space: &mut Space,
+    near: &mut Near,
     clock: Moment,
     write: &WriteValueView<'a>,
     changed: &mut Vec<Change>,
@@ -104,7 +107,7 @@ fn write_one<'a>(
     ensures refused { IfErr (judged space.old.nodes write.now) (λ status. result ≡ Ok status) }
     ensures err { OnErr result ((space.new.nodes ≡ space.old.nodes) ⊎ (space.new.nodes ≡ nodes_after clock write.now (judged space.old.nodes write.now) space.old.nodes)) }
 {
-    let AcceptedValue { place, value } = match accepted(alloc, space, clock, write) {
+    let AcceptedValue { place, value } = match accepted(alloc, space, near, clock, write) {
         Ok(accepted) => accepted,
         Err(Refusal::Service(status)) => return Ok(status),
         Err(Refusal::Memory) => return Err(AllocError),
@@ -145,8 +148,9 @@ pub fn write<'a>(
 {
     let mut statuses = Vec::with_capacity(alloc, values.len())?;
     let mut changed = Vec::new(alloc);
+    let mut near = Near::new();
     for value in values {
-        let status = write_one(alloc, space, clock, &value, &mut changed)?;
+        let status = write_one(alloc, space, &mut near, clock, &value, &mut changed)?;
         statuses.push(status)?;
     }
     Ok(Written {

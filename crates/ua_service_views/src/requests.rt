@@ -39,7 +39,7 @@ pub fn header_view<'a>(body: &'a [u8]) -> Result<Headed<'a>, TakeFault>
 /// The fields of a request, looked at in the bytes behind its header, as [`ua_messages::received_fields`] gives them. Takes no
 /// memory.
 ///
-/// Bytes after the last field are ignored.
+/// The `Err` is the first fault in them. Bytes after the last field are ignored.
 pub fn fields_view<'a, T: View<'a>>(fields: &'a [u8]) -> Result<T, TakeFault>
     ensures gives { Gives Memory result (fields_of T.reading fields.now) }
     ensures no_memory { result ≢ Err Memory }

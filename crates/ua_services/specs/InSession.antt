@@ -1,16 +1,20 @@
 -- What every service of a session begins with.
-use Rattle.std.specs.Prelude.{ℕ, Bool, ◌&&◌, Result, Ok, Err, is_ok}
+use Rattle.std.specs.Prelude.{ℕ, Bool, ◌&&◌, List, Result, Ok, Err, is_ok}
 use Rattle.ua_types.specs.Answers.{Step}
 use Rattle.ua_types.specs.declared.node_id.NodeId.{NodeId}
 use Rattle.ua_types.specs.declared.status.Status.{Status}
 use Rattle.ua_types.specs.declared.status.TheConstants.Status as status
+use Rattle.ua_binary.specs.Reading.{Reading}
 use Rattle.ua_binary.specs.declared.fault.TakeFault.{TakeFault}
+use Rattle.ua_messages.specs.Requests.{fields_of}
 use Rattle.ua_session.specs.Sessions.{SessionsState, find_of}
+use Rattle.server_messages.specs.declared.served.Served.{Served}
 use Rattle.server_messages.specs.declared.setting.Setting.{Setting}
 use Rattle.ua_services.specs.ServicesState.{Services}
-use Rattle.ua_services.specs.Serving.{Serving, faulted}
+use Rattle.ua_services.specs.Serving.{Serving, Answers, faulted}
 use Rattle.ua_services.specs.SessionServing.{with_sessions}
 use Rattle.ua_services.specs.declared.caller.Caller.{Caller}
+use Rattle.ua_services.specs.declared.unserved.Unserved.{Unserved}
 
 -- a session that was found is used, and its request served; or the request is refused
 abbrev pub if_found : (ℕ → Services → Serving) → Setting → Caller → Services → Result ℕ Status → SessionsState → Serving
@@ -29,3 +33,9 @@ served_in_session meaning setting caller token state (Err fault) = faulted state
 -- a request that can be read, and whose session may be used: only such a one is answered by want of memory
 abbrev pub is_admitted : {A : Type 0} → NodeId → ℕ → SessionsState → Result A TakeFault → Bool
 is_admitted token conn sessions request = is_ok request && is_ok (find_of sessions token conn).answer
+
+-- a service of a session takes a request: the token of its header, and the bytes in which its fields stand
+abbrev pub TakesInSession : {A : Type 0} → (Setting → Caller → ℕ → A → Services → Serving) → Reading A → Setting → Caller → NodeId → List ℕ → Services → Result Served Unserved → Services → Type 0
+TakesInSession meaning reading setting caller token bytes before result after =
+    Answers setting caller (is_admitted token caller.conn before.sessions (fields_of reading bytes)) result after
+    (served_in_session meaning setting caller token before (fields_of reading bytes))

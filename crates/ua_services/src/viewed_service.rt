@@ -1,11 +1,10 @@
 //! What a service of a session is that looks at its requests where they came.
 
 ghost use Rattle.std.specs.Prelude.{ℕ};
-ghost use Rattle.ua_messages.specs.Requests.{fields_of};
 ghost use Rattle.server_messages.specs.declared.setting.Setting.{Setting};
-ghost use Rattle.ua_services.specs.InSession.{served_in_session, is_admitted};
+ghost use Rattle.ua_services.specs.InSession.{TakesInSession};
 ghost use Rattle.ua_services.specs.ServicesState.{Services};
-ghost use Rattle.ua_services.specs.Serving.{Serving, Answers, Judges};
+ghost use Rattle.ua_services.specs.Serving.{Serving, Judges};
 ghost use Rattle.ua_services.specs.declared.caller.Caller.{Caller};
 
 use crate::caller::Caller;
@@ -55,8 +54,7 @@ pub trait ViewedService<'a> {
         headed: &Headed<'a>,
         services: &mut Services,
     ) -> Result<Served, Unserved>
-        ensures { Answers setting.now caller.now (is_admitted headed.now.header.authentication_token caller.now.conn services.old.sessions (fields_of Self.Request.reading headed.now.fields.now)) result services.new
-            (served_in_session meaning setting.now caller.now headed.now.header.authentication_token services.old (fields_of Self.Request.reading headed.now.fields.now)) }
+        ensures { TakesInSession meaning Self.Request.reading setting.now caller.now headed.now.header.authentication_token headed.now.fields.now services.old result services.new }
     {
         let request = match fields_view::<Self::Request>(headed.fields) {
             Ok(request) => request,

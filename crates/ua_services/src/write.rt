@@ -15,6 +15,7 @@ use crate::services::Services;
 use crate::status_results::statuses_body;
 use crate::unserved::Unserved;
 use crate::viewed_service::ViewedService;
+use number_slots::Near;
 use server_messages::{Served, Setting};
 use std::alloc::{AllocError, Global};
 use ua_messages::type_ids;
@@ -56,13 +57,14 @@ fn put(alloc: Global, services: &mut Services, accepted: AcceptedValue) -> Resul
 fn write_one<'a>(
     alloc: Global,
     services: &mut Services,
+    near: &mut Near,
     clock: Moment,
     value: &WriteValueView<'a>,
 ) -> Result<Status, AllocError>
     ensures services { OnOk result (services.new ≡ with_judged services.old (accepted_of clock value.now (judged services.old.space.nodes value.now))) }
     ensures status { IfOk result (λ status. status ≡ status_of (judged services.old.space.nodes value.now)) }
 {
-    match accepted(alloc, &services.space, clock, value) {
+    match accepted(alloc, &services.space, near, clock, value) {
         Ok(accepted) => {
             put(alloc, services, accepted)?;
             Ok(Status::GOOD)
@@ -85,8 +87,9 @@ fn write_all<'a>(
     ensures count { IfOk result (λ statuses. length statuses.items ≡ length (or_none values.entry)) }
 {
     let mut statuses = Vec::with_capacity(alloc, values.len())?;
+    let mut near = Near::new();
     for value in values {
-        let status = write_one(alloc, services, clock, &value)?;
+        let status = write_one(alloc, services, &mut near, clock, &value)?;
         statuses.push(status)?;
     }
     Ok(statuses)

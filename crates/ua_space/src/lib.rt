@@ -9,7 +9,8 @@
 //! references in declared order (`SpaceState`).
 //!
 //! A node is found by a binary search among all of them, without memory, also by an id that stands in the
-//! bytes of a request ([`Space::find`]); who goes on with that id takes the node's own.
+//! bytes of a request ([`Space::find`]); who goes on with that id takes the node's own. Who looks for many finds most
+//! without a search ([`Space::find_near`]).
 //!
 //! Read [`Node`] and [`Triple`] first, and docs/NODES.md for the base set as a picture.
 #![tactic(auto)]

@@ -1,6 +1,6 @@
 //! The nodes of a space in the order of their ids, found by binary search.
 
-ghost use Rattle.std.specs.Prelude.{◌≡◌, length, true, IfOk, option_map, slice_get};
+ghost use Rattle.std.specs.Prelude.{◌≡◌, length, true, Ok, IfOk, option_map, slice_get};
 ghost use Rattle.std.specs.Option.{option_copied};
 ghost use Rattle.ua_types.specs.declared.node_id.NodeId.{NodeId};
 ghost use Rattle.ua_space.specs.Histories.{history_in, without_history_in};
@@ -9,7 +9,9 @@ ghost use Rattle.ua_space.specs.NodePlaces.{IsPlaceOf, place_of, takes_in, with_
 ghost use Rattle.ua_space.specs.Values.{takes_at, with_value};
 
 use crate::node::{Node, NodeDetails};
+use number_slots::Near;
 use std::alloc::{AllocError, Global};
+use std::cmp::Ordering;
 use std::collections::BTreeMap;
 use std::marker::Model;
 use std::mem;
@@ -47,6 +49,42 @@ fn search(entries: &Vec<(NodeId, Node)>, id: &NodeIdView<'_>) -> Result<usize, u
     entries.binary_search_by(|entry| compare(&entry.0, id))
 }
 
+// Whether the node with an id stands at this place.
+#[inline(always)]
+fn stands_at(entries: &Vec<(NodeId, Node)>, place: usize, id: &NodeIdView<'_>) -> bool
+    ensures { result ≡ true → IsPlaceOf id.now entries.now.items (Ok place) }
+{
+    match entries.get(place) {
+        Some(entry) => compare(&entry.0, id) == Ordering::Equal,
+        None => false,
+    }
+}
+
+// Where the search for an id ends, which looks first at two places at which its node is likely to be.
+fn search_near(
+    entries: &Vec<(NodeId, Node)>,
+    near: &mut Near,
+    id: &NodeIdView<'_>,
+) -> Result<usize, usize>
+    ensures { IsPlaceOf id.now entries.now.items result }
+{
+    let first = near.first();
+    if stands_at(entries, first, id) {
+        near.found(first);
+        return Ok(first);
+    }
+    let second = near.second();
+    if stands_at(entries, second, id) {
+        near.found(second);
+        return Ok(second);
+    }
+    let end = search(entries, id);
+    if let Ok(place) = end {
+        near.found(place);
+    }
+    end
+}
+
 // Gives the variable at this place a new value.
 fn set_in(entries: &mut Vec<(NodeId, Node)>, place: usize, value: DataValue)
     requires { takes_in (slice_get entries.old.items place) value ≡ true }
@@ -81,13 +119,23 @@ impl NodeTable {
         Ok(NodeTable { entries })
     }
 
-    /// The place of the node with an id that is looked at in place.
-    pub(crate) fn place(&self, id: &NodeIdView<'_>) -> Option<usize>
+    /// The place of the node with an id that is looked at in place, looked for first where it is likely to be.
+    pub(crate) fn place(&self, near: &mut Near, id: &NodeIdView<'_>) -> Option<usize>
         ensures { result ≡ place_of id.now self.now }
     {
-        match search(&self.entries, id) {
+        match search_near(&self.entries, near, id) {
             Err(_) => None,
             Ok(place) => Some(place),
+        }
+    }
+
+    /// The node with an id that is looked at in place, looked for first where it is likely to be.
+    pub(crate) fn find_near(&self, near: &mut Near, id: &NodeIdView<'_>) -> Option<&Node>
+        ensures { option_copied result ≡ node_at id.now self.now }
+    {
+        match search_near(&self.entries, near, id) {
+            Err(_) => None,
+            Ok(place) => self.node_in_order(place),
         }
     }
 
@@ -97,10 +145,7 @@ impl NodeTable {
     {
         match search(&self.entries, id) {
             Err(_) => None,
-            Ok(place) => match self.entries.get(place) {
-                None => None,
-                Some(entry) => Some(&entry.1),
-            },
+            Ok(place) => self.node_in_order(place),
         }
     }
 

@@ -8,6 +8,7 @@ use crate::references::{References, TripleList};
 use crate::subtype_set::{Subtypes, walked_down};
 use crate::subtypes::is_subtype;
 use crate::triple::Triple;
+use number_slots::Near;
 use std::alloc::{AllocError, Global};
 use std::marker::Model;
 use ua_types::{Listed, NodeId};
@@ -33,7 +34,6 @@ pub struct Space {
 }
 
 impl Model for Space {
-    ghost use Rattle.std.specs.Prelude.{◌≡◌, ◌<◌, ◌^◌, length};
     ghost use Rattle.ua_space.specs.Nodes.{SpaceState};
     ghost use Rattle.ua_space.specs.Spaces.{IsSpace};
     ghost use Rattle.ua_space.specs.Indexed.{AreIndexes};
@@ -110,14 +110,24 @@ impl Space {
         self.nodes.find(id)
     }
 
+    /// The same, for who looks for many nodes: who goes through them in the order of ids, or asks for one several times in a
+    /// row, finds most without a search ([`Near`]).
+    pub fn find_near(&self, near: &mut Near, id: &NodeIdView<'_>) -> Option<&Node>
+        ensures node { option_copied result ≡ node_at id.now self.now.nodes }
+        ensures own { IfSome result (λ node. node.now.id ≡ id.now) }
+    {
+        self.nodes.find_near(near, id)
+    }
+
     /// The place of the node with an id that is looked at in place, for who looks at the node more than once
-    /// ([`Space::node_in_order`], [`Space::set_value_in`]). It stays the same as long as the space is there. Takes no memory.
+    /// ([`Space::node_in_order`], [`Space::set_value_in`]), looked for as [`Space::find_near`] does. It stays the same as long as
+    /// the space is there. Takes no memory.
     #[tactic(auto, using(crate::proofs::Placing::nobody))]
-    pub fn place(&self, id: &NodeIdView<'_>) -> Option<usize>
+    pub fn place(&self, near: &mut Near, id: &NodeIdView<'_>) -> Option<usize>
         ensures place { result ≡ place_of id.now self.now.nodes }
         ensures none { result ≡ None → node_at id.now self.now.nodes ≡ None }
     {
-        self.nodes.place(id)
+        self.nodes.place(near, id)
     }
 
     /// Whether the node with this id is a ReferenceType node.

@@ -1,4 +1,3 @@
-pub mod Numbered
 pub mod NullableOrder
 pub mod NodeIds
 pub mod NodeIdOrder

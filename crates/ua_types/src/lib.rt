@@ -8,8 +8,7 @@
 //! - `Text`, `ByteString` and `Array` are optional lists, where null is `None` and differs from empty;
 //! - `NodeId`, `ExtensionObject` and the other structures are the records of their fields;
 //! - the text of a node id is read by a grammar and written in one way ([`NodeId::parse`], [`write_id`]);
-//! - `Listed` is a list, whatever room it has, `Boxed` the value in its block, and `Numbered` a finite
-//!   map from numbers;
+//! - `Listed` is a list, whatever room it has, and `Boxed` the value in its block;
 //! - `Config` is a record whose numbers always lie in their ranges (`IsConfigured`), which [`NumberRange`] has.
 //!
 //! Memory is always taken from an allocator that is passed in, and a refusal is answered as
@@ -34,7 +33,6 @@ mod moment;
 mod node_class;
 mod node_id;
 mod number_range;
-mod numbered;
 mod parsing;
 mod qualified_name;
 mod refusal;
@@ -56,7 +54,6 @@ pub use moment::Moment;
 pub use node_class::NodeClass;
 pub use node_id::{ExpandedNodeId, Identifier, NodeId};
 pub use number_range::NumberRange;
-pub use numbered::Numbered;
 pub use parsing::{behind, decimal_up_to};
 pub use qualified_name::QualifiedName;
 pub use refusal::Refusal;

@@ -6,8 +6,8 @@ use std::marker::Model;
 
 /// A number or a Guid, where a slice may stand instead ([`crate::IdentifierView`]). Contracts see it as the value.
 ///
-/// It begins at a multiple of eight bytes, as a slice does. So an enum that holds one or the other is moved in whole words, and a
-/// word that was just stored is loaded as it was stored (docs/MEASURED.md, "Requests").
+/// It begins at a multiple of eight bytes, as a slice does, so that an enum that holds one or the other is moved in whole words
+/// (docs/MEASURED.md, "Requests").
 #[derive(Debug, Drop)]
 pub struct Aligned<T> {
     value: T,

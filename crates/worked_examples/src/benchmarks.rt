@@ -8,6 +8,7 @@ mod history;
 mod publish;
 mod requests;
 mod space;
+mod variables;
 
 pub(crate) use requests::{failed, plant};
 use std::io::{self, ErrorKind, Write};
@@ -26,6 +27,7 @@ fn elapsed(rt: &HostRuntime, start: io::Result<Instant>) -> u128 {
 //
 // - `encoding`: lists of 1,000 elements are written and read; the time of an element in the fastest round;
 // - `requests`: requests are handed to a whole server; how many are answered in a second;
+// - `variables`: 996 variables are read at once, in the order of their ids and out of it; how many Reads are answered in a second;
 // - `browse`: Browse of a node of 3 references, and, once, of one of 99,000 by pages of 1,000;
 // - `history`: a variable is written 100,000 times, whose history is kept, and the history is read by pages of 1,000, once;
 // - `publish`: a subscription tells of 1,000 items in one message, which is then asked for again; the time of each;
@@ -37,6 +39,7 @@ pub(crate) fn run(rt: &HostRuntime, line: &str) -> io::Result<()> {
     match name {
         "encoding" => encoding::run(rt, rounds),
         "requests" => requests::run(rt, rounds),
+        "variables" => variables::run(rt, rounds),
         "browse" => browse::run(rt, rounds),
         "history" => history::run(rt),
         "publish" => publish::run(rt, rounds),

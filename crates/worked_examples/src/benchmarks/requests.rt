@@ -217,8 +217,8 @@ pub(crate) fn greet_on(
     )
 }
 
-// Hands in a request so many times, and tells how many are answered in a second, and how long an answer is.
-fn time_requests(
+/// Hands in a request so many times, and tells how many are answered in a second, and how long an answer is.
+pub(crate) fn time_requests(
     rt: &HostRuntime,
     server: &mut Server,
     name: &str,

@@ -1,7 +1,7 @@
 use Rattle.std.proofs.Common.{◌≡◌, ℕ, Option, Some, refl, ap, subst, sym, ◌∙◌}
 use Rattle.std.specs.Borrow.{MutBor}
 use Rattle.std.specs.Option.{option_copied_mut}
-use Rattle.ua_types.proofs.NumberMaps.{lent_found}
+use Rattle.number_slots.proofs.NumberMaps.{lent_found}
 use Rattle.ua_monitored_items.specs.Counts.{counts_with, recount_by, AreCountsBy}
 use Rattle.ua_monitored_items.specs.Item.{gave, waiting_in}
 use Rattle.ua_monitored_items.specs.ItemTables.{NumberedItems, item_at}
@@ -38,7 +38,7 @@ follow-requires c =
     let items = c.args.items.now in
     can_count_by (counts_with c.args.counts.now c.args.tally.now) items c.requires c.args.number (gave (nat_least c.args.left (waiting_at (item_at c.args.number items))))
     c.in_ok-wanted.recount (recount_is items c.args.number c.args.left c.get_mut_near.result c.in-Some.item c.in_ok-wanted.recount c.in-Some.is c.get_mut_near.ensures.value c.in_ok-wanted.ensures.recount)
-    c.len-most.result c.len-most.ensures
+    c.len-most.result c.len-most.ensures.count
 
 pub returns-clause-items : goal.returns-clause-items
 returns-clause-items c =

@@ -12,7 +12,7 @@ invariant_of-self-in_err-insert c =
 pub count-requires : goal.count-requires
 count-requires c =
     can_count_more c.self.inside.counts c.self.inside.items c.self.invariant c.args.item.subscription c.hold.new.counts c.in-Ok.ensures.ok c.args.number c.args.item refl (nat_lt 0 c.waiting.result) (ap (nat_lt 0) c.waiting.ensures)
-    (ap (item_at c.args.number) c.self.view_is ∙ c.requires) c.insert.new.self c.in_ok-insert.ensures.ok c.len.result c.len.ensures
+    (ap (item_at c.args.number) c.self.view_is ∙ c.requires) c.insert.new.self c.in_ok-insert.ensures.ok c.len.result c.len.ensures.count
 
 pub invariant_of-self-2 : goal.invariant_of-self-2
 invariant_of-self-2 c =

@@ -7,7 +7,7 @@ use Rattle.ua_monitored_items.proofs.numbered.Numbered.modify.Goals as goal
 pub count-requires : goal.count-requires
 count-requires c =
     can_count c.self.inside.counts c.self.inside.items c.self.invariant c.args.number (modified_with c.args.timestamps c.args.modification c.args.parameters.now)
-    c.in-Some.recount (sym c.in-Some.is ∙ c.modify_at-found.ensures.recount) c.len-most.result c.len-most.ensures
+    c.in-Some.recount (sym c.in-Some.is ∙ c.modify_at-found.ensures.recount) c.len-most.result c.len-most.ensures.count
 
 pub invariant_of-self : goal.invariant_of-self
 invariant_of-self c =

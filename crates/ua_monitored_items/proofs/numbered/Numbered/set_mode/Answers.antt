@@ -6,7 +6,7 @@ use Rattle.ua_monitored_items.proofs.numbered.Numbered.set_mode.Goals as goal
 pub count-requires : goal.count-requires
 count-requires c =
     can_count c.self.inside.counts c.self.inside.items c.self.invariant c.args.number (moded_from c.args.mode c.args.first)
-    c.in-Some.recount c.in-Some.ensures.recount c.len-most.result c.len-most.ensures
+    c.in-Some.recount c.in-Some.ensures.recount c.len-most.result c.len-most.ensures.count
 
 pub invariant_of-self : goal.invariant_of-self
 invariant_of-self c =

@@ -7,7 +7,7 @@ use Rattle.ua_monitored_items.proofs.numbered.Numbered.visit.Goals as goal
 pub count-requires : goal.count-requires
 count-requires c =
     can_count c.self.inside.counts c.self.inside.items c.self.invariant c.args.number (seen c.args.value.now)
-    c.in-Some.recount (sym c.in-Some.is ∙ c.in_ok-recount.ensures.recount) c.len-most.result c.len-most.ensures
+    c.in-Some.recount (sym c.in-Some.is ∙ c.in_ok-recount.ensures.recount) c.len-most.result c.len-most.ensures.count
 
 pub invariant_of-self-in-Some : goal.invariant_of-self-in-Some
 invariant_of-self-in-Some c =

@@ -1,6 +1,6 @@
 use Rattle.std.proofs.Common.{◌≡◌, ◌++◌}
 use Rattle.std.specs.Map.{keys_of}
-use Rattle.ua_types.proofs.numbered.keys_of.Given as goal
+use Rattle.number_slots.proofs.slots.keys_of.Given as goal
 
 -- the keys so far and those of what is left are all
 abbrev pub invariant-loop-number : goal.invariant-loop-number

@@ -1,21 +1,24 @@
-//! What has a number.
+//! What has a number, seen as a finite map.
 
-ghost use Rattle.std.specs.Prelude.{◌≡◌, OnOk, IfOk, IfNone, is_some};
+ghost use Rattle.std.specs.Prelude.{◌≡◌, OnOk, OnErr, IsOk, IfOk, IfSome, IfNone, is_some};
 ghost use Rattle.std.specs.FinMap as map;
 ghost use Rattle.std.specs.Map.{keys_of};
 ghost use Rattle.std.specs.Option.{option_copied, option_copied_mut};
 ghost use Rattle.std.specs.Borrow.{sem};
-ghost use Rattle.ua_types.specs.Numbered.{lends_value};
+ghost use Rattle.number_slots.specs.Numbered.{lends_value};
 
+use crate::near::Near;
+use crate::slots::Slots;
 use std::alloc::{AllocError, Global};
-use std::collections::BTreeMap;
 use std::marker::Model;
 
-/// Values by their numbers, found in logarithmic time. Contracts see a finite map.
+/// Values by their numbers, found in logarithmic time, and without a search where the same one is asked for again. Contracts see
+/// a finite map.
 #[derive(Debug, Drop)]
 pub struct Numbered<V> {
-    // By rising number.
-    entries: BTreeMap<u64, V>,
+    values: Slots<V>,
+    // Where the value was that was lent last, to be changed.
+    near: Near,
 }
 
 impl<V> Model for Numbered<V> {
@@ -27,7 +30,7 @@ impl<V> Model for Numbered<V> {
 
     ghost coded = { map.code coded_ℕ V.code };
 
-    ghost view = { λ n. map.from_entries n.entries.entries };
+    ghost view = { λ n. map.from_entries n.values };
 }
 
 impl<V> Numbered<V> {
@@ -36,7 +39,8 @@ impl<V> Numbered<V> {
         ensures { result ≡ map.empty }
     {
         Numbered {
-            entries: BTreeMap::new(alloc),
+            values: Slots::new(alloc),
+            near: Near::new(),
         }
     }
 
@@ -44,28 +48,28 @@ impl<V> Numbered<V> {
     pub fn len(&self) -> usize
         ensures { result ≡ map.len self.now }
     {
-        self.entries.len()
+        self.values.len()
     }
 
     /// The numbers, rising.
     pub fn numbers(&self, alloc: Global) -> Result<Vec<u64>, AllocError>
         ensures { IfOk result (λ numbers. numbers.items ≡ keys_of (map.entries self.now)) }
     {
-        keys_of(alloc, self.entries.len(), &self.entries)
+        self.values.numbers(alloc)
     }
 
     /// Whether there is one with this number.
     pub fn contains(&self, number: u64) -> bool
         ensures { result ≡ is_some (map.get self.now number) }
     {
-        self.entries.contains_key(&number)
+        self.get(number).is_some()
     }
 
     /// The one with this number.
     pub fn get(&self, number: u64) -> Option<&V>
         ensures { option_copied result ≡ map.get self.now number }
     {
-        self.entries.get(&number)
+        self.values.get_near(&self.near, number)
     }
 
     /// The one with this number, to be changed in its place. Takes no memory.
@@ -73,7 +77,10 @@ impl<V> Numbered<V> {
         ensures* writes_back { sem 𝓛 (lends_value V.row self.entry number result) }
         ensures found { option_copied_mut result ≡ map.get self.old number }
     {
-        self.entries.get_mut(&number)
+        // Noted before the value is lent, since nothing can be written while it is.
+        let mut near = self.values.near(&self.near, number);
+        self.near = near;
+        self.values.get_mut_near(&mut near, number)
     }
 
     /// Takes the one with this number out. Takes no memory.
@@ -82,31 +89,24 @@ impl<V> Numbered<V> {
         ensures removed { self.new ≡ map.remove self.old number }
         ensures absent { IfNone result (self.new ≡ self.old) }
     {
-        self.entries.remove(&number)
+        self.values.remove(number)
     }
-}
-
-// The keys of a map, rising. There are about so many.
-fn keys_of<V>(
-    alloc: Global,
-    count: usize,
-    entries: &BTreeMap<u64, V>,
-) -> Result<Vec<u64>, AllocError>
-    ensures { IfOk result (λ keys. keys.items ≡ keys_of entries.now.entries) }
-{
-    let mut keys = Vec::with_capacity(alloc, count)?;
-    for (number, _) in entries {
-        keys.push(*number)?;
-    }
-    Ok(keys)
 }
 
 impl<V: Drop> Numbered<V> {
-    /// Gives this number a value, in the place of one that it had.
+    /// Gives this number a value, in the place of one that it had. At an `Err` nothing changed. Where it had one, no memory is taken.
     pub fn insert(&mut self, number: u64, value: V) -> Result<(), AllocError>
-        ensures { OnOk result (self.new ≡ map.insert self.old number value) }
+        ensures ok { OnOk result (self.new ≡ map.insert self.old number value) }
+        ensures err { OnErr result (self.new ≡ self.old) }
+        ensures memory { IfSome (map.get self.old number) (λ before. IsOk result) }
     {
-        self.entries.insert(number, value)?;
-        Ok(())
+        if let Some(held) = self.values.get_mut_near(&mut self.near, number) {
+            *held = value;
+            return Ok(());
+        }
+        match self.values.insert(number, value) {
+            Ok(()) => Ok(()),
+            Err(_) => Err(AllocError),
+        }
     }
 }

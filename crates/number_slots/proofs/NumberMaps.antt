@@ -6,11 +6,13 @@ use Rattle.std.specs.declared.cmp.Ordering.{Ordering}
 use Rattle.std.specs.declared.cmp.Ordering.TheVariants.{Less, Equal, Greater}
 use Rattle.std.proofs.Common.{◌≡◌, ◌≢◌, ℕ, Bool, true, false, cond, List, [], ◌∷◌, length, Option, Some, None, refl, sym, subst, ◌∙◌, ap}
 use Rattle.std.proofs.lemmas.Bool.{false≢true}
-use Rattle.std.specs.Ordering.{nat_cmp, eq_by_cmp, is_eq, is_lt}
-use Rattle.std.specs.Map.{lookup, keys_of}
+use Rattle.std.proofs.lemmas.Map.{lookup-set_value, lookup-remove_entry}
+use Rattle.std.proofs.lemmas.Map.Keys.{IsDistinct-from_sorted}
+use Rattle.std.specs.Ordering.{nat_cmp, eq_by_cmp, is_eq, is_lt, match_ordering}
+use Rattle.std.specs.Map.{lookup, keys_of, remove_entry, set_value}
 use Rattle.std.specs.Borrow.{MutBor}
 use Rattle.std.specs.Option.{IsSome, OnSome, option_copied_mut}
-use Rattle.std.specs.BTreeMap.{is_at}
+use Rattle.std.specs.BTreeMap.{is_at, insert_entry}
 use Rattle.std.specs.Cmp.{nat_cmp_total, eq_by_cmp_equiv}
 use Rattle.std.specs.FinMap.Entries.{below_all}
 use Rattle.std.specs.FinMap.{FinMap, get, insert, remove, len, find, entries, from_entries, is_sorted, entries-from_sorted, len-entries, get-from_entries, get-from_sorted, get-insert, get-remove, same_map, nat_cmp-IsAntisymmetric}
@@ -153,3 +155,52 @@ module _ {V : Type 0} where
   -- what holds once it is given back
   pub given_back : (P : Type 0) (lent : Option (MutBor V)) (value : MutBor V) → lent ≡ Some value → OnSome lent P → P
   given_back P lent value is h = subst (λ o. OnSome o P) is h
+
+-- ---- lists by rising number, in which one value is put, replaced or taken out
+
+same : (a b : ℕ) → eq_by_cmp nat_cmp a b ≡ eq_by_cmp nat_cmp b a
+same a b = (eq_by_cmp_equiv nat_cmp_total).symm a b
+
+congr : (k x y : ℕ) → eq_by_cmp nat_cmp k x ≡ true → eq_by_cmp nat_cmp k y ≡ eq_by_cmp nat_cmp x y
+congr k x y = (eq_by_cmp_equiv nat_cmp_total).congr k x y
+
+module _ {V : Type 0} where
+  -- of two tests that don't hold at once, either may come first
+  swapped : (a b : Bool) (x y rest : Option V) → (a ≡ true → b ≡ true → ⊥) → cond a x (cond b y rest) ≡ cond b y (cond a x rest)
+  swapped true true x y rest apart = absurd (apart refl refl)
+  swapped true false x y rest apart = refl
+  swapped false true x y rest apart = refl
+  swapped false false x y rest apart = refl
+
+  pub lookup_put : (k q : ℕ) (v : V) (es : List (ℕ × V)) → lookup (is_at (nat_cmp q)) (insert_entry nat_cmp es k v) ≡ cond (is_at (nat_cmp k) q) (Some v) (lookup (is_at (nat_cmp q)) es)
+  lookup_put k q v [] = ap (λ (b : Bool). cond b (Some v) None) (same q k)
+  lookup_put k q v (e ∷ es) = by (nat_cmp k e.0) refl (lookup_put k q v es)
+    where
+      by : (o : Ordering) → nat_cmp k e.0 ≡ o → lookup (is_at (nat_cmp q)) (insert_entry nat_cmp es k v) ≡ cond (is_at (nat_cmp k) q) (Some v) (lookup (is_at (nat_cmp q)) es)
+          → lookup (is_at (nat_cmp q)) (match_ordering o ((k, v) ∷ e ∷ es) ((e.0, v) ∷ es) (e ∷ insert_entry nat_cmp es k v)) ≡ cond (is_at (nat_cmp k) q) (Some v) (cond (is_at (nat_cmp q) e.0) (Some e.1) (lookup (is_at (nat_cmp q)) es))
+      by Less is rest = ap (λ (b : Bool). cond b (Some v) (cond (is_at (nat_cmp q) e.0) (Some e.1) (lookup (is_at (nat_cmp q)) es))) (same q k)
+      by Equal is rest =
+          let here : is_at (nat_cmp q) e.0 ≡ is_at (nat_cmp k) q = ap (is_at (nat_cmp q)) (sym (nat_cmp-IsAntisymmetric k e.0 is)) ∙ same q k in
+          ap (λ (b : Bool). cond b (Some v) (lookup (is_at (nat_cmp q)) es)) here
+          ∙ sym (ap (λ (b : Bool). cond (is_at (nat_cmp k) q) (Some v) (cond b (Some e.1) (lookup (is_at (nat_cmp q)) es))) here ∙ once (is_at (nat_cmp k) q) (Some v) (Some e.1) (lookup (is_at (nat_cmp q)) es))
+      by Greater is rest =
+          ap (cond (is_at (nat_cmp q) e.0) (Some e.1)) rest
+          ∙ swapped (is_at (nat_cmp q) e.0) (is_at (nat_cmp k) q) (Some e.1) (Some v) (lookup (is_at (nat_cmp q)) es)
+          (λ there mine. false≢true (sym (ap is_eq is) ∙ congr k q e.0 mine ∙ there))
+
+  pub put_is : (es : List (ℕ × V)) (k : ℕ) (v : V) → from_entries (insert_entry nat_cmp es k v) ≡ insert (from_entries {R = nat_cmp} es) k v
+  put_is es k v = one_given es (insert_entry nat_cmp es k v) k v (λ q. lookup_put k q v es)
+
+  pub set_is : (es : List (ℕ × V)) (k : ℕ) (v : V) → IsSome (lookup (is_at (nat_cmp k)) es) → from_entries (set_value (is_at (nat_cmp k)) es v) ≡ insert (from_entries {R = nat_cmp} es) k v
+  set_is es k v some = one_given es (set_value (is_at (nat_cmp k)) es v) k v (λ q. lookup-set_value (eq_by_cmp_equiv nat_cmp_total) (is_at (nat_cmp k)) (congr k) q v es some)
+
+  pub taken_is : (es : List (ℕ × V)) (k : ℕ) → IsStrictlySortedBy nat_cmp (keys_of es) → from_entries (remove_entry (is_at (nat_cmp k)) es) ≡ remove (from_entries {R = nat_cmp} es) k
+  taken_is es k rising =
+      one_gone es (remove_entry (is_at (nat_cmp k)) es) k (λ q. lookup-remove_entry (eq_by_cmp_equiv nat_cmp_total) (is_at (nat_cmp k)) (congr k) q es (IsDistinct-from_sorted nat_cmp (keys_of es) rising))
+
+  -- a value of such a list that was lent and is given back
+  pub lent_in : (lent : Option (MutBor V)) (es fs : List (ℕ × V)) (k : ℕ) (v : V) (m : FinMap nat_cmp V) → option_copied_mut lent ≡ lookup (is_at (nat_cmp k)) es
+      → OnSome lent (fs ≡ set_value (is_at (nat_cmp k)) es v) → from_entries {R = nat_cmp} es ≡ m → OnSome lent (from_entries fs ≡ insert m k v)
+  lent_in None es fs k v m found h e = tt
+  lent_in (Some r) es fs k v m found h e =
+      ap (λ (xs : List (ℕ × V)). from_entries xs) h ∙ set_is es k v (subst (λ (o : Option V). IsSome o) found refl) ∙ ap (λ n. insert n k v) e

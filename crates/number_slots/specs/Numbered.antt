@@ -3,7 +3,7 @@ use Rattle.std.specs.Prelude.{◌≡◌, ℕ, Option, OnSome}
 use Rattle.std.specs.Borrow.{RattleType, MutBor, Fml, LendsSo}
 use Rattle.std.specs.Ordering.{nat_cmp}
 use Rattle.std.specs.FinMap.{FinMap, insert}
-use Rattle.ua_types.specs.contracts.numbered.Numbered.{the_row}
+use Rattle.number_slots.specs.contracts.numbered.Numbered.{the_row}
 
 -- the map has, at this number, the last value behind the result; where there is none, it is as it was
 abbrev pub lends_value : (V : RattleType) → MutBor (FinMap nat_cmp V.Denot) → ℕ → Option (MutBor V.Denot) → Fml

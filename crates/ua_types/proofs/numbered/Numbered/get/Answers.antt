@@ -1,8 +1,0 @@
-use Rattle.std.proofs.Common.{◌∙◌, ap, sym}
-use Rattle.std.specs.FinMap as map
-use Rattle.ua_types.proofs.NumberMaps.{get_is}
-use Rattle.ua_types.proofs.numbered.Numbered.get.Goals as goal
-
-pub returns : goal.returns
-returns g c =
-    c.get.ensures.value ∙ sym (get_is c.self.inside.entries.entries c.args.number) ∙ ap (λ m. map.get m c.args.number) c.self.view_is
