@@ -17,7 +17,7 @@ use Rattle.std.specs.Cmp.{nat_cmp_total, eq_by_cmp_equiv}
 use Rattle.std.specs.FinMap.Entries.{below_all}
 use Rattle.std.specs.FinMap.{FinMap, get, insert, remove, len, find, entries, from_entries, is_sorted, entries-from_sorted, len-entries, get-from_entries, get-from_sorted, get-insert, get-remove, same_map, nat_cmp-IsAntisymmetric}
 
-itself : (k : ℕ) → eq_by_cmp nat_cmp k k ≡ true
+pub itself : (k : ℕ) → eq_by_cmp nat_cmp k k ≡ true
 itself k = (eq_by_cmp_equiv nat_cmp_total).refl k
 
 module _ {V : Type 0} where
@@ -89,10 +89,6 @@ module _ {V : Type 0} where
   get_removed_elsewhere m k q apart =
       get-remove nat_cmp_total m k q ∙ ap (λ b. cond b None (get m q)) (told_apart q k (nat_cmp q k) refl apart)
 
-  once : (b : Bool) (w v : Option V) (x : Option V) → cond b w (cond b v x) ≡ cond b w x
-  once true w v x = refl
-  once false w v x = refl
-
   same_there : (m : FinMap nat_cmp V) (k q : ℕ) (v : V) (b : Bool) → eq_by_cmp nat_cmp q k ≡ b → get m k ≡ Some v → cond b (Some v) (get m q) ≡ get m q
   same_there m k q v true e h = sym h ∙ ap (get m) (sym (same_number q k e))
   same_there m k q v false e h = refl
@@ -105,7 +101,7 @@ module _ {V : Type 0} where
   pub insert_removed : (m : FinMap nat_cmp V) (k : ℕ) (v : V) → insert (remove m k) k v ≡ insert m k v
   insert_removed m k v = same_map nat_cmp_total nat_cmp-IsAntisymmetric _ _ (λ q.
       get-insert nat_cmp_total (remove m k) k v q ∙ ap (cond (eq_by_cmp nat_cmp q k) (Some v)) (get-remove nat_cmp_total m k q)
-      ∙ once (eq_by_cmp nat_cmp q k) (Some v) None (get m q)
+      ∙ twice (eq_by_cmp nat_cmp q k) (Some v) None (get m q)
       ∙ sym (get-insert nat_cmp_total m k v q))
 
   -- a key that was set is taken out with what it had before
@@ -182,7 +178,7 @@ module _ {V : Type 0} where
       by Equal is rest =
           let here : is_at (nat_cmp q) e.0 ≡ is_at (nat_cmp k) q = ap (is_at (nat_cmp q)) (sym (nat_cmp-IsAntisymmetric k e.0 is)) ∙ same q k in
           ap (λ (b : Bool). cond b (Some v) (lookup (is_at (nat_cmp q)) es)) here
-          ∙ sym (ap (λ (b : Bool). cond (is_at (nat_cmp k) q) (Some v) (cond b (Some e.1) (lookup (is_at (nat_cmp q)) es))) here ∙ once (is_at (nat_cmp k) q) (Some v) (Some e.1) (lookup (is_at (nat_cmp q)) es))
+          ∙ sym (ap (λ (b : Bool). cond (is_at (nat_cmp k) q) (Some v) (cond b (Some e.1) (lookup (is_at (nat_cmp q)) es))) here ∙ twice (is_at (nat_cmp k) q) (Some v) (Some e.1) (lookup (is_at (nat_cmp q)) es))
       by Greater is rest =
           ap (cond (is_at (nat_cmp q) e.0) (Some e.1)) rest
           ∙ swapped (is_at (nat_cmp q) e.0) (is_at (nat_cmp k) q) (Some e.1) (Some v) (lookup (is_at (nat_cmp q)) es)

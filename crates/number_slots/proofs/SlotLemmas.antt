@@ -1,7 +1,6 @@
 -- What a slab and the slot of each number hold together.
 use Rattle.std.proofs.Common.{◌≡◌, ◌≢◌, ℕ, zero, suc, ◌<◌, arith, nat_eq, slice_set, Bool, true, false, cond, List, [], ◌∷◌, length, Option, Some, None, IsSomeAnd, refl, sym, ap, subst, ◌∙◌}
 use Rattle.std.specs.Prelude.{⊤}
-use Rattle.std.specs.Cmp.{nat_cmp_total, eq_by_cmp_equiv}
 use Rattle.std.specs.Ordering.{nat_cmp, is_eq, match_ordering}
 use Rattle.std.specs.declared.cmp.Ordering.{Ordering}
 use Rattle.std.specs.declared.cmp.Ordering.TheVariants.{Less, Equal, Greater}
@@ -12,6 +11,7 @@ use Rattle.std.specs.Map.{lookup, remove_entry, set_value, keys_of}
 use Rattle.std.specs.BTreeMap.{is_at, insert_entry}
 use Rattle.std.proofs.lemmas.Bool.{false≢true, eqb-true, eq-eqb}
 use Rattle.std.proofs.lemmas.List.{get_or-set_same, get_or-set_other}
+use Rattle.number_slots.proofs.NumberMaps.{itself, same_number}
 use Rattle.number_slots.specs.Slots.{slot_at, held_at, held_in, AreNumbered, IsHeld}
 use Rattle.number_slots.specs.declared.slot.Slot.{Slot}
 
@@ -19,18 +19,6 @@ abbrev pub at : ℕ → List (ℕ × ℕ) → Option ℕ
 at number es = lookup (is_at (nat_cmp number)) es
 
 -- ---- numbers
-
-itself : (n : ℕ) → is_at (nat_cmp n) n ≡ true
-itself n = (eq_by_cmp_equiv nat_cmp_total).refl n
-
--- a test that a number passes is passed by itself alone
-same_number : (n q : ℕ) → is_at (nat_cmp n) q ≡ true → n ≡ q
-same_number n q = by (nat_cmp n q) refl
-  where
-    by : (o : Ordering) → nat_cmp n q ≡ o → is_eq o ≡ true → n ≡ q
-    by Less e f = absurd (false≢true f)
-    by Equal e f = nat_cmp-IsAntisymmetric n q e
-    by Greater e f = absurd (false≢true f)
 
 -- a number isn't below itself
 not_below : (n q : ℕ) → nat_cmp n q ≡ Less → n ≡ q → ⊥

@@ -1,9 +1,8 @@
 //! Values under numbers, of which neighbours lie side by side.
 //!
-//! Each value is found by its number in logarithmic time. [`Slots`] is a plain list, by rising number, and who goes through its
-//! values in some order finds most without a search, by [`Near`]. [`Numbered`] is a finite map, and finds the value that was
-//! lent last without a search, for who asks for one several times in a row. In which slot a value lies is known only here
-//! (`specs/Slots`).
+//! Each value is found by its number in logarithmic time. [`Slots`] is a plain list, by rising number, and [`Numbered`] a finite
+//! map. Who goes through the values in some order, to change them, or asks for one several times in a row, finds most without a
+//! search: where the last one lay is noted ([`Near`]). In which slot a value lies is known only here (`specs/Slots`).
 #![tactic(auto)]
 
 mod near;

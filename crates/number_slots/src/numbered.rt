@@ -7,18 +7,15 @@ ghost use Rattle.std.specs.Option.{option_copied, option_copied_mut};
 ghost use Rattle.std.specs.Borrow.{sem};
 ghost use Rattle.number_slots.specs.Numbered.{lends_value};
 
-use crate::near::Near;
 use crate::slots::Slots;
 use std::alloc::{AllocError, Global};
 use std::marker::Model;
 
-/// Values by their numbers, found in logarithmic time, and without a search where the same one is asked for again. Contracts see
-/// a finite map.
+/// Values by their numbers, found in logarithmic time, and without a search where the same one is asked for again ([`Slots`]).
+/// Contracts see a finite map.
 #[derive(Debug, Drop)]
 pub struct Numbered<V> {
     values: Slots<V>,
-    // Where the value was that was lent last, to be changed.
-    near: Near,
 }
 
 impl<V> Model for Numbered<V> {
@@ -40,7 +37,6 @@ impl<V> Numbered<V> {
     {
         Numbered {
             values: Slots::new(alloc),
-            near: Near::new(),
         }
     }
 
@@ -69,7 +65,7 @@ impl<V> Numbered<V> {
     pub fn get(&self, number: u64) -> Option<&V>
         ensures { option_copied result ≡ map.get self.now number }
     {
-        self.values.get_near(&self.near, number)
+        self.values.get(number)
     }
 
     /// The one with this number, to be changed in its place. Takes no memory.
@@ -77,10 +73,7 @@ impl<V> Numbered<V> {
         ensures* writes_back { sem 𝓛 (lends_value V.row self.entry number result) }
         ensures found { option_copied_mut result ≡ map.get self.old number }
     {
-        // Noted before the value is lent, since nothing can be written while it is.
-        let mut near = self.values.near(&self.near, number);
-        self.near = near;
-        self.values.get_mut_near(&mut near, number)
+        self.values.get_mut(number)
     }
 
     /// Takes the one with this number out. Takes no memory.
@@ -100,7 +93,7 @@ impl<V: Drop> Numbered<V> {
         ensures err { OnErr result (self.new ≡ self.old) }
         ensures memory { IfSome (map.get self.old number) (λ before. IsOk result) }
     {
-        if let Some(held) = self.values.get_mut_near(&mut self.near, number) {
+        if let Some(held) = self.values.get_mut(number) {
             *held = value;
             return Ok(());
         }

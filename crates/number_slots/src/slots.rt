@@ -19,11 +19,14 @@ use std::marker::Model;
 
 /// Values under their numbers. Contracts see the list of both, by rising number.
 ///
-/// The values lie in a slab, whose slots are used again. An ordered map leads from a number to its slot.
+/// The values lie in a slab, whose slots are used again. An ordered map leads from a number to its slot, and is asked only where the
+/// value isn't where it is likely to be ([`Near`]).
 #[derive(Debug, Drop)]
 pub struct Slots<V> {
     slots: Slab<Slot<V>>,
     places: BTreeMap<u64, usize>,
+    // Where the value was that was lent last, to be changed.
+    near: Near,
 }
 
 impl<V> Model for Slots<V> {
@@ -92,6 +95,7 @@ impl<V> Slots<V> {
         Slots {
             slots: Slab::new(alloc),
             places: BTreeMap::new(alloc),
+            near: Near::new(),
         }
     }
 
@@ -118,28 +122,9 @@ impl<V> Slots<V> {
     pub fn get(&self, number: u64) -> Option<&V>
         ensures { option_copied result ≡ lookup (is_at (nat_cmp number)) self.now }
     {
-        let slot = self.places.get(&number)?;
-        let held = self.slots.get(*slot)?;
-        Some(&held.value)
-    }
-
-    /// The same, looked for first where it is likely to be.
-    #[tactic(auto, using(crate::proofs::SlotLemmas::found))]
-    pub fn get_near(&self, near: &Near, number: u64) -> Option<&V>
-        ensures { option_copied result ≡ lookup (is_at (nat_cmp number)) self.now }
-    {
-        let slot = slot_of(&self.slots, &self.places, near, number)?;
+        let slot = slot_of(&self.slots, &self.places, &self.near, number)?;
         let held = self.slots.get(slot)?;
         Some(&held.value)
-    }
-
-    /// Where the value under this number lies, for who asks for it again.
-    pub fn near(&self, near: &Near, number: u64) -> Near {
-        let mut near = *near;
-        if let Some(slot) = slot_of(&self.slots, &self.places, &near, number) {
-            near.found(slot);
-        }
-        near
     }
 
     /// The value under this number, to be changed in its place. Takes no memory.
@@ -147,22 +132,13 @@ impl<V> Slots<V> {
         ensures* writes_back { sem 𝓛 (lends_value V.row self.entry number result) }
         ensures value { option_copied_mut result ≡ lookup (is_at (nat_cmp number)) self.old }
     {
-        self.get_mut_near(&mut Near::new(), number)
-    }
-
-    /// The same, looked for first where it is likely to be. Takes no memory.
-    pub fn get_mut_near(&mut self, near: &mut Near, number: u64) -> Option<&mut V>
-        ensures* writes_back { sem 𝓛 (lends_value V.row self.entry number result) }
-        ensures value { option_copied_mut result ≡ lookup (is_at (nat_cmp number)) self.old }
-    {
-        let Some(slot) = slot_of(&self.slots, &self.places, near, number) else {
+        let Some(slot) = slot_of(&self.slots, &self.places, &self.near, number) else {
             return None;
         };
+        // Noted before the value is lent, since nothing can be written while it is.
+        self.near.found(slot);
         match self.slots.get_mut(slot) {
-            Some(held) => {
-                near.found(slot);
-                Some(held.value_mut())
-            }
+            Some(held) => Some(held.value_mut()),
             None => None,
         }
     }

@@ -22,7 +22,7 @@ use crate::preparing::Modification;
 use crate::releases::Release;
 use crate::taking::give_all;
 use crate::tally::{Recount, Tally, count, hold};
-use number_slots::{Near, Slots};
+use number_slots::Slots;
 use std::alloc::{AllocError, Global};
 use std::collections::{BTreeMap, BTreeSet};
 use std::marker::Model;
@@ -125,7 +125,6 @@ fn set_links_at(items: &mut Slots<Item>, number: u32, links: Links) -> Option<Re
 fn visit_at(
     alloc: Global,
     items: &mut Slots<Item>,
-    near: &mut Near,
     number: u32,
     value: &DataValue,
     releases: &mut Vec<Release>,
@@ -136,7 +135,7 @@ fn visit_at(
     ensures err { OnErr result (items.new ≡ items.old) }
     ensures takes { OnErr result (visit_takes (record { number = number; value = value.now }) (item_at number items.old) ≡ true) }
 {
-    let Some(item) = items.get_mut_near(near, number as u64) else {
+    let Some(item) = items.get_mut(number as u64) else {
         return Ok(None);
     };
     let had = item.waiting() > 0;
@@ -265,12 +264,11 @@ impl Numbered {
         }
     }
 
-    /// The item with this number, which is likely to be near the last one, sees a value, and what that releases is
-    /// added. At an `Err`, which comes only where the item queues the value, the items are what they were.
+    /// The item with this number sees a value, and what that releases is added. At an `Err`, which comes only where the item queues
+    /// the value, the items are what they were.
     pub fn visit(
         &mut self,
         alloc: Global,
-        near: &mut Near,
         number: u32,
         value: &DataValue,
         releases: &mut Vec<Release>,
@@ -281,7 +279,7 @@ impl Numbered {
         ensures takes { OnErr result (visit_takes (record { number = number; value = value.now }) (item_at number self.old) ≡ true) }
     {
         let most = self.items.len();
-        if let Some(recount) = visit_at(alloc, &mut self.items, near, number, value, releases)? {
+        if let Some(recount) = visit_at(alloc, &mut self.items, number, value, releases)? {
             count(&mut self.counts, recount, most);
         }
         Ok(())

@@ -8,7 +8,6 @@ ghost use Rattle.ua_monitored_items.specs.Sampling.{visits_by, index_visits, ind
 use crate::index::Index;
 use crate::numbered::Numbered;
 use crate::releases::Release;
-use number_slots::Near;
 use std::alloc::{AllocError, Global};
 use std::collections::BTreeSet;
 use ua_read_write::Change;
@@ -26,10 +25,9 @@ fn visit_all(
     ensures ok { OnOk result (items.new ≡ sampled_items items.old (visits_by value.now numbers.now.keys)) }
     ensures err { OnErr result (VisitedSome items.old items.new (visits_by value.now numbers.now.keys)) }
 {
-    let mut near = Near::new();
     let mut releases = Vec::new(alloc);
     for number in numbers {
-        items.visit(alloc, &mut near, *number, value, &mut releases)?;
+        items.visit(alloc, *number, value, &mut releases)?;
     }
     Ok(releases)
 }

@@ -9,7 +9,7 @@ ghost use Rattle.ua_subscription_messages.specs.DataChangeMessages.{with_notes};
 
 use crate::item::Item;
 use crate::tally::{Recount, Tally};
-use number_slots::{Near, Slots};
+use number_slots::Slots;
 use std::alloc::AllocError;
 use std::collections::{BTreeMap, BTreeSet};
 use ua_subscription_messages::DataChangeMessage;
@@ -44,7 +44,6 @@ fn give_at(
     items: &mut Slots<Item>,
     counts: &mut BTreeMap<u32, usize>,
     tally: &mut Tally,
-    near: &mut Near,
     number: u32,
     left: usize,
     message: &mut DataChangeMessage,
@@ -57,7 +56,7 @@ fn give_at(
     ensures counts { AreCountsBy (counts_with counts.new tally.new) items.new }
 {
     let most = items.len();
-    let Some(item) = items.get_mut_near(near, number as u64) else {
+    let Some(item) = items.get_mut(number as u64) else {
         return Ok(left);
     };
     let (wanted, recount) = give_some(item, left, message)?;
@@ -81,13 +80,12 @@ pub(crate) fn give_all(
     ensures err { OnErr result (TakenSome items.old items.new count numbers.now.keys) }
     ensures counts { AreCountsBy (counts_with counts.new tally.new) items.new }
 {
-    let mut near = Near::new();
     let mut left = count;
     for number in numbers {
         if left == 0 {
             break;
         }
-        left = give_at(items, counts, tally, &mut near, *number, left, message)?;
+        left = give_at(items, counts, tally, *number, left, message)?;
     }
     Ok(())
 }

@@ -5,4 +5,4 @@ use Rattle.number_slots.proofs.numbered.Numbered.get.Goals as goal
 
 pub returns : goal.returns
 returns g c =
-    c.get_near.ensures ∙ sym (get_is c.self.inside.values c.args.number) ∙ ap (λ m. map.get m c.args.number) c.self.view_is
+    c.get.ensures ∙ sym (get_is c.self.inside.values c.args.number) ∙ ap (λ m. map.get m c.args.number) c.self.view_is

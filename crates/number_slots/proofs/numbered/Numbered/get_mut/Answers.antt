@@ -6,7 +6,7 @@ use Rattle.number_slots.proofs.numbered.Numbered.get_mut.Goals as goal
 pub returns : goal.returns
 returns g c =
     let values = c.self.inside.values in
-    let lent = c.get_mut_near in (
+    let lent = c.get_mut in (
       (
         refl,
         λ w. lent_in lent.result values (lent.follows.lender w) c.args.number w c.args.self.now lent.ensures.value (lent.follows.holds w) c.self.view_is,

@@ -4,7 +4,7 @@ use Rattle.std.specs.Map.{lookup, set_value}
 use Rattle.std.specs.Option.{option_copied_mut}
 use Rattle.std.specs.Ordering.{nat_cmp}
 use Rattle.number_slots.proofs.SlotLemmas.{value_in, found, value_there, leads_to_one, kept_by_write, held_by_write}
-use Rattle.number_slots.proofs.slots.Slots.get_mut_near.Goals as goal
+use Rattle.number_slots.proofs.slots.Slots.get_mut.Goals as goal
 
 pub returns-in_default : goal.returns-in_default
 returns-in_default g c =
