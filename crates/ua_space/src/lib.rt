@@ -8,9 +8,9 @@
 //! What a contract sees of a `Space`: its nodes under their ids, in the order of ids, and its
 //! references in declared order (`SpaceState`).
 //!
-//! A node is found by a binary search among all of them, without memory, also by an id that stands in the
-//! bytes of a request ([`Space::find`]); who goes on with that id takes the node's own. Who looks for many finds most
-//! without a search ([`Space::find_near`]).
+//! A node is found where a table has it under a number that is made of its id, or else by a binary search among all of
+//! them, without memory, also by an id that stands in the bytes of a request ([`Space::find`]); who goes on with that id
+//! takes the node's own. Who looks for many in the order of their ids goes from one to the next ([`Space::find_near`]).
 //!
 //! Read [`Node`] and [`Triple`] first, and docs/NODES.md for the base set as a picture.
 #![tactic(auto)]
@@ -18,6 +18,7 @@
 mod base;
 mod build;
 mod fault;
+mod guesses;
 mod hints;
 mod history;
 mod index;

@@ -1,4 +1,4 @@
-//! The nodes of a space in the order of their ids, found by binary search.
+//! The nodes of a space in the order of their ids, found by a guess or by binary search.
 
 ghost use Rattle.std.specs.Prelude.{◌≡◌, length, true, Ok, IfOk, option_map, slice_get};
 ghost use Rattle.std.specs.Option.{option_copied};
@@ -8,6 +8,7 @@ ghost use Rattle.ua_space.specs.Nodes.{node_at};
 ghost use Rattle.ua_space.specs.NodePlaces.{IsPlaceOf, place_of, takes_in, with_value_in};
 ghost use Rattle.ua_space.specs.Values.{takes_at, with_value};
 
+use crate::guesses::Guesses;
 use crate::node::{Node, NodeDetails};
 use number_slots::Near;
 use std::alloc::{AllocError, Global};
@@ -27,6 +28,8 @@ use ua_views::{NodeIdView, compare};
 pub(crate) struct NodeTable {
     // In the order of ids, none twice.
     entries: Vec<(NodeId, Node)>,
+    // Where most of them stand.
+    guesses: Guesses,
 }
 
 impl Model for NodeTable {
@@ -42,13 +45,6 @@ impl Model for NodeTable {
     ghost invariant = { λ t. IsStrictlySortedBy id_cmp (keys_of t.entries.items) };
 }
 
-// Where the search for an id ends.
-fn search(entries: &Vec<(NodeId, Node)>, id: &NodeIdView<'_>) -> Result<usize, usize>
-    ensures { IsPlaceOf id.now entries.now.items result }
-{
-    entries.binary_search_by(|entry| compare(&entry.0, id))
-}
-
 // Whether the node with an id stands at this place.
 #[inline(always)]
 fn stands_at(entries: &Vec<(NodeId, Node)>, place: usize, id: &NodeIdView<'_>) -> bool
@@ -60,9 +56,25 @@ fn stands_at(entries: &Vec<(NodeId, Node)>, place: usize, id: &NodeIdView<'_>) -
     }
 }
 
-// Where the search for an id ends, which looks first at two places at which its node is likely to be.
+// Where the search for an id ends, which looks first where most nodes stand.
+fn search(
+    entries: &Vec<(NodeId, Node)>,
+    guesses: &Guesses,
+    id: &NodeIdView<'_>,
+) -> Result<usize, usize>
+    ensures { IsPlaceOf id.now entries.now.items result }
+{
+    let guess = guesses.place(id);
+    if stands_at(entries, guess, id) {
+        return Ok(guess);
+    }
+    entries.binary_search_by(|entry| compare(&entry.0, id))
+}
+
+// The same, looked for first at two other places at which its node is likely to be.
 fn search_near(
     entries: &Vec<(NodeId, Node)>,
+    guesses: &Guesses,
     near: &mut Near,
     id: &NodeIdView<'_>,
 ) -> Result<usize, usize>
@@ -78,7 +90,7 @@ fn search_near(
         near.found(second);
         return Ok(second);
     }
-    let end = search(entries, id);
+    let end = search(entries, guesses, id);
     if let Ok(place) = end {
         near.found(place);
     }
@@ -115,15 +127,16 @@ impl NodeTable {
     pub(crate) fn new(alloc: Global, nodes: BTreeMap<NodeId, Node>) -> Result<NodeTable, AllocError>
         ensures { IfOk result (λ table. table ≡ nodes.entries) }
     {
-        let entries = nodes.into_iter().collect(alloc)?;
-        Ok(NodeTable { entries })
+        let entries: Vec<(NodeId, Node)> = nodes.into_iter().collect(alloc)?;
+        let guesses = Guesses::new(alloc, entries.as_slice())?;
+        Ok(NodeTable { entries, guesses })
     }
 
     /// The place of the node with an id that is looked at in place, looked for first where it is likely to be.
     pub(crate) fn place(&self, near: &mut Near, id: &NodeIdView<'_>) -> Option<usize>
         ensures { result ≡ place_of id.now self.now }
     {
-        match search_near(&self.entries, near, id) {
+        match search_near(&self.entries, &self.guesses, near, id) {
             Err(_) => None,
             Ok(place) => Some(place),
         }
@@ -133,7 +146,7 @@ impl NodeTable {
     pub(crate) fn find_near(&self, near: &mut Near, id: &NodeIdView<'_>) -> Option<&Node>
         ensures { option_copied result ≡ node_at id.now self.now }
     {
-        match search_near(&self.entries, near, id) {
+        match search_near(&self.entries, &self.guesses, near, id) {
             Err(_) => None,
             Ok(place) => self.node_in_order(place),
         }
@@ -143,7 +156,7 @@ impl NodeTable {
     pub(crate) fn find(&self, id: &NodeIdView<'_>) -> Option<&Node>
         ensures { option_copied result ≡ node_at id.now self.now }
     {
-        match search(&self.entries, id) {
+        match search(&self.entries, &self.guesses, id) {
             Err(_) => None,
             Ok(place) => self.node_in_order(place),
         }
@@ -161,7 +174,7 @@ impl NodeTable {
         requires { takes_at id.now value self.old ≡ true }
         ensures { self.new ≡ with_value id.now value self.old }
     {
-        match search(&self.entries, &NodeIdView::of(id)) {
+        match search(&self.entries, &self.guesses, &NodeIdView::of(id)) {
             Err(_) => {}
             Ok(place) => set_in(&mut self.entries, place, value),
         }
