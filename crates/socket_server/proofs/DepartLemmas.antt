@@ -1,5 +1,5 @@
 -- The server is told of a connection that is no more in the turn in which that is seen.
-use Rattle.std.proofs.Common.{◌≡◌, ℕ, Bool, true, false, cond, if◌then◌else◌, List, [], ◌∷◌, Option, Some, None, Result, Ok, Err, MatchResult, OnOk, refl, sym, ap, ◌∙◌, subst, not, ◌&&◌, ◌||◌}
+use Rattle.std.proofs.Common.{◌≡◌, ℕ, Bool, true, false, cond, List, [], ◌∷◌, Option, Some, None, Result, Ok, Err, MatchResult, OnOk, refl, sym, ap, ◌∙◌, subst, not, ◌&&◌, ◌||◌}
 use Rattle.std.specs.Prelude.{⊤}
 use Rattle.std.specs.Ordering.{nat_cmp, eq_by_cmp}
 use Rattle.std.specs.Cmp.{nat_cmp_total}
@@ -9,13 +9,12 @@ use Rattle.server_messages.specs.declared.out.Out.{Out}
 use Rattle.server_messages.specs.declared.out.Out.TheVariants.{Send, Close}
 use Rattle.server_core.specs.declared.event.Event.{Event}
 use Rattle.server_core.specs.declared.event.Event.TheVariants.{Gone}
-use Rattle.socket_peers.specs.Socket.{Calls}
-use Rattle.socket_peers.specs.Peer.{PeerState, departs, departed, dropped, is_owed_too_much, is_over, Flushes}
-use Rattle.socket_peers.specs.Peers.{PeersState, at, is_true_of, departs_at, with_departed, changed_by, touching_by, owed_out, owed_all, LetsGo, woken_if, FlushesBy, FlushesEach, FlushesAll}
+use Rattle.socket_peers.specs.Peer.{PeerState, departs, departed, is_over}
+use Rattle.socket_peers.specs.Peers.{PeersState, at, is_true_of, departs_at, with_departed, changed_by, touching_by, owed_out, owed_all, LetsGo}
 use Rattle.socket_server.specs.declared.serve_fault.ServeFault.{ServeFault}
 use Rattle.rand_core.specs.Stream.{Stream}
 use Rattle.socket_server.specs.Output.{EventText}
-use Rattle.socket_server.specs.Serving.{Scene, HandsIn, Fails}
+use Rattle.socket_server.specs.Serving.{Scene, Takes, Fails}
 
 -- any generator: none of this depends on keys
 pub empty_stream : Stream
@@ -62,44 +61,15 @@ module _ {S : Type 0} where
   released_told conn old new true h (done, e) = subst (λ p. departs_at p conn ≡ false) (sym e) (ap (is_true_of departs) (get_removed old.connected conn))
   released_told conn old new false h (not_done, e) = subst (λ p. departs_at p conn ≡ false) (sym e) h
 
-module _ {S : Type 0} (remaining contents : S → Option (List ℕ)) (calls : S → Option Calls) (text : EventText) where
-  woken_keeps : (is_woken : Bool) (x y : PeerState S) → y.is_gone ≡ x.is_gone → (woken_if is_woken y).is_gone ≡ x.is_gone
-  woken_keeps true x y e = e
-  woken_keeps false x y e = e
-
-  judged_keeps : (is_dropped : Bool) (p : PeerState S) → (if is_dropped then dropped p else p).is_gone ≡ p.is_gone
-  judged_keeps true p = refl
-  judged_keeps false p = refl
-
-  flush_keeps : (old new : PeerState S) (is_interrupted : Bool) → Flushes remaining contents calls old new is_interrupted → new.is_gone ≡ old.is_gone
-  flush_keeps old new true drains = drains.0.gone
-  flush_keeps old new false (written, drains, is) =
-      ap (λ (p : PeerState S). p.is_gone) is ∙ judged_keeps (is_owed_too_much written) written ∙ drains.0.gone
-
-  flushed_by : (number q : ℕ) (a b : PeersState S) (o : Option (PeerState S)) → at a number ≡ o → FlushesBy remaining contents calls o number a b → IsTold (at a q) → IsTold (at b q)
-  flushed_by number q a b None is e h = subst (λ (p : PeersState S). IsTold (at p q)) (sym e) h
-  flushed_by number q a b (Some peer) is (after, is_interrupted, flushes, e) h =
-      let is_woken = is_interrupted || is_over after in
-      subst (λ (p : PeersState S). IsTold (at p q)) (sym e)
-      (subst IsTold (sym (get-insert nat_cmp_total a.connected number (woken_if is_woken after) q))
-      (put_there a.connected number q peer (woken_if is_woken after) (eq_by_cmp nat_cmp q number) refl is (woken_keeps is_woken peer after (flush_keeps peer after is_interrupted flushes)) h))
-
-  each_told : (numbers : List ℕ) (q : ℕ) (a b : PeersState S) → FlushesEach remaining contents calls numbers a b → IsTold (at a q) → IsTold (at b q)
-  each_told [] q a b e h = subst (λ (p : PeersState S). IsTold (at p q)) (sym e) h
-  each_told (number ∷ numbers) q a b (mid, first, rest) h = each_told numbers q mid b rest (flushed_by number q a mid (at a number) refl first h)
-
-  all_told : (q : ℕ) (a b : PeersState S) → FlushesAll remaining contents calls a b → IsTold (at a q) → IsTold (at b q)
-  all_told q a b (mid, each, e) h = subst (λ (p : PeersState S). IsTold (at p q)) (sym e) (each_told a.touched q a mid each h)
-
+module _ {S : Type 0} (text : EventText) where
   -- the event that tells it is handed in, and so it is told
   pub handed_told : {X : Type 0} (conn : ℕ) (event : Event) (a c : Scene S) (r : Result X ServeFault) → IsTold (at a.peers conn)
-      → MatchResult r (λ _. HandsIn remaining contents calls text event a c) (Fails text event a c) → OnOk r (departs_at c.peers conn ≡ false)
-  handed_told conn event a c (Ok x) h (mid, (step, steps, owed, events, puts, keys), writes) =
-      told_departs (at c.peers conn) (all_told conn mid c.peers writes
-      (subst (λ (p : PeersState S). IsTold (at p conn)) (sym owed) (owed_told step.outs a.peers conn h)))
+      → MatchResult r (λ _. Takes text event a c) (Fails text event a c) → OnOk r (departs_at c.peers conn ≡ false)
+  handed_told conn event a c (Ok x) h (step, steps, owed, events, puts, keys) =
+      told_departs (at c.peers conn) (subst (λ (p : PeersState S). IsTold (at p conn)) (sym owed) (owed_told step.outs a.peers conn h))
   handed_told conn event a c (Err fault) h fails = tt
 
   pub told_by : {X : Type 0} (conn : ℕ) (a : Scene S) (p : PeersState S) (c : Scene S) (r : Result X ServeFault) → p ≡ with_departed a.peers conn
-      → MatchResult r (λ _. HandsIn remaining contents calls text (Gone conn) (record a { peers = p }) c) (Fails text (Gone conn) (record a { peers = p }) c) → OnOk r (departs_at c.peers conn ≡ false)
+      → MatchResult r (λ _. Takes text (Gone conn) (record a { peers = p }) c) (Fails text (Gone conn) (record a { peers = p }) c) → OnOk r (departs_at c.peers conn ≡ false)
   told_by conn a p c r e handed =
       handed_told conn (Gone conn) (record a { peers = p }) c r (subst (λ (x : PeersState S). IsTold (at x conn)) (sym e) (with_departed_told a.peers conn)) handed

@@ -1,9 +1,11 @@
 -- Acts, one after the other.
-use Rattle.std.proofs.Common.{◌≡◌, ℕ, suc, zero, ◌+◌, ◌<◌, Bool, true, false, cond, List, [], ◌∷◌, ◌++◌, Option, Some, None, Result, Ok, Err, MatchResult, OnOk, is_err, refl, sym, ap, ◌∙◌, subst, inl, inr, arith}
+use Rattle.std.proofs.Common.{◌≡◌, ℕ, suc, zero, ◌+◌, ◌<◌, Bool, true, false, cond, List, [], ◌∷◌, ◌++◌, Option, Some, None, Result, Ok, Err, MatchResult, OnOk, refl, sym, ap, ◌∙◌, subst, inl, inr, arith}
+use Rattle.std.specs.List.{concat}
 use Rattle.std.proofs.lemmas.Bool.{true≢false}
 use Rattle.mio.specs.declared.event.event.Event as ready
 use Rattle.mio.specs.Event.{event_token}
 use Rattle.ua_types.specs.declared.moment.Moment.{Moment}
+use Rattle.server_core.specs.Stepping.{step_on, StepsTo}
 use Rattle.server_core.specs.declared.event.Event.{Event}
 use Rattle.server_core.specs.declared.event.Event.TheVariants.{Opened, Bytes, Gone, Tick, Shutdown}
 use Rattle.socket_peers.specs.declared.peer.Heard.{Heard}
@@ -14,16 +16,11 @@ use Rattle.mio.specs.declared.net.stream.TcpStream.{TcpStream}
 use Rattle.socket_peers.specs.Socket.{Calls}
 use Rattle.socket_peers.specs.Peers.{PeersState, at, with_joined, with_departed, departs_at, LetsGo, reported, ReadsBy, ReadsAt}
 use Rattle.socket_server.specs.Sockets.{Sockets}
-use Rattle.socket_server.specs.Output.{Output, EventText}
+use Rattle.socket_server.specs.Output.{Output, EventText, Puts}
 use Rattle.socket_server.specs.declared.serve_fault.ServeFault.TheVariants as serve_fault
 use Rattle.socket_server.specs.declared.serve_fault.ServeFault.{ServeFault}
 use Rattle.rand_core.specs.Stream.{Stream}
-use Rattle.socket_server.specs.Serving.{State, Scene, scene, IsNextKey, IsQuiet, Happening, Connects, Reports, Gathers, Looks, Hears, Waits, Writes, Leaves, Drops, Passes, readable, Does, Runs, ticks, Fails, IsOutside, HandsIn, Goes, Stops, Serves, Heeds, GoesOn, ReadsMore, ReadsOn, Attends, AttendsEach, AttendsAll, TakesTurn, Turns, ServesToTheEnd, unknown, uncounted, readiness_of, is_of_listener, reported_event, reported_events, begun, IsServed, IsStopped}
-
--- what a call that went well says
-pub when_ok : {X E : Type 0} (r : Result X E) (P : Type 0) → is_err r ≡ false → OnOk r P → P
-when_ok (Ok x) P h p = p
-when_ok (Err e) P h p = absurd (true≢false h)
+use Rattle.socket_server.specs.Serving.{State, Scene, scene, IsNextKey, IsQuiet, Happening, Connects, Reports, Gathers, Looks, Hears, Waits, Writes, Leaves, Drops, Passes, readable, Does, Runs, ticks, Takes, Fails, IsOutside, HandsIn, Goes, Stops, Serves, Heeds, GoesOn, ReadsOn, Attends, AttendsEach, AttendsGroups, AttendsAll, TakesTurn, Turns, ServesToTheEnd, unknown, uncounted, readiness_of, is_of_listener, reported_event, reported_events, begun, IsServed, IsStopped}
 
 ticks_append : (xs ys : List Happening) → ticks (xs ++ ys) ≡ ticks xs + ticks ys
 ticks_append [] ys = omega arith
@@ -74,20 +71,32 @@ module _ {S : Type 0} (remaining contents : S → Option (List ℕ)) (calls : S 
   pub stops_here : (a new : Scene S) (fault : ServeFault) → IsOutside fault → new.server ≡ a.server → new.output ≡ a.output → Stops remaining contents calls text a new fault
   stops_here a new fault h server told = (0, a, goes_none a, inl (h, server, told))
 
-  -- ---- one act, and the writes behind it
+  -- where it stopped the sockets have no part in it
+  fails_alike : (event : Event) (a c : Scene S) (p : PeersState S) (fault : ServeFault) → Fails text event a c fault → Fails text event a (record c { peers = p }) fault
+  fails_alike event a c p serve_fault.Port h = absurd h
+  fails_alike event a c p serve_fault.Address h = absurd h
+  fails_alike event a c p serve_fault.Network h = absurd h
+  fails_alike event a c p (serve_fault.Step f) h = h
+  fails_alike event a c p serve_fault.Trace h = h
+  fails_alike event a c p serve_fault.Memory h = h
 
-  acted : (act : Happening) (a b c : Scene S) → ticks (act ∷ []) ≡ 0 → Does remaining contents calls text act a b → Does remaining contents calls text Writes b c → Goes remaining contents calls text 0 a c
-  acted act a b c quiet d w = (act ∷ Writes ∷ [], ticks_append (act ∷ []) (Writes ∷ []) ∙ ap (λ n. n + 0) quiet, (b, d, (c, w, refl)))
+  pub stops_alike : (a c : Scene S) (p : PeersState S) (fault : ServeFault) → Stops remaining contents calls text a c fault → Stops remaining contents calls text a (record c { peers = p }) fault
+  stops_alike a c p fault (n, mid, goes, inl (outside, server, output)) = (n, mid, goes, inl (outside, server, output))
+  stops_alike a c p fault (n, mid, goes, inr (event, h)) = (n, mid, goes, inr (event, fails_alike event mid c p fault h))
+
+  -- ---- one act
+
+  -- in which no time passes
+  quiet : (act : Happening) (a c : Scene S) → ticks (act ∷ []) ≡ 0 → Does remaining contents calls text act a c → Goes remaining contents calls text 0 a c
+  quiet act a c none does = (act ∷ [], none, (c, does, refl))
 
   pub connects : (key : List ℕ) (left : Stream) (stream : S) (a c : Scene S) → IsNextKey a.keys left key
-      → HandsIn remaining contents calls text (Opened (a.peers.last + 1) key) (record a { keys = left; peers = with_joined a.peers stream }) c → Goes remaining contents calls text 0 a c
-  connects key left stream a c drawn (mid, takes, writes) =
-      acted (Connects key) a (scene c.keys c.server mid c.events c.output) c refl (stream, left, drawn, takes) (writes, (refl, refl, refl, refl))
+      → Takes text (Opened (a.peers.last + 1) key) (record a { keys = left; peers = with_joined a.peers stream }) c → Goes remaining contents calls text 0 a c
+  connects key left stream a c drawn takes = quiet (Connects key) a c refl (stream, left, drawn, takes)
 
   hears : (conn : ℕ) (h : Heard) (is : Bool) (a c : Scene S) → is_piece h ≡ is → Heeds remaining contents calls text conn h is a c → Goes remaining contents calls text 0 a c
-  hears conn h true a c is (piece, p, reads, (mid, takes, writes)) =
-      acted (Hears conn piece) a (scene c.keys c.server mid c.events c.output) c refl (h, is, p, reads, takes) (writes, (refl, refl, refl, refl))
-  hears conn h false a c other (reads, same) = (Waits conn ∷ [], refl, (c, (h, other, reads, same), refl))
+  hears conn h true a c is (piece, p, reads, takes) = quiet (Hears conn piece) a c refl (h, is, p, reads, takes)
+  hears conn h false a c other (reads, same) = quiet (Waits conn) a c refl (h, other, reads, same)
 
   none_read : (conn : ℕ) (old new : PeersState S) (o : Option (PeerState S)) (room : ℕ) (piece : List ℕ) (h : Heard) → is_piece h ≡ false → ReadsBy remaining contents calls o conn old new room piece h → piece ≡ []
   none_read conn old new None room piece h other reads = reads.0
@@ -97,19 +106,18 @@ module _ {S : Type 0} (remaining contents : S → Option (List ℕ)) (calls : S 
   none_read conn old new (Some p) room piece heard.Nothing other (after, reads, e) = reads.0
   none_read conn old new (Some p) room piece heard.End other (after, reads, e) = reads.0
 
-  pub leaves : (conn : ℕ) (a c : Scene S) → departs_at a.peers conn ≡ true → HandsIn remaining contents calls text (Gone conn) (record a { peers = with_departed a.peers conn }) c
+  pub leaves : (conn : ℕ) (a c : Scene S) → departs_at a.peers conn ≡ true → Takes text (Gone conn) (record a { peers = with_departed a.peers conn }) c
       → Goes remaining contents calls text 0 a c
-  leaves conn a c over (mid, takes, writes) = acted (Leaves conn) a (scene c.keys c.server mid c.events c.output) c refl (over, takes) (writes, (refl, refl, refl, refl))
+  leaves conn a c over takes = quiet (Leaves conn) a c refl (over, takes)
 
-  pub passes : (now : Moment) (a c : Scene S) → HandsIn remaining contents calls text (Tick now) a c → Goes remaining contents calls text 1 a c
-  passes now a c (mid, takes, writes) = (Passes now ∷ Writes ∷ [], refl, (scene c.keys c.server mid c.events c.output, takes, (c, (writes, (refl, refl, refl, refl)), refl)))
-
-  -- one act that moves no event
-  quiet : (act : Happening) (a c : Scene S) → ticks (act ∷ []) ≡ 0 → Does remaining contents calls text act a c → Goes remaining contents calls text 0 a c
-  quiet act a c none does = (act ∷ [], none, (c, does, refl))
+  pub passes : (now : Moment) (a c : Scene S) → Takes text (Tick now) a c → Goes remaining contents calls text 1 a c
+  passes now a c takes = (Passes now ∷ [], refl, (c, takes, refl))
 
   pub looks : (conn : ℕ) (a c : Scene S) → Does remaining contents calls text (Looks conn) a c → Goes remaining contents calls text 0 a c
   looks conn a c does = quiet (Looks conn) a c refl does
+
+  pub writes : (a c : Scene S) → Does remaining contents calls text Writes a c → Goes remaining contents calls text 0 a c
+  writes a c does = quiet Writes a c refl does
 
   pub reports : (conn : ℕ) (readiness : Readiness) (a c : Scene S) → Does remaining contents calls text (Reports conn readiness) a c → Goes remaining contents calls text 0 a c
   reports conn readiness a c does = quiet (Reports conn readiness) a c refl does
@@ -141,13 +149,13 @@ module _ {S : Type 0} (remaining contents : S → Option (List ℕ)) (calls : S 
   fails_from event a c p k serve_fault.Memory h = h
 
   abbrev Handed : Event → Scene S → Scene S → {X : Type 0} → Result X ServeFault → Type 0
-  Handed event a c r = MatchResult r (λ _. HandsIn remaining contents calls text event a c) (Fails text event a c)
+  Handed event a c r = MatchResult r (λ _. Takes text event a c) (Fails text event a c)
 
   pub connect_serves : {X : Type 0} (number : ℕ) (key : List ℕ) (left : Stream) (stream : S) (a : Scene S) (p : PeersState S) (c : Scene S) (r : Result X ServeFault) → number ≡ a.peers.last + 1
       → p ≡ with_joined a.peers stream → IsNextKey a.keys left key → Handed (Opened number key) (record a { keys = left; peers = p }) c r → Serves remaining contents calls text 0 a c r
   connect_serves number key left stream a p c (Ok x) n j drawn h =
-      connects key left stream a c drawn (subst (λ k. HandsIn remaining contents calls text (Opened k key) (record a { keys = left; peers = with_joined a.peers stream }) c) n
-      (subst (λ q. HandsIn remaining contents calls text (Opened number key) (record a { keys = left; peers = q }) c) j h))
+      connects key left stream a c drawn (subst (λ k. Takes text (Opened k key) (record a { keys = left; peers = with_joined a.peers stream }) c) n
+      (subst (λ q. Takes text (Opened number key) (record a { keys = left; peers = q }) c) j h))
   connect_serves number key left stream a p c (Err fault) n j drawn h = stops_at (Opened number key) a c fault (fails_from (Opened number key) a c p left fault h)
 
   -- ---- one read
@@ -159,7 +167,7 @@ module _ {S : Type 0} (remaining contents : S → Option (List ℕ)) (calls : S 
       (h, refl, subst (λ is. Heeds remaining contents calls text conn h is a c) (sym other) (subst (λ l. ReadsAt remaining contents calls conn a.peers c.peers 4096 l h) none reads, same))
 
   pub piece_heeded : (conn : ℕ) (h : Heard) (piece : List ℕ) (p : PeersState S) (a c : Scene S) → is_piece h ≡ true → ReadsAt remaining contents calls conn a.peers p 4096 piece h
-      → HandsIn remaining contents calls text (Bytes conn piece) (record a { peers = p }) c → GoesOn remaining contents calls text conn a c (may_be_more h)
+      → Takes text (Bytes conn piece) (record a { peers = p }) c → GoesOn remaining contents calls text conn a c (may_be_more h)
   piece_heeded conn h piece p a c some reads hands =
       (h, refl, subst (λ is. Heeds remaining contents calls text conn h is a c) (sym some) (piece, p, reads, hands))
 
@@ -169,7 +177,7 @@ module _ {S : Type 0} (remaining contents : S → Option (List ℕ)) (calls : S 
 
   pub gone_serves : {X : Type 0} (conn : ℕ) (a : Scene S) (p : PeersState S) (c : Scene S) (r : Result X ServeFault) → (departs_at a.peers conn ≡ true) × (p ≡ with_departed a.peers conn)
       → Handed (Gone conn) (record a { peers = p }) c r → Serves remaining contents calls text 0 a c r
-  gone_serves conn a p c (Ok x) (over, j) h = leaves conn a c over (subst (λ q. HandsIn remaining contents calls text (Gone conn) (record a { peers = q }) c) j h)
+  gone_serves conn a p c (Ok x) (over, j) h = leaves conn a c over (subst (λ q. Takes text (Gone conn) (record a { peers = q }) c) j h)
   gone_serves conn a p c (Err fault) (over, j) h = stops_at (Gone conn) a c fault (fails_from (Gone conn) a c p a.keys fault h)
 
   pub serves_after : {X : Type 0} (m n : ℕ) (a b c : Scene S) (r : Result X ServeFault) → Goes remaining contents calls text m a b → Serves remaining contents calls text n b c r → Serves remaining contents calls text (m + n) a c r
@@ -182,39 +190,34 @@ module _ {S : Type 0} (remaining contents : S → Option (List ℕ)) (calls : S 
   released_after conn a b c is_gone p lets same = goes_on a b c p (drops conn b c is_gone lets same)
 
   -- an observer that was told of a connection put nothing out
-  pub hands_in_same : (event : Event) (a : Scene S) (keys : Stream) (server : State) (p : PeersState S) (events : ℕ) (output again : Output) → again ≡ output
-      → HandsIn remaining contents calls text event a (scene keys server p events output) → HandsIn remaining contents calls text event a (scene keys server p events again)
-  hands_in_same event a keys server p events output again e h =
-      subst (λ (o : Output). HandsIn remaining contents calls text event a (scene keys server p events o)) (sym e) h
+  pub takes_same : (event : Event) (a : Scene S) (keys : Stream) (server : State) (p : PeersState S) (events : ℕ) (output again : Output) → again ≡ output
+      → Takes text event a (scene keys server p events output) → Takes text event a (scene keys server p events again)
+  takes_same event a keys server p events output again e h = subst (λ (o : Output). Takes text event a (scene keys server p events o)) (sym e) h
 
   -- ---- a turn
 
-  one_read_goes : (conn : ℕ) (a c : Scene S) (more : Bool) → GoesOn remaining contents calls text conn a c more → Goes remaining contents calls text 0 a c
+  pub one_read_goes : (conn : ℕ) (a c : Scene S) (more : Bool) → GoesOn remaining contents calls text conn a c more → Goes remaining contents calls text 0 a c
   one_read_goes conn a c more (h, says, heeds) = hears conn h (is_piece h) a c refl heeds
 
-  pub reads_more_go : (count conn : ℕ) (a c : Scene S) → ReadsMore remaining contents calls text count conn a c → Goes remaining contents calls text 0 a c
-  reads_more_go zero conn a c e = goes_same a c e
-  reads_more_go (suc count) conn a c (mid, reads, more) = goes_on a mid c (reads_more_go count conn a mid reads) (one_read_goes conn mid c true more)
-
-  pub one_more_read : (count conn : ℕ) (a b c : Scene S) → ReadsMore remaining contents calls text count conn a b → GoesOn remaining contents calls text conn b c true
-      → ReadsMore remaining contents calls text (count + 1) conn a c
-  one_more_read count conn a b c reads more =
-      let next : suc count ≡ count + 1 = omega arith in
-      subst (λ n. ReadsMore remaining contents calls text n conn a c) next (b, reads, more)
-
   reads_go : (conn : ℕ) (a c : Scene S) → ReadsOn remaining contents calls text conn a c → Goes remaining contents calls text 0 a c
-  reads_go conn a c (count, mid, reads, inl (few, none)) = goes_on a mid c (reads_more_go count conn a mid reads) (one_read_goes conn mid c false none)
-  reads_go conn a c (count, mid, reads, inr (all, does)) = goes_on a mid c (reads_more_go count conn a mid reads) (reports conn readable mid c does)
+  reads_go conn a c (inl none) = one_read_goes conn a c false none
+  reads_go conn a c (inr (mid, more, does)) = goes_on a mid c (one_read_goes conn a mid true more) (reports conn readable mid c does)
 
   pub attends_go : (conn : ℕ) (a c : Scene S) → Attends remaining contents calls text conn a c → Goes remaining contents calls text 0 a c
   attends_go conn a c (looked, read, does, reads, goes) = goes_on a looked c (looks conn a looked does) (goes_on looked read c (reads_go conn looked read reads) goes)
 
-  each_go : (conns : List ℕ) (a c : Scene S) → AttendsEach remaining contents calls text conns a c → Goes remaining contents calls text 0 a c
+  pub each_go : (conns : List ℕ) (a c : Scene S) → AttendsEach remaining contents calls text conns a c → Goes remaining contents calls text 0 a c
   each_go [] a c e = goes_same a c e
   each_go (conn ∷ conns) a c (mid, attends, each) = goes_on a mid c (attends_go conn a mid attends) (each_go conns mid c each)
 
+  groups_go : (groups : List (List ℕ)) (a c : Scene S) → AttendsGroups remaining contents calls text groups a c → Goes remaining contents calls text 0 a c
+  groups_go [] a c e = goes_same a c e
+  groups_go (conns ∷ groups) a c (attended, written, few, each, does, rest) =
+      goes_on a attended c (each_go conns a attended each) (goes_on attended written c (writes attended written does) (groups_go groups written c rest))
+
   all_go : (a c : Scene S) → AttendsAll remaining contents calls text a c → Goes remaining contents calls text 0 a c
-  all_go a c (mid, does, each) = goes_on a mid c (gathers a.peers.awake a mid does) (each_go a.peers.awake mid c each)
+  all_go a c (written, gathered, groups, does, taken, rest) =
+      goes_on a written c (writes a written does) (goes_on written gathered c (gathers (concat groups) written gathered taken) (groups_go groups gathered c rest))
 
   turn_goes : (a c : Scene S) → TakesTurn remaining contents calls text a c → Goes remaining contents calls text 1 a c
   turn_goes a c (mid, goes, attends) = goes_trans 1 0 a mid c goes (all_go mid c attends)
@@ -253,10 +256,22 @@ module _ {S : Type 0} (remaining contents : S → Option (List ℕ)) (calls : S 
 
   -- so many turns, and then the server is told to end
   pub to_the_end : {X : Type 0} (n : ℕ) (a b c : Scene S) (r : Result X ServeFault) → Turns remaining contents calls text n a b
-      → MatchResult r (λ _. HandsIn remaining contents calls text Shutdown b c) (Fails text Shutdown b c)
+      → MatchResult r (λ _. HandsIn remaining contents calls text Shutdown b c) (Stops remaining contents calls text b c)
       → MatchResult r (λ _. ServesToTheEnd remaining contents calls text n a c) (Stops remaining contents calls text a c)
   to_the_end n a b c (Ok x) turns hands = (b, turns, hands)
-  to_the_end n a b c (Err fault) turns fails = stops_after n a b c fault (turns_go n a b turns) (stops_at Shutdown b c fault fails)
+  to_the_end n a b c (Err fault) turns stops = stops_after n a b c fault (turns_go n a b turns) stops
+
+  -- the server was told to end, and there is no memory to write what it sends then
+  pub unwritten : (a b c : Scene S) → Takes text Shutdown a b → c.server ≡ b.server → c.output ≡ b.output → Stops remaining contents calls text a c serve_fault.Memory
+  unwritten a b c (x, steps, owed, events, puts, keys) server output =
+      stops_at Shutdown a c serve_fault.Memory
+      (inr (refl, x, subst (λ (s : State). StepsTo (Ok x) a.server s (step_on a.server Shutdown)) (sym server) steps, subst (λ (o : Output). Puts a.output o (text (a.events + 1) x.rows)) (sym output) puts))
+
+  -- the server is told to end, and what it sends then is written
+  pub ended : (event : Event) (a b c : Scene S) → Takes text event a b → Does remaining contents calls text Writes b c → HandsIn remaining contents calls text event a c
+  ended event a b c takes (flushes, (server, events, output, keys)) =
+      let same : scene c.keys c.server b.peers c.events c.output ≡ b = scene_path (scene c.keys c.server b.peers c.events c.output) b keys server refl events output in
+      (b.peers, subst (Takes text event a) (sym same) takes, flushes)
 
   -- sockets that are reported
   reported_once : (event : ready.Event) (b : Bool) (a c : Scene S) → c.peers ≡ cond b a.peers (reported a.peers (event_token event).0 (readiness_of event)) → IsQuiet a c
@@ -294,7 +309,8 @@ module _ {S : Type 0} (remaining contents : S → Option (List ℕ)) (calls : S 
   fails_writer event a b serve_fault.Network h = absurd h
   fails_writer event a b (serve_fault.Step f) (steps, output) = ap (λ (t : Output). t.writer) output
   fails_writer event a b serve_fault.Trace (x, steps, part) = part.puts.writer
-  fails_writer event a b serve_fault.Memory (either, output) = ap (λ (t : Output). t.writer) output
+  fails_writer event a b serve_fault.Memory (inl (either, output)) = ap (λ (t : Output). t.writer) output
+  fails_writer event a b serve_fault.Memory (inr (last, x, steps, puts)) = puts.writer
 
   stops_writer : (a b : Scene S) (fault : ServeFault) → Stops remaining contents calls text a b fault → b.output.writer ≡ a.output.writer
   stops_writer a b fault (n, mid, (acts, t, p), inl (h, server, output)) = ap (λ (t : Output). t.writer) output ∙ runs_writer acts a mid p

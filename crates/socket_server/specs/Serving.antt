@@ -1,5 +1,6 @@
 -- What the loop hands to the server, what it keeps for each socket, and what it puts out.
-use Rattle.std.specs.Prelude.{◌≡◌, ◌⊎◌, ⊤, ℕ, ◌+◌, ◌<◌, ◌==◌, ◌||◌, zero, suc, Bool, true, false, List, [], ◌∷◌, Option, None, Result, Ok, Err, MatchResult, if◌then◌else◌, fold}
+use Rattle.std.specs.Prelude.{◌≡◌, ◌⊎◌, ⊤, ℕ, ◌+◌, ◌<◌, ◌≤◌, ◌==◌, ◌||◌, zero, suc, Bool, true, false, List, [], ◌∷◌, length, Option, None, Result, Ok, Err, MatchResult, if◌then◌else◌, fold}
+use Rattle.std.specs.List.{concat}
 use Rattle.mio.specs.declared.net.stream.TcpStream.{TcpStream}
 use Rattle.mio.specs.declared.event.event.Event as ready
 use Rattle.mio.specs.Event.{event_token, is_writable, is_write_closed, is_read_closed, is_error}
@@ -115,13 +116,16 @@ IsOutside fault = ⊤
 
 module _ {S : Type 0} (text : EventText) where
   -- Why an event was not handed in whole: the server didn't answer it; or of the text of its rows a part was put out, from the beginning
-  -- on, and a write failed; or there was no memory, its answer may be lost, and nothing is put out of it
+  -- on, and a write failed; or there was no memory, its answer may be lost, and nothing is put out of it, or, of the event that ends the
+  -- server, the text of its rows
   abbrev pub Fails : Event → Scene S → Scene S → ServeFault → Type 0
   Fails event old new (serve_fault.Step fault) = StepsTo (Err fault) old.server new.server (step_on old.server event) × (new.output ≡ old.output)
   Fails event old new serve_fault.Trace =
       (x : Step) × StepsTo (Ok x) old.server new.server (step_on old.server event) × PutsPart old.output new.output (text (old.events + 1) x.rows)
   Fails event old new serve_fault.Memory =
-      ((new.server ≡ old.server) ⊎ ((x : Step) × StepsTo (Ok x) old.server new.server (step_on old.server event))) × (new.output ≡ old.output)
+      (((new.server ≡ old.server) ⊎ ((x : Step) × StepsTo (Ok x) old.server new.server (step_on old.server event))) × (new.output ≡ old.output))
+      ⊎ ((event ≡ Shutdown) × (x : Step) × StepsTo (Ok x) old.server new.server (step_on old.server event)
+      × Puts old.output new.output (text (old.events + 1) x.rows))
   Fails event old new fault = ⊥
 
 module _ {S : Type 0} (remaining contents : S → Option (List ℕ)) (calls : S → Option Calls) (text : EventText) where
@@ -151,24 +155,17 @@ module _ {S : Type 0} (remaining contents : S → Option (List ℕ)) (calls : S 
   abbrev pub Heeds : ℕ → Heard → Bool → Scene S → Scene S → Type 0
   Heeds conn h true old new =
       (piece : List ℕ) × (peers : PeersState S) × ReadsAt remaining contents calls conn old.peers peers 4096 piece h
-      × HandsIn (Bytes conn piece) (record old { peers = peers }) new
+      × Takes text (Bytes conn piece) (record old { peers = peers }) new
   Heeds conn h false old new = ReadsAt remaining contents calls conn old.peers new.peers 4096 [] h × IsQuiet old new
 
   -- one read from this socket, which says that there may be more, or that there is no more for now
   abbrev pub GoesOn : ℕ → Scene S → Scene S → Bool → Type 0
   GoesOn conn old new more = (h : Heard) × (may_be_more h ≡ more) × Heeds conn h (is_piece h) old new
 
-  -- so many reads from this socket, one after the other, each of which says that there may be more
-  abbrev pub ReadsMore : ℕ → ℕ → Scene S → Scene S → Type 0
-  ReadsMore zero conn old new = new ≡ old
-  ReadsMore (suc count) conn old new = (mid : Scene S) × ReadsMore count conn old mid × GoesOn conn mid new true
-
-  -- A socket is read from until a read says that there is no more for now, twice at most. Where both say that there may be more it is
-  -- reported as ready, and so is to be looked at again
+  -- A socket is read from, once. Where the read says that there may be more it is reported as ready, and so is to be looked at again
   abbrev pub ReadsOn : ℕ → Scene S → Scene S → Type 0
   ReadsOn conn old new =
-      (count : ℕ) × (mid : Scene S) × ReadsMore count conn old mid
-      × (((count < 2) × GoesOn conn mid new false) ⊎ ((count ≡ 2) × Does remaining contents calls text (Reports conn readable) mid new))
+      GoesOn conn old new false ⊎ ((mid : Scene S) × GoesOn conn old mid true × Does remaining contents calls text (Reports conn readable) mid new)
 
   -- a socket is looked at, then read from, and then the server is told if its connection is no more
   abbrev pub Attends : ℕ → Scene S → Scene S → Type 0
@@ -179,13 +176,21 @@ module _ {S : Type 0} (remaining contents : S → Option (List ℕ)) (calls : S 
   AttendsEach [] old new = new ≡ old
   AttendsEach (conn ∷ conns) old new = (mid : Scene S) × Attends conn old mid × AttendsEach conns mid new
 
-  -- each socket that is to be looked at is attended to, once
+  -- sockets are attended to in groups of at most 16, and behind each group what is owed is written
+  abbrev pub AttendsGroups : List (List ℕ) → Scene S → Scene S → Type 0
+  AttendsGroups [] old new = new ≡ old
+  AttendsGroups (conns ∷ groups) old new =
+      (attended : Scene S) × (written : Scene S) × (length conns ≤ 16) × AttendsEach conns old attended
+      × Does remaining contents calls text Writes attended written × AttendsGroups groups written new
+
+  -- what is owed is written, and then each socket that is to be looked at is attended to, once
   abbrev pub AttendsAll : Scene S → Scene S → Type 0
   AttendsAll old new =
-      (mid : Scene S) × Does remaining contents calls text (Gathers old.peers.awake) old mid × AttendsEach old.peers.awake mid new
+      (written : Scene S) × (gathered : Scene S) × (groups : List (List ℕ)) × Does remaining contents calls text Writes old written
+      × Does remaining contents calls text (Gathers (concat groups)) written gathered × AttendsGroups groups gathered new
 
-  -- Sockets are reported, the server is told the time, once, and who has connected is taken in. And then each that is to be looked at is
-  -- attended to
+  -- Sockets are reported, the server is told the time, once, and who has connected is taken in. And then what is owed is written, and each
+  -- socket that is to be looked at is attended to
   abbrev pub TakesTurn : Scene S → Scene S → Type 0
   TakesTurn old new = (mid : Scene S) × Goes 1 old mid × AttendsAll mid new
 

@@ -6,7 +6,7 @@ ghost use Rattle.rand_core.specs.Stream.{Stream};
 ghost use Rattle.server_core.specs.declared.event.Event.TheVariants as happening;
 ghost use Rattle.server_core.specs.World.{world_of};
 ghost use Rattle.socket_peers.specs.Peers.{departs_at};
-ghost use Rattle.socket_server.specs.Serving.{scene, IsNextKey, HandsIn, Fails, GoesOn, ReadsOn, Attends, AttendsAll, Serves, Stops};
+ghost use Rattle.socket_server.specs.Serving.{scene, IsNextKey, Takes, Fails, GoesOn, ReadsOn, Attends, AttendsEach, AttendsAll, Serves, Stops};
 
 use crate::observer::Observer;
 use crate::serve_fault::ServeFault;
@@ -16,8 +16,8 @@ use socket_peers::{Peers, Readiness, Socket};
 use std::alloc::Global;
 use std::net::SocketAddr;
 
-// The most pieces that are read from a socket in a turn.
-const PIECES: usize = 2;
+// The most sockets that are read from before what is owed is written.
+const GROUP: usize = 16;
 
 // There may be more to read from a socket, and nothing else is known.
 const READABLE: Readiness = Readiness {
@@ -45,8 +45,8 @@ fn closes(outs: &[Out]) -> bool {
     false
 }
 
-/// Hands an event to the server, owes the sockets what it sends, writes what they take, and tells which rows
-/// fired. Says whether a connection is to be closed.
+/// Hands an event to the server, owes the sockets what it sends, and tells which rows fired. Says whether a connection is to be
+/// closed.
 pub(crate) fn hand_in<S: Socket + Drop, W: Observer>(
     alloc: Global,
     peers: &mut Peers<S>,
@@ -57,7 +57,7 @@ pub(crate) fn hand_in<S: Socket + Drop, W: Observer>(
 ) -> Result<bool, ServeFault>
     ensures { (keys : Stream) → let old = scene keys (world_of server.old) peers.old events.old (W.output observer.old) in
         let new = scene keys (world_of server.new) peers.new events.new (W.output observer.new) in
-        MatchResult result (λ _. HandsIn S.remaining S.contents S.calls W.text event.now old new) (Fails W.text event.now old new) }
+        MatchResult result (λ _. Takes W.text event.now old new) (Fails W.text event.now old new) }
 {
     let Some(number) = events.checked_add(1) else {
         return Err(ServeFault::Memory);
@@ -68,9 +68,6 @@ pub(crate) fn hand_in<S: Socket + Drop, W: Observer>(
     };
     let is_close = closes(outs.as_slice());
     if peers.owe_all(outs).is_err() {
-        return Err(ServeFault::Memory);
-    }
-    if peers.flush_touched().is_err() {
         return Err(ServeFault::Memory);
     }
     *events = number;
@@ -92,7 +89,7 @@ fn hand_in_opening<S: Socket + Drop, W: Observer>(
     ensures { (keys : Stream) → let opened = happening.Opened arrival.number arrival.key in
         let old = scene keys (world_of server.old) peers.old events.old (W.output observer.old) in
         let new = scene keys (world_of server.new) peers.new events.new (W.output observer.new) in
-        MatchResult result (λ _. HandsIn S.remaining S.contents S.calls W.text opened old new) (Fails W.text opened old new) }
+        MatchResult result (λ _. Takes W.text opened old new) (Fails W.text opened old new) }
 {
     let key = arrival.key;
     let opened = Event::Opened {
@@ -144,7 +141,7 @@ fn hand_in_piece<S: Socket + Drop, W: Observer>(
 ) -> Result<(), ServeFault>
     ensures { (keys : Stream) → let old = scene keys (world_of server.old) peers.old events.old (W.output observer.old) in
         let new = scene keys (world_of server.new) peers.new events.new (W.output observer.new) in
-        MatchResult result (λ _. HandsIn S.remaining S.contents S.calls W.text (happening.Bytes number piece.items) old new)
+        MatchResult result (λ _. Takes W.text (happening.Bytes number piece.items) old new)
         (Fails W.text (happening.Bytes number piece.items) old new) }
 {
     let Ok(bytes) = Bytes::from_vec(piece) else {
@@ -199,7 +196,7 @@ fn hand_in_end<S: Socket + Drop, W: Observer>(
 ) -> Result<(), ServeFault>
     ensures { (keys : Stream) → let old = scene keys (world_of server.old) peers.old events.old (W.output observer.old) in
         let new = scene keys (world_of server.new) peers.new events.new (W.output observer.new) in
-        MatchResult result (λ _. HandsIn S.remaining S.contents S.calls W.text (happening.Gone number) old new)
+        MatchResult result (λ _. Takes W.text (happening.Gone number) old new)
         (Fails W.text (happening.Gone number) old new) }
 {
     let gone = Event::Gone { conn: number };
@@ -253,9 +250,8 @@ fn finish<S: Socket + Drop, W: Observer>(
     }
 }
 
-// Hands in what a socket has sent, at most two pieces. One that may have more then is to be looked at again,
-// behind all others.
-fn read_pieces<S: Socket + Drop, W: Observer>(
+// Hands in a piece that a socket has sent. One that may have more then is to be looked at again, behind all others.
+fn read_piece<S: Socket + Drop, W: Observer>(
     alloc: Global,
     peers: &mut Peers<S>,
     events: &mut u64,
@@ -268,16 +264,13 @@ fn read_pieces<S: Socket + Drop, W: Observer>(
         let new = scene keys (world_of server.new) peers.new events.new (W.output observer.new) in
         MatchResult result (λ _. ReadsOn S.remaining S.contents S.calls W.text number old new) (Stops S.remaining S.contents S.calls W.text old new) }
 {
-    for _piece in 0..PIECES {
-        match hear(alloc, peers, events, server, observer, number) {
-            Ok(true) => {}
-            Ok(false) => return Ok(()),
-            Err(fault) => return Err(fault),
-        }
-    }
-    match peers.report(number, READABLE) {
-        Ok(()) => Ok(()),
-        Err(_) => Err(ServeFault::Memory),
+    match hear(alloc, peers, events, server, observer, number) {
+        Ok(true) => match peers.report(number, READABLE) {
+            Ok(()) => Ok(()),
+            Err(_) => Err(ServeFault::Memory),
+        },
+        Ok(false) => Ok(()),
+        Err(fault) => Err(fault),
     }
 }
 
@@ -301,13 +294,37 @@ fn attend<S: Socket + Drop, W: Observer>(
         Ok(()) => {}
         Err(_) => return Err(ServeFault::Memory),
     }
-    match read_pieces(alloc, peers, events, server, observer, number) {
+    match read_piece(alloc, peers, events, server, observer, number) {
         Ok(()) => finish(alloc, peers, events, server, observer, number),
         Err(fault) => Err(fault),
     }
 }
 
-/// Looks at each socket that is to be looked at.
+// Looks at these sockets, one after the other.
+fn attend_each<S: Socket + Drop, W: Observer>(
+    alloc: Global,
+    peers: &mut Peers<S>,
+    events: &mut u64,
+    server: &mut Server,
+    observer: &mut W,
+    numbers: &[u64],
+) -> Result<(), ServeFault>
+    ensures { (keys : Stream) →
+        let old = scene keys (world_of server.old) peers.old events.old (W.output observer.old) in
+        let new = scene keys (world_of server.new) peers.new events.new (W.output observer.new) in
+        MatchResult result (λ _. AttendsEach S.remaining S.contents S.calls W.text numbers.now old new) (Stops S.remaining S.contents S.calls W.text old new) }
+{
+    for number in numbers {
+        match attend(alloc, peers, events, server, observer, *number) {
+            Ok(()) => {}
+            Err(fault) => return Err(fault),
+        }
+    }
+    Ok(())
+}
+
+/// Writes what the sockets are owed, and looks at each that is to be looked at. What the server sends to several of them is written
+/// together, behind the last of at most 16 that are read from: so writes come in a row, while their code is at hand.
 pub(crate) fn attend_all<S: Socket + Drop, W: Observer>(
     alloc: Global,
     peers: &mut Peers<S>,
@@ -320,11 +337,19 @@ pub(crate) fn attend_all<S: Socket + Drop, W: Observer>(
         let new = scene keys (world_of server.new) peers.new events.new (W.output observer.new) in
         MatchResult result (λ _. AttendsAll S.remaining S.contents S.calls W.text old new) (Stops S.remaining S.contents S.calls W.text old new) }
 {
+    match peers.flush_touched() {
+        Ok(()) => {}
+        Err(_) => return Err(ServeFault::Memory),
+    }
     let awake = peers.take_awake(alloc);
-    for number in awake {
-        match attend(alloc, peers, events, server, observer, number) {
+    for group in awake.chunks(GROUP) {
+        match attend_each(alloc, peers, events, server, observer, group) {
             Ok(()) => {}
             Err(fault) => return Err(fault),
+        }
+        match peers.flush_touched() {
+            Ok(()) => {}
+            Err(_) => return Err(ServeFault::Memory),
         }
     }
     Ok(())

@@ -6,9 +6,10 @@ ghost use Rattle.std.specs.Duration.{as_nanos};
 ghost use Rattle.mio.specs.declared.event.event.Event as ready;
 ghost use Rattle.mio.specs.Events.{items};
 ghost use Rattle.server_core.specs.World.{world_of};
+ghost use Rattle.server_core.specs.declared.event.Event.TheVariants as ending;
 ghost use Rattle.socket_server.specs.Moments.{moment_since_1970};
 ghost use Rattle.socket_server.specs.Sockets.{IsUnserved, IsLocal, key_stream};
-ghost use Rattle.socket_server.specs.Serving.{scene, unknown, uncounted, is_of_listener, readiness_of as readiness_of_spec, reported_event, reported_events, IsOutside, HandsIn, Fails, Serves, Stops, TakesTurn, Turns, ServesToTheEnd, Drawn};
+ghost use Rattle.socket_server.specs.Serving.{scene, unknown, uncounted, is_of_listener, readiness_of as readiness_of_spec, reported_event, reported_events, IsOutside, Takes, HandsIn, Fails, Serves, Stops, TakesTurn, Turns, ServesToTheEnd, Drawn};
 
 use crate::events::{Arrival, attend_all, hand_in, join_socket};
 use crate::observer::Observer;
@@ -233,7 +234,8 @@ impl Serve {
     /// with a fault alone.
     ///
     /// The server should know no connection of another's, since numbers count up from 1. At `Step`,
-    /// `Trace` and `Memory` it is as its last step left it, and what was to be sent may be lost, at `Memory` also what was read last.
+    /// `Trace` and `Memory` it is as its last step left it. What the events before sent is still written then, as far as the sockets
+    /// take it, but where memory is wanting for that, too; what the last one sent may be lost, at `Memory` also what was read last.
     pub fn run<R: Clock + Wait, W: Observer>(
         &mut self,
         rt: &R,
@@ -251,7 +253,7 @@ impl Serve {
             return Err(self.run_on(rt, alloc, server, observer));
         }
         match self.run_turns(rt, alloc, server, observer, turns) {
-            Ok(()) => self.tell(alloc, server, observer, &ServerEvent::Shutdown),
+            Ok(()) => self.tell_the_end(alloc, server, observer),
             Err(fault) => Err(fault),
         }
     }
@@ -298,7 +300,28 @@ impl Serve {
         unreachable!()
     }
 
+    // A turn. Where it fails, what the events before made the server send is still written, as far as the sockets take it.
     fn turn<R: Clock, W: Observer>(
+        &mut self,
+        rt: &R,
+        alloc: Global,
+        server: &mut Server,
+        observer: &mut W,
+    ) -> Result<(), ServeFault>
+        ensures { let old = scene (key_stream self.old.keys) (world_of server.old) self.old.peers self.old.events (W.output observer.old) in
+            let new = scene (key_stream self.new.keys) (world_of server.new) self.new.peers self.new.events (W.output observer.new) in
+            MatchResult result (λ _. TakesTurn unknown unknown uncounted W.text old new) (Stops unknown unknown uncounted W.text old new) }
+    {
+        match self.take_turn(rt, alloc, server, observer) {
+            Ok(()) => Ok(()),
+            Err(fault) => {
+                let _ = self.peers.flush_touched();
+                Err(fault)
+            }
+        }
+    }
+
+    fn take_turn<R: Clock, W: Observer>(
         &mut self,
         rt: &R,
         alloc: Global,
@@ -332,7 +355,7 @@ impl Serve {
         }
     }
 
-    // Tells the server what happened, and writes what the sockets take of what it sends.
+    // Tells the server what happened.
     fn tell<W: Observer>(
         &mut self,
         alloc: Global,
@@ -342,7 +365,7 @@ impl Serve {
     ) -> Result<(), ServeFault>
         ensures { let old = scene (key_stream self.old.keys) (world_of server.old) self.old.peers self.old.events (W.output observer.old) in
             let new = scene (key_stream self.new.keys) (world_of server.new) self.new.peers self.new.events (W.output observer.new) in
-            MatchResult result (λ _. HandsIn unknown unknown uncounted W.text event.now old new) (Fails W.text event.now old new) }
+            MatchResult result (λ _. Takes W.text event.now old new) (Fails W.text event.now old new) }
     {
         match hand_in(
             alloc,
@@ -354,6 +377,27 @@ impl Serve {
         ) {
             Ok(_) => Ok(()),
             Err(fault) => Err(fault),
+        }
+    }
+
+    // Tells the server to end, and writes what the sockets take of what it sends then.
+    fn tell_the_end<W: Observer>(
+        &mut self,
+        alloc: Global,
+        server: &mut Server,
+        observer: &mut W,
+    ) -> Result<(), ServeFault>
+        ensures { let old = scene (key_stream self.old.keys) (world_of server.old) self.old.peers self.old.events (W.output observer.old) in
+            let new = scene (key_stream self.new.keys) (world_of server.new) self.new.peers self.new.events (W.output observer.new) in
+            MatchResult result (λ _. HandsIn unknown unknown uncounted W.text ending.Shutdown old new) (Stops unknown unknown uncounted W.text old new) }
+    {
+        match self.tell(alloc, server, observer, &ServerEvent::Shutdown) {
+            Ok(()) => {}
+            Err(fault) => return Err(fault),
+        }
+        match self.peers.flush_touched() {
+            Ok(()) => Ok(()),
+            Err(_) => Err(ServeFault::Memory),
         }
     }
 

@@ -16,24 +16,24 @@ returns-in-Err g c =
       told = tt;
     }
 
-pub returns-in-Ok-read_pieces : goal.returns-in-Ok-read_pieces
-returns-in-Ok-read_pieces g c =
+pub returns-in-Ok-read_piece : goal.returns-in-Ok-read_piece
+returns-in-Ok-read_piece g c =
     let looked : LooksAt g.S.Socket.remaining g.S.Socket.contents g.S.Socket.calls c.args.number c.args.peers.now c.look_at.new.self = c.in-Ok.ensures in
     record {
       serves = λ keys. attends_then g.S.Socket.remaining g.S.Socket.contents g.S.Socket.calls g.W.Observer.text c.args.number _ _ _ _ c.finish.result (looked, (refl, refl, refl, refl))
-          (c.in-Ok-read_pieces.ensures keys) (c.finish.ensures.serves keys);
+          (c.in-Ok-read_piece.ensures keys) (c.finish.ensures.serves keys);
       told = c.finish.ensures.told;
     }
 
-pub returns-in-Err-read_pieces : goal.returns-in-Err-read_pieces
-returns-in-Err-read_pieces g c =
+pub returns-in-Err-read_piece : goal.returns-in-Err-read_piece
+returns-in-Err-read_piece g c =
     let looked : LooksAt g.S.Socket.remaining g.S.Socket.contents g.S.Socket.calls c.args.number c.args.peers.now c.look_at.new.self = c.in-Ok.ensures in
     let old = λ (keys : Stream). (scene keys (world_of c.args.server.now) c.args.peers.now c.args.events.now (g.W.Observer.output c.args.observer.now)) in
     let mid = λ (keys : Stream). (scene keys (world_of c.args.server.now) c.look_at.new.self c.args.events.now (g.W.Observer.output c.args.observer.now)) in
-    let new = λ (keys : Stream). (scene keys (world_of c.read_pieces.new.server) c.read_pieces.new.peers c.read_pieces.new.events (g.W.Observer.output c.read_pieces.new.observer)) in
+    let new = λ (keys : Stream). (scene keys (world_of c.read_piece.new.server) c.read_piece.new.peers c.read_piece.new.events (g.W.Observer.output c.read_piece.new.observer)) in
     record {
       serves = λ keys. stops_after g.S.Socket.remaining g.S.Socket.contents g.S.Socket.calls g.W.Observer.text 0 _ _ (new keys) _
           (looks g.S.Socket.remaining g.S.Socket.contents g.S.Socket.calls g.W.Observer.text c.args.number (old keys) (mid keys) (looked, (refl, refl, refl, refl)))
-          (c.in-Err-read_pieces.ensures keys);
+          (c.in-Err-read_piece.ensures keys);
       told = tt;
     }

@@ -14,7 +14,7 @@ returns-then-depart g c =
     let departs : (departs_at c.args.peers.now c.args.number ≡ true) × (c.depart.new.self ≡ with_departed c.args.peers.now c.args.number) = search rules in
     record {
       serves = λ keys. gone_serves g.S.Socket.remaining g.S.Socket.contents g.S.Socket.calls g.W.Observer.text c.args.number (at keys) c.depart.new.self (new keys) c.hand_in_end.result departs (c.hand_in_end.ensures keys);
-      told = told_by g.S.Socket.remaining g.S.Socket.contents g.S.Socket.calls g.W.Observer.text c.args.number (at empty_stream) c.depart.new.self (new empty_stream) c.hand_in_end.result departs.1 (c.hand_in_end.ensures empty_stream);
+      told = told_by g.W.Observer.text c.args.number (at empty_stream) c.depart.new.self (new empty_stream) c.hand_in_end.result departs.1 (c.hand_in_end.ensures empty_stream);
     }
 
 pub returns : goal.returns
