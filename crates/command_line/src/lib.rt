@@ -7,6 +7,8 @@
 //! To add a command, give [`Command`] a variant, the program in `src/program.rt` a subcommand, and
 //! `command_of` in `src/parsing.rt` the step from its matches to the variant. `specs/Words.antt` says
 //! the same of the words, in `program` and `words_of`.
+//!
+//! What a contract sees: the words, and what clap finds wrong with them.
 #![tactic(auto)]
 
 mod command;

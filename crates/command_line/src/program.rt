@@ -62,7 +62,7 @@ fn check<'a>(alloc: Global) -> Result<Command<'a>, AllocError>
 {
     Command::new(alloc, "check")
         .about(
-            "Counts the nodes and references of a node file, or says what is wrong with it (docs/NODES.md)",
+            "Counts the nodes and references of a node file, or says what is wrong with it (docs/NODE_FILE.md)",
         )
         .arg(nodes(alloc).required(true))
 }
@@ -108,7 +108,7 @@ fn serve<'a>(alloc: Global) -> Result<Command<'a>, AllocError>
         .arg(flag(
             alloc,
             "trace",
-            "prints the state table rows of subscriptions as they fire, behind the line 'listening P' (docs/SERVE.md)",
+            "prints the state table rows of subscriptions as they fire, behind the line 'listening P' (docs/USING.md)",
         ))
 }
 
@@ -118,7 +118,7 @@ fn serve_numbers<'a>(alloc: Global) -> Result<Command<'a>, AllocError>
 {
     Command::new(alloc, "serve")
         .about(
-            "Serves connections to a port, from this machine alone unless an address is given (docs/SERVE.md)",
+            "Serves connections to a port, from this machine alone unless an address is given (docs/USING.md)",
         )
         .arg(nodes(alloc).required(true))?
         .arg(option(alloc, "port", "P", "the port, from 1 to 65535").required(true))?

@@ -10,7 +10,9 @@
 //! `Server`, `Node` and `Reference` for the parts, with one line a key that has its name, its default
 //! and its range, and `Keys`, `Ids` and `Value` for what is read at a key.
 //!
-//! Read docs/NODES.md first, and then `specs/File.antt`.
+//! What a contract sees: the configuration, the nodes and the references, as a definition over the parsed table.
+//!
+//! Read docs/NODE_FILE.md first, and then `specs/File.antt`.
 #![tactic(auto)]
 
 mod element;

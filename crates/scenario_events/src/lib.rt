@@ -13,6 +13,8 @@
 //! [`assemble`] says too that its events are what the scenario tells: `Meaning` is what happens, without a frame
 //! or a byte of a stream, and `Groups` when events are it, by rules of counting of its own.
 //!
+//! What a contract sees: a group of events for each line.
+//!
 //! Read docs/SCENARIOS.md first, then [`assemble`].
 #![tactic(auto)]
 

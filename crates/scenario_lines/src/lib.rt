@@ -18,6 +18,8 @@
 //! Lines are held back until there are many of them, but for those of rows, and written at the end and where
 //! something goes wrong. [`put_rows`] writes those of one event, for whoever hands in events another way.
 //!
+//! What a contract sees: what the tap holds, and the text of events, of outs and of rows.
+//!
 //! Read [`print_run`] and [`RunFault`] first. `specs/Texts` and `TraceText` have the lines, `Held` what is said of
 //! text on its way to a writer, and `Runs` what a run comes to. Nothing here reads a scenario: `scenario_events`
 //! assembles one.

@@ -5,6 +5,8 @@
 //!
 //! Each body says, beside its bytes, that it is read again as its structure, and that nothing is behind it.
 //!
+//! What a contract sees: the fields of a request.
+//!
 //! Read [`request_body`] first. `specs/Messages` has each request's fields, and `specs/Structures` the
 //! structures in them.
 #![tactic(auto)]

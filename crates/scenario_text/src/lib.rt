@@ -10,6 +10,8 @@
 //! what is known after it, and `Scenarios` for the whole. `Numbers`, `Choices`, `Elements`, `Values` and `Requests`
 //! have what a word or some words say.
 //!
+//! What a contract sees: the statements of a text.
+//!
 //! Read docs/SCENARIOS.md first, then [`Statement`].
 #![tactic(auto)]
 

@@ -7,6 +7,9 @@
 //! services, nor of the bytes of a frame that is still to come: framers are kept beside, in a
 //! [`number_slots::Numbered`] of their own.
 //!
+//! What a contract sees: the known connections under their numbers, the greatest number, and the number of
+//! channels.
+//!
 //! Read [`Connections`] first. `specs/Reactions` defines what a frame does to its connection,
 //! `Connecting` what frames, openings and endings do to all of them, `Delivering` how replies are
 //! sent, and `Coherent` what holds of the connections of every server.

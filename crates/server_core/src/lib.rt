@@ -24,6 +24,9 @@
 //! connected, and `ua_services` what is served. A frame is taken, the request that it completes is
 //! served, and each reply is delivered on the connection that its request came by.
 //!
+//! What a contract sees: `world_of` a [`Server`]: its framers, setting, connections and services, or none once it
+//! is halted.
+//!
 //! Read [`Event`], [`Step`] and [`Server`] first. `specs/World` has what the server knows, `Handling`
 //! what a frame does, `Stepping` what an event does and `Running` what a list of events does: the world
 //! after it, and one list of effects, of which a [`Step`] shows the outs and the rows. `Coherent` is what

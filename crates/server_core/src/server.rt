@@ -32,7 +32,7 @@ pub struct Server {
 }
 
 // Nothing is left of a server that is halted. It stands apart, so that a step that goes on makes no room for another world
-// (docs/MEASURED.md, "Over sockets").
+// on the stack, which it would clear each time.
 #[inline(never)]
 fn let_go(world: &mut Option<World>)
     ensures { world.new ≡ None }

@@ -5,7 +5,9 @@
 //! items that each request, tick and connection that is no more comes to, and [`subscriptions_come_by_moves`] says that they lead
 //! to what the server holds. All that is said of a run is said over that one list.
 //!
-//! Read first [`table`], the laws of the state table, and [`losses`], that nothing is lost in silence; docs/HEADLINES.md tells both
+//! What a contract sees: the runs of a server, and the calls that they come to.
+//!
+//! Read first [`table`], the laws of the state table, and [`losses`], that nothing is lost in silence; docs/PROMISES.md tells both
 //! with an example. `Concern` has which subscriptions an event concerns, `Apart` what a request leaves of other sessions; `Tables`,
 //! `Messages`, `Replying`, `Fates`, `SessionsApart` and `Bounds` have what is said of the runs of a server. What follows of calls
 //! alone, the crate `subscription_laws` says.

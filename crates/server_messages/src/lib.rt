@@ -6,6 +6,8 @@
 //! is then to be done on connections is a list of [`Out`].
 //! Neither part knows the other. Both may read the [`Setting`], and both end by a [`Halt`] where they
 //! can't go on.
+//!
+//! What a contract sees: plain records: they have no contracts of their own.
 #![tactic(auto)]
 
 mod fired;

@@ -6,6 +6,10 @@
 //! what a step of the server sends to the right sockets.
 //!
 //! Nothing here waits, and nothing here knows what the bytes mean, or when a socket is ready.
+//!
+//! What a contract sees: of a [`Peer`] its stream, the bytes it is owed, and whether it closes, failed, is full or
+//! is to be looked at; of [`Peers`] these under their numbers, the last number, and the lists of those to be looked
+//! at and to be flushed.
 #![tactic(auto)]
 
 mod peer;

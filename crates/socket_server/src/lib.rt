@@ -6,8 +6,11 @@
 //! told which rows of the subscriptions' state table fire at each event, and which connections come and go.
 //!
 //! Only `src/serve.rt` knows of `mio`. What a turn is made of stands in `src/events.rt`, over any stream
-//! whose reads and writes don't wait, so that contracts can name the bytes. `docs/SERVE.md` has the loop as
-//! a picture, and says which part of it is proved.
+//! whose reads and writes don't wait, so that contracts can name the bytes. `docs/USING.md` has the loop as
+//! a picture, and `docs/PROMISES.md` says which part of it is proved.
+//!
+//! What a contract sees: of [`Serve`] where it was asked to listen, its generator of keys, its peers, and how many
+//! events there were. A run is so many turns, and a turn is a list of acts.
 #![tactic(auto)]
 
 mod events;

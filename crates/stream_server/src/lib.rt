@@ -2,6 +2,8 @@
 //!
 //! [`Pump::run`] reads pieces of a stream, hands each to the server as an event, and writes what the
 //! server sends, before it reads the next. `specs/Pumped` says what a run comes to.
+//!
+//! What a contract sees: of a [`Pump`] how many bytes the last run put out.
 #![tactic(auto)]
 
 ghost use Rattle.std.specs.Prelude.{◌≡◌, ℕ, ◌+◌, ◌-◌, ◌^◌, ◌<◌, ◌≤◌, length, take, IfOk, IfSome, IfErr, MatchResult, OnErr, is_err, not, Err, ◌≢◌, true};

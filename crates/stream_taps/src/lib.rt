@@ -5,6 +5,8 @@
 //! interrupted; [`put_bytes`] writes a whole piece, and says how much of it went out. Here is no socket and no
 //! protocol.
 //!
+//! What a contract sees: of a [`Tap`] the stream and its counts of failures.
+//!
 //! Read [`Tap`] first. `specs/Tapped` says when each count rises.
 #![tactic(auto)]
 

@@ -8,6 +8,8 @@
 //! becomes of values and which messages tell them; `Tellings` what the answers tell, and `Bounds` how many there are of each thing.
 //! The module [`shutdowns`] says what is left of all that when the server shuts down: nothing.
 //!
+//! What a contract sees: the list of calls, and what it comes to.
+//!
 //! Read docs/SUBSCRIPTIONS.md first, then `specs/Runs`.
 #![tactic(auto)]
 

@@ -19,7 +19,8 @@ use std::ops::Bound;
 /// Values under times, one for each. Contracts see the list of them, by rising time.
 ///
 /// They are kept in segments of at most 64 entries, each with room for about as many as it has. The segments stand in a
-/// tree, so one is found in logarithmic time, and an entry in it by a binary search. What is read lies in slices.
+/// tree, so one is found in logarithmic time, and an entry in it by a binary search. What is read lies in slices. The first segment stands under the least time that there is,
+/// so an earlier value always has a place in it.
 #[derive(Drop)]
 pub struct Segments<V> {
     // Each under a time that is none of its entries' later, and later than all of those in earlier segments.

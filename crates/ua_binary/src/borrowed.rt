@@ -85,7 +85,7 @@ fn write_typed_part<T: Wire>(
 }
 
 // Writes a part of a list, and any other value whole. It is long, and few values are parts: what writes those that are
-// whole stays short without it (docs/MEASURED.md, "Inlined").
+// whole stays short without it.
 #[tactic(auto, using(crate::proofs::Extending::extends_more, crate::proofs::TypeBytes::number_is, crate::proofs::TypeBytes::flags_are), unfolding(crate::specs::Variants::typed_reading, crate::specs::Variants::variant_reading, crate::specs::Variants::variant_encoding))]
 #[inline(never)]
 fn write_part(

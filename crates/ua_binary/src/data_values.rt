@@ -121,7 +121,7 @@ fn bit<T>(part: Option<&T>) -> u8
     }
 }
 
-// Writes a part that is there. Of what is inlined, docs/MEASURED.md says what it spares ("Inlined").
+// Writes a part that is there.
 #[tactic(auto, unfolding(crate::specs::DataValues::optional_reading, crate::specs::DataValues::optional_encoding))]
 #[inline(always)]
 fn write_if_some<T: Written>(part: Option<&T>, out: &mut Vec<u8>) -> Result<(), AllocError>

@@ -15,6 +15,8 @@
 //! Nothing here knows messages, frames or sockets. Lists have one impl for every element type, and
 //! `variants` is the one place where a type is picked by its number.
 //!
+//! What a contract sees: of a [`Cursor`] the bytes left, and of each type its *reading* and its *encoding*.
+//!
 //! Read [`Wire`] first, then `numbers` for the smallest impls and `node_ids` for one with forms.
 #![tactic(auto)]
 

@@ -136,7 +136,7 @@ fn encode_by_form(id: &NodeId, out: &mut Vec<u8>) -> Result<(), AllocError>
 }
 
 // Writes an id that is a number, in the shortest form that holds it. Its bytes are appended at once, which takes half of the
-// time that they take field by field (docs/MEASURED.md, "Inlined").
+// time that they take field by field.
 #[tactic(auto, using(crate::proofs::NumericIds::numeric_again), unfolding(crate::specs::NodeIds::node_id_encoding, crate::specs::Numbers::number_encoding))]
 #[inline(always)]
 fn encode_numeric(namespace: u16, number: u32, out: &mut Vec<u8>) -> Result<(), AllocError>

@@ -92,7 +92,7 @@ fn decode_boxed<'a, T: Wire>(
 }
 
 // What follows reads into a place: so data values are read in four fifths of the time that it took to return
-// them (docs/MEASURED.md). The types stand in five functions, since each takes room for the contents of all its
+// them. The types stand in five functions, since each takes room for the contents of all its
 // types at once.
 
 // Reads what follows a first byte with the number of a Boolean or an integer of up to 32 bits.
@@ -272,7 +272,7 @@ pub fn decode_variant(
 }
 
 // Writes the first byte of a list, and the list. It and the next stand apart, so that one value, which most Variants hold, is
-// written by a short function (docs/MEASURED.md, "Inlined").
+// written by a short function.
 #[tactic(auto, using(crate::proofs::Extending::extends_more), unfolding(crate::specs::Variants::content_reading, crate::specs::Variants::content_encoding))]
 #[inline(never)]
 fn encode_typed_array<T: Wire>(

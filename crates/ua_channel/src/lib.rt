@@ -11,6 +11,9 @@
 //! Here is no clock and no socket: tokens don't end by time, and frames come in as values and go out
 //! as bytes. What a request says is not looked at, but for the one that opens the channel.
 //!
+//! What a contract sees: what is agreed, the tokens, the sequence numbers, the unfinished message, and the status
+//! that it was refused with.
+//!
 //! Read [`Channel`] and [`Taken`] first. `specs/` defines what a channel is (`ChannelStates`), which
 //! frames it accepts (`Acceptance`), which messages chunks join to (`Messages`) and how an answer is
 //! cut (`Cutting`).

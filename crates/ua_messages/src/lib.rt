@@ -18,6 +18,9 @@
 //! Nothing here decides anything: no field is judged beyond its form, no session is looked up, and no
 //! clock is read. Frames and chunks are other crates' work.
 //!
+//! What a contract sees: a list of fields for each structure; of [`Requested`] a header and the fields of a
+//! request.
+//!
 //! Read [`RequestHeader`] and [`ResponseHeader`] first, then [`GetEndpointsResponse`] for a whole
 //! message. The numbers of all encodings that the server knows are in [`type_ids`].
 #![tactic(auto)]

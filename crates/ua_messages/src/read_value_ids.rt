@@ -45,7 +45,7 @@ impl Wire for ReadValueId {
 
 #[tactic(auto, unfolding(crate::specs::ReadValueIds::read_value_id_reading))]
 impl Walk for ReadValueId {
-    // Inlined into the loop over a request's list (docs/MEASURED.md, "Requests").
+    // Inlined into the loop over a request's list: a call for each element costs more than it does.
     #[inline(always)]
     fn walk(cursor: &mut Cursor<'_>) -> Result<(), TakeFault> {
         NodeId::skip(cursor)?;

@@ -3,7 +3,7 @@
 //!
 //! [`Items`] has all items of the server. Its calls `create`, `modify`, `set_mode`, `link` and `delete` serve
 //! the whole list of a request, entry by entry, `sample` shows it what was written, and `available` and
-//! `send` are for who makes the messages. It knows no session, no subscription but by its number, and no
+//! `send` are for the crate that makes the messages. It knows no session, no subscription but by its number, and no
 //! clock: whose request it is, and when a message is due, is the business of the crates above.
 //!
 //! ```text

@@ -10,7 +10,7 @@ use ua_types::{LocalizedText, NodeId, QualifiedName, Text};
 
 /// An attribute of a node, by its number (IEC 62541-6, Annex A, "Attribute ids").
 ///
-/// Which class of nodes has which of them is in docs/SERVICES.md.
+/// docs/SERVICES.md says which class of nodes has which of them.
 #[derive(Clone, Copy, Debug, PartialEq, Eq)]
 pub enum AttributeId {
     NodeId = 1,
@@ -88,7 +88,7 @@ fn rank_number(rank: ValueRank) -> i32
     }
 }
 
-// It and those below are inlined, so that an attribute isn't moved on its way to who shows it (docs/MEASURED.md, "Requests").
+// It and those below are inlined, so that an attribute isn't moved on its way to the function that shows it.
 #[inline(always)]
 fn variable_attribute(variable: &Variable, id: AttributeId) -> Option<Attribute<'_>>
     ensures attribute { option_map seen result ≡ variable_attribute variable.now id }

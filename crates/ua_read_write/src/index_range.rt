@@ -64,8 +64,7 @@ fn range_said(text: &str) -> Result<Option<IndexRange>, Status>
     }
 }
 
-// The range that a request asks for, where its text is neither null nor empty. Few ask for one, so that much is seen inline
-// (docs/MEASURED.md, "Requests").
+// The range that a request asks for, where its text is neither null nor empty. Few ask for one, so that much is seen inline.
 #[inline(always)]
 pub(crate) fn asked_range(text: Option<&str>) -> Result<Option<IndexRange>, Status>
     ensures { result ≡ asked_range_spec (option_map (λ t. t.now) text.entry) }

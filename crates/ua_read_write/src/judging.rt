@@ -46,7 +46,7 @@ fn has_rank(shape: Shape, rank: ValueRank) -> bool
 }
 
 // Whether a variable may have this value, by its type and shape alone, as `Variable::takes` says it of a value that is there.
-// It and what calls it are inlined into the loop over a request's list (docs/MEASURED.md, "Requests").
+// It and what calls it are inlined into the loop over a request's list: a call for each element costs more than they do.
 #[tactic(auto, unfolding(ua_space::specs::Variables::has_rank))]
 #[inline(always)]
 fn takes(variable: &Variable, value: &VariantView<'_>) -> bool

@@ -7,7 +7,7 @@
 //!
 //! [`read`] answers one read by an [`Answer`], which borrows what it shows and takes no memory; it is
 //! written straight into the response ([`read_body`]), or copied ([`Answer::copy`]). [`sample`] and [`refusal`] are the
-//! same for who keeps the id of what is read, as an item does, and knows no index ranges.
+//! same for a caller that keeps the id of what is read, as an item does, and knows no index ranges.
 //! [`write`] gives variables new values in the order of the request, and tells what became of each
 //! ([`Written`]); [`accepted`] judges one value alone, for a caller that stores it by itself. A value is copied out of the
 //! request once it is accepted, and no other is.

@@ -48,7 +48,7 @@ fn stored(value: Variant, written: &DataValueView<'_>, clock: Moment) -> DataVal
     }
 }
 
-/// A value of a Write that was accepted, for who stores it by himself ([`Space::set_value_in`]), and looks at it before.
+/// A value of a Write that was accepted, for a caller that stores it itself ([`Space::set_value_in`]), and looks at it before.
 #[derive(Debug, Drop)]
 pub struct AcceptedValue {
     /// The place of the variable that gets it ([`Space::place`]).
@@ -62,7 +62,7 @@ pub struct AcceptedValue {
 /// It is judged where it stands in the request's bytes, and refused as [`write`] says. Only what is accepted is copied,
 /// once, so a refusal takes no memory; where an index range is given, so is the list as it stands, which the value has
 /// whole. It is never refused as exhausted.
-// Inlined into the loop over a request's list (docs/MEASURED.md, "Requests").
+// Inlined into the loop over a request's list: a call for each element costs more than it does.
 #[tactic(auto, unfolding(crate::specs::Writing::judged))]
 #[inline(always)]
 pub fn accepted<'a>(

@@ -9,6 +9,8 @@
 //! Nothing here decides anything: no field is judged beyond its form, and no session or node is
 //! looked up.
 //!
+//! What a contract sees: a list of fields for each structure.
+//!
 //! Read [`ReadRequest`] first.
 #![tactic(auto)]
 

@@ -49,7 +49,7 @@ impl Wire for WriteValue {
 
 #[tactic(auto, unfolding(crate::specs::Writing::write_value_reading))]
 impl Walk for WriteValue {
-    // Inlined into the loop over a request's list (docs/MEASURED.md, "Requests").
+    // Inlined into the loop over a request's list: a call for each element costs more than it does.
     #[inline(always)]
     fn walk(cursor: &mut Cursor<'_>) -> Result<(), TakeFault> {
         NodeId::skip(cursor)?;

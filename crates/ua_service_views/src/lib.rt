@@ -7,6 +7,9 @@
 //!
 //! Nothing here decides anything: the readings are those of `ua_messages` and `ua_service_messages`.
 //!
+//! What a contract sees: of a view the fields that [`ua_messages::received_fields`] gives; of [`Headed`] a
+//! request's header, and the bytes behind it.
+//!
 //! Read [`ReadRequestView`] first.
 #![tactic(auto)]
 

@@ -55,7 +55,7 @@ impl<'a> Readable for ReadValueIdView<'a> {
 
 #[tactic(auto, unfolding(ua_messages::specs::ReadValueIds::read_value_id_reading))]
 impl<'a> View<'a> for ReadValueIdView<'a> {
-    // Inlined into the loop over a request's list (docs/MEASURED.md, "Requests").
+    // Inlined into the loop over a request's list: a call for each element costs more than it does.
     #[inline(always)]
     fn look(cursor: &mut Cursor<'a>) -> Result<ReadValueIdView<'a>, TakeFault> {
         Ok(ReadValueIdView {

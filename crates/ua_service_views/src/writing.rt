@@ -49,7 +49,7 @@ impl<'a> Readable for WriteValueView<'a> {
 
 #[tactic(auto, unfolding(ua_service_messages::specs::Writing::write_value_reading))]
 impl<'a> View<'a> for WriteValueView<'a> {
-    // Inlined into the loop over a request's list (docs/MEASURED.md, "Requests").
+    // Inlined into the loop over a request's list: a call for each element costs more than it does.
     #[inline(always)]
     fn look(cursor: &mut Cursor<'a>) -> Result<WriteValueView<'a>, TakeFault> {
         Ok(WriteValueView {

@@ -13,6 +13,8 @@
 //! other sessions, and that each comes by calls of subscriptions and items, the crate `server_laws` says;
 //! `worked_examples` drives them.
 //!
+//! What a contract sees: the address space, the sessions, the histories, the items and the subscriptions.
+//!
 //! Read [`Services`] first, and `viewed_service.rt`, then `browse.rt` for a whole service.
 #![tactic(auto)]
 

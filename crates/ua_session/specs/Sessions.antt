@@ -89,7 +89,7 @@ is_spent s = nat_le (2 ^ 64 - 1) s.nonces
 abbrev pub with_nonce : SessionsState → SessionsState
 with_nonce s = record s { nonces = s.nonces + 1 }
 
--- the next nonce, for who came by a connection with this key
+-- the next nonce, for a client on a connection with this key
 abbrev pub next_nonce : SessionsState → List ℕ → List ℕ
 next_nonce s key = nonce_of key (s.nonces + 1)
 
@@ -115,7 +115,7 @@ new_session s conn key = record { secret = secret_of key; conn = conn; is_activa
 abbrev pub created : SessionsState → ℕ → List ℕ → Created
 created s conn key = record { number = s.made + 1; token = token_of (secret_of key) (s.made + 1); nonce = next_nonce s key }
 
--- a session for who came by this connection, with this key
+-- a session for a client on this connection, with this key
 unfoldable pub create_of : SessionsState → ℕ → List ℕ → Step Created Status SessionsState
 create_of s conn key =
     if is_full s then refused s status.BAD_TOO_MANY_SESSIONS

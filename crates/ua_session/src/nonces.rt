@@ -5,7 +5,7 @@ ghost use Rattle.ua_session.specs.Nonces.{nonce_of};
 
 use sha2::{Digest, Sha256};
 
-/// The nonce with this serial, for who came by a connection with this key: SHA-256 of the key and of the
+/// The nonce with this serial, for a client on a connection with this key: SHA-256 of the key and of the
 /// serial's 8 bytes, the lowest first.
 #[tactic(auto, unfolding(crate::specs::Nonces::nonce_of))]
 pub fn nonce(key: &[u8; 32], serial: u64) -> [u8; 32]

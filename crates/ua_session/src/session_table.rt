@@ -124,7 +124,8 @@ impl SessionTable {
         Ok(due)
     }
 
-    /// A moment before which no session is due.
+    /// A moment before which no session is due. Ticks before it look at no session; a deadline that is set later may only bring it
+    /// forward, so it is looked for again only once it is reached.
     pub fn earliest(&self) -> Moment
         ensures { IsNoneDueBefore result self.now }
     {

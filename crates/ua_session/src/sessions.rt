@@ -165,7 +165,7 @@ impl Sessions {
         Ok(number)
     }
 
-    // The next nonce, for who came by a connection with this key.
+    // The next nonce, for a client on a connection with this key.
     fn next_nonce(&mut self, key: &[u8; 32]) -> [u8; 32]
         requires { is_spent self.old ≡ false }
         ensures nonce { result ≡ next_nonce_spec self.old key.now }

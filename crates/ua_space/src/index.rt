@@ -104,7 +104,8 @@ pub(crate) fn places_at<'a>(index: &'a Index, id: &NodeId) -> &'a [u32]
     }
 }
 
-/// The indexes that a space keeps.
+/// The indexes that a space keeps: five ordered maps from an id to the places of references in their list. They are proved to
+/// hold exactly the references that they are for.
 #[derive(Drop)]
 pub(crate) struct Indexes {
     /// All references, under their sources.

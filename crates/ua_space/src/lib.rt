@@ -12,7 +12,7 @@
 //! them, without memory, also by an id that stands in the bytes of a request ([`Space::find`]); who goes on with that id
 //! takes the node's own. Who looks for many in the order of their ids goes from one to the next ([`Space::find_near`]).
 //!
-//! Read [`Node`] and [`Triple`] first, and docs/NODES.md for the base set as a picture.
+//! Read [`Node`] and [`Triple`] first, and docs/NODE_FILE.md for the base set as a picture.
 #![tactic(auto)]
 
 mod base;

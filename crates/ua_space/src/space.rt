@@ -110,7 +110,7 @@ impl Space {
         self.nodes.find(id)
     }
 
-    /// The same, for who looks for many nodes: who goes through them in the order of ids, or asks for one several times in a
+    /// The same, for a caller that looks for many nodes: one that goes through them in the order of ids, or asks for one several times in a
     /// row, finds most without a search ([`Near`]).
     pub fn find_near(&self, near: &mut Near, id: &NodeIdView<'_>) -> Option<&Node>
         ensures node { option_copied result ≡ node_at id.now self.now.nodes }
@@ -119,7 +119,7 @@ impl Space {
         self.nodes.find_near(near, id)
     }
 
-    /// The place of the node with an id that is looked at in place, for who looks at the node more than once
+    /// The place of the node with an id that is looked at in place, for a caller that looks at the node more than once
     /// ([`Space::node_in_order`], [`Space::set_value_in`]), looked for as [`Space::find_near`] does. It stays the same as long as
     /// the space is there. Takes no memory.
     #[tactic(auto, using(crate::proofs::Placing::nobody))]

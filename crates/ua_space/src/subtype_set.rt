@@ -1,4 +1,7 @@
 //! All subtypes of a type at once.
+//!
+//! The walk goes down by the index of HasSubtype references by their source, meets each type once and follows each reference once.
+//! The set owns copies of the ids: one that borrowed them couldn't be asked about an id that lives shorter.
 
 ghost use Rattle.std.specs.Prelude.{◌≡◌, IfOk, OnOk};
 ghost use Rattle.std.specs.List.{list_any};

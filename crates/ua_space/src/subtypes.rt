@@ -2,7 +2,8 @@
 //!
 //! Each supertype is marked by its number (`numbering`). The walk goes down through the numbers and follows
 //! the references to each marked type. Where that marks a higher number, which the order of the numbers
-//! rules out in a space, it goes back there.
+//! rules out in a space, it goes back there. So the time is linear, however many ways lead to a supertype, and no hierarchy is
+//! too deep: a function that called itself would take 96 bytes of the stack for each type, and twice the time wherever ways meet.
 
 ghost use Rattle.std.specs.Prelude.{◌≡◌, ◌≤◌, ◌<◌, ◌*◌, ℕ, Some, false, filter, length, slice_index_or};
 ghost use Rattle.std.specs.List.{All};

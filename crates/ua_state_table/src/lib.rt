@@ -9,6 +9,8 @@
 //! It takes no memory and stands on nothing of the server. What the actions do is the business of the
 //! crate above.
 //!
+//! What a contract sees: the eight variables and the event, and the table as it is printed.
+//!
 //! Read [`Vars`] first, which is all that the table looks at, then [`TABLE`], or docs/SUBSCRIPTIONS.md,
 //! where it is printed with a picture.
 #![tactic(auto)]

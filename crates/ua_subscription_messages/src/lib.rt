@@ -9,6 +9,8 @@
 //!
 //! Nothing here decides anything: no number is revised, no item is looked up, and no queue is kept.
 //!
+//! What a contract sees: a list of fields for each structure.
+//!
 //! Read [`MonitoringParameters`] and [`NotificationMessage`] first.
 #![tactic(auto)]
 

@@ -10,6 +10,8 @@
 //! Here is no clock, no socket and no connection: bytes come in as they were read and go out as values. What
 //! stands in the body of an OPN, MSG or CLO frame is not looked at.
 //!
+//! What a contract sees: of a [`Framer`] its limit and the bytes held, or none once it failed.
+//!
 //! Read [`Framer`] and [`Frame`] first. `specs/` defines what the frames of a stream are (`Header`,
 //! `Frames`, `Feeding`), how a frame is written (`Encoding`), what is agreed (`Agreements`), and what
 //! a server of any kind does with the pieces of a stream (`Pieces`).

@@ -1,5 +1,5 @@
 //! The values of OPC UA (IEC 62541-3 and -6): status codes, moments (DateTime), ids of nodes, texts
-//! (String) and byte strings that may be null, and the server's configuration. docs/CONTRIBUTING.md has the
+//! (String) and byte strings that may be null, and the server's configuration. docs/GLOSSARY.md has the
 //! standard's word for each.
 //!
 //! Everything here is plain data. Nothing reads bytes of the wire (`ua_binary` does), a clock or a

@@ -6,8 +6,8 @@ use std::marker::Model;
 
 /// A number or a Guid, where a slice may stand instead ([`crate::IdentifierView`]). Contracts see it as the value.
 ///
-/// It begins at a multiple of eight bytes, as a slice does, so that an enum that holds one or the other is moved in whole words
-/// (docs/MEASURED.md, "Requests").
+/// It begins at a multiple of eight bytes, as a slice does, so that an enum that holds one or the other is moved in whole words:
+/// one whose payload begins at four is moved in pieces that overlap, each of which waits for the one before.
 #[derive(Debug, Drop)]
 pub struct Aligned<T> {
     value: T,

@@ -74,8 +74,7 @@ impl<'a, T: View<'a>> Iterator for ArrayView<'a, T> {
 
     ghost remaining = { item_count or_none };
 
-    // It is inlined, and in one piece, so that an element isn't moved on its way to who goes through the list
-    // (docs/MEASURED.md, "Requests").
+    // It is inlined, and in one piece, so that an element isn't moved once more on its way to the loop over the list.
     #[inline(always)]
     fn next(&mut self) -> Option<T> {
         let Some(left) = self.left else {

@@ -63,7 +63,7 @@ fn compare_identifiers(identifier: &Identifier, view: &IdentifierView<'_>) -> Or
 }
 
 /// How an id stands to one that is looked at in place, in the order of ids. Takes no memory.
-// Most ids are numbers, and those are compared inline (docs/MEASURED.md, "Requests").
+// Most ids are numbers, and those are compared inline.
 #[inline(always)]
 pub fn compare(id: &NodeId, view: &NodeIdView<'_>) -> Ordering
     ensures { result ≡ id_cmp id.now view.now }

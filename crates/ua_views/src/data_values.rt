@@ -83,7 +83,7 @@ impl<'a> Readable for DataValueView<'a> {
 
 #[tactic(auto, unfolding(ua_binary::specs::DataValues::data_value_reading))]
 impl<'a> View<'a> for DataValueView<'a> {
-    // Inlined into the loop over a request's list (docs/MEASURED.md, "Requests").
+    // Inlined into the loop over a request's list: a call for each element costs more than it does.
     #[inline(always)]
     fn look(cursor: &mut Cursor<'a>) -> Result<DataValueView<'a>, TakeFault> {
         let mask = cursor.byte()?;

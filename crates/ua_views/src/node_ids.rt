@@ -84,7 +84,7 @@ impl<'a> Model for NodeIdView<'a> {
 }
 
 impl<'a> NodeIdView<'a> {
-    /// An id that stands elsewhere, for who has one and not the bytes of one.
+    /// An id that stands elsewhere, for a caller that has one and not the bytes of one.
     pub fn of(id: &'a NodeId) -> NodeIdView<'a>
         ensures { result ≡ id.now }
     {
@@ -163,8 +163,7 @@ fn look_long_form<'a>(form: u8, cursor: &mut Cursor<'a>) -> Result<NodeIdView<'a
     }
 }
 
-// Looks at what follows the first byte, which says the form. Most ids are numbers, so those are looked at inline (docs/MEASURED.md,
-// "Requests").
+// Looks at what follows the first byte, which says the form. Most ids are numbers, so those are looked at inline.
 #[tactic(auto, unfolding(ua_binary::specs::NodeIds::after_form_reading))]
 #[inline(always)]
 fn look_form<'a>(form: u8, cursor: &mut Cursor<'a>) -> Result<NodeIdView<'a>, TakeFault>

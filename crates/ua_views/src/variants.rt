@@ -86,7 +86,7 @@ impl<'a> VariantView<'a> {
     }
 
     /// A copy to keep.
-    // Inlined into the loop over a request's list (docs/MEASURED.md, "Requests").
+    // Inlined into the loop over a request's list: a call for each element costs more than it does.
     #[inline(always)]
     pub fn to_value(&self, alloc: Global) -> Result<Variant, AllocError>
         ensures { IfOk result (λ value. value ≡ self.now) }

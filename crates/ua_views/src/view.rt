@@ -28,7 +28,7 @@ pub trait View<'a>: Readable + Drop {
         ensures reads { Reads result cursor.new (Self.reading cursor.old) }
         ensures no_memory { result ≢ Err Memory };
 
-    /// Moves past the fields in order, for who keeps no view. At an `Err`, the first fault, the cursor stands where the fault
+    /// Moves past the fields in order, for a caller that keeps no view. At an `Err`, the first fault, the cursor stands where the fault
     /// is.
     fn pass(cursor: &mut Cursor<'a>) -> Result<(), TakeFault>
         ensures skips { Skips result cursor.new (Self.reading cursor.old) }

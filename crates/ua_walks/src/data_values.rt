@@ -25,7 +25,7 @@ fn skip_where_set<T: Walk>(bit: u8, cursor: &mut Cursor<'_>) -> Result<(), TakeF
 
 #[tactic(auto, unfolding(ua_binary::specs::DataValues::data_value_reading))]
 impl Walk for DataValue {
-    // Inlined into the loop over a request's list (docs/MEASURED.md, "Requests").
+    // Inlined into the loop over a request's list: a call for each element costs more than it does.
     #[inline(always)]
     fn walk(cursor: &mut Cursor<'_>) -> Result<(), TakeFault> {
         let mask = cursor.byte()?;

@@ -7,6 +7,8 @@
 //!
 //! Nothing here makes a value. What a walk says stands in `specs/Walks.antt`.
 //!
+//! What a contract sees: of each type its *reading*, but for the value.
+//!
 //! Read [`Walk`] first, then `node_ids` for a type with forms and `arrays` for the walk over a list. A structure's
 //! `Walk` stands beside its `Wire`, in the crate of the structure.
 #![tactic(auto)]

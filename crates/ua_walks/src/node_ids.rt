@@ -11,7 +11,7 @@ use ua_binary::{Cursor, TakeFault};
 use ua_types::{ByteString, ExpandedNodeId, Guid, NodeId, Text};
 
 // Moves past what follows the first byte of an id that is no number. It stands apart, so that ids that are numbers, which most
-// are, are passed inline (docs/MEASURED.md, "Requests").
+// are, are passed inline.
 #[tactic(auto, unfolding(ua_binary::specs::NodeIds::after_form_reading))]
 #[inline(never)]
 fn skip_long_form(form: u8, cursor: &mut Cursor<'_>) -> Result<(), TakeFault>

@@ -73,7 +73,7 @@ fn skip_dimensions(count: u32, cursor: &mut Cursor<'_>) -> Result<Option<u32>, T
 
 // What follows is moved past, and of a flat list it is told how many elements it has: of one that isn't null, and has no
 // dimensions or exactly one. None is told of everything else. Lists, and values of no fixed size, are moved past by functions of
-// their own, which aren't inlined, so that a number, which most values are, is passed by a short one (docs/MEASURED.md, "Requests").
+// their own, which aren't inlined, so that a number, which most values are, is passed by a short one.
 
 // Moves past a list and its dimensions, in which it must lie.
 #[tactic(auto, using(crate::proofs::Flat::of_one_dimension, crate::proofs::Flat::of_other_dimensions), unfolding(ua_binary::specs::Variants::content_reading))]

@@ -43,7 +43,7 @@
 //! And `benchmark NAME ROUNDS` ([`benchmarks`]), whose counts are printed; the times go to standard error.
 //!
 //! What is to be printed stands in `stdout`: written by hand from the standard's layouts and the state table, and never
-//! from what was printed. The names are put in by `scripts/name_messages.py`, which knows the standard and none of this code.
+//! from what was printed. The names are put in by `scripts/authoring/name_messages.py`, which knows the standard and none of this code.
 #![tactic(auto)]
 
 mod again;
