@@ -1,7 +1,7 @@
 #!/usr/bin/env python3
 """Cuts conversations off, and sees that what a server sends then is how it begins to answer the whole.
 
-usage: scripts/prefixes PROGRAM
+usage: scripts/checks/prefixes.py PROGRAM
 
 PROGRAM is the built program `uaserver`. The conversations are scenarios of crates/worked_examples/data on one connection
 without a key and without time: their bytes are what `asm` prints, and come to `pipe` over standard input. Of each
@@ -23,7 +23,8 @@ import sys
 import termios
 import time
 
-DATA = os.path.join(os.path.dirname(os.path.dirname(os.path.realpath(__file__))), "crates", "worked_examples", "data")
+TOP = os.path.dirname(os.path.dirname(os.path.dirname(os.path.realpath(__file__))))
+DATA = os.path.join(TOP, "crates", "worked_examples", "data")
 CONVERSATIONS = (
     ("base_set.toml", "endpoints_and_close.scenario"),
     ("base_set.toml", "renewed_token.scenario"),

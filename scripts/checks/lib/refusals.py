@@ -1,6 +1,6 @@
 """What the sweeps share: a program that is run once, with each of its calls of a kind refused in turn (refusals.c).
 
-The program is one that scripts/try_program builds, since that has its functions' names.
+The program is one that scripts/tools/build_unproved.py builds, since that has its functions' names.
 """
 import bisect
 import collections
@@ -11,8 +11,9 @@ import sys
 import tempfile
 
 FOLDER = os.path.dirname(os.path.realpath(__file__))
-DATA = os.path.join(FOLDER, "..", "crates", "worked_examples", "data")
-STORED = os.path.join(FOLDER, "..", "crates", "uaserver")
+TOP = os.path.dirname(os.path.dirname(os.path.dirname(FOLDER)))
+DATA = os.path.join(TOP, "crates", "worked_examples", "data")
+STORED = os.path.join(TOP, "crates", "uaserver")
 SCENARIOS = ".scenario"
 # The lines of worked_examples whose NODES and SCENARIO a server is handed.
 WITH_NODES = {"answers", "rows", "trace", "run", "last"}

@@ -1,7 +1,7 @@
 #!/usr/bin/env python3
 """A small OPC UA client: opc.tcp, binary encoding, no security, an anonymous user.
 
-    python3 scripts/ua_client.py [--url URL] [--verbose] COMMAND ..
+    python3 scripts/tools/ua_client.py [--url URL] [--verbose] COMMAND ..
 
     endpoints                what the server offers, and whether this client can use it
     browse [ID]              the nodes below ID as a tree; ID is i=85, the folder Objects, where left out
@@ -1187,7 +1187,7 @@ def moment(text):
 
 
 def command_line():
-    parser = argparse.ArgumentParser(description='A small OPC UA client without security.', epilog='docs/CLIENTS.md shows each command.')
+    parser = argparse.ArgumentParser(description='A small OPC UA client without security.', epilog='docs/USING.md shows each command.')
     parser.add_argument('--url', default='opc.tcp://localhost:4840', help='where the server is (%(default)s)')
     parser.add_argument('--verbose', action='store_true', help='tell each message by name on standard error')
     commands = parser.add_subparsers(dest='command', required=True, metavar='COMMAND')

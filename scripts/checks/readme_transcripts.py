@@ -1,9 +1,9 @@
 #!/usr/bin/env python3
 """Runs the commands that pages show, and compares what comes with what the pages say.
 
-    python3 scripts/readme_transcripts.py PROGRAM [PAGE..]
+    python3 scripts/checks/readme_transcripts.py PROGRAM [PAGE..]
 
-PROGRAM is the built program `uaserver`; the pages are README.md and docs/CLIENTS.md where none is named. A transcript is a
+PROGRAM is the built program `uaserver`; the pages are README.md and docs/USING.md where none is named. A transcript is a
 block between lines of ``` whose first line begins with `$ `. Each such line is a command, and the lines behind it are what it
 prints, on standard output and standard error.
 
@@ -27,9 +27,9 @@ import re
 import sys
 import tempfile
 
-from serving import Program, free_port
+from lib.serving import Program, free_port
 
-TOP = os.path.dirname(os.path.dirname(os.path.abspath(__file__)))
+TOP = os.path.dirname(os.path.dirname(os.path.dirname(os.path.abspath(__file__))))
 TIMES = 3
 TIME = re.compile(r'20\d\d-\d\d-\d\dT\d\d:\d\d:\d\d\.\d+Z')
 CLIENT = re.compile(r'from (127\.0\.0\.1|\[::1\]):\d+')
@@ -87,9 +87,9 @@ class Page:
         return copy
 
     def start(self, command):
-        folder = TOP if command.startswith('python3 scripts/') else self.folder
+        folder = TOP if re.match(r'(python3 )?scripts/', command) else self.folder
         words = command.replace('/tmp/', f'{self.scratch}/').replace('--port 4840', f'--port {self.port}')
-        words = words.replace('scripts/ua_client.py', f'scripts/ua_client.py --url opc.tcp://localhost:{self.port}')
+        words = words.replace('scripts/tools/ua_client.py', f'scripts/tools/ua_client.py --url opc.tcp://localhost:{self.port}')
         words = words.replace('rt try --', self.program).replace('out/uaserver', self.program)
         if ' serve ' in command:
             # The server is to be the process that is ended, and not a child of it.
@@ -118,7 +118,7 @@ class Page:
     def run(self, number, command, wanted):
         if command.startswith('cd '):
             self.folder = os.path.join(self.folder, command[3:].strip())
-        elif re.match(r'rt (?!try --)|scripts/try_program ', command):
+        elif re.match(r'rt (?!try --)|scripts/tools/build_unproved.py ', command):
             print(f'not run {self.page}:{number} {command}')
         elif ' serve ' in command:
             self.serve(number, command, wanted)
@@ -172,7 +172,7 @@ def main():
     if len(sys.argv) < 2:
         sys.exit(__doc__)
     program = os.path.abspath(sys.argv[1])
-    pages = sys.argv[2:] or ['README.md', 'docs/CLIENTS.md']
+    pages = sys.argv[2:] or ['README.md', 'docs/USING.md']
     faults = examples_apart() + sum(faults_of(page, program) for page in pages)
     print(f'{faults} wrong')
     sys.exit(1 if faults else 0)

@@ -2,7 +2,7 @@
 """How long the gate takes for each crate: run it beside `rt ci` or `rt must-fail`, from the top of the repository.
 
 Twice a second it looks which checks the gate is running, and how much processor time each has taken. When no gate is
-running any more, or at an interrupt, it prints a row for each crate of crates.txt, as in docs/MEASURED.md: the
+running any more, or at an interrupt, it prints a row for each crate of crates.txt: the
 seconds of its proofs, of its tests, and of its wrong bodies with the proof that goes before them, and how many these
 are. A place is empty where a check still ran at the end, or where fewer checks were seen than there are wrong bodies:
 start it right after the gate. A check that somebody ends by hand is not told from one that ended by itself.

@@ -1,7 +1,7 @@
 #!/usr/bin/env python3
 """Sees that want of memory is answered where an allocation was refused, and nowhere else.
 
-usage: scripts/wants_of_memory [--list]
+usage: scripts/checks/lint_memory_errors.py [--list]
 
 Most functions hand a refused allocation on by `?`. No contract can tell such an answer from one that a body makes up, for a
 request that is large, say. So each place where our code writes such an error itself stands in SAID below with its reason, but
@@ -12,7 +12,7 @@ import os
 import re
 import sys
 
-ROOT = os.path.join(os.path.dirname(os.path.realpath(__file__)), "..", "crates")
+ROOT = os.path.join(os.path.dirname(os.path.realpath(__file__)), "..", "..", "crates")
 NOT_LOOKED_AT = {"encoding_examples", "library_tests", "server_tests", "worked_examples", "wrong_bodies", "wrong_steps"}
 
 # crate/file function: how many places, and why

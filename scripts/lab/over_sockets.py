@@ -1,7 +1,7 @@
 #!/usr/bin/env python3
-"""Reads of one value over loopback beside a bare echo (scripts/load.c), by turns: docs/MEASURED.md has the figures.
+"""Reads of one value over loopback beside a bare echo (scripts/lab/load.c), by turns: docs/PERFORMANCE.md has the figures.
 
-usage: scripts/over_sockets.py PROGRAM [ROUNDS [SECONDS]]    a program that was built with its proofs; 12 rounds of 2 seconds
+usage: scripts/lab/over_sockets.py PROGRAM [ROUNDS [SECONDS]]    a program that was built with its proofs; 12 rounds of 2 seconds
                                                            where left out
 
 Both servers run on one processor, and their clients on another, so it wants two. Told is, for 1 client and for 50, how many Reads
@@ -15,9 +15,10 @@ import subprocess
 import sys
 import tempfile
 
-import serving
+TOP = os.path.dirname(os.path.dirname(os.path.dirname(os.path.realpath(__file__))))
+sys.path.insert(0, f"{TOP}/scripts/checks")
+from lib import serving  # noqa: E402
 
-TOP = os.path.dirname(os.path.dirname(os.path.realpath(__file__)))
 NODES = f"{TOP}/crates/uaserver/data/line.toml"
 TICKS = os.sysconf("SC_CLK_TCK")
 
@@ -66,7 +67,7 @@ def main():
     for_servers, for_clients = {processors[-2]}, {processors[-1]}
     with tempfile.TemporaryDirectory() as folder:
         load, port = f"{folder}/load", serving.free_port()
-        subprocess.run(["cc", "-O2", "-o", load, f"{TOP}/scripts/load.c"], check=True)
+        subprocess.run(["cc", "-O2", "-o", load, f"{TOP}/scripts/lab/load.c"], check=True)
         server = serving.Server(os.path.abspath(sys.argv[1]), NODES)
         echo = serving.Program([load, "echo", str(port)])
         for program in (server, echo):

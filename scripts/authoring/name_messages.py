@@ -1,11 +1,11 @@
 #!/usr/bin/env python3
 """Names the server's messages in a transcript of `worked_examples`: the words between a line's first ones and its bytes.
 
-    python3 scripts/name_messages.py TRANSCRIPT..
+    python3 scripts/authoring/name_messages.py TRANSCRIPT..
 
 Each TRANSCRIPT, as crates/worked_examples/stdout, is written anew where a name is missing or wrong, so whoever adds an
 example writes the bytes by hand and lets this script add the names. It gets them from the bytes alone, by the standard
-(IEC 62541-4 and -6) as scripts/ua_client.py has it, and asks nothing of the Rust code, which has to print the same.
+(IEC 62541-4 and -6) as scripts/tools/ua_client.py has it, and asks nothing of the Rust code, which has to print the same.
 
 - `answer CONNECTION BODY` and `send CONNECTION FRAME` get the name of the message and its result; behind these, what a
   message of a subscription tells: `DataChangeNotification`, `StatusChangeNotification STATUS` or `keep-alive`.
@@ -16,9 +16,11 @@ example writes the bytes by hand and lets this script add the names. It gets the
 
 Nothing but Python's own library is needed.
 """
+import os
 import sys
 
-from ua_client import DATA_CHANGE_NOTIFICATION, MESSAGES, STATUS_CHANGE_NOTIFICATION, STATUS_NAMES, Broken, Reader, numbered
+sys.path.insert(0, os.path.join(os.path.dirname(os.path.realpath(__file__)), '..', 'tools'))
+from ua_client import DATA_CHANGE_NOTIFICATION, MESSAGES, STATUS_CHANGE_NOTIFICATION, STATUS_NAMES, Broken, Reader, numbered  # noqa: E402
 
 # Responses that the client doesn't ask for, by the ids of their binary encodings (IEC 62541-6, Annex A).
 OTHERS = {

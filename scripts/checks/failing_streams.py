@@ -1,9 +1,9 @@
 #!/usr/bin/env python3
 """Fails each read and each write of the program in turn, and sees what is out and how it ends.
 
-usage: scripts/failing_streams PROGRAM [--only NAME] [--jobs N]
+usage: scripts/checks/failing_streams.py PROGRAM [--only NAME] [--jobs N]
 
-PROGRAM is uaserver as scripts/try_program builds it (refusals.c says how calls are refused). `pipe` runs over the bytes of the
+PROGRAM is uaserver as scripts/tools/build_unproved.py builds it (refusals.c says how calls are refused). `pipe` runs over the bytes of the
 conversations of the worked examples and of the stored run, once as they are, and once with reads of at most 64 bytes and writes of at most
 97; `run` over the conversations' scenarios, and `trace` where a line has it, with such writes. NAME is a part of the words of those
 that are wanted, and N how many run at once, else as many as there are processors. It tries, at each call:
@@ -26,10 +26,10 @@ import sys
 import tempfile
 import time
 
-import refusals
-from refusals import DATA
-from serving import Server
-from two_sockets import HELLO, close, connect, get_endpoints, of_channel, opening, piped, served_once, without_times
+from lib import refusals
+from lib.refusals import DATA
+from lib.serving import Server
+from sockets_test import HELLO, close, connect, get_endpoints, of_channel, opening, piped, served_once, without_times
 
 STREAM = (7 << 8, b"stream\n")
 NODES = os.path.join(refusals.STORED, "data", "line.toml")

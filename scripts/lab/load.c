@@ -1,7 +1,7 @@
 /* How many requests a second `uaserver serve` answers over loopback, and how long one Read takes there and back,
  * beside a bare echo of the same sizes.
  *
- *   cc -O2 -o /tmp/load scripts/load.c
+ *   cc -O2 -o /tmp/load scripts/lab/load.c
  *   out/uaserver serve data/line.toml --port 4840 &
  *   /tmp/load read 4840 CLIENTS SECONDS      # each client has one Read of one value under way at a time
  *   /tmp/load echo 4841 &                    # a loop over epoll that answers each request with as many bytes

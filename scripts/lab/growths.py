@@ -1,7 +1,7 @@
 #!/usr/bin/env python3
-"""How many growths of memory a request takes in `uaserver pipe`: docs/MEASURED.md has the figures.
+"""How many growths of memory a request takes in `uaserver pipe`: docs/PERFORMANCE.md has the figures.
 
-usage: scripts/growths.py PROGRAM    a program that scripts/try_program builds
+usage: scripts/lab/growths.py PROGRAM    a program that scripts/tools/build_unproved.py builds
 
 A session asks for the same thing 100 times, and in another run 300 times. Told is what the 200 more took, each: with what it
 takes to read them from standard input, which is done by pieces of 4096 bytes.
@@ -11,7 +11,9 @@ import struct
 import sys
 import tempfile
 
-import refusals
+TOP = os.path.dirname(os.path.dirname(os.path.dirname(os.path.realpath(__file__))))
+sys.path.insert(0, f"{TOP}/scripts/checks")
+from lib import refusals  # noqa: E402
 
 NODES = os.path.abspath(os.path.join(refusals.STORED, "data", "line.toml"))
 FEW, MANY = 100, 300

@@ -1,8 +1,8 @@
 // GetEndpoints over a pipe, by hand in plain Rust: what `uaserver pipe` answers to a Hello, an OPN, GetEndpoints requests and a
-// CLO, with the same checks of frames, channels and sequence numbers, for scripts/pipe_costs.py to compare with. Only what such a
+// CLO, with the same checks of frames, channels and sequence numbers, for scripts/lab/pipe_costs.py to compare with. Only what such a
 // conversation needs is here; a frame that it doesn't expect ends it.
 //
-//     rustc --edition 2021 -O scripts/pipe_by_hand.rs -o by_hand && ./by_hand < conversation > answers
+//     rustc --edition 2021 -O scripts/lab/pipe_by_hand.rs -o by_hand && ./by_hand < conversation > answers
 use std::io::{Read, Write};
 
 const NONE: &str = "http://opcfoundation.org/UA/SecurityPolicy#None";

@@ -1,7 +1,7 @@
 #!/usr/bin/env python3
 """Talks to `uaserver serve` as clients over sockets, and compares what they get with what `uaserver pipe` writes.
 
-    python3 scripts/two_sockets.py PROGRAM NODES
+    python3 scripts/checks/sockets_test.py PROGRAM NODES
 
 PROGRAM is the built program, NODES a node file with the standard's limits, as crates/uaserver/data/line.toml. It tries:
 two sockets whose conversations go on at once, cut differently; 100 sockets opened and closed at once, and then one
@@ -19,7 +19,7 @@ import sys
 import tempfile
 import time
 
-from serving import PATIENCE, Server, free_port, has_ipv6
+from lib.serving import PATIENCE, Server, free_port, has_ipv6
 
 HELLO = bytes.fromhex('48454c46380000000000000000000100000001000000000000000000180000006f70632e7463703a2f2f6c6f63616c686f73743a34383430')
 POLICY = struct.pack('<I', 47) + b'http://opcfoundation.org/UA/SecurityPolicy#None' + b'\xff' * 8

@@ -1,6 +1,6 @@
 /* Refuses growths of memory, and fails reads and writes, of a program that it is preloaded into (LD_PRELOAD).
 
-   scripts/refusals.py compiles it, and scripts/want_of_memory and scripts/failing_streams use it through that.
+   scripts/checks/lib/refusals.py compiles it, and scripts/checks/refuse_growths.py and scripts/checks/failing_streams.py use it through that.
 
    A sweep runs the program once. At each call that is to be refused in turn the process forks: the child is refused, and goes
    on by itself to its end, with places of its own in the files that are read, and with memory for its output, which the process

@@ -1,8 +1,8 @@
 #!/usr/bin/env python3
-"""GetEndpoints over `uaserver pipe` beside the same by hand in plain Rust (scripts/pipe_by_hand.rs): docs/MEASURED.md has the
+"""GetEndpoints over `uaserver pipe` beside the same by hand in plain Rust (scripts/lab/pipe_by_hand.rs): docs/PERFORMANCE.md has the
 figures.
 
-usage: scripts/pipe_costs.py PROGRAM [REQUESTS]    a program that was built with its proofs; 200,000 requests where left out
+usage: scripts/lab/pipe_costs.py PROGRAM [REQUESTS]    a program that was built with its proofs; 200,000 requests where left out
 
 Both answer the same conversation, byte for byte, which is seen first. Then they run by turns, eleven times each; told is the
 least time of a request, on the clock and in user time.
@@ -16,7 +16,7 @@ import tempfile
 import time
 
 ROUNDS = 11
-TOP = os.path.dirname(os.path.dirname(os.path.realpath(__file__)))
+TOP = os.path.dirname(os.path.dirname(os.path.dirname(os.path.realpath(__file__))))
 
 
 def conversation(requests):
@@ -53,7 +53,7 @@ def main():
     requests = int(sys.argv[2]) if len(sys.argv) == 3 else 200000
     with tempfile.TemporaryDirectory() as folder:
         by_hand = f"{folder}/by_hand"
-        subprocess.run(["rustc", "--edition", "2021", "-O", f"{TOP}/scripts/pipe_by_hand.rs", "-o", by_hand], check=True)
+        subprocess.run(["rustc", "--edition", "2021", "-O", f"{TOP}/scripts/lab/pipe_by_hand.rs", "-o", by_hand], check=True)
         with open(f"{folder}/conversation", "wb") as file:
             file.write(conversation(requests))
         programs = {"uaserver pipe": [os.path.abspath(sys.argv[1]), "pipe"], "by hand": [by_hand]}

@@ -1,10 +1,10 @@
 #!/usr/bin/env python3
 """Wrong bodies: the edits of crates/NAME/must-fail, which the gate tries, and of crates/NAME/wrong, which are tried here alone.
 
-usage: scripts/wrong_bodies            tries each edit of both, crate by crate, on a copy: before a release
-       scripts/wrong_bodies NAME..     those of these crates alone
-       scripts/wrong_bodies --texts    sees that each edit's texts still stand, each once, in the files that it names
-       scripts/wrong_bodies --compiles [NAME..]
+usage: scripts/checks/wrong_bodies.py            tries each edit of both, crate by crate, on a copy: before a release
+       scripts/checks/wrong_bodies.py NAME..     those of these crates alone
+       scripts/checks/wrong_bodies.py --texts    sees that each edit's texts still stand, each once, in the files that it names
+       scripts/checks/wrong_bodies.py --compiles [NAME..]
                                        sees that each edited crate has the right types, where the libraries below it are built
 
 An edit has lines `file: PATH`, `old: TEXT`, `new: TEXT`; further pairs apply to what the earlier ones made. A crate's proof
@@ -21,7 +21,7 @@ import subprocess
 import sys
 import tempfile
 
-TOP = os.path.dirname(os.path.dirname(os.path.realpath(__file__)))
+TOP = os.path.dirname(os.path.dirname(os.path.dirname(os.path.realpath(__file__))))
 
 
 def edited(edit):

@@ -1,9 +1,9 @@
 #!/usr/bin/env python3
 """Starts `uaserver serve`, watches a value that a second client writes, and stops.
 
-    python3 scripts/watch_test.py PROGRAM NODES
+    python3 scripts/checks/watch_test.py PROGRAM NODES
 
-PROGRAM is the built program, NODES the node file crates/uaserver/data/line.toml. Both clients are scripts/ua_client.py,
+PROGRAM is the built program, NODES the node file crates/uaserver/data/line.toml. Both clients are scripts/tools/ua_client.py,
 so the bytes on the sockets are those of a client that was written from the standard. It tries what the server offers,
 the tree, values read and written, refusals by name, raw history, each change by a subscription, values dropped from a
 short queue, keep-alives, an answer in several chunks, and a server that isn't there. Meanwhile the server traces, and says
@@ -17,9 +17,9 @@ import subprocess
 import sys
 import time
 
-from serving import PATIENCE, Program, Server, free_port
+from lib.serving import PATIENCE, Program, Server, free_port
 
-CLIENT = os.path.join(os.path.dirname(os.path.abspath(__file__)), 'ua_client.py')
+CLIENT = os.path.join(os.path.dirname(os.path.abspath(__file__)), '..', 'tools', 'ua_client.py')
 TIME = r'20\d\d-\d\d-\d\dT\d\d:\d\d:\d\d\.\d\d\dZ'
 
 

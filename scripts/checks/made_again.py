@@ -1,9 +1,9 @@
 #!/usr/bin/env python3
 """Refuses each growth of memory in the lines `again OBJECT` of worked_examples in turn, and sees that they print what they print without.
 
-usage: scripts/made_again PROGRAM
+usage: scripts/checks/made_again.py PROGRAM
 
-PROGRAM is worked_examples as scripts/try_program builds it. Such a line makes calls on an object, each of them again where memory ran
+PROGRAM is worked_examples as scripts/tools/build_unproved.py builds it. Such a line makes calls on an object, each of them again where memory ran
 out, so whichever growth is refused, it prints what stands in crates/worked_examples/stdout: the object was as before, and the second call
 gave what the first would have given; or `server` and `subscriptions` were out of memory for good. Where the growth was one of the
 line's own, outside of the calls, nothing is printed, and the exit status is 1.
@@ -13,7 +13,7 @@ import sys
 import tempfile
 import time
 
-import refusals
+from lib import refusals
 
 WORKED = os.path.join(refusals.FOLDER, "..", "crates", "worked_examples")
 LINE = "$ again "

@@ -1,9 +1,9 @@
 #!/usr/bin/env python3
 """Refuses each growth of memory of the program in turn, and sees that it ends as want of memory, with nothing of the refused step out.
 
-usage: scripts/want_of_memory PROGRAM [--only NAME] [--jobs N] [--all] [--list]
+usage: scripts/checks/refuse_growths.py PROGRAM [--only NAME] [--jobs N] [--all] [--list]
 
-PROGRAM is uaserver as scripts/try_program builds it. These run, each with each of its growths refused (refusals.c says how): `run` over every
+PROGRAM is uaserver as scripts/tools/build_unproved.py builds it. These run, each with each of its growths refused (refusals.c says how): `run` over every
 scenario of the worked examples with each node file that a line names beside it; `trace` and `asm` where a line has them; `check` of
 their node files; and `pipe` over the bytes of the conversations and of the stored run. NAME is a part of the words of those that are
 wanted, and N how many run at once, else as many as there are processors. A program that a kit builds without the functions that
@@ -26,8 +26,8 @@ import sys
 import tempfile
 import time
 
-import refusals
-from refusals import DATA
+from lib import refusals
+from lib.refusals import DATA
 
 # Where a step begins: of a scenario, and of a conversation of bytes, where the server's step follows the read.
 STEP, TURN = "server_core::server::Server::step", "stream_server::Pump::turn"

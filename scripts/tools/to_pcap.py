@@ -3,7 +3,7 @@
 
     uaserver run NODES SCENARIO > run.txt
     uaserver asm SCENARIO > asm.txt
-    python3 scripts/to_pcap.py run.txt asm.txt > conversation.pcap
+    python3 scripts/tools/to_pcap.py run.txt asm.txt > conversation.pcap
     wireshark conversation.pcap
 
 `run` prints what the server sends, `asm` what the clients do; without asm.txt the capture has the server's side alone.

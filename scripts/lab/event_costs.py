@@ -1,7 +1,7 @@
 #!/usr/bin/env python3
-"""What an event costs at two sizes of what stands beside it: docs/MEASURED.md has the figures.
+"""What an event costs at two sizes of what stands beside it: docs/PERFORMANCE.md has the figures.
 
-usage: scripts/event_costs.py PROGRAM      a program that was built with its proofs, as `rt build` leaves it in
+usage: scripts/lab/event_costs.py PROGRAM      a program that was built with its proofs, as `rt build` leaves it in
                                            crates/uaserver/out/uaserver
 
 Each figure is the difference of two `run`s of scenarios, one of which has some thousand such events more, each the least of
@@ -14,7 +14,7 @@ import tempfile
 import time
 
 ROUNDS = 11
-TOP = os.path.dirname(os.path.dirname(os.path.realpath(__file__)))
+TOP = os.path.dirname(os.path.dirname(os.path.dirname(os.path.realpath(__file__))))
 SERVER = """version = 1
 
 [server]
