@@ -2,13 +2,13 @@
 //! which nodes, what becomes of them in each item's queue, and what of them goes into a message.
 //!
 //! [`Items`] has all items of the server. Its calls `create`, `modify`, `set_mode`, `link` and `delete` serve
-//! the whole list of a request, entry by entry, `sample` shows it what was written, and `available` and
+//! the whole list of a request, entry by entry, `show` shows them a value that was written, and `available` and
 //! `send` are for the crate that makes the messages. It knows no session, no subscription but by its number, and no
 //! clock: whose request it is, and when a message is due, is the business of the crates above.
 //!
 //! ```text
 //! let results = items.create(alloc, &space, clock, subscription, timestamps, requests)?;
-//! items.sample(alloc, &written.changed)?;                       // after each Write
+//! items.show(alloc, &node_id, &value)?;                         // each value that is written
 //! if items.available(subscription) {
 //!     let mut message = DataChangeMessage::new(alloc, number, clock)?;
 //!     items.send(subscription, 100, &mut message)?;             // at most so many values
