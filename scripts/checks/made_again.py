@@ -15,7 +15,7 @@ import time
 
 from lib import refusals
 
-WORKED = os.path.join(refusals.FOLDER, "..", "crates", "worked_examples")
+WORKED = os.path.join(refusals.TOP, "crates", "worked_examples")
 LINE = "$ again "
 
 

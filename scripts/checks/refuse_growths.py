@@ -51,7 +51,7 @@ SPARED = {
 
 
 def is_ours(name):
-    return os.path.isdir(os.path.join(refusals.FOLDER, "..", "crates", name.split("::")[0]))
+    return os.path.isdir(os.path.join(refusals.TOP, "crates", name.split("::")[0]))
 
 
 def bare(name):
