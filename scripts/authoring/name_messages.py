@@ -5,7 +5,7 @@
 
 Each TRANSCRIPT, as crates/worked_examples/stdout, is written anew where a name is missing or wrong, so whoever adds an
 example writes the bytes by hand and lets this script add the names. It gets them from the bytes alone, by the standard
-(IEC 62541-4 and -6) as scripts/tools/ua_client.py has it, and asks nothing of the Rust code, which has to print the same.
+(IEC 62541-4 and -6) as clients/ua has it, and asks nothing of the Rust code, which has to print the same.
 
 - `answer CONNECTION BODY` and `send CONNECTION FRAME` get the name of the message and its result; behind these, what a
   message of a subscription tells: `DataChangeNotification`, `StatusChangeNotification STATUS` or `keep-alive`.
@@ -19,8 +19,11 @@ Nothing but Python's own library is needed.
 import os
 import sys
 
-sys.path.insert(0, os.path.join(os.path.dirname(os.path.realpath(__file__)), '..', 'tools'))
-from ua_client import DATA_CHANGE_NOTIFICATION, MESSAGES, STATUS_CHANGE_NOTIFICATION, STATUS_NAMES, Broken, Reader, numbered  # noqa: E402
+sys.path.insert(0, os.path.join(os.path.dirname(os.path.realpath(__file__)), '..', '..', 'clients'))
+from ua.encoding import Reader  # noqa: E402
+from ua.errors import STATUS_NAMES, Broken  # noqa: E402
+from ua.structures import MESSAGES, STRUCTURES  # noqa: E402
+from ua.types import numbered  # noqa: E402
 
 # Responses that the client doesn't ask for, by the ids of their binary encodings (IEC 62541-6, Annex A).
 OTHERS = {
@@ -28,7 +31,7 @@ OTHERS = {
     'DeleteMonitoredItemsResponse': 784, 'ModifySubscriptionResponse': 796, 'SetPublishingModeResponse': 802,
 }
 RESPONSES = {number: name for name, number in {**MESSAGES, **OTHERS}.items() if name.endswith(('Response', 'Fault'))}
-NOTIFICATIONS = {DATA_CHANGE_NOTIFICATION: 'DataChangeNotification', STATUS_CHANGE_NOTIFICATION: 'StatusChangeNotification'}
+NOTIFICATIONS = {STRUCTURES[name].number: name for name in ('DataChangeNotification', 'StatusChangeNotification')}
 
 
 class Nameless(Exception):
@@ -57,7 +60,7 @@ def told(read):
         if name is None or body is None:
             raise Nameless
         words.append(name)
-        if kind.value == STATUS_CHANGE_NOTIFICATION:
+        if name == 'StatusChangeNotification':
             words.append(status_name(Reader(body).uint32()))
     return words or ['keep-alive']
 
