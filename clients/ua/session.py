@@ -171,15 +171,20 @@ class Session:
         """Pages of the raw values that a variable had from start on and before end (IEC 62541-11, 6.4.3)."""
         details = extension('ReadRawModifiedDetails', start=start, end=end, most=most)
         point = None
-        while True:
-            result = self.call('HistoryRead', details=details, entries=[{'node': node, 'point': point}]).results[0]
-            if is_bad(result.status):
-                raise Refused(f'HistoryRead {node}', result.status)
-            if result.data.body is not None:
-                name, data = of_extension(result.data)
-                if name != 'HistoryData':
-                    raise Broken(f'a history of the kind {result.data.type}')
-                yield data.values
-            point = result.point
-            if not point:
-                return
+        try:
+            while True:
+                result = self.call('HistoryRead', details=details, entries=[{'node': node, 'point': point}]).results[0]
+                point = result.point
+                if is_bad(result.status):
+                    raise Refused(f'HistoryRead {node}', result.status)
+                if result.data.body is not None:
+                    name, data = of_extension(result.data)
+                    if name != 'HistoryData':
+                        raise Broken(f'a history of the kind {result.data.type}')
+                    yield data.values
+                if not point:
+                    return
+        except GeneratorExit:
+            # Nobody wants the rest: the server needn't keep its place.
+            if point:
+                self.call('HistoryRead', details=details, release=True, entries=[{'node': node, 'point': point}])

@@ -27,12 +27,13 @@ import sys
 import time
 
 sys.path.insert(0, os.path.join(os.path.dirname(os.path.realpath(__file__)), '..', '..', 'clients'))
+from ua.arguments import checked, moment, node, number  # noqa: E402
 from ua.errors import Broken, Refused, is_bad, lost_before, status_name  # noqa: E402
 from ua.session import Session  # noqa: E402
 from ua.subscription import Back, Ended, Gap, Item, KeepAlive, Lost, Message, Started, Watch  # noqa: E402
 from ua.texts import escaped, json_value, parsed, value_line, value_text  # noqa: E402
 from ua.transport import endpoints_of, is_usable  # noqa: E402
-from ua.types import ATTRIBUTES, DATA_TYPE, NODE_CLASSES, TYPES, DataValue, NodeId, now, numbered, time_of_text, time_text  # noqa: E402
+from ua.types import ATTRIBUTES, DATA_TYPE, NODE_CLASSES, TYPES, DataValue, now, numbered, time_of_text, time_text  # noqa: E402
 
 SECURITY_MODES = {0: 'Invalid', 1: 'None', 2: 'Sign', 3: 'SignAndEncrypt'}
 USER_TOKENS = {0: 'anonymous', 1: 'user name', 2: 'certificate', 3: 'issued token'}
@@ -267,34 +268,11 @@ def remark(event):
 # ---- the command line
 
 
-def checked(read):
-    """What reads an argument, and says what is wrong with it."""
-    def one(text):
-        try:
-            return read(text)
-        except ValueError as error:
-            raise argparse.ArgumentTypeError(str(error)) from None
-    return one
-
-
 def type_number(text):
     for number, name in TYPES.items():
         if name == text:
             return number
     raise ValueError(f'{text!r} is none of ' + ', '.join(TYPES.values()))
-
-
-def number(kind, low, high=2**32 - 1):
-    """What reads a number of this range."""
-    def one(text):
-        try:
-            value = kind(text)
-        except ValueError:
-            value = None
-        if value is None or not low <= value <= high:
-            raise ValueError(f'{text!r} is no {"whole " * (kind is int)}number from {low} to {high}')
-        return value
-    return checked(one)
 
 
 def command_line():
@@ -305,7 +283,6 @@ def command_line():
     shared.add_argument('--csv', dest='form', action='store_const', const='csv', help='print a table of CSV')
     parser = argparse.ArgumentParser(description='A small OPC UA client without security.', epilog='docs/USING.md shows each command.', parents=[shared])
     commands = parser.add_subparsers(dest='command', required=True, metavar='COMMAND')
-    node, moment = checked(NodeId.of_text), checked(time_of_text)
 
     def command(function, text):
         one = commands.add_parser(function.__name__, help=text, description=text[0].upper() + text[1:] + '.', parents=[shared])
