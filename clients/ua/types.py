@@ -121,11 +121,13 @@ def time_text(moment, digits=3):
 
 def time_of_text(text):
     """The time that a text in ISO 8601 names, in UTC where it names no zone: 2026-01-31, 2026-01-31T12:00:00.5Z. ValueError for another."""
-    found = re.fullmatch(r'(\d{4}-\d\d-\d\d)(?:[T ](\d\d:\d\d)(?::(\d\d)(?:[.,](\d{1,9}))?)?)?(?:Z|([+-])(\d\d):?(\d\d))?', text.strip(), re.A)
+    found = TIME.fullmatch(text.strip())
     if not found:
         raise ValueError(f'{text!r} is no time, as 2026-01-31T12:00:00 is one')
-    day, minute, second, fraction, sign, hours, minutes = found.groups()
-    when = datetime.datetime.strptime(f'{day}T{minute or "00:00"}:{second or "00"}', '%Y-%m-%dT%H:%M:%S')
+    year, month, day, hour, minute, second, fraction, sign, hours, minutes = found.groups()
+    when = datetime.datetime(int(year), int(month), int(day), int(hour or 0), int(minute or 0), int(second or 0)) - datetime.datetime(1601, 1, 1)
     away = int(f'{sign}1') * (int(hours) * 60 + int(minutes)) * 60 if sign else 0
-    whole = (when - datetime.datetime(1601, 1, 1)) // datetime.timedelta(seconds=1) - away
-    return whole * SECOND + int(((fraction or '') + '0000000')[:7])
+    return (when.days * 86400 + when.seconds - away) * SECOND + (int((fraction + '000000')[:7]) if fraction else 0)
+
+
+TIME = re.compile(r'(\d{4})-(\d\d)-(\d\d)(?:[T ](\d\d):(\d\d)(?::(\d\d)(?:[.,](\d{1,9}))?)?)?(?:Z|([+-])(\d\d):?(\d\d))?', re.A)
