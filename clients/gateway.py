@@ -190,7 +190,10 @@ class Feed(threading.Thread):
             else:
                 keys, key = [self.key(value) for value in values], self.key(has)
                 if key in keys:
-                    values = mine = values[len(keys) - keys[::-1].index(key):]
+                    count = len(keys) - keys[::-1].index(key)
+                    for value in values[:count]:
+                        self.has_written(node, value)
+                    values = mine = values[count:]
                 elif node in self.last and self.key(self.last[node]) == key:
                     mine = values
                 else:
@@ -236,8 +239,12 @@ class Feed(threading.Thread):
                 key = f'{pair[0]}: {status_name(status)}'
                 self.complaints.add(key, f'refused {key}')
             else:
-                self.written += 1
-                self.last[pair[0]] = pair[1]
+                self.has_written(*pair)
+
+    def has_written(self, node, value):
+        if self.last.get(node) is not value:
+            self.written += 1
+            self.last[node] = value
 
     # ---- types
 

@@ -13,7 +13,7 @@ TIMEOUT = 60_000.0  # ms, the session timeout to ask for
 AT_ONCE = 1000  # entries of a request at first
 HIERARCHICAL = numbered(33)
 SERVER_STATE = numbered(2259)
-ALL_TIMES = (0, 1 << 62)
+ALL_TIMES = (1, 1 << 62)  # 0 would be no time (IEC 62541-11, 6.4.3)
 
 # What says that a request or its answer is too large. Nothing is changed by such a request, but by a write whose answer is too large.
 TOO_MANY = {CODES[name] for name in ('Bad_TooManyOperations', 'Bad_RequestTooLarge', 'Bad_ResponseTooLarge', 'Bad_EncodingLimitsExceeded')}
