@@ -97,7 +97,7 @@ class Feed(threading.Thread):
                 self.changed.wait(1)
             self.queue.extend(entries)
             much = len(self.queue) - self.hold
-            if much > 0:
+            if much > 0 and (self.is_away or not may_wait):
                 for _ in range(much):
                     self.queue.popleft()
                 self.dropped += much
@@ -389,8 +389,8 @@ def following(path):
 def listen_to_mqtt(source, lines, complaints):
     """Takes what a broker has. Connections that are lost come back by paho's own doing."""
     import paho.mqtt.client as mqtt
-    parts = urlsplit(source)
-    topic = unquote(parts.path[1:]) or '#'
+    front, _, topic = source[len('mqtt://'):].partition('/')  # a # is no fragment here
+    parts, topic = urlsplit(f'//{front}'), unquote(topic) or '#'
     client = mqtt.Client(mqtt.CallbackAPIVersion.VERSION2) if hasattr(mqtt, 'CallbackAPIVersion') else mqtt.Client()
     if parts.username:
         client.username_pw_set(unquote(parts.username), unquote(parts.password or ''))
@@ -431,7 +431,7 @@ def main():
             feed.start()
         for one in (signal.SIGINT, signal.SIGTERM):
             signal.signal(one, lambda *_: stopped.set() if not stopped.is_set() else os._exit(1))
-        if arguments.source.startswith('mqtt:'):
+        if arguments.source.startswith('mqtt://'):
             client = listen_to_mqtt(arguments.source, lines, complaints)
             while not stopped.wait(0.5):
                 pass

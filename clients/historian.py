@@ -249,7 +249,7 @@ class Historian:
     def take(self, watch):
         """Records what there is to record, and gives the messages that may be acknowledged once it is committed."""
         messages = []
-        event = watch.next(time.monotonic() + (0 if self.ready else 0.5))
+        event = watch.next(time.monotonic() + (0 if self.ready and watch.is_connected else 0.5))
         while event is not None:
             if isinstance(event, Message):
                 messages.append(event)

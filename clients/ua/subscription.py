@@ -46,8 +46,8 @@ class Subscription:
         self.nodes, self.due = nodes, 1
 
     def silence(self):
-        """After so many seconds without a word from the server something is wrong."""
-        return max(1.0, SILENCE * self.keep_alive * self.interval / 1000)
+        """After so many seconds without a word from the server something is wrong. Few servers have timers below 100 ms, whatever they say."""
+        return max(1.5, SILENCE * self.keep_alive * max(self.interval, 100) / 1000)
 
     def ahead(self, number):
         """How far a message is ahead of the next one."""
@@ -88,33 +88,42 @@ class Watch:
     # ---- turns
 
     def next(self, until=None):
-        """The next event, or None where none has come until this time, by the monotonic clock."""
+        """The next event, or None where none has come until this time, by the monotonic clock. What has come already is looked at in any case."""
         while not self.events:
-            if until is not None and time.monotonic() >= until:
-                return None
             try:
                 self.turn(time.monotonic() + 1 if until is None else until)
             except (Broken, Refused) as problem:
                 self.lose(str(problem))
+            if until is not None and time.monotonic() >= until and not self.events:
+                return None
         return self.events.popleft()
 
     def turn(self, until):
         if not self.is_connected:
-            wait = min(self.next_try, until) - time.monotonic()
-            if wait > 0:
-                time.sleep(min(wait, 0.2))
+            moment = time.monotonic()
+            if moment < self.next_try:
+                time.sleep(max(0.0, min(self.next_try - moment, until - moment, 0.2)))
                 return
             self.come_back()
         self.watch()
         self.ask()
         self.session.stay_alive()
         connection = self.session.connection
+        if self.take_answers(connection) or self.events:
+            return
         silence = min((one.silence() for one in self.subscriptions.values()), default=self.session.patience)
         patient = max(connection.heard, self.asked) + silence
         if not connection.collect(min(until, patient, time.monotonic() + 1)) and time.monotonic() >= max(connection.heard, self.asked) + silence:
             raise Broken(f'the server is silent for {silence:g} seconds, though a keep-alive was due')
+        self.take_answers(connection)
+
+    def take_answers(self, connection):
+        """Takes the answers that have come. Whether there was one."""
+        has_come = False
         while self.requests and self.requests[0][0] in connection.answers:
             self.take(*self.requests.popleft())
+            has_come = True
+        return has_come
 
     def ask(self):
         """Sends Publish requests ahead, with what there is to acknowledge."""

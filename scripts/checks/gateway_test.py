@@ -215,8 +215,9 @@ def servers_that_end(program, folder):
 
 
 def speed(port, count):
+    """Standard input waits for the server: nothing falls out, however little is held."""
     began = time.monotonic()
-    status, said = pipe([f'{TAGS[value % 10]},{value}' for value in range(count)], '--to', url(port))
+    status, said = pipe([f'{TAGS[value % 10]},{value}' for value in range(count)], '--to', url(port), '--hold', '5000')
     took = time.monotonic() - began
     same('all written', (status, said[-1]), (0, f'{url(port)}: {count} values written, 0 fell out, 0 left'))
     print(f'{count} values in {took:.2f} s, {count / took:.0f} a second', flush=True)

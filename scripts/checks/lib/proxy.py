@@ -6,9 +6,13 @@ import time
 
 
 class Proxy:
-    """Hands the bytes of each connection on, until it is told otherwise. Its port is `port`, on 127.0.0.1."""
+    """Hands the bytes of each connection on, until it is told otherwise. Its port is `port`, on 127.0.0.1.
 
-    def __init__(self, server_port):
+    `record`, a list, gets the number of the connection, whether the client sent them, and the bytes; b'' where a side ended.
+    """
+
+    def __init__(self, server_port, record=None):
+        self.record, self.count = record, 0
         self.server_port, self.pairs, self.is_stalled, self.is_refusing, self.is_over = server_port, [], False, False, False
         self.listener = socket.create_server(('127.0.0.1', 0))
         self.port = self.listener.getsockname()[1]
@@ -30,14 +34,17 @@ class Proxy:
                 continue
             with self.lock:
                 self.pairs.append((client, server))
-            threading.Thread(target=self.hand_on, args=(client, server), daemon=True).start()
+                self.count += 1
+            threading.Thread(target=self.hand_on, args=(client, server, self.count), daemon=True).start()
 
-    def hand_on(self, client, server):
+    def hand_on(self, client, server, number):
         other = {client: server, server: client}
         try:
             while True:
                 for ready in select.select([client, server], [], [], 1)[0]:
                     piece = ready.recv(65536)
+                    if self.record is not None:
+                        self.record.append((number, ready is client, piece))
                     if not piece:
                         return
                     if ready is server and self.is_stalled:
