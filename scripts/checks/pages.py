@@ -5,7 +5,7 @@ usage: scripts/checks/pages.py [--words]      --words: also how many words each 
 
 - A page has at most its budget of words, as `wc -w` counts them, and all together have at most 26,000.
 - A link leads to a file or folder of the repository, and to a heading where it names one. So does each path in backquotes that begins
-  with `crates/`, `scripts/`, `docs/`, `bench/` or `examples/`.
+  with `crates/`, `scripts/`, `docs/`, `bench/`, `examples/` or `clients/`.
 - Pages of docs/ that have no budget are told, too.
 """
 import os
@@ -22,9 +22,9 @@ BUDGETS = {
     "docs/SERVICES.md": 2300, "docs/SUBSCRIPTIONS.md": 2500, "docs/ENCODING.md": 1500, "docs/TRANSPORT.md": 1500, "docs/PROMISES.md": 2400,
     "docs/CONTRIBUTING.md": 1800, "docs/GLOSSARY.md": 900, "docs/DECISIONS.md": 3000, "docs/PERFORMANCE.md": 1200, "docs/TRIED.md": 600,
 }
-OTHERS = ["CHANGELOG.md", "scripts/README.md"]
+OTHERS = ["CHANGELOG.md", "scripts/README.md", "clients/README.md", "clients/GATEWAY.md", "clients/HISTORIAN.md", "clients/ua/README.md", "examples/README.md"]
 LINK = re.compile(r"\[[^\]]*\]\(([^)\s]+)\)")
-PATH = re.compile(r"`((?:crates|scripts|docs|bench|examples)/[\w./-]+)`")
+PATH = re.compile(r"`((?:crates|scripts|docs|bench|examples|clients)/[\w./-]+)`")
 
 
 def text_of(page):
