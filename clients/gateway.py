@@ -93,7 +93,7 @@ class Feed(threading.Thread):
     def put(self, entries, may_wait):
         """Takes entries. Where there is no room it waits, if it may and the server is there; else the oldest fall out."""
         with self.changed:
-            while may_wait and not self.is_away and len(self.queue) >= self.hold:
+            while may_wait and not self.is_away and self.is_alive() and len(self.queue) >= self.hold:
                 self.changed.wait(1)
             self.queue.extend(entries)
             much = len(self.queue) - self.hold
@@ -101,7 +101,7 @@ class Feed(threading.Thread):
                 for _ in range(much):
                     self.queue.popleft()
                 self.dropped += much
-                self.complaints.add(f'{self.url} is away', f'{self.url} is away: {self.hold} values are held, and the oldest fall out', much)
+                self.complaints.add(f'{self.url}: fell out', f'{self.url}: {self.hold} values are held, and the oldest fall out', much)
             self.changed.notify_all()
 
     def end(self):
@@ -174,15 +174,19 @@ class Feed(threading.Thread):
         time.sleep(self.pause)
 
     def settle(self):
-        """Finds out what of the values in doubt the server has, and writes those that are due.
+        """Writes what is in doubt and not there."""
+        if self.doubt:
+            self.doubt = self.due(self.doubt)
+            self.write()
+
+    def due(self, pairs):
+        """Those of these pairs that the server lacks and may have.
 
         Each node's values were sent in their order. The one that the server has says how far it came: those behind it are due, and all
         where it has the last one before them. Where it has another value, those that are newer are due: an older one must not replace it.
         """
-        if not self.doubt:
-            return
         sent, due, unknown = {}, set(), 0
-        for node, value in self.doubt:
+        for node, value in pairs:
             sent.setdefault(node, []).append(value)
         for (node, values), has in zip(sent.items(), self.session.read(list(sent))):
             if is_bad(has.status) and has.source is None:
@@ -202,8 +206,7 @@ class Feed(threading.Thread):
             unknown += len(values) - len(mine)
         if unknown:
             self.complaints.add(f'{self.url}: unknown', f'{self.url}: whether values were written is unknown, or newer ones stand there', unknown)
-        self.doubt = [(node, value) for node, value in self.doubt if id(value) in due]
-        self.write()
+        return [(node, value) for node, value in pairs if id(value) in due]
 
     @staticmethod
     def key(value):
@@ -212,26 +215,24 @@ class Feed(threading.Thread):
 
     def write(self):
         """Writes what is in doubt."""
-        if not self.doubt:
-            return
-        pairs = self.doubt
         try:
-            statuses = self.session.write(pairs)
+            if self.doubt:
+                self.took(self.doubt, self.session.write(self.doubt))
         except Refused as refused:
             if refused.code not in TOO_MANY:
                 raise
-            # One of them is too large. Which were written is seen, and the rest goes one by one.
-            self.doubt = []
-            for pair in pairs:
+            # One value is too large for a request. Those before it may be written by now; the rest goes one by one.
+            self.doubt = self.due(self.doubt)
+            while self.doubt:
                 try:
-                    self.took([pair], self.session.write([pair]))
+                    statuses = self.session.write(self.doubt[:1])
                 except Refused as alone:
                     if alone.code not in TOO_MANY:
                         raise
-                    self.complaints.add(f'{pair[0]}: {alone.name}', f'refused {pair[0]}: {alone}')
-            return
+                    statuses = [alone.code]
+                self.took(self.doubt[:1], statuses)
+                del self.doubt[0]
         self.doubt = []
-        self.took(pairs, statuses)
 
     def took(self, pairs, statuses):
         for pair, status in zip(pairs, statuses):
@@ -336,7 +337,7 @@ class Lines:
                 continue
             try:
                 entries += self.of_text(text) if topic is None else self.of_topic(topic, text)
-            except (ValueError, csv.Error) as error:
+            except (ValueError, csv.Error, RecursionError) as error:
                 self.complaints.add(f'lines: {error}', f'refused {text[:200]}: {error}')
         if entries:
             for feed in self.feeds:

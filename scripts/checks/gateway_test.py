@@ -124,7 +124,7 @@ def lines(port):
         value = session.read([TAGS[1]])[0]
         same('time and status', (time_text(value.source), value.status), ('2026-01-31T12:00:00.500Z', 0x40000000))
     wrong = ['nonsense', 'ns=1,5', 'ns=1;i=101,7,yesterday', 'ns=1;i=101,7,,Fine', '{"id": "ns=1;i=101"}', '{"id"', 'ns=1;i=101,x', 'ns=1;i=101,1.5', 'ns=1;i=999,1',
-             'i=2259,1', '{"id": "ns=1;i=101", "value": [1]}', 'ns=1;i=50,7', '{"id": "ns=1;i=101", "value": null}', '"', 'ns=1;i=101,99999999999']
+             'i=2259,1', '{"id": "ns=1;i=101", "value": [1]}', 'ns=1;i=50,7', '{"id": "ns=1;i=101", "value": null}', '"', '[' * 100_000, 'ns=1;i=101,99999999999']
     status, said = pipe([*wrong, *wrong, 'ns=1;i=101,77'], '--to', url(port))
     same('the rest', (status, read(port, TAGS[0])), (1, [77]))
     same('refused', len([line for line in said if line.startswith('refused ')]), len(wrong))
@@ -135,9 +135,14 @@ def lines(port):
 def large(port):
     """A value that no request can hold is refused, and the others are written."""
     big = 'x' * 2_000_000
-    status, said = pipe(['ns=1;i=101,1', f'ns=1;i=51,{big}', 'ns=1;i=101,2', 'ns=1;i=51,small'], '--to', url(port))
-    same('all but one', (status, read(port, TAGS[0], NodeId(1, 'i', 51))), (1, [2, 'small']))
-    assert any('Bad_RequestTooLarge' in line for line in said), said
+    witness = Witness(port, [TAGS[9]])
+    witness.wait_for(TAGS[9], 0)
+    status, said = pipe([*(f'{TAGS[9]},{value}' for value in range(1, 50)), f'ns=1;i=51,{big}', f'{TAGS[9]},50', 'ns=1;i=51,small'], '--to', url(port))
+    same('all but one', (status, read(port, NodeId(1, 'i', 51))), (1, ['small']))
+    assert 'refused ns=1;i=51: Bad_RequestTooLarge' in said, said
+    witness.wait_for(TAGS[9], 50)
+    witness.end()
+    same('once and in order', witness.values[TAGS[9]], list(range(51)))
 
 
 def grows(port, folder):
@@ -207,7 +212,7 @@ def servers_that_end(program, folder):
     while read(ports[0], *TAGS[:2]) != [201, 5]:
         assert time.monotonic() < until, (read(ports[0], *TAGS[:2]), gateway.lines)
     same('the end', gateway.finish(), 1)
-    assert any(line.startswith(f'{url(ports[0])} is away: 50 values are held') for line in gateway.lines), gateway.lines
+    assert any(line.startswith(f'{url(ports[0])}: 50 values are held') for line in gateway.lines), gateway.lines
     with Session(url(ports[0])) as session:
         kept = [value.value for page in session.history(TAGS[0]) for value in page]
     assert kept == sorted(kept) and kept[-50:] == list(range(152, 202)), kept
