@@ -176,7 +176,7 @@ class Recorder:
         name = str(node)
         gaps = list(self.unfilled.get(name, []))
         after = min((after or '' for _, after in gaps), default=self.last.get(name)) or None
-        is_whole, start = not gaps, 1 if after is None else time_of_text(after)
+        is_whole, start = not gaps, 1 if after is None else max(1, time_of_text(after))
         try:
             for page in session.history(node, start):
                 for value in page:

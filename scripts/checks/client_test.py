@@ -215,6 +215,24 @@ def notices_silence(program, folder):
     server.end()
 
 
+def stays_alive(program, folder):
+    """A session of two seconds and a token of one live on, though nothing happens."""
+    server = serve(program, write_plant(os.path.join(folder, 'short.toml'), 5, session_time=20_000_000, session_duration='"0000000000409f40"', lifetime_ms=1000))
+    watcher, told = Watcher(server.port, [TAGS[0]], keep_alive=1000), []
+    watcher.session.connection.tell = told.append
+    watcher.go_on(lambda one: len(one.values) == 1)
+    until = time.monotonic() + 4
+    while time.monotonic() < until:
+        assert watcher.watch.next(until) is None
+    with on(server.port) as writer:
+        writer.write([(TAGS[0], DataValue(6, 9))])
+    watcher.go_on(lambda one: 9 in one.values)
+    same('lost', watcher.count(Lost) + watcher.count(Gap), 0)
+    assert sum(', token ' in line for line in told) >= 3 and any('ReadRequest' in line for line in told), told
+    watcher.close()
+    server.end()
+
+
 def splits(program, folder):
     """A server that takes seven entries at once, and ten items a subscription."""
     server = serve(program, write_plant(os.path.join(folder, 'seven.toml'), 100, operations=7, items=10, max_message=4096, max_chunks=4))
@@ -242,7 +260,7 @@ def main():
         server = serve(program, write_plant(os.path.join(folder, 'plant.toml'), len(TAGS)))
         try:
             for test, arguments in ((rows, [server.port]), (lists_and_texts, [server.port]), (faults, [server.port]), (watches_below, [server.port]),
-                                    (survives_cuts, [server.port]), (tells_gaps, [program, folder]), (notices_silence, [program, folder]), (splits, [program, folder])):
+                                    (survives_cuts, [server.port]), (tells_gaps, [program, folder]), (notices_silence, [program, folder]), (stays_alive, [program, folder]), (splits, [program, folder])):
                 began = time.monotonic()
                 test(*arguments)
                 print(f'ok {test.__name__} ({time.monotonic() - began:.1f} s)', flush=True)

@@ -255,8 +255,10 @@ def remark(event):
     if isinstance(event, KeepAlive):
         return f'{time_text(now())} keep-alive'
     if isinstance(event, Gap):
-        which = 'messages' if event.first is None else f'message {event.first}' if event.first == event.last else f'messages {event.first} to {event.last}'
-        return f'{which} may be lost: {event.why}' if event.first is None else f'lost: {which}; {event.why}'
+        if event.first is None:
+            return f'values may be lost: {event.why}'
+        which = f'message {event.first}' if event.first == event.last else f'messages {event.first} to {event.last}'
+        return f'lost: {which}; {event.why}'
     if isinstance(event, Ended):
         return f'the subscription ended: {status_name(event.status)}'
     if isinstance(event, Lost):
