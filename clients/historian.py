@@ -122,7 +122,7 @@ class Recorder:
         self.rows, self.gap_rows, self.closed = [], [], []  # of the next transaction
         self.last = dict(database.query('SELECT node, MAX(time) FROM readings WHERE server = ? GROUP BY node', (server,)))
         # Of each node: its gap that has no end yet, as `opened` and `after`; and its gaps that the history may fill.
-        self.open, self.unfilled = {}, {}
+        self.open, self.unfilled, self.opened = {}, {}, 0
         for node, opened, after in database.query('SELECT node, opened, after FROM gaps WHERE server = ? AND before IS NULL', (server,)):
             self.open[node] = opened, after
             self.unfilled[node] = [(opened, after)]
@@ -131,7 +131,7 @@ class Recorder:
         row = row_of(value)
         moment, last = row[0], self.last.get(node)
         if lost_before(value.status):
-            self.open_gap(node, 'more values than the item holds')
+            self.open_gap(node, 'Overflow: values before it were lost')
         if node in self.open:
             opened, after = self.open[node]
             if after is None or moment > after:
@@ -142,7 +142,8 @@ class Recorder:
 
     def open_gap(self, node, why):
         if node not in self.open:
-            gap = self.open[node] = time_text(now(), 7), self.last.get(node)
+            self.opened = max(self.opened + 1, now())  # a gap's name, so no two have the same
+            gap = self.open[node] = time_text(self.opened, 7), self.last.get(node)
             self.unfilled.setdefault(node, []).append(gap)
             self.gap_rows.append((self.server, node, *gap, why))
 
@@ -203,7 +204,7 @@ class Historian:
         self.database = Database(arguments.to)
         self.database.is_stopped = lambda: self.is_stopped
         self.recorder = Recorder(self.database, arguments.server or arguments.url)
-        self.ready = {}  # nodes that are watched, and whose gaps may be filled
+        self.ready, self.unfilled = {}, []  # nodes that are watched, and whose gaps may be filled; those that the history did not fill
 
     def stop(self, *_):
         self.is_stopped = True
@@ -222,7 +223,7 @@ class Historian:
                     if name in self.recorder.last:
                         self.recorder.open_gap(name, 'the historian was away')
                 self.recorder.commit()
-                return session, Watch(session, dict.fromkeys(nodes), self.arguments.interval, keep_alive=5, lifetime=600, queue=self.arguments.queue)
+                return session, Watch(session, dict.fromkeys(nodes), self.arguments.interval, keep_alive=5, lifetime=60, queue=self.arguments.queue)
             except (Broken, Refused) as problem:
                 if session is not None:
                     session.connection.drop()
@@ -285,8 +286,11 @@ class Historian:
             while self.ready and watch.is_connected and time.monotonic() < until:
                 node = next(iter(self.ready))
                 if not self.recorder.fill(session, node):
-                    say(f'{node}: a gap that the history did not fill')
+                    self.unfilled.append(node)
                 del self.ready[node]
+            if self.unfilled and not self.ready:
+                say(f'{len(self.unfilled)} nodes have gaps that the history did not fill, as {self.unfilled[0]}')
+                self.unfilled = []
         except (Broken, Refused) as problem:
             watch.lose(str(problem))
 

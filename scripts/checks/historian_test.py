@@ -10,6 +10,7 @@ disturbed there is neither a gap nor a value missing. Nothing but Python's own l
 import os
 import random
 import signal
+import sqlite3
 import sys
 import tempfile
 import threading
@@ -118,6 +119,15 @@ class Plant:
         time.sleep(random.uniform(0.2, 2))
         self.historian.process.send_signal(signal.SIGCONT)
 
+    def lock_database(self):
+        if '://' in self.database:
+            return
+        connection = sqlite3.connect(self.database, timeout=30)
+        connection.execute('BEGIN IMMEDIATE')
+        time.sleep(random.uniform(0.2, 2))
+        connection.rollback()
+        connection.close()
+
     def end(self):
         for end in (self.historian.end, self.server.end, self.proxy.end):
             end()
@@ -182,7 +192,8 @@ def main():
             print(f'ok without chaos: {len(writer.took)} values, no gap', flush=True)
             writer.pause, writer.most = 0.01, 12
             until, happened = time.monotonic() + seconds, {}
-            acts = [plant.cut, plant.stall, plant.refuse, plant.kill_historian, plant.kill_server, plant.stop_server, plant.stop_historian, plant.hold_historian]
+            acts = [plant.cut, plant.stall, plant.refuse, plant.kill_historian, plant.kill_server, plant.stop_server, plant.stop_historian, plant.hold_historian,
+                    plant.lock_database]
             while time.monotonic() < until:
                 act = random.choice(acts)
                 happened[act.__name__] = happened.get(act.__name__, 0) + 1

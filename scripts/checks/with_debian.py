@@ -7,7 +7,7 @@ PROGRAM is the built program. With --install the packages are installed first (`
 Python, which finds Debian's paho and psycopg2. Broker and database are of this run's own, on free ports of 127.0.0.1. CI doesn't run it.
 
     mqtt         the gateway takes messages from mosquitto, also once the broker was away
-    postgresql   historian_test.py, for 20 seconds, with a table of PostgreSQL
+    postgresql   historian_test.py, for 20 seconds, with PostgreSQL, which is killed and begun anew meanwhile
     wireshark    tshark finds nothing malformed in what ua_client.py, gateway and historian send and get
 """
 import argparse
@@ -18,6 +18,7 @@ import signal
 import subprocess
 import sys
 import tempfile
+import threading
 import time
 
 from lib.proxy import Proxy, write_plant
@@ -98,12 +99,17 @@ def postgresql(program, folder):
         shutil.chown(data, 'postgres', 'postgres')
     try:
         run(tool('initdb', '-D', f'{data}/db', '-A', 'trust', '-U', 'keyorchid'), cwd='/')
-        run(tool('pg_ctl', '-D', f'{data}/db', '-w', '-l', f'{data}/log', '-o', f'-p {port} -c listen_addresses=127.0.0.1 -k {data}', 'start'), cwd='/')
+        control = lambda *words: run(tool('pg_ctl', '-D', f'{data}/db', '-w', '-l', f'{data}/log', *words), cwd='/', stdin=subprocess.DEVNULL)
+        options = ['-o', f'-p {port} -c listen_addresses=127.0.0.1 -k {data}']
+        control(*options, 'start')
+        again = threading.Timer(15, lambda: control(*options, '-m', 'immediate', 'restart'))
+        again.start()
         try:
             said = run([sys.executable, os.path.join(HERE, 'historian_test.py'), program, '20', '1', f'postgresql://keyorchid@127.0.0.1:{port}/postgres'])
             return '; '.join(said.splitlines()[1:])
         finally:
-            run(tool('pg_ctl', '-D', f'{data}/db', '-m', 'immediate', 'stop'), cwd='/')
+            again.join()
+            control('-m', 'immediate', 'stop')
     finally:
         shutil.rmtree(data, ignore_errors=True)
 
