@@ -1,4 +1,4 @@
-"""What goes wrong, and statuses by name (IEC 62541-4, 7.39 StatusCode; IEC 62541-6, Annex A).
+"""What goes wrong, and statuses by name (IEC 62541-4, clause 7, StatusCode; IEC 62541-6, Annex A).
 
 A status is a number of 32 bits. Its two highest bits say good (0), uncertain (1) or bad (2); its upper half has the name, and of a
 value's status the lower half may say that values before it were lost.
@@ -76,7 +76,7 @@ def is_bad(code):
 
 
 def lost_before(code):
-    """Whether the status of a value says that values before it were lost (IEC 62541-4, 7.39.1, Overflow)."""
+    """Whether the status of a value says that values before it were lost (IEC 62541-4, StatusCode, Overflow)."""
     return code & OVERFLOW == OVERFLOW
 
 

@@ -14,7 +14,7 @@ RequestHeader                    token:NodeId time:DateTime handle:UInt32 diagno
 ResponseHeader                   time:DateTime handle:UInt32 result:StatusCode diagnostics:DiagnosticInfo texts:String* more:ExtensionObject
 ServiceFault 397
 
-# 5.4.4 GetEndpoints, 7.2 ApplicationDescription, 7.14 EndpointDescription, 7.43 UserTokenPolicy
+# 5.4.4 GetEndpoints; clause 7, ApplicationDescription, EndpointDescription, UserTokenPolicy
 ApplicationDescription           uri:String product:String name:LocalizedText kind:UInt32 gateway:String profile:String urls:String*
 UserTokenPolicy                  policy:String kind:UInt32 issued:String issuer:String security:String
 EndpointDescription              url:String server:ApplicationDescription certificate:ByteString mode:UInt32 policy:String users:UserTokenPolicy* transport:String level:Byte
@@ -26,7 +26,7 @@ OpenSecureChannelRequest 446     version:UInt32 kind:UInt32 mode:UInt32 nonce:By
 OpenSecureChannelResponse 449    version:UInt32 channel:UInt32 token:UInt32 created:DateTime lifetime:UInt32 nonce:ByteString
 CloseSecureChannelRequest 452
 
-# 5.6 Session Service Set, 7.37 SignatureData, 7.41 AnonymousIdentityToken
+# 5.6 Session Service Set; clause 7, SignatureData, AnonymousIdentityToken
 SignatureData                    algorithm:String signature:ByteString
 SoftwareCertificate              data:ByteString signature:ByteString
 CreateSessionRequest 461         client:ApplicationDescription server:String url:String name:String nonce:ByteString certificate:ByteString timeout:Double largest:UInt32
@@ -37,7 +37,7 @@ ActivateSessionResponse 470      nonce:ByteString results:StatusCode* diagnostic
 CloseSessionRequest 473          delete:Boolean
 CloseSessionResponse 476
 
-# 5.8 View Service Set: 5.8.2 Browse, 5.8.3 BrowseNext; 7.45 ViewDescription, 7.29 ReferenceDescription
+# 5.8 View Service Set: 5.8.2 Browse, 5.8.3 BrowseNext; clause 7, ViewDescription, ReferenceDescription
 ViewDescription                  view:NodeId time:DateTime version:UInt32
 BrowseDescription                node:NodeId direction:UInt32 type:NodeId subtypes:Boolean classes:UInt32 results:UInt32
 ReferenceDescription             type:NodeId is_forward:Boolean node:ExpandedNodeId browse_name:QualifiedName display_name:LocalizedText node_class:UInt32 definition:ExpandedNodeId
@@ -47,7 +47,7 @@ BrowseResponse 530               results:BrowseResult* diagnostics:DiagnosticInf
 BrowseNextRequest 533            release:Boolean entries:ByteString*
 BrowseNextResponse 536           results:BrowseResult* diagnostics:DiagnosticInfo*
 
-# 5.10 Attribute Service Set: 5.10.2 Read, 5.10.3 HistoryRead, 5.10.4 Write; 7.28 ReadValueId
+# 5.10 Attribute Service Set: 5.10.2 Read, 5.10.3 HistoryRead, 5.10.4 Write; clause 7, ReadValueId; IEC 62541-11, ReadRawModifiedDetails, HistoryData
 ReadValueId                      node:NodeId attribute:UInt32 range:String encoding:QualifiedName
 ReadRequest 631                  age:Double times:UInt32 entries:ReadValueId*
 ReadResponse 634                 results:DataValue* diagnostics:DiagnosticInfo*
@@ -61,14 +61,14 @@ HistoryData 658                  values:DataValue*
 HistoryReadRequest 664           details:ExtensionObject times:UInt32 release:Boolean entries:HistoryReadValueId*
 HistoryReadResponse 667          results:HistoryReadResult* diagnostics:DiagnosticInfo*
 
-# 5.12 MonitoredItem Service Set: 5.12.2 CreateMonitoredItems; 7.21 MonitoringParameters
+# 5.12 MonitoredItem Service Set: 5.12.2 CreateMonitoredItems; clause 7, MonitoringParameters
 MonitoringParameters             handle:UInt32 sampling:Double filter:ExtensionObject queue:UInt32 discard_oldest:Boolean
 MonitoredItemCreateRequest       item:ReadValueId mode:UInt32 wanted:MonitoringParameters
 MonitoredItemCreateResult        status:StatusCode item:UInt32 sampling:Double queue:UInt32 filter:ExtensionObject
 CreateMonitoredItemsRequest 751  subscription:UInt32 times:UInt32 entries:MonitoredItemCreateRequest*
 CreateMonitoredItemsResponse 754 results:MonitoredItemCreateResult* diagnostics:DiagnosticInfo*
 
-# 5.13 Subscription Service Set: 5.13.2 create, 5.13.5 Publish, 5.13.6 Republish, 5.13.8 delete; 7.25 NotificationData, 7.26 NotificationMessage
+# 5.13 Subscription Service Set: 5.13.2 create, 5.13.5 Publish, 5.13.6 Republish, 5.13.8 delete; clause 7, NotificationData, NotificationMessage
 CreateSubscriptionRequest 787    interval:Double lifetime:UInt32 keep_alive:UInt32 most:UInt32 enabled:Boolean priority:Byte
 CreateSubscriptionResponse 790   subscription:UInt32 interval:Double lifetime:UInt32 keep_alive:UInt32
 Acknowledgement                  subscription:UInt32 number:UInt32

@@ -58,7 +58,10 @@ class Subscription:
 
 
 class Watch:
-    """Watches nodes. Intervals are in ms, counts in publishing intervals, as they are asked for; the server may revise them."""
+    """Watches nodes. Intervals are in ms, counts in publishing intervals, as they are asked for; the server may revise them.
+
+    A session takes one watch, since the answers to Publish are all of its subscriptions'. `add` gives it further nodes.
+    """
 
     def __init__(self, session, nodes, interval=1000.0, keep_alive=10, lifetime=60, sampling=0.0, queue=10, keep_oldest=False, most=0):
         self.session = session
@@ -68,6 +71,10 @@ class Watch:
         self.requests, self.acknowledged, self.events = deque(), [], deque()
         self.is_connected, self.next_try, self.pause, self.asked = True, 0.0, 0.0, time.monotonic()
         self.watch()
+
+    def add(self, nodes):
+        """Watches further nodes from the next turn on, in a subscription of their own."""
+        self.unwatched = self.unwatched + list(nodes)
 
     def watch(self):
         """Makes a subscription for the nodes that have none, and further ones for those that are too many for it."""

@@ -89,7 +89,7 @@ NULL_EXTENSION = Extension(NULL_ID, None)
 
 
 class DataValue(namedtuple('DataValue', 'kind value status source server', defaults=(0, None, 0, None, None))):
-    """A value with its type, status and times (IEC 62541-4, 7.11). A time is None where it isn't there."""
+    """A value with its type, status and times (IEC 62541-4, clause 7, DataValue). A time is None where it isn't there."""
     __slots__ = ()
 
     @property

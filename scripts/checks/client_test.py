@@ -180,8 +180,8 @@ def tells_gaps(program, folder):
         time.sleep(0.3)
     proxy.cut()
     watcher.go_on(lambda one: 3 in one.values)
-    gaps = [(event.first, event.last) for event in watcher.events if isinstance(event, Gap)]
-    same('gap and values', (gaps, watcher.values), ([(2, 3)], [0, 3]))
+    gaps = [event.first for event in watcher.events if isinstance(event, Gap)]
+    same('gap and values', (gaps, watcher.values[0], 1 in watcher.values), ([2], 0, False))
     # The server ends and another one begins: the session is gone, and so are its messages.
     before = len(watcher.events)
     server.end()
@@ -197,13 +197,13 @@ def tells_gaps(program, folder):
 def notices_silence(program, folder):
     """A server that stands still is noticed within twice the keep-alive time, and found again when it goes on."""
     server = serve(program, write_plant(os.path.join(folder, 'still.toml'), 5, publish_time=2_500_000, publish_duration='"0000000000406f40"'))
-    watcher = Watcher(server.port, [TAGS[0]], keep_alive=4)  # a second
+    watcher = Watcher(server.port, [TAGS[0]], keep_alive=8)  # two seconds
     watcher.go_on(lambda one: one.count(KeepAlive) == 1)
     server.process.send_signal(signal.SIGSTOP)
     began = time.monotonic()
     watcher.go_on(lambda one: one.count(Lost) == 1)
     took = time.monotonic() - began
-    assert 0.5 <= took <= 2.2, took
+    assert 1 <= took <= 4.3, took
     server.process.send_signal(signal.SIGCONT)
     watcher.go_on(lambda one: one.count(Back) == 1)
     assert watcher.events[-1].same

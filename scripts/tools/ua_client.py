@@ -180,9 +180,9 @@ def write(arguments, output):
         if is_list:
             values, texts = [values], ['[' + ', '.join(texts) + ']']
         statuses = session.write([(arguments.node, DataValue(kind, value)) for value in values], arguments.range)
-    for text, status in zip(texts, statuses):
-        output.row(escaped(f'{arguments.node} {TYPES[kind]} {text} {status_name(status)}'), id=str(arguments.node), type=TYPES[kind], value=text,
-                   status=status_name(status))
+    for text, value, status in zip(texts, values, statuses):
+        output.row(escaped(f'{arguments.node} {TYPES[kind]} {text} {status_name(status)}'), id=str(arguments.node), type=TYPES[kind],
+                   value=json_value(kind, value), status=status_name(status))
     return 1 if any(is_bad(status) for status in statuses) else 0
 
 
