@@ -39,11 +39,15 @@ OVER = NO_SESSION | {CODES[name] for name in ('Bad_NoSubscription', 'Bad_Subscri
 
 
 class Subscription:
-    """What the server made of a subscription, the nodes of its items, and the number of the message that comes next (`due`)."""
+    """What the server made of a subscription, and the number of the message that comes next (`due`).
+
+    `nodes` are those that were asked for, by the handles of their items. `watched` are those that the server took, and `left` those that
+    were too many for it.
+    """
 
     def __init__(self, made, nodes):
         self.number, self.interval, self.lifetime, self.keep_alive = made.subscription, made.interval, made.lifetime, made.keep_alive
-        self.nodes, self.due = nodes, 1
+        self.nodes, self.watched, self.left, self.due = nodes, [], set(), 1
 
     def silence(self):
         """After so many seconds without a word from the server something is wrong. Few servers have timers below 100 ms, whatever they say."""
@@ -86,11 +90,11 @@ class Watch:
             left = [node for node, result in zip(nodes, results) if result.status == CODES['Bad_TooManyMonitoredItems']]
             self.unwatched = left if len(left) < len(nodes) else []
             one = self.subscriptions[made.subscription] = Subscription(made, nodes)
+            one.left, one.watched = set(self.unwatched), [node for node, result in zip(nodes, results) if not is_bad(result.status)]
             self.events.append(Started(one))
             for node, result in zip(nodes, results):
-                if not self.unwatched or result.status != CODES['Bad_TooManyMonitoredItems']:
+                if node not in one.left:
                     self.events.append(Item(node, result.item, result.sampling, result.queue, result.status))
-            one.watched = [node for node, result in zip(nodes, results) if not is_bad(result.status)]
 
     # ---- turns
 
@@ -214,7 +218,7 @@ class Watch:
         if status is not None:
             self.events.append(Ended(one, status))
         self.events.append(Gap(one, None, None, why))
-        self.unwatched = self.unwatched + one.nodes
+        self.unwatched = self.unwatched + [node for node in one.nodes if node not in one.left]
 
     def all_over(self, why):
         for one in list(self.subscriptions.values()):

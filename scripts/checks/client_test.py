@@ -248,8 +248,12 @@ def splits(program, folder):
     watcher.go_on(lambda one: sorted(one.values) == list(range(25)))
     same('subscriptions', watcher.count(Started), 3)
     same('items', sorted(is_bad(event.status) for event in watcher.events if isinstance(event, Item)), [False] * 25 + [True])
-    watcher.close()
     server.end()
+    serve(program, os.path.join(folder, 'seven.toml'), server.port)
+    watcher.go_on(lambda one: len(one.values) >= 50)
+    same('subscriptions and items again', (watcher.count(Started), watcher.count(Item)), (6, 52))
+    same('values again', sorted(watcher.values), sorted([*range(25), *[0] * 25]))
+    watcher.close()
 
 
 def main():
