@@ -223,7 +223,8 @@ class Historian:
                     if name in self.recorder.last:
                         self.recorder.open_gap(name, 'the historian was away')
                 self.recorder.commit()
-                return session, Watch(session, dict.fromkeys(nodes), self.arguments.interval, keep_alive=5, lifetime=60, queue=self.arguments.queue)
+                return session, Watch(session, dict.fromkeys(nodes), self.arguments.interval, keep_alive=5, lifetime=60, queue=self.arguments.queue,
+                                      each_time=True)
             except (Broken, Refused) as problem:
                 if session is not None:
                     session.connection.drop()

@@ -61,7 +61,8 @@ HistoryData 658                  values:DataValue*
 HistoryReadRequest 664           details:ExtensionObject times:UInt32 release:Boolean entries:HistoryReadValueId*
 HistoryReadResponse 667          results:HistoryReadResult* diagnostics:DiagnosticInfo*
 
-# 5.12 MonitoredItem Service Set: 5.12.2 CreateMonitoredItems; clause 7, MonitoringParameters
+# 5.12 MonitoredItem Service Set: 5.12.2 CreateMonitoredItems; clause 7, MonitoringParameters, DataChangeFilter
+DataChangeFilter 724             trigger:UInt32 deadband:UInt32 amount:Double
 MonitoringParameters             handle:UInt32 sampling:Double filter:ExtensionObject queue:UInt32 discard_oldest:Boolean
 MonitoredItemCreateRequest       item:ReadValueId mode:UInt32 wanted:MonitoringParameters
 MonitoredItemCreateResult        status:StatusCode item:UInt32 sampling:Double queue:UInt32 filter:ExtensionObject

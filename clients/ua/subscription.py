@@ -15,7 +15,7 @@ from collections import deque, namedtuple
 
 from .errors import CODES, Broken, Refused, is_bad, status_name
 from .session import NO_SESSION
-from .structures import of_extension
+from .structures import extension, of_extension
 from .types import VALUE
 
 # The events of a watch. `subscription` is a Subscription.
@@ -28,6 +28,7 @@ Ended = namedtuple('Ended', 'subscription status')  # the server ended it; anoth
 Lost = namedtuple('Lost', 'why')  # there is no connection; told once
 Back = namedtuple('Back', 'same')  # there is one again; `same`: with the same session
 
+STATUS_VALUE_TIMESTAMP = 2  # IEC 62541-4, DataChangeTrigger
 WAITING = 3  # Publish requests at the server, so that one is there while another is on its way
 MOST_TOLD = 100  # acknowledgements in a Publish request
 NUMBERS = 2**32 - 1  # of messages, from 1
@@ -64,13 +65,16 @@ class Subscription:
 class Watch:
     """Watches nodes. Intervals are in ms, counts in publishing intervals, as they are asked for; the server may revise them.
 
+    With `each_time` a value is told that differs from the last one by its time alone.
     A session takes one watch, since the answers to Publish are all of its subscriptions'. `add` gives it further nodes.
     """
 
-    def __init__(self, session, nodes, interval=1000.0, keep_alive=10, lifetime=60, sampling=0.0, queue=10, keep_oldest=False, most=0):
+    def __init__(self, session, nodes, interval=1000.0, keep_alive=10, lifetime=60, sampling=0.0, queue=10, keep_oldest=False, most=0, each_time=False):
         self.session = session
         self.wanted = {'interval': interval, 'keep_alive': keep_alive, 'lifetime': lifetime, 'most': most, 'enabled': True}
         self.item = {'sampling': sampling, 'queue': queue, 'discard_oldest': not keep_oldest}
+        if each_time:
+            self.item['filter'] = extension('DataChangeFilter', trigger=STATUS_VALUE_TIMESTAMP)
         self.unwatched, self.subscriptions = list(nodes), {}
         self.requests, self.acknowledged, self.events = deque(), [], deque()
         self.is_connected, self.next_try, self.pause, self.asked = True, 0.0, 0.0, time.monotonic()

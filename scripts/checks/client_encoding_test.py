@@ -103,6 +103,7 @@ STRUCTURED = [
      '00 00 00 00 00 40 8F 40 3C 00 00 00 0A 00 00 00 00 00 00 00 01 00'),
     ('CreateSubscriptionResponse', {'subscription': 1, 'interval': 1000.0, 'lifetime': 60, 'keep_alive': 10},
      '01 00 00 00 00 00 00 00 00 40 8F 40 3C 00 00 00 0A 00 00 00'),
+    ('DataChangeFilter', {'trigger': 2, 'deadband': 0, 'amount': 0.0}, '02 00 00 00 00 00 00 00 00 00 00 00 00 00 00 00'),
     ('MonitoringParameters', {'handle': 5, 'sampling': 0.0, 'filter': Extension(numbered(0), None), 'queue': 10, 'discard_oldest': True},
      '05 00 00 00 00 00 00 00 00 00 00 00 00 00 00 0A 00 00 00 01'),
     ('MonitoredItemCreateResult', {'status': 0, 'item': 3, 'sampling': 0.0, 'queue': 10, 'filter': Extension(numbered(0), None)},
