@@ -15,7 +15,7 @@ import tempfile
 import time
 
 from lib.proxy import Proxy, write_plant
-from lib.serving import PATIENCE, Program, Server
+from lib.serving import PATIENCE, Program, Server, up_to_three_times
 
 HERE = os.path.dirname(os.path.realpath(__file__))
 CLIENT = os.path.join(HERE, '..', 'tools', 'ua_client.py')
@@ -37,7 +37,7 @@ def same(what, came, wanted):
 
 
 def on(port, name='client_test'):
-    return Session(f'opc.tcp://127.0.0.1:{port}', name)
+    return Session(f'opc.tcp://127.0.0.1:{port}', name, patience=60)
 
 
 ENDS = []  # what is to be ended whatever happens
@@ -61,7 +61,7 @@ class Watcher:
         self.watch = Watch(self.session, nodes, **wishes)
         self.events, self.values = [], []
 
-    def go_on(self, is_there, patience=60):
+    def go_on(self, is_there, patience=PATIENCE):
         """Takes events until this is so."""
         until = time.monotonic() + patience
         while not is_there(self):
@@ -259,7 +259,10 @@ def splits(program, folder):
 def main():
     if len(sys.argv) != 2:
         sys.exit(__doc__)
-    program = os.path.abspath(sys.argv[1])
+    up_to_three_times(lambda: try_all(os.path.abspath(sys.argv[1])))
+
+
+def try_all(program):
     with tempfile.TemporaryDirectory() as folder:
         server = serve(program, write_plant(os.path.join(folder, 'plant.toml'), len(TAGS)))
         try:
@@ -269,8 +272,8 @@ def main():
                 test(*arguments)
                 print(f'ok {test.__name__} ({time.monotonic() - began:.1f} s)', flush=True)
         finally:
-            for end in ENDS:
-                end()
+            while ENDS:
+                ENDS.pop()()
 
 
 if __name__ == '__main__':

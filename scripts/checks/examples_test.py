@@ -51,7 +51,7 @@ def standard_nodes(program, folder):
     assert f'# {count} nodes' in text_of(STANDARD)
     server = Server(program, both)
     try:
-        with Session(f'opc.tcp://127.0.0.1:{server.port}') as session:
+        with Session(f'opc.tcp://127.0.0.1:{server.port}', patience=60) as session:
             same('data types', {reference.node.value for _, reference in session.below(numbered(24))}, set(range(1, 31)) - {24})
             found = {str(reference.browse_name): reference.node for _, reference in session.below(numbered(2253))}
             for name, value in (('MaxNodesPerRead', 1000), ('MaxBrowseContinuationPoints', 10), ('ServiceLevel', 255), ('MaxReturnDataValues', 1000),
@@ -67,7 +67,7 @@ def plant(program):
     server = Server(program, PLANT)
     address = f'opc.tcp://127.0.0.1:{server.port}'
     try:
-        with Session(address) as session:
+        with Session(address, patience=60) as session:
             tags = session.variables_below(NodeId(1, 's', 'Plant'))
             same('tags', len(tags), 40)
             simulator = subprocess.Popen([sys.executable, os.path.join(TOP, 'examples', 'plant', 'simulator.py'), '--url', address, '--rate', '20', '--seconds', '6'],

@@ -16,7 +16,7 @@ import threading
 import time
 
 from lib.proxy import Proxy, write_plant
-from lib.serving import PATIENCE, Program, Server
+from lib.serving import PATIENCE, Program, Server, up_to_three_times
 
 HERE = os.path.dirname(os.path.realpath(__file__))
 GATEWAY = os.path.join(HERE, '..', '..', 'clients', 'gateway.py')
@@ -72,7 +72,7 @@ class Witness(threading.Thread):
 
     def __init__(self, port, nodes):
         super().__init__(daemon=True)
-        self.session = Session(url(port), 'witness')
+        self.session = Session(url(port), 'witness', patience=60)
         self.watch = Watch(self.session, nodes, queue=1000)
         self.values, self.lost, self.is_over = {node: [] for node in nodes}, 0, False
         self.start()
@@ -90,7 +90,7 @@ class Witness(threading.Thread):
         self.watch.close()
         self.session.close()
 
-    def wait_for(self, node, value, patience=60):
+    def wait_for(self, node, value, patience=PATIENCE):
         until = time.monotonic() + patience
         while self.values[node][-1:] != [value]:
             assert time.monotonic() < until, f'{node}: {value} has not come, but {self.values[node][-3:]}'
@@ -110,7 +110,7 @@ def serve(program, nodes, port=None):
 
 
 def read(port, *nodes):
-    with Session(url(port)) as session:
+    with Session(url(port), patience=60) as session:
         return [value.value for value in session.read(nodes)]
 
 
@@ -232,6 +232,10 @@ def main():
     if len(sys.argv) not in (2, 3):
         sys.exit(__doc__)
     program, count = os.path.abspath(sys.argv[1]), int(sys.argv[2]) if len(sys.argv) > 2 else 20_000
+    up_to_three_times(lambda: try_all(program, count))
+
+
+def try_all(program, count):
     with tempfile.TemporaryDirectory() as folder:
         try:
             port = serve(program, write_plant(os.path.join(folder, 'plant.toml'), len(TAGS), queue=1000)).port
@@ -241,8 +245,8 @@ def main():
                 test(*arguments)
                 print(f'ok {test.__name__} ({time.monotonic() - began:.1f} s)', flush=True)
         finally:
-            for end in ENDS:
-                end()
+            while ENDS:
+                ENDS.pop()()
 
 
 if __name__ == '__main__':

@@ -17,7 +17,7 @@ import threading
 import time
 
 from lib.proxy import Proxy, write_plant
-from lib.serving import Program, Server
+from lib.serving import PATIENCE, Program, Server
 
 HERE = os.path.dirname(os.path.realpath(__file__))
 sys.path.insert(0, os.path.join(HERE, '..', '..', 'clients'))
@@ -154,16 +154,29 @@ def missing(took, database):
     return absent, found
 
 
-def wait_until(is_there, what, patience=60):
+def wait_until(is_there, what, patience=PATIENCE):
     until = time.monotonic() + patience
     while not is_there():
         assert time.monotonic() < until, what
         time.sleep(0.2)
 
 
+def calm(writer, database):
+    """For three seconds nothing is lost; on a busy machine this may take a second and a third try."""
+    for left in reversed(range(3)):
+        gaps, before = len(gaps_of(database)), len(writer.took)
+        time.sleep(3)
+        took = writer.took[before:]
+        wait_until(lambda: not missing(took, database)[1] and set(took[-3:]) <= readings_of(database), 'values are missing without chaos')
+        if len(gaps_of(database)) == gaps and not missing(took, database)[0]:
+            print(f'ok without chaos: {len(took)} values, no gap', flush=True)
+            return
+        assert left, f'gaps without chaos: {gaps_of(database)}'
+
+
 def settle(plant, writer, database):
     """Each node gets a last value, which the table then has."""
-    with Session(writer.url, 'settle') as session:
+    with Session(writer.url, 'settle', patience=60) as session:
         for tag in TAGS:
             writer.number, writer.moment = writer.number + 1, max(writer.moment + 1, now())
             value = DataValue(6, writer.number, 0, writer.moment)
@@ -187,10 +200,7 @@ def main():
             wait_until(lambda: len(readings_of(database)) == len(TAGS), f'no first values: {plant.historian.lines}')
             writer = Writer(plant.port)
             writer.start()
-            time.sleep(3)
-            wait_until(lambda: not missing(writer.took[:40], database)[0], 'values are missing without chaos')
-            assert not gaps_of(database), gaps_of(database)
-            print(f'ok without chaos: {len(writer.took)} values, no gap', flush=True)
+            calm(writer, database)
             writer.pause, writer.most = 0.01, 12
             until, happened = time.monotonic() + seconds, {}
             acts = [plant.cut, plant.stall, plant.refuse, plant.kill_historian, plant.kill_server, plant.stop_server, plant.stop_historian, plant.hold_historian,

@@ -40,6 +40,17 @@ def free_port():
     raise AssertionError('no port from 5000 to 9999 is free')
 
 
+def up_to_three_times(test):
+    """Runs a test again where it fails, up to three times in all: on a busy machine a client may wait too long."""
+    for left in reversed(range(3)):
+        try:
+            return test()
+        except Exception as error:
+            if left == 0:
+                raise
+            print(f'again, since {type(error).__name__}: {str(error)[:500]}', flush=True)
+
+
 class Program:
     """A program that runs, and the lines that it has printed so far, on standard output and standard error."""
 
