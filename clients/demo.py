@@ -8,6 +8,7 @@ Ctrl-C ends all of them, and so does the end of the server or the screen.
 """
 import argparse
 import os
+import re
 import shutil
 import signal
 import socket
@@ -48,7 +49,7 @@ class Demo:
         self.program, self.port, self.page = arguments.program, arguments.port, arguments.page
         self.folder, self.running = tempfile.mkdtemp(prefix='plant.'), {}
         self.url = f'opc.tcp://127.0.0.1:{self.port}'
-        self.stop_file, self.database = (os.path.join(self.folder, name) for name in ('stop', 'history.db'))
+        self.database = os.path.join(self.folder, 'history.db')
 
     def start(self, name, *words, **how):
         """Starts a program in a session of its own, so that Ctrl-C in a terminal is this program's alone."""
@@ -65,8 +66,13 @@ class Demo:
             time.sleep(0.1)
 
     def run(self):
-        server = self.start('server', self.program, 'serve', os.path.join(TOP, 'examples', 'plant', 'plant.toml'), '--port', str(self.port), '--url', self.url,
-                            '--stop-file', self.stop_file, '--quiet', '--trace', stdin=subprocess.DEVNULL, stdout=subprocess.PIPE)
+        with open(os.path.join(TOP, 'examples', 'plant', 'plant.toml'), encoding='utf-8') as file:
+            text = re.sub(r'(?m)^url = .*$', f'url = "{self.url}"', file.read())
+        nodes = os.path.join(self.folder, 'plant.toml')
+        with open(nodes, 'w', encoding='utf-8') as file:
+            file.write(text)
+        server = self.start('server', self.program, 'serve', nodes, '--port', str(self.port), '--trace', stdin=subprocess.DEVNULL,
+                            stdout=subprocess.PIPE, stderr=subprocess.DEVNULL)
         self.wait_for('server', self.port)
         # The server's rows go to the screen, so both run or none.
         self.client('screen', 'clients/screen.py', '--url', self.url, '--port', str(self.page), '--below', 'ns=1;s=Plant', '--trace', '-', stdin=server.stdout,
@@ -83,15 +89,12 @@ class Demo:
         raise ChildProcessError(f"the {'screen' if server.poll() is None else 'server'} ended")
 
     def end(self):
-        """Ends the clients by signals, those that need the server first, and the server by its stop file."""
+        """Ends all by signals, those that need the server first."""
         for name in ('simulator', 'gateway', 'historian', 'server', 'screen'):
             process = self.running.get(name)
             if process is None or process.poll() is not None:
                 continue
-            if name == 'server':
-                open(self.stop_file, 'w').close()
-            else:
-                process.send_signal(signal.SIGTERM)
+            process.send_signal(signal.SIGTERM)
             try:
                 process.wait(10)
             except subprocess.TimeoutExpired:
