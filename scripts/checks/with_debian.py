@@ -1,5 +1,5 @@
 #!/usr/bin/env python3
-"""Tries the clients with what Debian has: a broker of MQTT, PostgreSQL, and Wireshark's dissector.
+"""Tries the clients with what Debian has: a broker of MQTT, PostgreSQL, Wireshark's dissector, and a browser.
 
     /usr/bin/python3 scripts/checks/with_debian.py PROGRAM [--install] [--only NAME]..
 
@@ -9,6 +9,7 @@ Python, which finds Debian's paho and psycopg2. Broker and database are of this 
     mqtt         the gateway takes messages from mosquitto, also once the broker was away
     postgresql   historian_test.py, for 20 seconds, with PostgreSQL, which is killed and begun anew meanwhile
     wireshark    tshark finds nothing malformed in what ua_client.py, gateway and historian send and get
+    browser      Chromium shows values on the screen's page, at two sizes, in the light and in the dark
 """
 import argparse
 import contextlib
@@ -30,9 +31,9 @@ sys.path[:0] = [os.path.join(TOP, 'clients'), os.path.join(TOP, 'scripts', 'tool
 from to_pcap import Capture, Connection  # noqa: E402
 from ua import NodeId, Session  # noqa: E402
 
-PACKAGES = ['mosquitto', 'mosquitto-clients', 'python3-paho-mqtt', 'postgresql', 'python3-psycopg2', 'tshark']
+PACKAGES = ['mosquitto', 'mosquitto-clients', 'python3-paho-mqtt', 'postgresql', 'python3-psycopg2', 'tshark', 'chromium']
 CLIENTS = {name: [sys.executable, os.path.join(TOP, place)] for name, place in
-           (('ua_client', 'scripts/tools/ua_client.py'), ('gateway', 'clients/gateway.py'), ('historian', 'clients/historian.py'))}
+           (('ua_client', 'scripts/tools/ua_client.py'), ('gateway', 'clients/gateway.py'), ('historian', 'clients/historian.py'), ('screen', 'clients/screen.py'))}
 
 
 @contextlib.contextmanager
@@ -50,7 +51,7 @@ def run(words, **how):
 
 
 def wait_for(is_there, what):
-    until = time.monotonic() + 60
+    until = time.monotonic() + 120
     while not is_there():
         assert time.monotonic() < until, what()
         time.sleep(0.1)
@@ -155,15 +156,34 @@ def wireshark(program, folder):
     return f'{capture.packets} packets, {len(services)} kinds of messages, nothing malformed'
 
 
+def browser(program, folder):
+    page, profile = free_port(), os.path.join(folder, 'profile')
+    chromium = ['chromium', '--headless=new', '--no-sandbox', '--disable-gpu', '--hide-scrollbars', f'--user-data-dir={profile}', '--timeout=10000']
+    with running(Server(program, write_plant(os.path.join(folder, 'plant.toml'), 10))) as server:
+        url = f'opc.tcp://127.0.0.1:{server.port}'
+        with running(Program([*CLIENTS['screen'], '--url', url, '--port', str(page)])) as screen:
+            screen.wait_for_line(f'http://127.0.0.1:{page}/')
+            run([*CLIENTS['gateway'], '--to', url], input='\n'.join(f'ns=1;i=101,{value}' for value in range(41, 4242, 100)))
+            shown = lambda: subprocess.run([*chromium, '--dump-dom', f'http://127.0.0.1:{page}/'], capture_output=True, text=True, timeout=PATIENCE).stdout
+            wait_for(lambda: all(text in shown() for text in ('Tag0', 'Tag9', '4241')), lambda: 'the page shows no Tag0 to Tag9, or not 4241')
+            sizes = []
+            for size, dark in (('1280,800', False), ('1920,1080', True), ('400,800', False)):
+                shot = os.path.join(folder, f'{size}.png')
+                run([*chromium, *['--force-dark-mode', '--enable-features=WebContentsForceDark'] * dark, f'--window-size={size}', f'--screenshot={shot}', f'http://127.0.0.1:{page}/'])
+                sizes.append(os.path.getsize(shot))
+            assert min(sizes) > 10_000, sizes
+    return f'three screenshots of {sizes} bytes'
+
+
 def main():
     parser = argparse.ArgumentParser(description=__doc__.split('\n')[0])
     parser.add_argument('program')
     parser.add_argument('--install', action='store_true', help='install the packages first')
-    parser.add_argument('--only', action='append', choices=['mqtt', 'postgresql', 'wireshark'], help='try this alone')
+    parser.add_argument('--only', action='append', choices=['mqtt', 'postgresql', 'wireshark', 'browser'], help='try this alone')
     arguments = parser.parse_args()
     if arguments.install:
         run(['apt-get', 'install', '-y', '-qq', *PACKAGES], env={**os.environ, 'DEBIAN_FRONTEND': 'noninteractive'})
-    for test in (mqtt, postgresql, wireshark):
+    for test in (mqtt, postgresql, wireshark, browser):
         if not arguments.only or test.__name__ in arguments.only:
             with tempfile.TemporaryDirectory() as folder:
                 print(f'ok {test.__name__}: {test(os.path.abspath(arguments.program), folder)}', flush=True)
