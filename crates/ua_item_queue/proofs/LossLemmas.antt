@@ -18,7 +18,7 @@ not_left WasSent w s = absurd (cc)
 not_left WasLost w s = refl
 not_left WasCleared w s = refl
 
-first_appended : {V : Type 0} → (ts us : List (AccountEntry V)) → is_first_marked ts ≡ true → is_first_marked (ts ++ us) ≡ true
+pub first_appended : {V : Type 0} → (ts us : List (AccountEntry V)) → is_first_marked ts ≡ true → is_first_marked (ts ++ us) ≡ true
 first_appended [] us h = absurd (cc)
 first_appended (t ∷ ts) us h = by (is_left t.fate) h (first_appended ts us)
   where
@@ -35,7 +35,7 @@ marked_settled [] = tt
 marked_settled (t ∷ ts) = ((λ needs_mark. absurd (cc)), marked_settled ts)
 
 -- what is sent is still left
-first_sent : {V : Type 0} → (n : ℕ) (ts : List (AccountEntry V)) → is_first_marked ts ≡ true → is_first_marked (first_get WasSent n ts) ≡ true
+pub first_sent : {V : Type 0} → (n : ℕ) (ts : List (AccountEntry V)) → is_first_marked ts ≡ true → is_first_marked (first_get WasSent n ts) ≡ true
 first_sent n [] h = h
 first_sent zero (t ∷ ts) h = h
 first_sent (suc n) (t ∷ ts) h = by (is_waiting t.fate) refl h (first_sent (suc n) ts)
@@ -58,7 +58,7 @@ marked_sent (suc n) (t ∷ ts) h = by (is_waiting t.fate) (marked_sent n ts h.1)
     by false _ k = ((λ needs_mark. first_sent (suc n) ts (h.0 needs_mark)), k)
 
 -- the first that waits is marked, so the first that is left is, where none was sent
-first_is_marked : {V : Type 0} → (ts : List (AccountEntry V)) → NoneSent ts → 1 ≤ length (waiting ts) → is_first_marked (first_marked ts) ≡ true
+pub first_is_marked : {V : Type 0} → (ts : List (AccountEntry V)) → NoneSent ts → 1 ≤ length (waiting ts) → is_first_marked (first_marked ts) ≡ true
 first_is_marked [] h some = absurd (omega arith)
 first_is_marked (t ∷ ts) h some = by (is_waiting t.fate) refl some (first_is_marked ts h.1)
   where
@@ -67,7 +67,7 @@ first_is_marked (t ∷ ts) h some = by (is_waiting t.fate) refl some (first_is_m
     by false e k ih = rw (not_left t.fate e h.0) (ih k)
 
 -- marks are only added
-stays_marked : {V : Type 0} → (ts : List (AccountEntry V)) → is_first_marked ts ≡ true → is_first_marked (first_marked ts) ≡ true
+pub stays_marked : {V : Type 0} → (ts : List (AccountEntry V)) → is_first_marked ts ≡ true → is_first_marked (first_marked ts) ≡ true
 stays_marked [] h = h
 stays_marked (t ∷ ts) h = by (is_waiting t.fate) refl h (stays_marked ts)
   where
@@ -95,7 +95,7 @@ get_none f (t ∷ ts) = refl
 abbrev pub lost_front : {V : Type 0} → List (AccountEntry V) → List (AccountEntry V)
 lost_front ts = first_marked (first_get WasLost 1 ts)
 
-first_of_front : {V : Type 0} → (ts : List (AccountEntry V)) → IsInOrder ts → 2 ≤ length (waiting ts) → is_first_marked ts ≡ true → is_first_marked (lost_front ts) ≡ true
+pub first_of_front : {V : Type 0} → (ts : List (AccountEntry V)) → IsInOrder ts → 2 ≤ length (waiting ts) → is_first_marked ts ≡ true → is_first_marked (lost_front ts) ≡ true
 first_of_front [] o some h = absurd (cc)
 first_of_front (t ∷ ts) o some h = by (is_waiting t.fate) refl some h (first_of_front ts o.1)
   where
@@ -119,7 +119,7 @@ marked_front_lost (t ∷ ts) o some h = by (is_waiting t.fate) refl some (λ som
 abbrev pub replaced : {V : Type 0} → ℕ → V → List (AccountEntry V) → List (AccountEntry V)
 replaced n v ts = others_get WasLost n ts ++ entered v true ∷ []
 
-new_is_first : {V : Type 0} → (v : V) (ts : List (AccountEntry V)) → NoneSent ts → is_first_marked (replaced 0 v ts) ≡ true
+pub new_is_first : {V : Type 0} → (v : V) (ts : List (AccountEntry V)) → NoneSent ts → is_first_marked (replaced 0 v ts) ≡ true
 new_is_first v [] h = refl
 new_is_first v (t ∷ ts) h = by (is_waiting t.fate) refl (new_is_first v ts h.1)
   where
@@ -127,7 +127,7 @@ new_is_first v (t ∷ ts) h = by (is_waiting t.fate) refl (new_is_first v ts h.1
     by true e ih = ih
     by false e ih = rw (not_left t.fate e h.0) ih
 
-first_of_replaced : {V : Type 0} → (n : ℕ) (v : V) (ts : List (AccountEntry V)) → IsInOrder ts → is_first_marked ts ≡ true → is_first_marked (replaced n v ts) ≡ true
+pub first_of_replaced : {V : Type 0} → (n : ℕ) (v : V) (ts : List (AccountEntry V)) → IsInOrder ts → is_first_marked ts ≡ true → is_first_marked (replaced n v ts) ≡ true
 first_of_replaced n v [] o h = absurd (cc)
 first_of_replaced zero v (t ∷ ts) o h = by (is_waiting t.fate) refl h (first_of_replaced zero v ts o.1)
   where

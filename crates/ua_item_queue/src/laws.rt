@@ -5,6 +5,7 @@ ghost use Rattle.ua_item_queue.specs.ItemQueue.{QueueMove, queue};
 ghost use Rattle.ua_item_queue.specs.ItemQueue.QueueMove.{Sample};
 ghost use Rattle.ua_item_queue.specs.Fates.{account, account_after, waiting, GoesOn, IsInOrder, LossesAreMarked, NewLossesAreMarked};
 ghost use Rattle.ua_item_queue.specs.Causes.{may_give, GetsOnly};
+ghost use Rattle.ua_item_queue.specs.Marks.{AllAboveOne, MarksTheNextLeft};
 ghost use Rattle.ua_item_queue.specs.Sendings.{values_of, sampled_by, sent_of, given_by};
 
 /// The queue is those values of the account that wait, in the order in which they were queued.
@@ -40,6 +41,14 @@ pub fn losses_are_marked<T>()
 pub fn marks_losses_at_once<T>()
     ensures { (queue_moves : List (QueueMove T)) (size : ℕ) (discard_oldest : Bool) (value : T) → 1 < size →
         NewLossesAreMarked (account queue_moves) (account_after (account queue_moves) (Sample size discard_oldest value)) }
+{}
+
+/// Where the queue loses the value at a place, its size is above 1 from then on, and no value becomes cleared, the first later value that
+/// was neither lost nor cleared carries a mark, whatever else is done.
+#[tactic(auto, using(crate::proofs::NextMarked::marks_the_next))]
+pub fn marks_the_next_left<T>()
+    ensures { (queue_moves more : List (QueueMove T)) (size : ℕ) (discard_oldest : Bool) (value : T) → 1 < size → AllAboveOne more →
+        MarksTheNextLeft (account queue_moves) (account_after (account queue_moves) (Sample size discard_oldest value)) more }
 {}
 
 /// The account has each value that was ever queued, in the order in which they were, and no other.

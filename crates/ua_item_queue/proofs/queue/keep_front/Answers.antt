@@ -1,4 +1,4 @@
-use Rattle.std.proofs.Common.{◌∙◌, [], ap, sym}
+use Rattle.std.proofs.Common.{◌∙◌, ap, sym}
 use Rattle.ua_item_queue.specs.ItemQueue.{newest as newest_spec}
 use Rattle.ua_item_queue.proofs.LastLemmas.{newest_again, has_newest}
 use Rattle.ua_item_queue.proofs.queue.keep_front.Goals as goal
