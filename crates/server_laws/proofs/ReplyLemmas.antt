@@ -10,9 +10,10 @@ use Rattle.ua_monitored_items.specs.Items.{ItemsState}
 use Rattle.ua_subscriptions.specs.SubscriptionCalls.{SubscriptionsState}
 use Rattle.subscription_laws.specs.Answering.{Brings, AreBrought}
 use Rattle.subscription_laws.specs.Messaging.{Made, run_made}
-use Rattle.subscription_laws.specs.Runs.{Move, Ran, run}
-use Rattle.subscription_laws.proofs.BroughtByCalls.{all_answers}
+use Rattle.subscription_laws.specs.Runs.{Move, Ran, start, run}
+use Rattle.subscription_laws.proofs.RunMessages.{IsRunNumbered, run_numbered}
 use Rattle.subscription_laws.proofs.RunsKept.{IsRunKept, run_kept}
+use Rattle.subscription_laws.proofs.TellingRuns.{all_answers}
 use Rattle.server_laws.specs.EventMoves.{serving_moves, ticking_moves, moves_of}
 use Rattle.server_laws.specs.Moving.{ran_at, StandIn, ComesOnBy}
 use Rattle.server_laws.specs.Replying.{BringsItsMessages, BringsMessages, SendsReplies}
@@ -51,11 +52,11 @@ same_behind (f ∷ front) xs ys e = same_behind front xs ys (tail e)
 
 -- ---- a serving
 
-brings : (state : Services) (s : Serving) (rows : List Fired) (replies : List Reply) (moves : List Move) → IsRunKept (ran_at state rows replies) → ComesOnBy state moves s → BringsItsMessages (ran_at state rows replies) moves s
-brings state s rows replies moves kept goes =
+brings : (state : Services) (s : Serving) (rows : List Fired) (replies : List Reply) (moves : List Move) (made : List Made) → IsRunKept (ran_at state rows replies) → IsRunNumbered made (ran_at state rows replies) → ComesOnBy state moves s → BringsItsMessages (ran_at state rows replies) moves s
+brings state s rows replies moves made kept numbered goes =
     let from = ran_at state rows replies in
     let went = goes rows replies in
-    let told = all_answers moves from kept in
+    let told = all_answers moves made from kept numbered in
     let same : told.more ≡ went.answers = same_behind replies told.more went.answers (sym told.so ∙ ap (λ (r : Ran). r.replies) went.left) in
     record {
       went = went;
@@ -69,7 +70,8 @@ brings_from config before moves state s subs items goes =
     let same : ran_at state r.rows r.replies ≡ r =
     ap (λ (x : SubscriptionsState). record { subs = x; items = state.items; rows = r.rows; replies = r.replies }) (sym subs)
     ∙ ap (λ (x : ItemsState). record { subs = r.subs; items = x; rows = r.rows; replies = r.replies }) (sym items) in
-    subst (λ (from : Ran). BringsItsMessages from moves s) same (brings state s r.rows r.replies moves (subst IsRunKept (sym same) (run_kept config before)) goes)
+    subst (λ (from : Ran). BringsItsMessages from moves s) same
+    (brings state s r.rows r.replies moves (run_made (start config) before) (subst IsRunKept (sym same) (run_kept config before)) (subst (IsRunNumbered (run_made (start config) before)) (sym same) (run_numbered config before)) goes)
 
 -- ---- a server
 

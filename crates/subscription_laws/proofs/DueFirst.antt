@@ -3,6 +3,7 @@ use Rattle.std.proofs.Common.{◌≡◌, ◌≢◌, ℕ, ◌<◌, arith, Bool, t
 use Rattle.std.proofs.lemmas.Bool.{false≢true}
 use Rattle.std.specs.BTreeMap.{is_at}
 use Rattle.std.specs.BTreeSet.{insert_key}
+use Rattle.std.specs.List.{flat_map}
 use Rattle.std.specs.Option.{is_some}
 use Rattle.std.specs.Prelude.{⊤}
 use Rattle.std.specs.Ordering.{nat_cmp, match_ordering}
@@ -11,24 +12,21 @@ use Rattle.std.specs.declared.cmp.Ordering.TheVariants.{Less, Equal, Greater}
 use Rattle.ua_types.specs.Configuration.{Configuration}
 use Rattle.ua_types.specs.declared.moment.Moment.{Moment}
 use Rattle.number_slots.proofs.NumberMaps.{same_number}
-use Rattle.ua_monitored_items.specs.Items.{ItemsState}
-use Rattle.ua_state_table.specs.declared.event.TableEvent.TheVariants as event
 use Rattle.ua_subscriptions.specs.declared.call.Call.{Call}
 use Rattle.ua_subscriptions.specs.declared.call.Call.TheVariants as call
 use Rattle.ua_subscriptions.specs.declared.ranks.Rank.{Rank}
-use Rattle.ua_subscriptions.specs.declared.session_part.SessionSubscriptions.{SessionSubscriptions}
 use Rattle.ua_subscriptions.specs.declared.subscription.Subscription.{Subscription}
 use Rattle.ua_subscriptions.specs.Firing.{fired}
 use Rattle.ua_subscriptions.specs.Ranks.{rank_cmp, rank_of, number_of, with_rank, is_due, with_due, due_of, due_numbers}
 use Rattle.ua_subscriptions.specs.SubscriptionCalls.{world_of}
-use Rattle.ua_subscriptions.specs.Tables.{World, with_call, without_closed, met_found, met, subscription_at, vars_by}
+use Rattle.ua_subscriptions.specs.Tables.{World, with_call, without_closed, met_found, met, subscription_at}
 use Rattle.subscription_laws.specs.Calm.{AreAbove, AreRising, is_listed}
-use Rattle.subscription_laws.specs.Concern.{Concern, if_live, each_concerned, concerned}
+use Rattle.subscription_laws.specs.Concern.{concerns_at, concerned}
+use Rattle.subscription_laws.specs.Encounters.{Encounter, scene_at, meets_by, all_meet}
 use Rattle.subscription_laws.specs.Concern as concern
 use Rattle.subscription_laws.specs.Precedence.{and_then, precedence, IsBeforeFirst, AreBestFirst}
 use Rattle.subscription_laws.specs.Runs.{Move, run}
 use Rattle.subscription_laws.proofs.Entries.{at_itself, apart, less, behind, equal_is}
-use Rattle.subscription_laws.proofs.Keeping.{scene_at}
 use Rattle.subscription_laws.proofs.Reached.{sessions_list}
 use Rattle.subscription_laws.proofs.Settling.{back_other}
 
@@ -291,16 +289,15 @@ still_live n before after [] same out h = tt
 still_live n before after (m ∷ ns) same out h =
     (ap is_some (same m (λ e. not_first n m ns out (sym e))) ∙ h.0, still_live n before after ns same (not_behind (is_at (nat_cmp n) m) (is_listed n ns) out) h.1)
 
-one_numbered : (n : ℕ) (items : ItemsState) (sessions : List (ℕ × SessionSubscriptions)) (more : List Concern) (o : Option Subscription) → is_some o ≡ true →
-    map concern.number_of (if_live n event.Timer (vars_by n items sessions o) ++ more) ≡ n ∷ map concern.number_of more
-one_numbered n items sessions more None e = absurd (false≢true e)
-one_numbered n items sessions more (Some s) e = refl
+one_numbered : (n : ℕ) (w : World) (more : List Encounter) (o : Option Subscription) → is_some o ≡ true → map concern.number_of (flat_map concerns_at (meets_by w n call.Timer o ++ more)) ≡ n ∷ map concern.number_of (flat_map concerns_at more)
+one_numbered n w more None e = absurd (false≢true e)
+one_numbered n w more (Some s) e = refl
 
-all_numbered : (ns : List ℕ) (w : World) → AllLive w.table.subscriptions ns → AreApart ns → map concern.number_of (each_concerned call.Timer w ns) ≡ ns
+all_numbered : (ns : List ℕ) (w : World) → AllLive w.table.subscriptions ns → AreApart ns → map concern.number_of (flat_map concerns_at (all_meet None call.Timer w ns)) ≡ ns
 all_numbered [] w live h = refl
 all_numbered (n ∷ ns) w live h =
     let next = met w n call.Timer in
-    one_numbered n w.items w.table.sessions (each_concerned call.Timer next ns) (subscription_at n w.table.subscriptions) live.0
+    one_numbered n w (all_meet None call.Timer next ns) (subscription_at n w.table.subscriptions) live.0
     ∙ ap (λ (ms : List ℕ). n ∷ ms) (all_numbered ns next (still_live n w.table.subscriptions next.table.subscriptions ns (met_other w n call.Timer) h.0 live.1) h.1)
 
 pub each_is_met : (config : Configuration) (moves : List Move) (clock : Moment) → let r = run config moves in

@@ -13,9 +13,10 @@ use Rattle.ua_subscriptions.specs.declared.subscription.Subscription.{Subscripti
 use Rattle.ua_subscriptions.specs.Calls.{event_of}
 use Rattle.subscription_laws.specs.Calm.{ListsItsOwn, AreLists, IsCalm}
 use Rattle.ua_subscriptions.specs.Firing.{vars_in, before_by, row_of, fired}
-use Rattle.ua_subscriptions.specs.Scenes.{Scene, scene}
+use Rattle.ua_subscriptions.specs.Scenes.{Scene}
+use Rattle.subscription_laws.specs.Encounters.{scene_at}
 use Rattle.subscription_laws.specs.Standings.{IsAsked}
-use Rattle.ua_subscriptions.specs.Tables.{TableState, World, with_call, without_closed, met_found, met, all_met, part_of, subscription_at}
+use Rattle.ua_subscriptions.specs.Tables.{TableState, World, with_call, without_closed, met_found, met, all_met, subscription_at}
 use Rattle.subscription_laws.proofs.ChosenRows.{is_plain, is_end, plain_none, plain_stays, plain_creates, live_fits}
 use Rattle.subscription_laws.proofs.Firings.{firing, fired_rows, fired_session, step}
 use Rattle.subscription_laws.proofs.Remains.{leaves, row_session}
@@ -48,10 +49,6 @@ one_kept except made past rows t items n s f d calm own within step told stays =
     stays_at k other (inr is) = inr (λ e. other (sym is ∙ e))
 
 -- ---- a live subscription meets a call
-
--- the scene of one that meets a call
-abbrev pub scene_at : World → ℕ → Call → Subscription → Scene
-scene_at w n call s = scene (with_call w.round n call) s (part_of s.session w.table.sessions) w.items
 
 pub live_kept : (except : Option ℕ) (made : ℕ) (past : List Fired) (w : World) (n : ℕ) (call : Call) (s : Subscription) → subscription_at n w.table.subscriptions ≡ Some s → IsKept except made past w →
     before_by call (scene_at w n call s) ≡ vars_in (scene_at w n call s) → fits s.state (event_of call) ≡ true →

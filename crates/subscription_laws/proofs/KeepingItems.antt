@@ -23,12 +23,13 @@ use Rattle.subscription_laws.specs.Runs.{ItemsCall, on_items}
 use Rattle.subscription_laws.specs.Runs.ItemsCall.{Create, Modify, SetMode, Link, Delete}
 use Rattle.ua_subscriptions.specs.Scenes.{Scene, row_done}
 use Rattle.subscription_laws.specs.Standings.{Counts, standing, standing_in, circumstances, counts_of}
+use Rattle.subscription_laws.specs.Encounters.{scene_at}
 use Rattle.ua_subscriptions.specs.Subscriptions.{vars_of}
 use Rattle.ua_subscriptions.specs.Tables.{TableState, World, with_call, without_closed, met_found, met, part_of, subscription_at}
 use Rattle.subscription_laws.proofs.Availability.{reached_rise, reached_on, reached_stay, shown_available}
 use Rattle.subscription_laws.proofs.ChosenRows.{live_fits}
 use Rattle.subscription_laws.proofs.Firings.{lawful, firing, fired_rows, fired_number, fired_items, fired_numbers, fired_none, life_told}
-use Rattle.subscription_laws.proofs.Keeping.{IsKept, scene_at, world_after, one_kept, fired_stays}
+use Rattle.subscription_laws.proofs.Keeping.{IsKept, world_after, one_kept, fired_stays}
 use Rattle.subscription_laws.proofs.Remains.{AreApart, apart_then}
 use Rattle.subscription_laws.proofs.RowCounts.{counts_own}
 use Rattle.subscription_laws.proofs.RowFairness.{fair}

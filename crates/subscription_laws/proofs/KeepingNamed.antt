@@ -15,6 +15,7 @@ use Rattle.ua_subscriptions.specs.declared.session_part.SessionSubscriptions.{Se
 use Rattle.ua_subscriptions.specs.declared.settings.Settings.{Settings}
 use Rattle.ua_subscriptions.specs.declared.subscription.Subscription.{Subscription}
 use Rattle.subscription_laws.specs.Calm.{AreRising, AreNumbersRising, is_listed}
+use Rattle.subscription_laws.specs.Encounters.{scene_at}
 use Rattle.ua_subscriptions.specs.Ending.{without_session, session_ended}
 use Rattle.ua_subscriptions.specs.Firing.{is_closed, row_of, fired}
 use Rattle.ua_subscriptions.specs.Making.{revised_of, kept_at, modified, republished}
@@ -25,7 +26,7 @@ use Rattle.ua_subscriptions.specs.Tables.{World, with_call, without_closed, met_
 use Rattle.std.specs.Option.{is_some, ok_or}
 use Rattle.subscription_laws.proofs.ChosenRows.{is_plain, is_end}
 use Rattle.subscription_laws.proofs.Entries.{same_or_not, at_itself, apart, gone_here, gone_other, rising_gone}
-use Rattle.subscription_laws.proofs.Keeping.{IsKept, scene_at, met_plain}
+use Rattle.subscription_laws.proofs.Keeping.{IsKept, met_plain}
 use Rattle.subscription_laws.proofs.KeepingParts.{parts_calm, parts_own, parts_within, set_fewer, fewer_calm}
 use Rattle.subscription_laws.proofs.Settling.{IsPutBack, back_is, some_same}
 

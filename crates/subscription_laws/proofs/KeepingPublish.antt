@@ -29,11 +29,12 @@ use Rattle.ua_subscriptions.specs.Queues.{first_of}
 use Rattle.ua_subscriptions.specs.Ranks.{rank_cmp, rank_of, with_rank, waits_in, is_waiting, waiting_by, with_waiting, waiting_of}
 use Rattle.ua_subscriptions.specs.Scenes.{Scene, row_done}
 use Rattle.subscription_laws.specs.Standings.{IsAsked}
+use Rattle.subscription_laws.specs.Encounters.{scene_at, ready}
 use Rattle.ua_subscriptions.specs.Subscriptions.{is_any, is_of}
 use Rattle.ua_subscriptions.specs.Tables.{TableState, World, with_call, without_closed, met_found, met, all_met, part_at, part_of, set_part, subscription_at}
 use Rattle.subscription_laws.proofs.ChosenRows.{publish_stays, waiting_none, live_fits}
 use Rattle.subscription_laws.proofs.Entries.{same_or_not, at_itself, apart}
-use Rattle.subscription_laws.proofs.Keeping.{IsKept, scene_at, world_after, live_kept, fired_stays}
+use Rattle.subscription_laws.proofs.Keeping.{IsKept, world_after, live_kept, fired_stays}
 use Rattle.subscription_laws.proofs.KeepingParts.{parts_calm, parts_own, parts_within, set_fewer, kept_calm, kept_own}
 use Rattle.subscription_laws.proofs.RowLinks.{enqueued_any}
 use Rattle.subscription_laws.proofs.Settling.{NoneWaits, IsPutBack, back_is, part_own}
@@ -339,12 +340,6 @@ answered_to_kept session made past w call (n ∷ ns) are k = best_kept session m
 answered_kept : (session made : ℕ) (past : List Fired) (w : World) (call : PublishCall) (note : Option TimeoutNote) → IsKept None made past w → IsKept None made past (answered_by note session call w)
 answered_kept session made past w call (Some note) k = record { calm = k.calm; own = k.own; within = k.within }
 answered_kept session made past w call None k = answered_to_kept session made past w call (part_at session w.table.sessions).numbers refl k
-
--- once the acknowledgements were applied, and the oldest note was taken
-abbrev pub ready : ℕ → List SubscriptionAcknowledgement → World → World
-ready session acks w =
-    let all = acknowledged_all session w.table.subscriptions acks in
-    record { round = w.round; table = record { subscriptions = all.subscriptions; sessions = without_note session w.table.sessions }; items = w.items }
 
 pub ready_kept : (session made : ℕ) (past : List Fired) (acks : List SubscriptionAcknowledgement) (w : World) → IsKept None made past w → IsKept None made past (ready session acks w)
 ready_kept session made past acks w k =

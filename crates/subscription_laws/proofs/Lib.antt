@@ -4,7 +4,7 @@ pub mod RowFairness
 pub mod RowSteady
 pub mod MadeMessages
 pub mod KeepAlives
-pub mod BroughtMessages
+pub mod RowRequests
 pub mod Entries
 pub mod Availability
 pub mod Remains
@@ -20,7 +20,6 @@ pub mod KeepingMade
 pub mod KeepingItems
 pub mod RunsKept
 pub mod Reached
-pub mod BroughtByCalls
 pub mod RequestCounts
 pub mod MessageLists
 pub mod MessagesKept
@@ -37,4 +36,9 @@ pub mod WithinBounds
 pub mod TellingRows
 pub mod TellingRuns
 pub mod DueFirst
+pub mod Walks
+pub mod AskedNumbers
+pub mod CallRows
+pub mod LiveItemRows
+pub mod OwnAnswers
 pub mod ShutdownLemmas

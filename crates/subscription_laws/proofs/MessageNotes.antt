@@ -1,5 +1,5 @@
 -- The notes of time-outs have the numbers of the messages that would have come next.
-use Rattle.std.proofs.Common.{◌≡◌, ◌≢◌, ◌⊎◌, inl, inr, ℕ, ◌≤◌, Bool, true, false, ◌||◌, cond, List, [], ◌∷◌, ◌++◌, drop, append-nil, append_assoc, nat_le, length, Option, Some, None, refl, sym, ap, ◌∙◌, subst}
+use Rattle.std.proofs.Common.{◌≡◌, ◌≢◌, ◌⊎◌, inl, inr, ℕ, ◌≤◌, Bool, true, false, ◌||◌, cond, List, [], ◌∷◌, ◌++◌, drop, append-nil, nat_le, length, Option, Some, None, refl, sym, ap, ◌∙◌, subst}
 use Rattle.std.specs.BTreeMap.{is_at}
 use Rattle.std.specs.List.{list_any}
 use Rattle.std.specs.Map.{set_value, remove_entry}
@@ -19,16 +19,17 @@ use Rattle.ua_subscriptions.specs.declared.round.Round.{Round}
 use Rattle.subscription_laws.specs.Calm.{AreRising}
 use Rattle.ua_subscriptions.specs.Firing.{is_closed, row_of, fired}
 use Rattle.ua_subscriptions.specs.Messages.{number_after}
-use Rattle.subscription_laws.specs.Messaging.{Made, made_of, made_by, met_made, all_made, messages_for, AreNotes}
+use Rattle.subscription_laws.specs.Messaging.{Made, made_of, made_at, messages_for, AreNotes}
+use Rattle.subscription_laws.specs.Encounters.{Meets, scene_at}
 use Rattle.subscription_laws.specs.Numbering.{last_number, messages_of}
 use Rattle.ua_subscriptions.specs.Scenes.{Scene, Queueing, enqueued, enqueued_by, done, all_done, row_done}
-use Rattle.ua_subscriptions.specs.Tables.{TableState, World, with_call, without_closed, met_found, met, all_met, part_at, part_of, set_part, subscription_at}
+use Rattle.ua_subscriptions.specs.Tables.{TableState, World, part_at, part_of, set_part, subscription_at}
 use Rattle.subscription_laws.proofs.ChosenRows.{is_create}
 use Rattle.subscription_laws.proofs.Entries.{gone_here, rising_set}
-use Rattle.subscription_laws.proofs.Keeping.{scene_at}
+use Rattle.subscription_laws.proofs.Keeping.{world_after}
 use Rattle.subscription_laws.proofs.KeepingParts.{set_part_is}
 use Rattle.subscription_laws.proofs.MessageLists.{more_own, more_other}
-use Rattle.subscription_laws.proofs.MessagesKept.{IsNumbered, met_numbered}
+use Rattle.subscription_laws.proofs.MessagesKept.{IsNumbered, live_numbered}
 use Rattle.subscription_laws.proofs.Settling.{put_back, back_other, part_rises}
 
 -- ---- notes of subscriptions that are over
@@ -121,7 +122,7 @@ only_G6 : (r : RowId) → list_any is_noting (actions_of r) ≡ true → r ≡ G
 only_G6 G6 e = refl
 only_G6 r e = absurd (cc)
 
-abbrev note_left : Scene → TimeoutNote
+abbrev pub note_left : Scene → TimeoutNote
 note_left c = record { subscription = c.round.own; number = number_after c.subscription.number }
 
 -- what it leaves
@@ -139,7 +140,7 @@ unfolding fired
 fired_same_notes c e = row_notes (row_of c) c e
 
 -- notes are as before, or it is that row
-fired_notes : (c : Scene) → ((fired c).part.notes ≡ c.part.notes) ⊎ (((fired c).part.notes ≡ c.part.notes ++ note_left c ∷ []) × (is_closed (fired c).subscription ≡ true) × (messages_of (row_of c) c ≡ []))
+pub fired_notes : (c : Scene) → ((fired c).part.notes ≡ c.part.notes) ⊎ (((fired c).part.notes ≡ c.part.notes ++ note_left c ∷ []) × (is_closed (fired c).subscription ≡ true) × (messages_of (row_of c) c ≡ []))
 unfolding fired
 fired_notes c = by (list_any is_noting (actions_of (row_of c))) refl
   where
@@ -206,28 +207,10 @@ module _ (made : ℕ) (ms : List Made) (w : World) (n : ℕ) (call : Call) (s : 
       by (inl same) = subst (λ (p : SessionSubscriptions). AllNotes made after left p.notes) (sym same) (notes_before k)
       by (inr (at, is)) = subst (λ (p : SessionSubscriptions). AllNotes made after left p.notes) (sym is) own_notes
 
-met_notes : (made : ℕ) (ms : List Made) (w : World) (n : ℕ) (call : Call) → IsMessaged made ms w.table → (k : ℕ) → AllNotes made (ms ++ met_made w n call) (met w n call).table.subscriptions (part_at k (met w n call).table.sessions).notes
-unfolding met
-met_notes made ms w n call h k = by (subscription_at n w.table.subscriptions) refl
-  where
-    by : (o : Option Subscription) → subscription_at n w.table.subscriptions ≡ o → let t : TableState = (without_closed n (met_found (with_call w.round n call) w.table.subscriptions w.table.sessions w.items o)).table in
-        AllNotes made (ms ++ made_by w n call o) t.subscriptions (part_at k t.sessions).notes
-    by None found = subst (λ (xs : List Made). AllNotes made xs w.table.subscriptions (part_at k w.table.sessions).notes) (sym (append-nil ms)) (h.notes k)
-    by (Some s) found = notes_after made ms w n call s h found s.session k
-
-met_rises : (w : World) (n : ℕ) (call : Call) → AreRising w.table.sessions → AreRising (met w n call).table.sessions
-unfolding met
-met_rises w n call rising = by (subscription_at n w.table.subscriptions)
-  where
-    by : (o : Option Subscription) → AreRising (without_closed n (met_found (with_call w.round n call) w.table.subscriptions w.table.sessions w.items o)).table.sessions
-    by None = rising
-    by (Some s) = part_rises s.session (fired (scene_at w n call s)).part w.table.sessions rising
-
-pub met_messaged : (made : ℕ) (ms : List Made) (w : World) (n : ℕ) (call : Call) → is_create call ≡ false → IsMessaged made ms w.table → IsMessaged made (ms ++ met_made w n call) (met w n call).table
-met_messaged made ms w n call begins h = record { rising = met_rises w n call h.rising; numbered = met_numbered made ms w n call begins h.numbered; notes = met_notes made ms w n call h }
-
-pub all_messaged : (made : ℕ) (call : Call) → is_create call ≡ false → (ns : List ℕ) (ms : List Made) (w : World) → IsMessaged made ms w.table → IsMessaged made (ms ++ all_made call w ns) (all_met call w ns).table
-all_messaged made call begins [] ms w h = subst (λ (xs : List Made). IsMessaged made xs w.table) (sym (append-nil ms)) h
-all_messaged made call begins (n ∷ ns) ms w h =
-    subst (λ (xs : List Made). IsMessaged made xs (all_met call w (n ∷ ns)).table) (append_assoc ms (met_made w n call) (all_made call (met w n call) ns))
-    (all_messaged made call begins ns (ms ++ met_made w n call) (met w n call) (met_messaged made ms w n call begins h))
+pub one_messaged : (made : ℕ) (ms : List Made) (w : World) (n : ℕ) (call : Call) (s : Subscription) → is_create call ≡ false → subscription_at n w.table.subscriptions ≡ Some s → IsMessaged made ms w.table →
+    IsMessaged made (ms ++ made_at (Meets (scene_at w n call s))) (world_after n s (fired (scene_at w n call s)) w.table).table
+one_messaged made ms w n call s begins found h = record {
+  rising = part_rises s.session (fired (scene_at w n call s)).part w.table.sessions h.rising;
+  numbered = live_numbered made ms w n call s h.numbered found begins;
+  notes = notes_after made ms w n call s h found s.session;
+}

@@ -1,5 +1,5 @@
 -- Messages stay numbered without a gap, and what is kept stays what was made, whatever is called.
-use Rattle.std.proofs.Common.{◌≡◌, ◌≢◌, ◌⊎◌, inl, inr, ℕ, ◌<◌, ◌≤◌, arith, Bool, true, false, cond, List, [], ◌∷◌, ◌++◌, append-nil, append_assoc, Option, Some, None, refl, sym, ap, ◌∙◌, subst}
+use Rattle.std.proofs.Common.{◌≡◌, ◌≢◌, ◌⊎◌, inl, inr, ℕ, ◌<◌, ◌≤◌, arith, Bool, true, false, cond, List, [], ◌++◌, Some, refl, sym, ap, ◌∙◌, subst}
 use Rattle.std.proofs.lemmas.Bool.{false≢true}
 use Rattle.ua_state_table.specs.Chosen.{Answers, answers, timer_row, publish_row, chosen}
 use Rattle.ua_state_table.specs.declared.row.RowId.{RowId}
@@ -14,14 +14,14 @@ use Rattle.ua_subscriptions.specs.declared.subscription.Subscription.{Subscripti
 use Rattle.ua_subscriptions.specs.Calls.{event_of}
 use Rattle.subscription_laws.specs.Calm.{AreRising}
 use Rattle.ua_subscriptions.specs.Firing.{is_closed, before_of, row_of, fired}
-use Rattle.subscription_laws.specs.Messaging.{Made, made_of, made_by, met_made, all_made, messages_for, AreAmong, AreItsMessages}
+use Rattle.subscription_laws.specs.Messaging.{Made, made_of, messages_for, AreAmong, AreItsMessages}
 use Rattle.subscription_laws.specs.Numbering.{AreNumbered, last_number, IsMade, messages_of, begins_or_ends}
+use Rattle.subscription_laws.specs.Encounters.{scene_at}
 use Rattle.ua_subscriptions.specs.Scenes.{Scene, row_done}
-use Rattle.ua_subscriptions.specs.Tables.{World, with_call, without_closed, met_found, met, all_met, subscription_at}
+use Rattle.ua_subscriptions.specs.Tables.{World, subscription_at}
 use Rattle.subscription_laws.proofs.ChosenRows.{is_create, timer_is_none}
 use Rattle.subscription_laws.proofs.Entries.{same_or_not}
 use Rattle.subscription_laws.proofs.Firings.{fired_subscription}
-use Rattle.subscription_laws.proofs.Keeping.{scene_at}
 use Rattle.subscription_laws.proofs.MadeMessages.{row_makes}
 use Rattle.subscription_laws.proofs.MessageLists.{numbered_on, last_on, more_own, more_other, more_kept}
 use Rattle.subscription_laws.proofs.Settling.{put_back, IsPutBack, back_is, back_rises}
@@ -151,26 +151,9 @@ module _ (made : ℕ) (ms : List Made) (w : World) (n : ℕ) (call : Call) (s : 
   fired_made open_yet =
       subst (λ (d : Subscription). is_closed d ≡ false → IsMade w.round.bounds.kept s d (messages_of (row_of (scene_at w n call s)) (scene_at w n call s))) (sym (fired_subscription (scene_at w n call s))) row_made open_yet
 
-  live_numbered : IsNumbered made (ms ++ made_of n (messages_of (row_of (scene_at w n call s)) (scene_at w n call s))) (put_back n (fired (scene_at w n call s)).subscription w.table.subscriptions)
+  pub live_numbered : IsNumbered made (ms ++ made_of n (messages_of (row_of (scene_at w n call s)) (scene_at w n call s))) (put_back n (fired (scene_at w n call s)).subscription w.table.subscriptions)
   live_numbered =
       one_numbered made ms w.table.subscriptions n s (fired (scene_at w n call s)).subscription (messages_of (row_of (scene_at w n call s)) (scene_at w n call s)) h found
       (row_numbered (begins_or_ends (row_of (scene_at w n call s))) refl) (λ open_yet. (fired_made open_yet).number)
       (λ open_yet. subst (λ (ks : List KeptMessage). AreAmong ks (messages_for n ms ++ messages_of (row_of (scene_at w n call s)) (scene_at w n call s))) (sym (fired_made open_yet).kept)
       (more_kept w.round.bounds.kept s.kept (messages_for n ms) (messages_of (row_of (scene_at w n call s)) (scene_at w n call s)) (h.live n s found).kept))
-
-pub met_numbered : (made : ℕ) (ms : List Made) (w : World) (n : ℕ) (call : Call) → is_create call ≡ false → IsNumbered made ms w.table.subscriptions →
-    IsNumbered made (ms ++ met_made w n call) (met w n call).table.subscriptions
-unfolding met
-met_numbered made ms w n call begins h = by (subscription_at n w.table.subscriptions) refl
-  where
-    by : (o : Option Subscription) → subscription_at n w.table.subscriptions ≡ o →
-        IsNumbered made (ms ++ made_by w n call o) (without_closed n (met_found (with_call w.round n call) w.table.subscriptions w.table.sessions w.items o)).table.subscriptions
-    by None found = subst (λ (xs : List Made). IsNumbered made xs w.table.subscriptions) (sym (append-nil ms)) h
-    by (Some s) found = live_numbered made ms w n call s h found begins
-
-pub all_numbered : (made : ℕ) (call : Call) → is_create call ≡ false → (ns : List ℕ) (ms : List Made) (w : World) → IsNumbered made ms w.table.subscriptions →
-    IsNumbered made (ms ++ all_made call w ns) (all_met call w ns).table.subscriptions
-all_numbered made call begins [] ms w h = subst (λ (xs : List Made). IsNumbered made xs w.table.subscriptions) (sym (append-nil ms)) h
-all_numbered made call begins (n ∷ ns) ms w h =
-    subst (λ (xs : List Made). IsNumbered made xs (all_met call w (n ∷ ns)).table.subscriptions) (append_assoc ms (met_made w n call) (all_made call (met w n call) ns))
-    (all_numbered made call begins ns (ms ++ met_made w n call) (met w n call) (met_numbered made ms w n call begins h))

@@ -1,54 +1,44 @@
 -- A request of one session leaves what is of others as it is.
-use Rattle.std.proofs.Common.{◌≡◌, ◌≢◌, ◌⊎◌, inl, inr, ℕ, ◌+◌, ◌≤◌, arith, Bool, true, false, ◌||◌, cond, List, [], ◌∷◌, fold, Option, Some, None, Result, Ok, Err, unwrap_or, refl, sym, ap, ◌∙◌, subst}
+use Rattle.std.proofs.Common.{◌≡◌, ◌≢◌, ◌⊎◌, inl, inr, ℕ, ◌+◌, ◌≤◌, arith, Bool, true, false, cond, List, [], ◌∷◌, fold, Option, Some, None, Result, unwrap_or, refl, sym, ap, ◌∙◌, subst}
 use Rattle.std.proofs.lemmas.Bool.{false≢true, eqb-true, eq-eqb}
 use Rattle.std.specs.Prelude.{◌==◌}
 use Rattle.std.specs.BTreeMap.{insert_entry, is_at}
-use Rattle.std.specs.BTreeSet.{insert_key}
+use Rattle.std.specs.List.{AllByRecursion}
 use Rattle.std.specs.Map.{set_value, remove_entry}
-use Rattle.std.specs.Option.{is_some, ok_or}
-use Rattle.std.specs.Ordering.{nat_cmp, match_ordering}
-use Rattle.std.specs.declared.cmp.Ordering.{Ordering}
-use Rattle.std.specs.declared.cmp.Ordering.TheVariants.{Less, Equal, Greater}
+use Rattle.std.specs.Ordering.{nat_cmp}
 use Rattle.ua_types.specs.Configuration.{Configuration}
 use Rattle.ua_types.specs.declared.moment.Moment.{Moment}
 use Rattle.ua_types.specs.declared.status.Status.{Status}
 use Rattle.ua_types.specs.declared.status.TheConstants.Status as status
 use Rattle.ua_subscription_messages.specs.declared.publishing.SubscriptionAcknowledgement.{SubscriptionAcknowledgement}
-use Rattle.ua_state_table.specs.declared.vars.Vars.{Vars}
 use Rattle.ua_monitored_items.specs.Items.{ItemsState}
 use Rattle.ua_monitored_items.specs.ItemTables.{item_at, is_of}
-use Rattle.ua_monitored_items.specs.Moves as item_moves
 use Rattle.ua_monitored_items.specs.declared.item.Item.{Item}
 use Rattle.ua_subscriptions.specs.declared.call.Call.{Call}
-use Rattle.ua_subscriptions.specs.declared.call.Call.TheVariants as call
-use Rattle.ua_subscriptions.specs.declared.publish_call.PublishCall.{PublishCall}
-use Rattle.ua_subscriptions.specs.declared.ranks.Rank.{Rank}
 use Rattle.ua_subscriptions.specs.declared.session_part.SessionSubscriptions.{SessionSubscriptions}
-use Rattle.ua_subscriptions.specs.declared.session_part.TimeoutNote.{TimeoutNote}
 use Rattle.ua_subscriptions.specs.declared.settings.Settings.{Settings}
 use Rattle.ua_subscriptions.specs.declared.subscriptions.Created.{Created}
 use Rattle.ua_subscriptions.specs.declared.subscription.Subscription.{Subscription}
 use Rattle.subscription_laws.specs.Apartness.{IsRequestOf, OthersStay}
 use Rattle.subscription_laws.specs.Calm.{is_listed, AreRising, AreReached}
-use Rattle.ua_subscriptions.specs.Ending.{session_ended}
 use Rattle.ua_subscriptions.specs.Firing.{fired}
-use Rattle.ua_subscriptions.specs.Making.{revised_of, kept_at, modified, republished, refused_one, with_number, added}
-use Rattle.ua_subscriptions.specs.Named.{Outcome, outcome, is_own_in, is_own, own_met, named_one, named_all, without_requests, all_refused, has_none, deleted}
-use Rattle.ua_subscriptions.specs.Publishing.{without_kept, Acknowledged, acknowledgement_status, acknowledged_by, acknowledged, AllAcknowledged, with_acknowledged, acknowledged_all, note_of, part_without_note, without_note, asked_by, met_by_best, answered_to, answered_by, with_results, published}
-use Rattle.ua_subscriptions.specs.Queues.{first_of}
-use Rattle.ua_subscriptions.specs.Ranks.{rank_cmp, rank_of, with_rank, is_waiting, waiting_by, with_waiting, waiting_of}
-use Rattle.subscription_laws.specs.Runs.{ItemsCall, on_items, Move, Ran, ran_by, items_ran, moved, run}
+use Rattle.ua_subscriptions.specs.Making.{refused_one, with_number, added}
+use Rattle.ua_subscriptions.specs.Named.{is_own_in, is_own, without_requests, all_refused}
+use Rattle.ua_subscriptions.specs.Publishing.{without_kept, Acknowledged, acknowledgement_status, acknowledged_by, acknowledged, AllAcknowledged, with_acknowledged, acknowledged_all, part_without_note, without_note}
+use Rattle.subscription_laws.specs.Runs.{ItemsCall, Move, Ran, ran_by, moved, run}
+use Rattle.subscription_laws.specs.Encounters.{Beside, CallsItems, ShowsItems, Acknowledges, Refuses, Leaves, LeavesAll, Loses, ready, beside, Encounter, scene_at, is_meant, met_if, asked_numbers}
 use Rattle.ua_subscriptions.specs.SubscriptionCalls.{world_of, Said, is_full, refused, created_one, created}
 use Rattle.ua_subscriptions.specs.Subscriptions.{no_part, is_of as is_of_session}
-use Rattle.ua_subscriptions.specs.Tables.{TableState, World, with_call, without_closed, met_found, met, all_met, part_at, set_part, subscription_at, vars_found}
-use Rattle.subscription_laws.proofs.Entries.{same_or_not, at_itself, set_here, set_other, put_here, put_other, gone_other, rising_set}
+use Rattle.ua_subscriptions.specs.Tables.{TableState, World, part_at, set_part, subscription_at}
+use Rattle.subscription_laws.proofs.AskedNumbers.{asked_are, listed_are}
+use Rattle.subscription_laws.proofs.Entries.{same_or_not, set_here, set_other, put_here, put_other, gone_other, rising_set}
 use Rattle.subscription_laws.proofs.Firings.{fired_items, fired_session}
-use Rattle.subscription_laws.proofs.Keeping.{scene_at}
 use Rattle.subscription_laws.proofs.KeepingItems.{served_apart}
 use Rattle.subscription_laws.proofs.KeepingMade.{refused_items, added_start, begun_rest}
 use Rattle.subscription_laws.proofs.RunMessages.{run_numbered}
 use Rattle.subscription_laws.proofs.RunsKept.{IsRunKept, run_kept}
 use Rattle.subscription_laws.proofs.KeepingParts.{set_fewer}
+use Rattle.subscription_laws.proofs.Walks.{all_split, clock_of, makes, left, left_is, Follows, Begins, walked_on, DoneBy, OnBeside, each_done}
 use Rattle.subscription_laws.proofs.Settling.{put_back, IsPutBack, back_other, back_is, back_rises}
 
 -- ---- whose a subscription is
@@ -154,70 +144,12 @@ module _ (session : ℕ) (t : TableState) (items : ItemsState) (w : World) (n : 
           inr (mine, left u other (after_session m u mine (back_is n s (fired (scene_at w n asked s)).subscription w.table.subscriptions h.rising found m u after)))
       come m u other after (inr apart) = h.others.none_comes m u (sym (back_other n m (fired (scene_at w n asked s)).subscription w.table.subscriptions apart) ∙ after) other
 
-  met_apart : Apart session t items (met w n asked)
-  unfolding met
-  met_apart = by (subscription_at n w.table.subscriptions) refl
-    where
-      by : (o : Option Subscription) → subscription_at n w.table.subscriptions ≡ o → Apart session t items (without_closed n (met_found (with_call w.round n asked) w.table.subscriptions w.table.sessions w.items o))
-      by None found = h
-      by (Some s) found = live_apart s found
-
--- several of its own
-abbrev AreIts : ℕ → TableState → List ℕ → Type 0
-AreIts session t ns = (m : ℕ) → is_listed m ns ≡ true → is_own t session m ≡ true
-
-first_its : (session : ℕ) (t : TableState) (n : ℕ) (ns : List ℕ) → AreIts session t (n ∷ ns) → is_own t session n ≡ true
-first_its session t n ns its = its n (ap (λ (b : Bool). b || is_listed n ns) (at_itself n))
-
-among : (m n : ℕ) (ns : List ℕ) → is_listed m ns ≡ true → is_listed m (n ∷ ns) ≡ true
-among m n ns listed = by (is_at (nat_cmp m) n)
-  where
-    by : (b : Bool) → (b || is_listed m ns) ≡ true
-    by true = refl
-    by false = listed
-
-all_apart : (session : ℕ) (t : TableState) (items : ItemsState) (asked : Call) (ns : List ℕ) (w : World) → AreIts session t ns → Apart session t items w → Apart session t items (all_met asked w ns)
-all_apart session t items asked [] w its h = h
-all_apart session t items asked (n ∷ ns) w its h =
-    all_apart session t items asked ns (met w n asked) (λ m listed. its m (among m n ns listed)) (met_apart session t items w n asked (first_its session t n ns its) h)
-
--- ---- those that are named
-
 own_now : (session : ℕ) (t : TableState) (items : ItemsState) (w : World) (n : ℕ) → Apart session t items w → is_own w.table session n ≡ true → is_own t session n ≡ true
 own_now session t items w n h is = by (subscription_at n w.table.subscriptions) refl is
   where
     by : (o : Option Subscription) → subscription_at n w.table.subscriptions ≡ o → is_own_in session o ≡ true → is_own t session n ≡ true
     by None found e = absurd (cc)
     by (Some s) found e = h.own n s found (of_is s.session session e)
-
-module _ {A : Type 0} where
-  chosen_apart : (b c : Bool) → b ≡ c → (session : ℕ) (t : TableState) (items : ItemsState) (x y : Outcome A) → (b ≡ true → Apart session t items x.world) → Apart session t items y.world → Apart session t items (cond c x y).world
-  chosen_apart b true is session t items x y h k = h is
-  chosen_apart b false is session t items x y h k = k
-
-own_apart : (session : ℕ) (t : TableState) (items : ItemsState) (asked : Call) (w : World) (n : ℕ) → Apart session t items w → Apart session t items (own_met session asked w n).world
-unfolding own_met
-own_apart session t items asked w n h =
-    chosen_apart (is_own w.table session n) (is_own w.table session n) refl session t items (outcome status.GOOD (met w n asked)) (outcome status.BAD_SUBSCRIPTION_ID_INVALID w)
-    (λ is. met_apart session t items w n asked (own_now session t items w n h is) h) h
-
-named_apart : (session : ℕ) (t : TableState) (items : ItemsState) (asked : Call) (ns : List ℕ) (before : Outcome (List Status)) → Apart session t items before.world → Apart session t items (fold (named_one session asked) before ns).world
-named_apart session t items asked [] before h = h
-named_apart session t items asked (n ∷ ns) before h = named_apart session t items asked ns (named_one session asked before n) (own_apart session t items asked before.world n h)
-
-modified_apart : (session : ℕ) (t : TableState) (items : ItemsState) (number : ℕ) (asked : Settings) (w : World) → Apart session t items w → Apart session t items (modified session number asked w).world
-unfolding modified
-modified_apart session t items number asked w h =
-    chosen_apart (is_own w.table session number) (is_own w.table session number) refl session t items (outcome (Ok (revised_of asked)) (met w number (call.Modify asked))) (outcome (Err status.BAD_SUBSCRIPTION_ID_INVALID) w)
-    (λ is. met_apart session t items w number (call.Modify asked) (own_now session t items w number h is) h) h
-
-republished_apart : (session : ℕ) (t : TableState) (items : ItemsState) (number wanted : ℕ) (w : World) → Apart session t items w → Apart session t items (republished session number wanted w).world
-unfolding republished
-republished_apart session t items number wanted w h =
-    let kept = kept_at number wanted w.table in
-    chosen_apart (is_own w.table session number) (is_own w.table session number) refl session t items
-    (outcome (ok_or kept status.BAD_MESSAGE_NOT_AVAILABLE) (met w number (call.Republish (is_some kept)))) (outcome (Err status.BAD_SUBSCRIPTION_ID_INVALID) w)
-    (λ is. met_apart session t items w number (call.Republish (is_some kept)) (own_now session t items w number h is) h) h
 
 -- ---- the session has another part
 
@@ -240,32 +172,6 @@ part_apart session t items items2 v part h = record {
 refused_apart : (session : ℕ) (t : TableState) (items : ItemsState) (code : Status) (w : World) → Apart session t items w → Apart session t items (all_refused session code w)
 unfolding all_refused
 refused_apart session t items code w h = part_apart session t items w.items w.table (without_requests (part_at session w.table.sessions)) h
-
-left_apart : (b : Bool) (session : ℕ) (t : TableState) (items : ItemsState) (v w : World) → Apart session t items v → Apart session t items w → Apart session t items (cond b v w)
-left_apart true session t items v w h k = h
-left_apart false session t items v w h k = k
-
-deleted_apart : (session : ℕ) (t : TableState) (items : ItemsState) (ns : List ℕ) (w : World) → Apart session t items w → Apart session t items (deleted session w ns).world
-unfolding deleted
-deleted_apart session t items ns w h =
-    let v = (named_all session call.Delete w ns).world in
-    let apart_yet = named_apart session t items call.Delete ns (outcome [] w) h in
-    left_apart (has_none session v.table) session t items (all_refused session status.BAD_NO_SUBSCRIPTION v) v (refused_apart session t items status.BAD_NO_SUBSCRIPTION v apart_yet) apart_yet
-
-ended_apart : (session : ℕ) (t : TableState) (items : ItemsState) (deleting : Bool) (w : World) → AreIts session t (part_at session w.table.sessions).numbers → Apart session t items w →
-    OthersStay session t items (session_ended session deleting w).table (session_ended session deleting w).items
-unfolding session_ended
-ended_apart session t items deleting w its h =
-    let v = all_met (call.SessionEnd deleting) w (part_at session w.table.sessions).numbers in
-    let k = refused_apart session t items status.BAD_SESSION_CLOSED v (all_apart session t items (call.SessionEnd deleting) (part_at session w.table.sessions).numbers w its h) in
-    record {
-      parts = λ j other.
-          ap (λ (o : Option SessionSubscriptions). unwrap_or o no_part) (gone_other session j other (all_refused session status.BAD_SESSION_CLOSED v).table.sessions) ∙ k.others.parts j other;
-      subscriptions = k.others.subscriptions;
-      none_comes = k.others.none_comes;
-      items_stay = k.others.items_stay;
-      no_item_comes = k.others.no_item_comes;
-    }
 
 -- ---- Publish
 
@@ -334,71 +240,8 @@ module _ (session : ℕ) (t : TableState) (items items2 : ItemsState) (sessions 
   all_acknowledged [] before h = h
   all_acknowledged (a ∷ acks) before h = all_acknowledged acks (with_acknowledged session before a) (acknowledged_apart before.subscriptions a h)
 
--- the best is one of those that are asked
-module _ (session : ℕ) (t : TableState) where
-  abbrev RanksIts : List Rank → Type 0
-  RanksIts [] = Unit {0}
-  RanksIts (r ∷ rs) = (is_own t session r.number ≡ true) × RanksIts rs
-
-  put_its : (ranks : List Rank) (rank : Rank) → RanksIts ranks → is_own t session rank.number ≡ true → RanksIts (insert_key rank_cmp ranks rank)
-  put_its [] rank all one = (one, tt)
-  put_its (r ∷ rs) rank all one = by (rank_cmp rank r) (put_its rs rank all.1 one)
-    where
-      by : (o : Ordering) → RanksIts (insert_key rank_cmp rs rank) → RanksIts (match_ordering o (rank ∷ r ∷ rs) (r ∷ rs) (r ∷ insert_key rank_cmp rs rank))
-      by Less rest = (one, (all.0, all.1))
-      by Equal rest = (all.0, all.1)
-      by Greater rest = (all.0, rest)
-
-  one_its : (subscriptions : List (ℕ × Subscription)) (ranks : List Rank) (n : ℕ) → is_own t session n ≡ true → RanksIts ranks → RanksIts (with_waiting subscriptions ranks n)
-  unfolding with_rank waiting_by
-  one_its subscriptions ranks n its all = by (subscription_at n subscriptions)
-    where
-      waits : (s : Subscription) (b : Bool) → RanksIts (with_rank ranks (cond b (Some (rank_of n s)) None))
-      waits s true = put_its ranks (rank_of n s) all its
-      waits s false = all
-
-      by : (o : Option Subscription) → RanksIts (with_rank ranks (waiting_by n o))
-      by None = all
-      by (Some s) = waits s (is_waiting s)
-
-  all_its : (subscriptions : List (ℕ × Subscription)) (ns : List ℕ) (ranks : List Rank) → AreIts session t ns → RanksIts ranks → RanksIts (fold (with_waiting subscriptions) ranks ns)
-  all_its subscriptions [] ranks its all = all
-  all_its subscriptions (n ∷ ns) ranks its all =
-      all_its subscriptions ns (with_waiting subscriptions ranks n) (λ m listed. its m (among m n ns listed)) (one_its subscriptions ranks n (first_its session t n ns its) all)
-
-  first_rank : (ranks : List Rank) (rank : Rank) → RanksIts ranks → first_of ranks ≡ Some rank → is_own t session rank.number ≡ true
-  first_rank [] rank all is = absurd (cc)
-  first_rank (r ∷ rs) rank all is = let it : r ≡ rank = cc in subst (λ (x : Rank). is_own t session x.number ≡ true) it all.0
-
-best_apart : (session : ℕ) (t : TableState) (items : ItemsState) (ns : List ℕ) (w : World) (o : Option Rank) → first_of (waiting_of w.table.subscriptions ns) ≡ o → AreIts session t ns → Apart session t items w →
-    Apart session t items (met_by_best o ns w)
-best_apart session t items ns w (Some rank) is its h =
-    met_apart session t items w rank.number call.Publish (first_rank session t (waiting_of w.table.subscriptions ns) rank (all_its session t w.table.subscriptions ns [] its tt) is) h
-best_apart session t items ns w None is its h = all_apart session t items call.Publish ns w its h
-
-to_apart : (session : ℕ) (t : TableState) (items : ItemsState) (asked : PublishCall) (ns : List ℕ) (w : World) → AreIts session t ns → Apart session t items w → Apart session t items (answered_to ns asked w)
-unfolding answered_to
-to_apart session t items asked [] w its h = h
-to_apart session t items asked (n ∷ ns) w its h = best_apart session t items (n ∷ ns) (asked_by w asked) (first_of (waiting_of w.table.subscriptions (n ∷ ns))) refl its h
-
-answered_apart : (session : ℕ) (t : TableState) (items : ItemsState) (asked : PublishCall) (w : World) (note : Option TimeoutNote) → AreIts session t (part_at session w.table.sessions).numbers → Apart session t items w →
-    Apart session t items (answered_by note session asked w)
-answered_apart session t items asked w (Some note) its h = h
-answered_apart session t items asked w None its h = to_apart session t items asked (part_at session w.table.sessions).numbers w its h
-
 same_numbers : (session : ℕ) (sessions : List (ℕ × SessionSubscriptions)) → (part_at session (without_note session sessions)).numbers ≡ (part_at session sessions).numbers
 same_numbers session sessions = (set_fewer session (part_without_note (part_at session sessions)) sessions refl (λ e. e)).numbers session
-
-published_apart : (session : ℕ) (t : TableState) (items : ItemsState) (asked : PublishCall) (acks : List SubscriptionAcknowledgement) (w : World) → AreIts session t (part_at session w.table.sessions).numbers → Apart session t items w →
-    Apart session t items (published session asked acks w)
-unfolding published
-published_apart session t items asked acks w its h =
-    let all = acknowledged_all session w.table.subscriptions acks in
-    let acked = all_acknowledged session t items w.items w.table.sessions acks (record { results = []; subscriptions = w.table.subscriptions }) h in
-    answered_apart session t items (with_results asked all.results)
-    (record { round = w.round; table = record { subscriptions = all.subscriptions; sessions = without_note session w.table.sessions }; items = w.items }) (note_of session w.table.sessions)
-    (λ m listed. its m (sym (ap (is_listed m) (same_numbers session w.table.sessions)) ∙ listed))
-    (part_apart session t items w.items (record { subscriptions = all.subscriptions; sessions = w.table.sessions }) (part_without_note (part_at session w.table.sessions)) acked)
 
 -- ---- CreateSubscription
 
@@ -483,51 +326,126 @@ begins_apart r clock session k = record {
   reached = k.calm.reached;
 }
 
-lists_its : (r : Ran) (session : ℕ) → IsRunKept r → AreIts session r.subs.table (part_at session r.subs.table.sessions).numbers
+lists_its : (r : Ran) (session : ℕ) → IsRunKept r → (m : ℕ) → is_listed m (part_at session r.subs.table.sessions).numbers ≡ true → is_own r.subs.table session m ≡ true
 lists_its r session k m listed = by (k.own session m listed)
   where
     by : (s : Subscription) × (subscription_at m r.subs.table.subscriptions ≡ Some s) × (s.session ≡ Some session) → is_own r.subs.table session m ≡ true
     by (s, found, mine) = own_found session (subscription_at m r.subs.table.subscriptions) s found mine
 
--- its items are served, and then the row fires
-served_stays : (r : Ran) (clock : Moment) (session number : ℕ) (asked : ItemsCall) → IsRunKept r → is_own r.subs.table session number ≡ true → (o : Option Vars) → Stays session r (items_ran clock number asked r o)
-served_stays r clock session number asked k its None = none_changes session r.subs.table r.items
-served_stays r clock session number asked k its (Some vars) =
-    (met_apart session r.subs.table r.items (world_of r.subs (item_moves.moved r.items (on_items number asked)).state clock) number (call.Items vars) its begun).others
-  where
-    begun : Apart session r.subs.table r.items (world_of r.subs (item_moves.moved r.items (on_items number asked)).state clock)
-    begun = record {
-      others = record {
-        parts = λ j other. refl;
-        subscriptions = λ m s found other. found;
-        none_comes = λ m s found other. inl found;
-        items_stay = λ m item found foreign. ((served_apart number asked r.items).stay k.calm.reached).0 m item found (not_its number item (differs session r.subs.table item.subscription number foreign its));
-        no_item_comes = λ m item found foreign. ((served_apart number asked r.items).stay k.calm.reached).1 m item found (not_its number item (differs session r.subs.table item.subscription number foreign its));
-      };
-      own = λ n s found mine. own_found session (subscription_at n r.subs.table.subscriptions) s found mine;
-      sessions = λ n s own found. inl (found_own session (subscription_at n r.subs.table.subscriptions) s found own);
-      rising = k.calm.listed.subscriptions;
-      reached = (served_apart number asked r.items).reached k.calm.reached;
-    }
+-- what is done beside is the session's
+abbrev IsIts : ℕ → TableState → Beside → Type 0
+IsIts session t (CallsItems number asked) = is_own t session number ≡ true
+IsIts session t (ShowsItems changed) = ⊥
+IsIts session t (Acknowledges own acks) = own ≡ session
+IsIts session t (Refuses own code) = own ≡ session
+IsIts session t (Leaves own) = own ≡ session
+IsIts session t (LeavesAll code) = ⊥
+IsIts session t (Loses conn) = ⊥
+IsIts session t b = Unit {0}
 
-stays_as : (session own : ℕ) (r after : Ran) → own ≡ session → Stays own r after → Stays session r after
-stays_as session own r after is h = subst (λ (k : ℕ). Stays k r after) is h
+-- those that are met are its own, or are so where they are named
+abbrev GivenIts : ℕ → TableState → Option ℕ → Call → World → List ℕ → Type 0
+GivenIts session t whose asked w ns = (whose ≡ Some session) ⊎ AllByRecursion (λ (n : ℕ). is_own t session n ≡ true) ns
+
+rest_its : (session : ℕ) (t : TableState) (whose : Option ℕ) (asked : Call) (w v : World) (n : ℕ) (ns : List ℕ) → GivenIts session t whose asked w (n ∷ ns) → GivenIts session t whose asked v ns
+rest_its session t whose asked w v n ns (inl is) = inl is
+rest_its session t whose asked w v n ns (inr its) = inr its.1
+
+module _ (session : ℕ) (t : TableState) (items : ItemsState) where
+  abbrev StaysApart : World → List Encounter → World → Type 0
+  StaysApart w es v = AllByRecursion (OnBeside (IsIts session t)) es → Apart session t items w → Apart session t items v
+
+  called_apart : (w : World) (number : ℕ) (asked : ItemsCall) → is_own t session number ≡ true → Apart session t items w → Apart session t items (beside w (CallsItems number asked))
+  called_apart w number asked its h = record {
+    others = record {
+      parts = h.others.parts;
+      subscriptions = h.others.subscriptions;
+      none_comes = h.others.none_comes;
+      items_stay = λ m item before foreign.
+          ((served_apart number asked w.items).stay h.reached).0 m item (h.others.items_stay m item before foreign) (not_its number item (differs session t item.subscription number foreign its));
+      no_item_comes = λ m item after foreign.
+          h.others.no_item_comes m item (((served_apart number asked w.items).stay h.reached).1 m item after (not_its number item (differs session t item.subscription number foreign its))) foreign;
+    };
+    own = h.own;
+    sessions = h.sessions;
+    rising = h.rising;
+    reached = (served_apart number asked w.items).reached h.reached;
+  }
+
+  left_apart : (w : World) → Apart session t items w → Apart session t items (beside w (Leaves session))
+  left_apart w h = record {
+    others = record {
+      parts = λ j other. ap (λ (o : Option SessionSubscriptions). unwrap_or o no_part) (gone_other session j other w.table.sessions) ∙ h.others.parts j other;
+      subscriptions = h.others.subscriptions;
+      none_comes = h.others.none_comes;
+      items_stay = h.others.items_stay;
+      no_item_comes = h.others.no_item_comes;
+    };
+    own = h.own;
+    sessions = h.sessions;
+    rising = h.rising;
+    reached = h.reached;
+  }
+
+  ready_apart : (w : World) (acks : List SubscriptionAcknowledgement) → Apart session t items w → Apart session t items (ready session acks w)
+  ready_apart w acks h =
+      let all = acknowledged_all session w.table.subscriptions acks in
+      part_apart session t items w.items (record { subscriptions = all.subscriptions; sessions = w.table.sessions }) (part_without_note (part_at session w.table.sessions))
+      (all_acknowledged session t items w.items w.table.sessions acks (record { results = []; subscriptions = w.table.subscriptions }) h)
+
+  beside_apart : (w : World) (b : Beside) → IsIts session t b → Apart session t items w → Apart session t items (beside w b)
+  beside_apart w (CallsItems number asked) is h = called_apart w number asked is h
+  beside_apart w (ShowsItems changed) is h = absurd is
+  beside_apart w (Acknowledges own acks) is h = subst (λ (k : ℕ). Apart session t items (ready k acks w)) (sym is) (ready_apart w acks h)
+  beside_apart w (Refuses own code) is h = subst (λ (k : ℕ). Apart session t items (all_refused k code w)) (sym is) (refused_apart session t items code w h)
+  beside_apart w (Leaves own) is h = subst (λ (k : ℕ). Apart session t items (beside w (Leaves k))) (sym is) (left_apart w h)
+  beside_apart w (LeavesAll code) is h = absurd is
+  beside_apart w (Loses conn) is h = absurd is
+  beside_apart w b is h = h
+
+  met_its : (whose : Option ℕ) (asked : Call) (w : World) (n : ℕ) (ns : List ℕ) → GivenIts session t whose asked w (n ∷ ns) → is_meant whose w n ≡ true → Apart session t items w → is_own t session n ≡ true
+  met_its whose asked w n ns (inl is) meant h = own_now session t items w n h (subst (λ (o : Option ℕ). is_meant o w n ≡ true) is meant)
+  met_its whose asked w n ns (inr its) meant h = its.0
+
+  follows_apart : Follows (GivenIts session t) StaysApart
+  follows_apart = record {
+    rest = λ whose asked w n ns given. rest_its session t whose asked w (met_if (is_meant whose w n) w n asked) n ns given;
+    none = λ w its h. h;
+    next = λ w v u es fs p q its h. let both = all_split (OnBeside (IsIts session t)) es fs its in q both.1 (p both.0 h);
+    passes = λ w n asked its h. h;
+    aside = λ w b fits its h. beside_apart w b its.0 h;
+    one = λ whose asked w n ns s plain given meant found its h. live_apart session t items w n asked (met_its whose asked w n ns given meant h) h s found;
+  }
+
+plain_stays : (session : ℕ) (r : Ran) (m : Move) → makes m ≡ false → IsRunKept r → DoneBy (IsIts session r.subs.table) m → Begins (GivenIts session r.subs.table) r m → Stays session r (moved r m)
+plain_stays session r m plain k done given =
+    let t = r.subs.table in
+    let h = walked_on (GivenIts session t) (StaysApart session t r.items) (follows_apart session t r.items) r m plain given (each_done (IsIts session t) r m done) (begins_apart r (clock_of m) session k) in
+    let is = left_is r m in
+    subst (λ (after : TableState). OthersStay session t r.items after (moved r m).items) (sym is.table) (subst (OthersStay session t r.items (left r m).table) (sym is.items) h.others)
+
+-- those that a Publish request of the session comes to
+asked_its : (r : Ran) (clock : Moment) (session : ℕ) (acks : List SubscriptionAcknowledgement) → IsRunKept r → let v = ready session acks (world_of r.subs r.items clock) in
+    AllByRecursion (λ (n : ℕ). is_own r.subs.table session n ≡ true) (asked_numbers v (part_at session v.table.sessions).numbers)
+asked_its r clock session acks k =
+    let v = ready session acks (world_of r.subs r.items clock) in
+    asked_are (λ (n : ℕ). is_own r.subs.table session n ≡ true) v (part_at session v.table.sessions).numbers
+    (listed_are (λ (n : ℕ). is_own r.subs.table session n ≡ true) (part_at session v.table.sessions).numbers (λ m listed. lists_its r session k m (sym (ap (is_listed m) (same_numbers session r.subs.table.sessions)) ∙ listed)))
 
 request_stays : (r : Ran) (m : Move) (session : ℕ) → IsRunKept r → ((n : ℕ) (s : Subscription) → subscription_at n r.subs.table.subscriptions ≡ Some s → n ≤ r.subs.made) → IsRequestOf session r.subs.table m → Stays session r (moved r m)
-request_stays r (Move.Create clock own settings enabled) session k given is = stays_as session own r (moved r (Move.Create clock own settings enabled)) is (created_stays r clock own settings enabled given)
-request_stays r (Move.Modify clock own number settings) session k given is =
-    stays_as session own r (moved r (Move.Modify clock own number settings)) is (modified_apart own r.subs.table r.items number settings (world_of r.subs r.items clock) (begins_apart r clock own k)).others
-request_stays r (Move.SetMode clock own numbers enabled) session k given is =
-    stays_as session own r (moved r (Move.SetMode clock own numbers enabled)) is (named_apart own r.subs.table r.items (call.SetMode enabled) numbers (outcome [] (world_of r.subs r.items clock)) (begins_apart r clock own k)).others
-request_stays r (Move.Delete clock own numbers) session k given is =
-    stays_as session own r (moved r (Move.Delete clock own numbers)) is (deleted_apart own r.subs.table r.items numbers (world_of r.subs r.items clock) (begins_apart r clock own k)).others
+request_stays r (Move.Create clock own settings enabled) session k given is = let m = Move.Create clock own settings enabled in subst (λ (i : ℕ). Stays i r (moved r m)) is (created_stays r clock own settings enabled given)
+request_stays r (Move.Modify clock own number settings) session k given is = let m = Move.Modify clock own number settings in subst (λ (i : ℕ). Stays i r (moved r m)) is (plain_stays own r m refl k tt (inl refl))
+request_stays r (Move.SetMode clock own numbers enabled) session k given is = let m = Move.SetMode clock own numbers enabled in subst (λ (i : ℕ). Stays i r (moved r m)) is (plain_stays own r m refl k tt (inl refl))
+request_stays r (Move.Delete clock own numbers) session k given is = let m = Move.Delete clock own numbers in subst (λ (i : ℕ). Stays i r (moved r m)) is (plain_stays own r m refl k refl (inl refl))
 request_stays r (Move.Publish clock own asked acks) session k given is =
-    stays_as session own r (moved r (Move.Publish clock own asked acks)) is (published_apart own r.subs.table r.items asked acks (world_of r.subs r.items clock) (lists_its r own k) (begins_apart r clock own k)).others
-request_stays r (Move.Republish clock own number wanted) session k given is =
-    stays_as session own r (moved r (Move.Republish clock own number wanted)) is (republished_apart own r.subs.table r.items number wanted (world_of r.subs r.items clock) (begins_apart r clock own k)).others
+    let m = Move.Publish clock own asked acks in
+    subst (λ (i : ℕ). Stays i r (moved r m)) is (plain_stays own r m refl k (refl, λ results. ((λ note. tt), tt, tt)) (λ none. inr (asked_its r clock own acks k)))
+request_stays r (Move.Republish clock own number wanted) session k given is = let m = Move.Republish clock own number wanted in subst (λ (i : ℕ). Stays i r (moved r m)) is (plain_stays own r m refl k tt (inl refl))
 request_stays r (Move.EndSession clock own deleting) session k given is =
-    stays_as session own r (moved r (Move.EndSession clock own deleting)) is (ended_apart own r.subs.table r.items deleting (world_of r.subs r.items clock) (lists_its r own k) (begins_apart r clock own k))
-request_stays r (Move.Items clock number asked) session k given is = served_stays r clock session number asked k is (vars_found number r.items r.subs.table)
+    let m = Move.EndSession clock own deleting in
+    subst (λ (i : ℕ). Stays i r (moved r m)) is
+    (plain_stays own r m refl k (refl, refl) (inr (listed_are (λ (n : ℕ). is_own r.subs.table own n ≡ true) (part_at own r.subs.table.sessions).numbers (lists_its r own k))))
+request_stays r (Move.Items clock number asked) session k given is = plain_stays session r (Move.Items clock number asked) refl k is (λ vars. inr (is, tt))
 request_stays r (Move.Timers clock) session k given is = absurd is
 request_stays r (Move.Shutdown clock) session k given is = absurd is
 request_stays r (Move.Gone conn) session k given is = absurd is

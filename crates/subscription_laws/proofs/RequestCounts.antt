@@ -1,8 +1,8 @@
 -- No Publish request is answered that didn't come, and none twice.
-use Rattle.std.proofs.Common.{◌≡◌, ℕ, ◌+◌, ◌≤◌, arith, Bool, true, false, cond, List, [], ◌∷◌, ◌++◌, map, filter, drop, fold, nat_le, length, Option, Some, None, Result, Ok, Err, unwrap_or, refl, ap, ◌∙◌}
+use Rattle.std.proofs.Common.{◌≡◌, ℕ, ◌+◌, ◌≤◌, arith, Bool, true, false, cond, List, [], ◌∷◌, ◌++◌, map, filter, drop, fold, nat_le, length, Option, Some, None, unwrap_or, refl, ap, ◌∙◌}
 use Rattle.std.specs.BTreeMap.{insert_entry, is_at}
 use Rattle.std.specs.Map.{keys_of, values_of, lookup, set_value, remove_entry}
-use Rattle.std.specs.Option.{is_some, ok_or}
+use Rattle.std.specs.Option.{is_some}
 use Rattle.std.specs.Ordering.{nat_cmp, match_ordering}
 use Rattle.std.specs.declared.cmp.Ordering.{Ordering}
 use Rattle.std.specs.declared.cmp.Ordering.TheVariants.{Less, Equal, Greater}
@@ -17,33 +17,32 @@ use Rattle.ua_state_table.specs.declared.action.Action.{Action}
 use Rattle.ua_state_table.specs.declared.action.Action.TheVariants.{Enqueue, Dequeue, SendNotifications, SendKeepAlive}
 use Rattle.ua_state_table.specs.declared.row.RowId.{RowId}
 use Rattle.ua_state_table.specs.declared.vars.Vars.{Vars}
-use Rattle.ua_monitored_items.specs.Moves as item_moves
 use Rattle.ua_subscriptions.specs.declared.call.Call.{Call}
 use Rattle.ua_subscriptions.specs.declared.call.Call.TheVariants as call
 use Rattle.ua_subscriptions.specs.declared.publish_call.PublishCall.{PublishCall}
-use Rattle.ua_subscriptions.specs.declared.ranks.Rank.{Rank}
 use Rattle.ua_subscriptions.specs.declared.session_part.SessionSubscriptions.{SessionSubscriptions}
 use Rattle.ua_subscriptions.specs.declared.session_part.TimeoutNote.{TimeoutNote}
 use Rattle.ua_subscriptions.specs.declared.settings.Settings.{Settings}
-use Rattle.ua_subscriptions.specs.declared.subscriptions.Created.{Created}
 use Rattle.ua_subscriptions.specs.declared.subscription.Subscription.{Subscription}
 use Rattle.ua_subscriptions.specs.declared.round.Round.{Round}
 use Rattle.ua_subscriptions.specs.Answers.{refused_of}
-use Rattle.ua_subscriptions.specs.Ending.{came_by_other, session_ended, all_requests, shut_down, entry_without_conn}
+use Rattle.ua_subscriptions.specs.Ending.{came_by_other, all_requests, all_left, entry_without_conn}
 use Rattle.ua_subscriptions.specs.Firing.{row_of, fired}
-use Rattle.ua_subscriptions.specs.Making.{revised_of, kept_at, modified, republished, timed, refused_one, refused_scene, added, added_scene, with_number}
-use Rattle.ua_subscriptions.specs.Named.{Outcome, outcome, is_own, own_met, named_one, named_all, all_refused, has_none, deleted, without_requests}
-use Rattle.ua_subscriptions.specs.Publishing.{acknowledged_all, note_of, without_note, part_without_note, asked_by, met_by_best, answered_to, answered_by, with_results, published}
+use Rattle.ua_subscriptions.specs.Making.{kept_at, refused_one, refused_scene, added, added_scene, with_number}
+use Rattle.ua_subscriptions.specs.Named.{all_refused, has_none, without_requests}
+use Rattle.ua_subscriptions.specs.Publishing.{acknowledged_all, note_of, part_without_note, asked_by, with_results}
 use Rattle.ua_subscriptions.specs.Queues.{first_of}
-use Rattle.ua_subscriptions.specs.Ranks.{waiting_of, due_numbers}
+use Rattle.ua_subscriptions.specs.Ranks.{due_numbers}
 use Rattle.ua_subscriptions.specs.Scenes as scenes
 use Rattle.ua_subscriptions.specs.Scenes.{Scene, Noting, Queueing, Sending, noting, sending, note_sent, rest_sent, notes_sent, with_asked, with_refused, enqueued, enqueued_by, counted, subscription_noted, message_made, done, all_done, row_done}
-use Rattle.ua_subscriptions.specs.SubscriptionCalls.{world_of, Said, said, told, is_full, refused, created_one, created}
+use Rattle.ua_subscriptions.specs.SubscriptionCalls.{world_of}
 use Rattle.ua_subscriptions.specs.Subscriptions.{no_part}
-use Rattle.ua_subscriptions.specs.Tables.{World, with_call, without_closed, met_found, met, all_met, part_at, part_of, set_part, subscription_at, vars_found}
+use Rattle.ua_subscriptions.specs.Tables.{TableState, World, part_at, part_of, set_part, subscription_at, vars_found}
 use Rattle.subscription_laws.specs.Requests.{Name, name_of, one_if, such_calls, such_waiting, such_answers, came_by, such_came}
-use Rattle.subscription_laws.specs.Runs.{ItemsCall, on_items, Move, Ran, start, ran_by, items_ran, moved, run}
-use Rattle.subscription_laws.proofs.Keeping.{scene_at}
+use Rattle.subscription_laws.proofs.Keeping.{world_after}
+use Rattle.subscription_laws.proofs.Walks.{left, left_is, Follows, FollowsMaking, Any, any_begins, walked}
+use Rattle.subscription_laws.specs.Runs.{ItemsCall, Move, Ran, start, moved, run}
+use Rattle.subscription_laws.specs.Encounters.{Beside, CallsItems, Acknowledges, Asks, TellsNote, TellsNone, Refuses, Leaves, LeavesAll, Loses, ready, beside, Encounter, Meets, Does, scene_at, meets_by, meets, is_meant, met_if, all_meet, world_met, asked_numbers, asked_encounters, noted_encounters, served_encounters, if_none_left, encounters}
 
 module _ (such : Name → Bool) where
   -- ---- lists
@@ -186,43 +185,15 @@ module _ (such : Name → Bool) where
   part_less None part sessions = omega arith
   part_less (Some k) part sessions = set_less k part sessions
 
-  met_less : (w : World) (n : ℕ) (asked : Call) → of_world (met w n asked) ≤ of_world w
-  unfolding met
-  met_less w n asked = by (subscription_at n w.table.subscriptions)
-    where
-      by : (o : Option Subscription) → of_world (without_closed n (met_found (with_call w.round n asked) w.table.subscriptions w.table.sessions w.items o)) ≤ of_world w
-      by None = omega arith
-      by (Some s) =
-          let d = fired (scene_at w n asked s) in
-          let h : of_scene d ≤ of_round w.round + such_calls such (part_of s.session w.table.sessions).requests = fired_less (scene_at w n asked s) in
-          let k : such_waiting such (set_part s.session w.table.sessions d.part) + such_calls such (part_of s.session w.table.sessions).requests ≤ such_waiting such w.table.sessions + such_calls such d.part.requests =
-          part_less s.session d.part w.table.sessions in
-          omega (arith, h, k)
-
-  all_met_less : (asked : Call) (ns : List ℕ) (w : World) → of_world (all_met asked w ns) ≤ of_world w
-  all_met_less asked [] w = omega arith
-  all_met_less asked (n ∷ ns) w =
-      let h : of_world (all_met asked (met w n asked) ns) ≤ of_world (met w n asked) = all_met_less asked ns (met w n asked) in
-      let k : of_world (met w n asked) ≤ of_world w = met_less w n asked in
+  one_less : (w : World) (n : ℕ) (asked : Call) (s : Subscription) → of_world (world_after n s (fired (scene_at w n asked s)) w.table) ≤ of_world w
+  one_less w n asked s =
+      let d = fired (scene_at w n asked s) in
+      let h : of_scene d ≤ of_round w.round + such_calls such (part_of s.session w.table.sessions).requests = fired_less (scene_at w n asked s) in
+      let k : such_waiting such (set_part s.session w.table.sessions d.part) + such_calls such (part_of s.session w.table.sessions).requests ≤ such_waiting such w.table.sessions + such_calls such d.part.requests =
+      part_less s.session d.part w.table.sessions in
       omega (arith, h, k)
 
-  -- ---- requests that name subscriptions
-
-  own_less : (session : ℕ) (asked : Call) (w : World) (n : ℕ) → of_world (own_met session asked w n).world ≤ of_world w
-  unfolding own_met
-  own_less session asked w n = by (is_own w.table session n)
-    where
-      by : (b : Bool) → of_world (cond b (outcome status.GOOD (met w n asked)) (outcome status.BAD_SUBSCRIPTION_ID_INVALID w)).world ≤ of_world w
-      by true = met_less w n asked
-      by false = omega arith
-
-  named_less : (session : ℕ) (asked : Call) (ns : List ℕ) (before : Outcome (List Status)) → of_world (fold (named_one session asked) before ns).world ≤ of_world before.world
-  named_less session asked [] before = omega arith
-  named_less session asked (n ∷ ns) before =
-      let after = named_one session asked before n in
-      let h : of_world (fold (named_one session asked) after ns).world ≤ of_world after.world = named_less session asked ns after in
-      let k : of_world after.world ≤ of_world before.world = own_less session asked before.world n in
-      omega (arith, h, k)
+  -- ---- what is done beside
 
   refused_less : (session : ℕ) (code : Status) (w : World) → of_world (all_refused session code w) ≤ of_world w
   unfolding all_refused
@@ -234,38 +205,6 @@ module _ (such : Name → Bool) where
       let set : such_waiting such (set_value (is_at (nat_cmp session)) w.table.sessions (without_requests part)) + such_calls such part.requests ≤ such_waiting such w.table.sessions + 0 = set_less session (without_requests part) w.table.sessions in
       omega (arith, sum, same, set)
 
-  left_less : (b : Bool) (v w : World) (n : ℕ) → of_world v ≤ n → of_world w ≤ n → of_world (cond b v w) ≤ n
-  left_less true v w n h k = h
-  left_less false v w n h k = k
-
-  deleted_less : (session : ℕ) (ns : List ℕ) (w : World) → of_world (deleted session w ns).world ≤ of_world w
-  unfolding deleted
-  deleted_less session ns w =
-      let v = (named_all session call.Delete w ns).world in
-      let h : of_world v ≤ of_world w = named_less session call.Delete ns (outcome [] w) in
-      let k : of_world (all_refused session status.BAD_NO_SUBSCRIPTION v) ≤ of_world v = refused_less session status.BAD_NO_SUBSCRIPTION v in
-      left_less (has_none session v.table) (all_refused session status.BAD_NO_SUBSCRIPTION v) v (of_world w) (omega (arith, h, k)) h
-
-  module _ {A : Type 0} where
-    chosen_less : (b : Bool) (x y : Outcome A) (n : ℕ) → of_world x.world ≤ n → of_world y.world ≤ n → of_world (cond b x y).world ≤ n
-    chosen_less true x y n h k = h
-    chosen_less false x y n h k = k
-
-  modified_less : (session number : ℕ) (asked : Settings) (w : World) → of_world (modified session number asked w).world ≤ of_world w
-  unfolding modified
-  modified_less session number asked w =
-      chosen_less (is_own w.table session number) (outcome (Ok (revised_of asked)) (met w number (call.Modify asked))) (outcome (Err status.BAD_SUBSCRIPTION_ID_INVALID) w) (of_world w)
-      (met_less w number (call.Modify asked)) (omega arith)
-
-  republished_less : (session number wanted : ℕ) (w : World) → of_world (republished session number wanted w).world ≤ of_world w
-  unfolding republished
-  republished_less session number wanted w =
-      let kept = kept_at number wanted w.table in
-      chosen_less (is_own w.table session number) (outcome (ok_or kept status.BAD_MESSAGE_NOT_AVAILABLE) (met w number (call.Republish (is_some kept)))) (outcome (Err status.BAD_SUBSCRIPTION_ID_INVALID) w) (of_world w)
-      (met_less w number (call.Republish (is_some kept))) (omega arith)
-
-  -- ---- ends
-
   removed_less : (k : ℕ) (sessions : List (ℕ × SessionSubscriptions)) → such_waiting such (remove_entry (is_at (nat_cmp k)) sessions) + such_calls such (part_at k sessions).requests ≤ such_waiting such sessions
   removed_less k [] = omega arith
   removed_less k (e ∷ sessions) = by (is_at (nat_cmp k) e.0) (removed_less k sessions)
@@ -276,32 +215,17 @@ module _ (such : Name → Bool) where
       by true h = omega arith
       by false h = omega (arith, h)
 
-  ended_less : (session : ℕ) (deleting : Bool) (w : World) → of_world (session_ended session deleting w) ≤ of_world w
-  unfolding session_ended
-  ended_less session deleting w =
-      let ns = (part_at session w.table.sessions).numbers in
-      let v = all_met (call.SessionEnd deleting) w ns in
-      let u = all_refused session status.BAD_SESSION_CLOSED v in
-      let h : of_world v ≤ of_world w = all_met_less (call.SessionEnd deleting) ns w in
-      let k : of_world u ≤ of_world v = refused_less session status.BAD_SESSION_CLOSED v in
-      let g : such_waiting such (remove_entry (is_at (nat_cmp session)) u.table.sessions) + such_calls such (part_at session u.table.sessions).requests ≤ such_waiting such u.table.sessions = removed_less session u.table.sessions in
-      omega (arith, h, k, g)
-
   -- all that wait are answered
   all_waiting : (sessions : List (ℕ × SessionSubscriptions)) → such_calls such (all_requests (values_of sessions)) ≡ such_waiting such sessions
   all_waiting [] = refl
   all_waiting (e ∷ sessions) = calls-append e.1.requests (all_requests (values_of sessions)) ∙ ap (λ (n : ℕ). such_calls such e.1.requests + n) (all_waiting sessions)
 
-  shut_less : (w : World) → of_world (shut_down w) ≤ of_world w
-  unfolding shut_down
-  shut_less w =
-      let v = all_met call.Shutdown w (keys_of w.table.subscriptions) in
-      let calls = all_requests (values_of v.table.sessions) in
-      let h : of_world v ≤ of_world w = all_met_less call.Shutdown (keys_of w.table.subscriptions) w in
-      let sum : such_answers such (v.round.replies ++ map (refused_of v.round.clock status.BAD_SHUTDOWN) calls) ≡ such_answers such v.round.replies + such_answers such (map (refused_of v.round.clock status.BAD_SHUTDOWN) calls) =
-      answers-append v.round.replies (map (refused_of v.round.clock status.BAD_SHUTDOWN) calls) in
-      let same : such_answers such (map (refused_of v.round.clock status.BAD_SHUTDOWN) calls) ≡ such_waiting such v.table.sessions = all_same v.round.clock status.BAD_SHUTDOWN calls ∙ all_waiting v.table.sessions in
-      omega (arith, h, sum, same)
+  all_left_less : (code : Status) (w : World) → of_world (all_left code w) ≤ of_world w
+  all_left_less code w =
+      let calls = all_requests (values_of w.table.sessions) in
+      let sum : such_answers such (w.round.replies ++ map (refused_of w.round.clock code) calls) ≡ such_answers such w.round.replies + such_answers such (map (refused_of w.round.clock code) calls) = answers-append w.round.replies (map (refused_of w.round.clock code) calls) in
+      let same : such_answers such (map (refused_of w.round.clock code) calls) ≡ such_waiting such w.table.sessions = all_same w.round.clock code calls ∙ all_waiting w.table.sessions in
+      omega (arith, sum, same)
 
   fewer_calls : (conn : ℕ) (calls : List PublishCall) → such_calls such (filter (came_by_other conn) calls) ≤ such_calls such calls
   fewer_calls conn [] = omega arith
@@ -347,118 +271,159 @@ module _ (such : Name → Bool) where
       let g : such_waiting such (insert_entry nat_cmp rest session (with_number number d.part)) ≤ such_waiting such rest + such_calls such d.part.requests = put_less session (with_number number d.part) rest in
       omega (arith, h, k, g)
 
-  -- ---- Publish: one request more
+  -- ---- the requests that come
 
-  best_less : (o : Option Rank) (ns : List ℕ) (w : World) → of_world (met_by_best o ns w) ≤ of_world w
-  best_less (Some rank) ns w = met_less w rank.number call.Publish
-  best_less None ns w = all_met_less call.Publish ns w
+  abbrev asked_beside : Beside → ℕ
+  asked_beside (Asks asked) = one_if (such (name_of asked))
+  asked_beside (TellsNote session asked note) = one_if (such (name_of asked))
+  asked_beside (TellsNone asked) = one_if (such (name_of asked))
+  asked_beside b = 0
 
-  answered_to_less : (asked : PublishCall) (ns : List ℕ) (w : World) → of_world (answered_to ns asked w) ≤ of_world w + one_if (such (name_of asked))
-  unfolding answered_to
-  answered_to_less asked [] w =
-      let sum : such_answers such (w.round.replies ++ refused_of w.round.clock status.BAD_NO_SUBSCRIPTION asked ∷ []) ≡ such_answers such w.round.replies + (one_if (such (name_of asked)) + 0) = answers-append w.round.replies _ in
-      omega (arith, sum)
-  answered_to_less asked (n ∷ ns) w =
-      let best = first_of (waiting_of w.table.subscriptions (n ∷ ns)) in
-      let h : of_world (met_by_best best (n ∷ ns) (asked_by w asked)) ≤ such_answers such w.round.replies + one_if (such (name_of asked)) + such_waiting such w.table.sessions = best_less best (n ∷ ns) (asked_by w asked) in
+  abbrev asked_at : Encounter → ℕ
+  asked_at (Meets c) = 0
+  asked_at (Does w b) = asked_beside b
+
+  abbrev such_asked : List Encounter → ℕ
+  such_asked [] = 0
+  such_asked (e ∷ es) = asked_at e + such_asked es
+
+  asked-append : (es fs : List Encounter) → such_asked (es ++ fs) ≡ such_asked es + such_asked fs
+  asked-append [] fs = omega arith
+  asked-append (e ∷ es) fs = let h : such_asked (es ++ fs) ≡ such_asked es + such_asked fs = asked-append es fs in omega (arith, h)
+
+  meets_none : (w : World) (n : ℕ) (asked : Call) (b : Bool) → such_asked (cond b (meets w n asked) []) ≡ 0
+  meets_none w n asked false = refl
+  meets_none w n asked true = by (subscription_at n w.table.subscriptions)
+    where
+      by : (o : Option Subscription) → such_asked (meets_by w n asked o) ≡ 0
+      by None = refl
+      by (Some s) = refl
+
+  meet_none : (whose : Option ℕ) (asked : Call) (ns : List ℕ) (w : World) → such_asked (all_meet whose asked w ns) ≡ 0
+  meet_none whose asked [] w = refl
+  meet_none whose asked (n ∷ ns) w =
+      let b = is_meant whose w n in
+      let rest = all_meet whose asked (met_if b w n asked) ns in
+      let sum : such_asked (cond b (meets w n asked) [] ++ rest) ≡ such_asked (cond b (meets w n asked) []) + such_asked rest = asked-append (cond b (meets w n asked) []) rest in
+      let first : such_asked (cond b (meets w n asked) []) ≡ 0 = meets_none w n asked b in
+      let more : such_asked rest ≡ 0 = meet_none whose asked ns (met_if b w n asked) in
+      omega (arith, sum, first, more)
+
+  behind_none : (whose : Option ℕ) (asked : Call) (ns : List ℕ) (w : World) (es : List Encounter) → such_asked es ≡ 0 → such_asked (all_meet whose asked w ns ++ es) ≡ 0
+  behind_none whose asked ns w es h =
+      let sum : such_asked (all_meet whose asked w ns ++ es) ≡ such_asked (all_meet whose asked w ns) + such_asked es = asked-append (all_meet whose asked w ns) es in
+      let first : such_asked (all_meet whose asked w ns) ≡ 0 = meet_none whose asked ns w in
+      omega (arith, sum, first, h)
+
+  asked_once : (ns : List ℕ) (asked : PublishCall) (w : World) → such_asked (asked_encounters ns asked w) ≤ one_if (such (name_of asked))
+  asked_once [] asked w = omega arith
+  asked_once (n ∷ ns) asked w = let h : such_asked (all_meet None call.Publish (asked_by w asked) (asked_numbers w (n ∷ ns))) ≡ 0 = meet_none None call.Publish (asked_numbers w (n ∷ ns)) (asked_by w asked) in omega (arith, h)
+
+  noted_once : (note : Option TimeoutNote) (session : ℕ) (asked : PublishCall) (acks : List SubscriptionAcknowledgement) (w : World) → such_asked (noted_encounters note session asked acks w) ≤ one_if (such (name_of asked))
+  noted_once (Some note) session asked acks w = omega arith
+  noted_once None session asked acks w = let v = ready session acks w in let h : such_asked (asked_encounters (part_at session v.table.sessions).numbers asked v) ≤ one_if (such (name_of asked)) = asked_once (part_at session v.table.sessions).numbers asked v in omega (arith, h)
+
+  none_left : (session : ℕ) (w : World) → such_asked (if_none_left session w) ≡ 0
+  none_left session w = by (has_none session w.table)
+    where
+      by : (b : Bool) → such_asked (cond b (Does w (Refuses session status.BAD_NO_SUBSCRIPTION) ∷ []) []) ≡ 0
+      by true = refl
+      by false = refl
+
+  served_none : (number : ℕ) (asked : ItemsCall) (w : World) (o : Option Vars) → such_asked (served_encounters number asked w o) ≡ 0
+  served_none number asked w None = refl
+  served_none number asked w (Some vars) =
+      let v = beside w (CallsItems number asked) in
+      let h : such_asked (meets v number (call.Items vars)) ≡ 0 = meets_none v number (call.Items vars) true in
       omega (arith, h)
 
-  answered_by_less : (note : Option TimeoutNote) (session : ℕ) (asked : PublishCall) (w : World) → of_world (answered_by note session asked w) ≤ of_world w + one_if (such (name_of asked))
-  answered_by_less (Some note) session asked w =
-      let sum : such_answers such (answered_by (Some note) session asked w).round.replies ≡ such_answers such w.round.replies + (one_if (such (name_of asked)) + 0) = answers-append w.round.replies _ in
-      omega (arith, sum)
-  answered_by_less None session asked w = answered_to_less asked (part_at session w.table.sessions).numbers w
+  none_comes : (n k : ℕ) → n ≡ 0 → n ≤ k
+  none_comes n k h = omega (arith, h)
 
-  published_less : (session : ℕ) (asked : PublishCall) (acks : List SubscriptionAcknowledgement) (w : World) → of_world (published session asked acks w) ≤ of_world w + one_if (such (name_of asked))
-  unfolding published
-  published_less session asked acks w =
-      let all = acknowledged_all session w.table.subscriptions acks in
-      let v : World = record { round = w.round; table = record { subscriptions = all.subscriptions; sessions = without_note session w.table.sessions }; items = w.items } in
-      let part = part_at session w.table.sessions in
-      let h : of_world (answered_by (note_of session w.table.sessions) session (with_results asked all.results) v) ≤ of_world v + one_if (such (name_of asked)) =
-      answered_by_less (note_of session w.table.sessions) session (with_results asked all.results) v in
-      let k : such_waiting such (set_value (is_at (nat_cmp session)) w.table.sessions (part_without_note part)) + such_calls such part.requests ≤ such_waiting such w.table.sessions + such_calls such part.requests =
-      set_less session (part_without_note part) w.table.sessions in
-      omega (arith, h, k)
+  as_came : (r : Ran) (m : Move) → such_asked (encounters r m) ≤ came_by such m
+  as_came r (Move.Create clock session settings enabled) = omega arith
+  as_came r (Move.Modify clock session number settings) = none_comes _ 0 (meet_none (Some session) (call.Modify settings) (number ∷ []) (world_of r.subs r.items clock))
+  as_came r (Move.SetMode clock session numbers enabled) = none_comes _ 0 (meet_none (Some session) (call.SetMode enabled) numbers (world_of r.subs r.items clock))
+  as_came r (Move.Delete clock session numbers) =
+      let w = world_of r.subs r.items clock in
+      let v = world_met (Some session) call.Delete w numbers in
+      none_comes _ 0 (behind_none (Some session) call.Delete numbers w (if_none_left session v) (none_left session v))
+  as_came r (Move.Publish clock session asked acks) =
+      let w = world_of r.subs r.items clock in
+      noted_once (note_of session w.table.sessions) session (with_results asked (acknowledged_all session w.table.subscriptions acks).results) acks w
+  as_came r (Move.Republish clock session number wanted) = none_comes _ 0 (meet_none (Some session) (call.Republish (is_some (kept_at number wanted r.subs.table))) (number ∷ []) (world_of r.subs r.items clock))
+  as_came r (Move.Timers clock) = none_comes _ 0 (meet_none None call.Timer (due_numbers clock r.subs.table.subscriptions) (world_of r.subs r.items clock))
+  as_came r (Move.EndSession clock session deleting) = none_comes _ 0 (behind_none None (call.SessionEnd deleting) (part_at session r.subs.table.sessions).numbers (world_of r.subs r.items clock) _ refl)
+  as_came r (Move.Shutdown clock) = none_comes _ 0 (behind_none None call.Shutdown (keys_of r.subs.table.subscriptions) (world_of r.subs r.items clock) _ refl)
+  as_came r (Move.Gone conn) = omega arith
+  as_came r (Move.Items clock number asked) = none_comes _ 0 (served_none number asked (world_of r.subs r.items clock) (vars_found number r.items r.subs.table))
+  as_came r (Move.Show changed) = omega arith
 
   -- ---- any calls
+
+  abbrev Grows : World → List Encounter → World → Type 0
+  Grows w es v = of_world v ≤ of_world w + such_asked es
+
+  beside_less : (w : World) (b : Beside) → Grows w (Does w b ∷ []) (beside w b)
+  beside_less w (Acknowledges session acks) =
+      let part = part_at session w.table.sessions in
+      let k : such_waiting such (set_value (is_at (nat_cmp session)) w.table.sessions (part_without_note part)) + such_calls such part.requests ≤ such_waiting such w.table.sessions + such_calls such part.requests =
+      set_less session (part_without_note part) w.table.sessions in
+      omega (arith, k)
+  beside_less w (TellsNote session asked note) =
+      let sum : such_answers such (beside w (TellsNote session asked note)).round.replies ≡ such_answers such w.round.replies + (one_if (such (name_of asked)) + 0) = answers-append w.round.replies _ in
+      omega (arith, sum)
+  beside_less w (TellsNone asked) =
+      let sum : such_answers such (beside w (TellsNone asked)).round.replies ≡ such_answers such w.round.replies + (one_if (such (name_of asked)) + 0) = answers-append w.round.replies _ in
+      omega (arith, sum)
+  beside_less w (Refuses session code) = let h : of_world (all_refused session code w) ≤ of_world w = refused_less session code w in omega (arith, h)
+  beside_less w (Leaves session) =
+      let g : such_waiting such (remove_entry (is_at (nat_cmp session)) w.table.sessions) + such_calls such (part_at session w.table.sessions).requests ≤ such_waiting such w.table.sessions = removed_less session w.table.sessions in
+      omega (arith, g)
+  beside_less w (LeavesAll code) = let h : of_world (all_left code w) ≤ of_world w = all_left_less code w in omega (arith, h)
+  beside_less w (Loses conn) = let h : such_waiting such (map (entry_without_conn conn) w.table.sessions) ≤ such_waiting such w.table.sessions = gone_less conn w.table.sessions in omega (arith, h)
+  beside_less w b = omega arith
+
+  next_less : (w v u : World) (es fs : List Encounter) → Grows w es v → Grows v fs u → Grows w (es ++ fs) u
+  next_less w v u es fs p q = let sum : such_asked (es ++ fs) ≡ such_asked es + such_asked fs = asked-append es fs in omega (arith, p, q, sum)
+
+  no_more : (n k : ℕ) → n ≤ k → n ≤ k + 0
+  no_more n k h = omega (arith, h)
+
+  follows_less : Follows Any Grows
+  follows_less = record {
+    rest = λ whose asked w n ns given. tt;
+    none = λ w. omega arith;
+    next = next_less;
+    passes = λ w n asked. omega arith;
+    aside = λ w b fits. beside_less w b;
+    one = λ whose asked w n ns s plain given meant found. no_more _ _ (one_less w n asked s);
+  }
+
+  less_making : FollowsMaking Grows
+  less_making = record {
+    refuses = λ session number settings enabled w. no_more _ _ (refused_one_less session settings enabled w);
+    adds = λ r clock session settings enabled room. no_more _ _ (added_less session (r.subs.made + 1) settings enabled (world_of r.subs r.items clock));
+  }
 
   abbrev of_ran : Ran → ℕ
   of_ran r = such_answers such r.replies + such_waiting such r.subs.table.sessions
 
-  ran_less : {A : Type 0} → (r : Ran) (s : Said A) (more : ℕ) → such_answers such s.outcome.world.round.replies + such_waiting such s.state.table.sessions ≤ such_waiting such r.subs.table.sessions + more →
-      of_ran (ran_by r s) ≤ of_ran r + more
-  ran_less r s more h =
-      let replies = s.outcome.world.round.replies in
-      let sum : such_answers such (r.replies ++ replies) ≡ such_answers such r.replies + such_answers such replies = answers-append r.replies replies in
-      omega (arith, h, sum)
-
-  -- a call that makes no request more
-  said_less : {A : Type 0} → (r : Ran) (clock : Moment) (o : Outcome A) → of_world o.world ≤ of_world (world_of r.subs r.items clock) → of_ran (ran_by r (said r.subs o)) ≤ of_ran r + 0
-  said_less r clock o h = ran_less r (said r.subs o) 0 (omega (arith, h))
-
-  told_less : (r : Ran) (clock : Moment) (w : World) (more : ℕ) → of_world w ≤ of_world (world_of r.subs r.items clock) + more → of_ran (ran_by r (told r.subs w)) ≤ of_ran r + more
-  told_less r clock w more h = ran_less r (told r.subs w) more (omega (arith, h))
-
-  either_less : (b : Bool) (r : Ran) (x y : Said (Result Created Status)) (n : ℕ) → of_ran (ran_by r x) ≤ n → of_ran (ran_by r y) ≤ n → of_ran (ran_by r (cond b x y)) ≤ n
-  either_less true r x y n h k = h
-  either_less false r x y n h k = k
-
-  full_less : (r : Ran) (clock : Moment) (session : ℕ) (asked : Settings) (enabled : Bool) → of_ran (ran_by r (refused session asked enabled r.subs (world_of r.subs r.items clock))) ≤ of_ran r + 0
-  unfolding refused
-  full_less r clock session asked enabled =
-      let w = world_of r.subs r.items clock in
-      said_less {A = Result Created Status} r clock (outcome (Err status.BAD_TOO_MANY_SUBSCRIPTIONS) (refused_one session asked enabled w)) (refused_one_less session asked enabled w)
-
-  made_less : (r : Ran) (clock : Moment) (session : ℕ) (asked : Settings) (enabled : Bool) → of_ran (ran_by r (created_one session asked enabled r.subs (world_of r.subs r.items clock))) ≤ of_ran r + 0
-  unfolding created_one
-  made_less r clock session asked enabled =
-      let w = world_of r.subs r.items clock in
-      let h : of_world (added session (r.subs.made + 1) asked enabled w) ≤ of_world w = added_less session (r.subs.made + 1) asked enabled w in
-      ran_less {A = Result Created Status} r (created_one session asked enabled r.subs w) 0 (omega (arith, h))
-
-  created_less : (r : Ran) (clock : Moment) (session : ℕ) (asked : Settings) (enabled : Bool) → of_ran (ran_by r (created session asked enabled r.subs r.items clock)) ≤ of_ran r + 0
-  unfolding created
-  created_less r clock session asked enabled =
-      let w = world_of r.subs r.items clock in
-      either_less (is_full r.subs session) r (refused session asked enabled r.subs w) (created_one session asked enabled r.subs w) (of_ran r + 0)
-      (full_less r clock session asked enabled) (made_less r clock session asked enabled)
-
-  items_less : (r : Ran) (clock : Moment) (number : ℕ) (asked : ItemsCall) (o : Option Vars) → of_ran (items_ran clock number asked r o) ≤ of_ran r + 0
-  items_less r clock number asked None = omega arith
-  items_less r clock number asked (Some vars) =
-      let after = (item_moves.moved r.items (on_items number asked)).state in
-      told_less r clock (met (world_of r.subs after clock) number (call.Items vars)) 0
-      (let h : of_world (met (world_of r.subs after clock) number (call.Items vars)) ≤ of_world (world_of r.subs after clock) = met_less (world_of r.subs after clock) number (call.Items vars) in omega (arith, h))
-
-  one_less : (r : Ran) (m : Move) → of_ran (moved r m) ≤ of_ran r + came_by such m
-  one_less r (Move.Create clock session asked enabled) = created_less r clock session asked enabled
-  one_less r (Move.Modify clock session number asked) = said_less r clock (modified session number asked (world_of r.subs r.items clock)) (modified_less session number asked (world_of r.subs r.items clock))
-  one_less r (Move.SetMode clock session numbers enabled) =
-      said_less r clock (named_all session (call.SetMode enabled) (world_of r.subs r.items clock) numbers) (named_less session (call.SetMode enabled) numbers (outcome [] (world_of r.subs r.items clock)))
-  one_less r (Move.Delete clock session numbers) = said_less r clock (deleted session (world_of r.subs r.items clock) numbers) (deleted_less session numbers (world_of r.subs r.items clock))
-  one_less r (Move.Publish clock session asked acks) =
-      told_less r clock (published session asked acks (world_of r.subs r.items clock)) (one_if (such (name_of asked))) (published_less session asked acks (world_of r.subs r.items clock))
-  one_less r (Move.Republish clock session number wanted) =
-      said_less r clock (republished session number wanted (world_of r.subs r.items clock)) (republished_less session number wanted (world_of r.subs r.items clock))
-  one_less r (Move.Timers clock) =
-      told_less r clock (timed (world_of r.subs r.items clock)) 0
-      (let h : of_world (timed (world_of r.subs r.items clock)) ≤ of_world (world_of r.subs r.items clock) = all_met_less call.Timer (due_numbers clock r.subs.table.subscriptions) (world_of r.subs r.items clock) in omega (arith, h))
-  one_less r (Move.EndSession clock session deleting) =
-      told_less r clock (session_ended session deleting (world_of r.subs r.items clock)) 0
-      (let h : of_world (session_ended session deleting (world_of r.subs r.items clock)) ≤ of_world (world_of r.subs r.items clock) = ended_less session deleting (world_of r.subs r.items clock) in omega (arith, h))
-  one_less r (Move.Shutdown clock) =
-      told_less r clock (shut_down (world_of r.subs r.items clock)) 0
-      (let h : of_world (shut_down (world_of r.subs r.items clock)) ≤ of_world (world_of r.subs r.items clock) = shut_less (world_of r.subs r.items clock) in omega (arith, h))
-  one_less r (Move.Gone conn) = let h : such_waiting such (map (entry_without_conn conn) r.subs.table.sessions) ≤ such_waiting such r.subs.table.sessions = gone_less conn r.subs.table.sessions in omega (arith, h)
-  one_less r (Move.Items clock number asked) = items_less r clock number asked (vars_found number r.items r.subs.table)
-  one_less r (Move.Show changed) = omega arith
+  call_less : (r : Ran) (m : Move) → of_ran (moved r m) ≤ of_ran r + came_by such m
+  call_less r m =
+      let v = left r m in
+      let h : of_world v ≤ 0 + 0 + such_waiting such r.subs.table.sessions + such_asked (encounters r m) = walked Any Grows follows_less less_making r m (any_begins r m) in
+      let came : such_asked (encounters r m) ≤ came_by such m = as_came r m in
+      let sum : such_answers such (r.replies ++ v.round.replies) ≡ such_answers such r.replies + such_answers such v.round.replies = answers-append r.replies v.round.replies in
+      let replies : such_answers such (moved r m).replies ≡ such_answers such (r.replies ++ v.round.replies) = ap (such_answers such) (left_is r m).replies in
+      let waiting : such_waiting such (moved r m).subs.table.sessions ≡ such_waiting such v.table.sessions = ap (λ (t : TableState). such_waiting such t.sessions) (left_is r m).table in
+      omega (arith, h, came, sum, replies, waiting)
 
   runs_less : (moves : List Move) (r : Ran) → of_ran (fold moved r moves) ≤ of_ran r + such_came such moves
   runs_less [] r = omega arith
   runs_less (m ∷ moves) r =
       let h : of_ran (fold moved (moved r m) moves) ≤ of_ran (moved r m) + such_came such moves = runs_less moves (moved r m) in
-      let k : of_ran (moved r m) ≤ of_ran r + came_by such m = one_less r m in
+      let k : of_ran (moved r m) ≤ of_ran r + came_by such m = call_less r m in
       omega (arith, h, k)
 
 pub answered_once : (config : Configuration) (moves : List Move) (such : Name → Bool) → let r = run config moves in such_answers such r.replies + such_waiting such r.subs.table.sessions ≤ such_came such moves

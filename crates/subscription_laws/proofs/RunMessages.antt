@@ -1,9 +1,11 @@
 -- The messages of any calls are numbered without a gap.
 use Rattle.std.proofs.Common.{◌≡◌, ◌≢◌, ◌⊎◌, inl, inr, ℕ, ◌+◌, ◌≤◌, arith, Bool, true, false, cond, List, [], ◌∷◌, ◌++◌, append-nil, append_assoc, fold, Option, Some, None, Result, Ok, Err, refl, sym, ap, ◌∙◌, subst, unwrap_or}
 use Rattle.std.proofs.lemmas.Bool.{eqb-true}
+use Rattle.std.proofs.lemmas.List.Concat.{flat_map-append}
+use Rattle.std.specs.List.{flat_map}
 use Rattle.std.specs.Prelude.{find}
 use Rattle.std.specs.BTreeMap.{insert_entry, is_at}
-use Rattle.std.specs.Map.{keys_of, set_value, remove_entry}
+use Rattle.std.specs.Map.{set_value, remove_entry}
 use Rattle.std.specs.Option.{is_some, ok_or}
 use Rattle.std.specs.Ordering.{nat_cmp}
 use Rattle.ua_types.specs.Configuration.{Configuration}
@@ -11,107 +13,43 @@ use Rattle.ua_types.specs.declared.moment.Moment.{Moment}
 use Rattle.ua_types.specs.declared.status.Status.{Status}
 use Rattle.ua_types.specs.declared.status.TheConstants.Status as status
 use Rattle.ua_subscription_messages.specs.declared.publishing.SubscriptionAcknowledgement.{SubscriptionAcknowledgement}
-use Rattle.ua_state_table.specs.Chosen.{chosen}
 use Rattle.ua_state_table.specs.declared.row.RowId.{RowId}
 use Rattle.ua_state_table.specs.declared.row.RowId.TheVariants.{C2}
-use Rattle.ua_state_table.specs.declared.vars.Vars.{Vars}
-use Rattle.ua_monitored_items.specs.Moves as item_moves
 use Rattle.ua_subscriptions.specs.declared.call.Call.{Call}
 use Rattle.ua_subscriptions.specs.declared.call.Call.TheVariants as call
 use Rattle.ua_subscriptions.specs.declared.messages.KeptMessage.{KeptMessage}
-use Rattle.ua_subscriptions.specs.declared.publish_call.PublishCall.{PublishCall}
-use Rattle.ua_subscriptions.specs.declared.ranks.Rank.{Rank}
 use Rattle.ua_subscriptions.specs.declared.session_part.TimeoutNote.{TimeoutNote}
 use Rattle.ua_subscriptions.specs.declared.settings.Settings.{Settings}
 use Rattle.ua_subscriptions.specs.declared.subscriptions.Created.{Created}
 use Rattle.ua_subscriptions.specs.declared.subscription.Subscription.{Subscription}
-use Rattle.ua_subscriptions.specs.Calls.{event_of}
-use Rattle.ua_subscriptions.specs.Ending.{session_ended, without_session, shut_down, without_conn}
-use Rattle.ua_subscriptions.specs.Firing.{before_of, row_of, fired}
+use Rattle.ua_subscriptions.specs.Ending.{without_session, without_conn}
+use Rattle.ua_subscriptions.specs.Firing.{row_of, fired}
 use Rattle.ua_subscriptions.specs.Messages.{has_number}
-use Rattle.ua_subscriptions.specs.Making.{revised_of, kept_at, modified, republished, refused_one, added, bytes_of, kept_by, with_number}
-use Rattle.subscription_laws.specs.Messaging.{Made, made_of, made_by, met_made, best_made, asked_made, unless_noted, published_made, moved_made, run_made, messages_for, AreAmong, AreItsMessages, IsAmong, AreNotes}
-use Rattle.ua_subscriptions.specs.Named.{Outcome, outcome, is_own, own_met, named_one, named_all, all_refused, has_none, deleted, without_requests}
-use Rattle.subscription_laws.specs.Numbering.{AreNumbered, messages_of}
-use Rattle.ua_subscriptions.specs.Publishing.{without_kept, Acknowledged, acknowledgement_status, acknowledged_by, acknowledged, AllAcknowledged, with_acknowledged, acknowledged_all, note_of, without_note, asked_by, met_by_best, answered_to, answered_by, with_results, published, part_without_note}
-use Rattle.ua_subscriptions.specs.Queues.{first_of}
-use Rattle.ua_subscriptions.specs.Ranks.{waiting_of, due_numbers}
-use Rattle.subscription_laws.specs.Runs.{ItemsCall, on_items, Move, Ran, start, ran_by, items_ran, moved, run}
+use Rattle.ua_subscriptions.specs.Making.{kept_at, republished, refused_one, added, bytes_of, kept_by, with_number}
+use Rattle.subscription_laws.specs.Messaging.{Made, made_at, moved_made, run_made, messages_for, AreAmong, AreItsMessages, IsAmong, AreNotes}
+use Rattle.ua_subscriptions.specs.Named.{outcome, is_own, all_refused, without_requests}
+use Rattle.subscription_laws.specs.Numbering.{AreNumbered}
+use Rattle.ua_subscriptions.specs.Publishing.{without_kept, Acknowledged, acknowledgement_status, acknowledged_by, acknowledged, AllAcknowledged, with_acknowledged, acknowledged_all, without_note, part_without_note}
+use Rattle.subscription_laws.specs.Encounters.{Beside, Acknowledges, Refuses, Leaves, LeavesAll, Loses, beside, Encounter, Meets, Does, scene_at, made_scene}
+use Rattle.subscription_laws.specs.Runs.{Move, Ran, start, ran_by, moved, run}
 use Rattle.ua_subscriptions.specs.Scenes.{Scene, row_done}
 use Rattle.ua_subscriptions.specs.SubscriptionCalls.{world_of, Said, is_full, refused, created_one, created}
 use Rattle.ua_subscriptions.specs.Subscriptions.{is_of, no_part}
-use Rattle.ua_subscriptions.specs.Tables.{World, met, all_met, part_at, subscription_at, vars_found, TableState}
+use Rattle.ua_subscriptions.specs.Tables.{World, met, part_at, subscription_at, TableState}
 use Rattle.ua_subscriptions.specs.declared.session_part.SessionSubscriptions.{SessionSubscriptions}
 use Rattle.subscription_laws.proofs.KeepingParts.{set_part_is, conn_fewer, conn_part}
 use Rattle.subscription_laws.proofs.KeepingNamed.{part_gone, part_stays}
 use Rattle.subscription_laws.proofs.ChosenRows.{is_create}
 use Rattle.subscription_laws.proofs.Entries.{same_or_not, set_here, set_other, rising_set, put_here, put_other, rising_put, gone_other, rising_gone}
 use Rattle.subscription_laws.proofs.Firings.{fired_subscription}
-use Rattle.subscription_laws.proofs.Keeping.{scene_at}
+use Rattle.subscription_laws.proofs.Keeping.{world_after}
 use Rattle.subscription_laws.proofs.KeepingMade.{added_start}
 use Rattle.subscription_laws.proofs.MessageLists.{forgotten_among}
-use Rattle.subscription_laws.proofs.MessageNotes.{IsNote, AllNotes, IsMessaged, all_notes, notes_map, notes_rest, note_apart, fired_same_notes, met_messaged, all_messaged}
+use Rattle.subscription_laws.proofs.MessageNotes.{IsNote, AllNotes, IsMessaged, all_notes, notes_map, notes_rest, note_apart, fired_same_notes, one_messaged}
 use Rattle.subscription_laws.proofs.MessagesKept.{IsNumbered}
+use Rattle.subscription_laws.proofs.Walks.{makes, left_is, made_stays, Follows, Any, any_begins, walked_on}
 
--- ---- calls whose rows make no message
-
-abbrev pub is_silent : Call → Bool
-is_silent (call.Create full settings enabled) = false
-is_silent call.Publish = false
-is_silent call.Timer = false
-is_silent c = true
-
-pub silent_row : (v : Vars) (asked : Call) (c : Scene) → is_silent asked ≡ true → messages_of (chosen v (event_of asked)) c ≡ []
-silent_row v (call.Create full settings enabled) c e = absurd (cc)
-silent_row v call.Publish c e = absurd (cc)
-silent_row v call.Timer c e = absurd (cc)
-silent_row v (call.Modify settings) c e = refl
-silent_row v (call.SetMode enabled) c e = refl
-silent_row v (call.Republish true) c e = refl
-silent_row v (call.Republish false) c e = refl
-silent_row v call.Delete c e = refl
-silent_row v (call.Items before) c e = refl
-silent_row v (call.SessionEnd true) c e = refl
-silent_row v (call.SessionEnd false) c e = refl
-silent_row v call.Shutdown c e = refl
-
-silent_none : (w : World) (n : ℕ) (asked : Call) → is_silent asked ≡ true → met_made w n asked ≡ []
-silent_none w n asked e = by (subscription_at n w.table.subscriptions)
-  where
-    by : (o : Option Subscription) → made_by w n asked o ≡ []
-    by None = refl
-    by (Some s) = ap (made_of n) (silent_row (before_of (scene_at w n asked s)) asked (scene_at w n asked s) e)
-
-silent_creates : (asked : Call) → is_silent asked ≡ true → is_create asked ≡ false
-silent_creates (call.Create full settings enabled) e = absurd (cc)
-silent_creates asked e = refl
-
-met_silent : (made : ℕ) (ms : List Made) (w : World) (n : ℕ) (asked : Call) → is_silent asked ≡ true → IsMessaged made ms w.table → IsMessaged made ms (met w n asked).table
-met_silent made ms w n asked e h =
-    subst (λ (xs : List Made). IsMessaged made xs (met w n asked).table) (ap (λ (xs : List Made). ms ++ xs) (silent_none w n asked e) ∙ append-nil ms)
-    (met_messaged made ms w n asked (silent_creates asked e) h)
-
-all_silent : (made : ℕ) (ms : List Made) (asked : Call) → is_silent asked ≡ true → (ns : List ℕ) (w : World) → IsMessaged made ms w.table → IsMessaged made ms (all_met asked w ns).table
-all_silent made ms asked e [] w h = h
-all_silent made ms asked e (n ∷ ns) w h = all_silent made ms asked e ns (met w n asked) (met_silent made ms w n asked e h)
-
-module _ {A : Type 0} where
-  chosen_numbered : (b : Bool) (made : ℕ) (ms : List Made) (x y : Outcome A) → IsMessaged made ms x.world.table → IsMessaged made ms y.world.table → IsMessaged made ms (cond b x y).world.table
-  chosen_numbered true made ms x y h k = h
-  chosen_numbered false made ms x y h k = k
-
--- ---- named ones
-
-own_numbered : (made : ℕ) (ms : List Made) (session : ℕ) (asked : Call) → is_silent asked ≡ true → (w : World) (n : ℕ) → IsMessaged made ms w.table → IsMessaged made ms (own_met session asked w n).world.table
-unfolding own_met
-own_numbered made ms session asked e w n h =
-    chosen_numbered (is_own w.table session n) made ms (outcome status.GOOD (met w n asked)) (outcome status.BAD_SUBSCRIPTION_ID_INVALID w) (met_silent made ms w n asked e h) h
-
-named_numbered : (made : ℕ) (ms : List Made) (session : ℕ) (asked : Call) → is_silent asked ≡ true → (ns : List ℕ) (before : Outcome (List Status)) → IsMessaged made ms before.world.table →
-    IsMessaged made ms (fold (named_one session asked) before ns).world.table
-named_numbered made ms session asked e [] before h = h
-named_numbered made ms session asked e (n ∷ ns) before h =
-    named_numbered made ms session asked e ns (named_one session asked before n) (own_numbered made ms session asked e before.world n h)
+-- ---- what is done beside
 
 -- one session has another part, with notes that it had
 part_messaged : (made : ℕ) (ms : List Made) (t : TableState) (session : ℕ) (part : SessionSubscriptions) → AllNotes made ms t.subscriptions part.notes → IsMessaged made ms t →
@@ -131,30 +69,6 @@ refused_numbered : (made : ℕ) (ms : List Made) (session : ℕ) (code : Status)
 unfolding all_refused
 refused_numbered made ms session code w h = part_messaged made ms w.table session (without_requests (part_at session w.table.sessions)) (h.notes session) h
 
-left_numbered : (b : Bool) (made : ℕ) (ms : List Made) (v w : World) → IsMessaged made ms v.table → IsMessaged made ms w.table → IsMessaged made ms (cond b v w).table
-left_numbered true made ms v w h k = h
-left_numbered false made ms v w h k = k
-
-deleted_numbered : (made : ℕ) (ms : List Made) (session : ℕ) (ns : List ℕ) (w : World) → IsMessaged made ms w.table → IsMessaged made ms (deleted session w ns).world.table
-unfolding deleted
-deleted_numbered made ms session ns w h =
-    let v = (named_all session call.Delete w ns).world in
-    let kept = named_numbered made ms session call.Delete refl ns (outcome [] w) h in
-    left_numbered (has_none session v.table) made ms (all_refused session status.BAD_NO_SUBSCRIPTION v) v (refused_numbered made ms session status.BAD_NO_SUBSCRIPTION v kept) kept
-
-modified_numbered : (made : ℕ) (ms : List Made) (session number : ℕ) (asked : Settings) (w : World) → IsMessaged made ms w.table → IsMessaged made ms (modified session number asked w).world.table
-unfolding modified
-modified_numbered made ms session number asked w h =
-    chosen_numbered (is_own w.table session number) made ms (outcome (Ok (revised_of asked)) (met w number (call.Modify asked))) (outcome (Err status.BAD_SUBSCRIPTION_ID_INVALID) w)
-    (met_silent made ms w number (call.Modify asked) refl h) h
-
-republished_numbered : (made : ℕ) (ms : List Made) (session number wanted : ℕ) (w : World) → IsMessaged made ms w.table → IsMessaged made ms (republished session number wanted w).world.table
-unfolding republished
-republished_numbered made ms session number wanted w h =
-    let kept = kept_at number wanted w.table in
-    chosen_numbered (is_own w.table session number) made ms (outcome (ok_or kept status.BAD_MESSAGE_NOT_AVAILABLE) (met w number (call.Republish (is_some kept)))) (outcome (Err status.BAD_SUBSCRIPTION_ID_INVALID) w)
-    (met_silent made ms w number (call.Republish (is_some kept)) refl h) h
-
 -- nothing of a session is left
 without_numbered : (made : ℕ) (ms : List Made) (session : ℕ) (w : World) → IsMessaged made ms w.table → IsMessaged made ms (without_session session w).table
 without_numbered made ms session w h = record { rising = rising_gone session w.table.sessions h.rising; numbered = h.numbered; notes = λ k. by k (same_or_not k session) }
@@ -165,17 +79,13 @@ without_numbered made ms session w h = record { rising = rising_gone session w.t
         (subst (λ (p : SessionSubscriptions). AllNotes made ms w.table.subscriptions p.notes) (sym (part_gone session w.table.sessions h.rising)) tt)
     by k (inr other) = subst (λ (p : SessionSubscriptions). AllNotes made ms w.table.subscriptions p.notes) (sym (part_stays session k w.table.sessions other)) (h.notes k)
 
-ended_numbered : (made : ℕ) (ms : List Made) (session : ℕ) (deleting : Bool) (w : World) → IsMessaged made ms w.table → IsMessaged made ms (session_ended session deleting w).table
-unfolding session_ended
-ended_numbered made ms session deleting w h =
-    let ns = (part_at session w.table.sessions).numbers in
-    without_numbered made ms session (all_refused session status.BAD_SESSION_CLOSED (all_met (call.SessionEnd deleting) w ns))
-    (refused_numbered made ms session status.BAD_SESSION_CLOSED (all_met (call.SessionEnd deleting) w ns) (all_silent made ms (call.SessionEnd deleting) refl ns w h))
-
--- nothing of any session is left
-shut_down_numbered : (made : ℕ) (ms : List Made) (w : World) → IsMessaged made ms w.table → IsMessaged made ms (shut_down w).table
-unfolding shut_down
-shut_down_numbered made ms w h = record { rising = tt; numbered = (all_silent made ms call.Shutdown refl (keys_of w.table.subscriptions) w h).numbered; notes = λ k. tt }
+-- the requests that came by a connection wait no more
+gone_numbered : (made : ℕ) (ms : List Made) (conn : ℕ) (t : TableState) → IsMessaged made ms t → IsMessaged made ms (without_conn conn t)
+gone_numbered made ms conn t h = record {
+  rising = (conn_fewer conn t.sessions).rising h.rising;
+  numbered = h.numbered;
+  notes = λ k. subst (λ (p : SessionSubscriptions). AllNotes made ms t.subscriptions p.notes) (sym (conn_part conn k t.sessions)) (h.notes k);
+}
 
 -- ---- one that is made
 
@@ -330,35 +240,47 @@ all_acknowledged made ms session sessions [] before h = h
 all_acknowledged made ms session sessions (a ∷ acks) before h =
     all_acknowledged made ms session sessions acks (with_acknowledged session before a) (acknowledged_numbered made ms session sessions before.subscriptions a h)
 
-best_numbered : (made : ℕ) (ms : List Made) (o : Option Rank) (ns : List ℕ) (w : World) → IsMessaged made ms w.table → IsMessaged made (ms ++ best_made o ns w) (met_by_best o ns w).table
-best_numbered made ms (Some rank) ns w h = met_messaged made ms w rank.number call.Publish refl h
-best_numbered made ms None ns w h = all_messaged made call.Publish refl ns ms w h
-
-none_more : (made : ℕ) (ms : List Made) (t : TableState) → IsMessaged made ms t → IsMessaged made (ms ++ []) t
-none_more made ms t h = subst (λ (xs : List Made). IsMessaged made xs t) (sym (append-nil ms)) h
-
-answered_to_numbered : (made : ℕ) (ms : List Made) (asked : PublishCall) (ns : List ℕ) (w : World) → IsMessaged made ms w.table → IsMessaged made (ms ++ asked_made ns asked w) (answered_to ns asked w).table
-unfolding answered_to
-answered_to_numbered made ms asked [] w h = none_more made ms w.table h
-answered_to_numbered made ms asked (n ∷ ns) w h = best_numbered made ms (first_of (waiting_of w.table.subscriptions (n ∷ ns))) (n ∷ ns) (asked_by w asked) h
-
-answered_numbered : (made : ℕ) (ms : List Made) (session : ℕ) (asked : PublishCall) (w : World) (note : Option TimeoutNote) → IsMessaged made ms w.table →
-    IsMessaged made (ms ++ unless_noted note session asked w) (answered_by note session asked w).table
-answered_numbered made ms session asked w (Some note) h = none_more made ms w.table h
-answered_numbered made ms session asked w None h = answered_to_numbered made ms asked (part_at session w.table.sessions).numbers w h
-
 pub note_removed : (made : ℕ) (ms : List Made) (session : ℕ) (t : TableState) → IsMessaged made ms t → IsMessaged made ms (with_table (without_note session t.sessions) t.subscriptions)
 note_removed made ms session t h =
     part_messaged made ms t session (part_without_note (part_at session t.sessions)) (notes_rest made ms t.subscriptions (part_at session t.sessions).notes (h.notes session)) h
 
-published_numbered : (made : ℕ) (ms : List Made) (session : ℕ) (asked : PublishCall) (acks : List SubscriptionAcknowledgement) (w : World) → IsMessaged made ms w.table →
-    IsMessaged made (ms ++ published_made session asked acks w) (published session asked acks w).table
-unfolding published
-published_numbered made ms session asked acks w h =
+-- ---- any call but one that makes a subscription
+
+none_more : (made : ℕ) (ms : List Made) (t : TableState) → IsMessaged made ms t → IsMessaged made (ms ++ []) t
+none_more made ms t h = subst (λ (xs : List Made). IsMessaged made xs t) (sym (append-nil ms)) h
+
+abbrev pub Numbers : World → List Encounter → World → Type 0
+Numbers w es v = (made : ℕ) (ms : List Made) → IsMessaged made ms w.table → IsMessaged made (ms ++ flat_map made_at es) v.table
+
+beside_numbers : (w : World) (b : Beside) → Numbers w (Does w b ∷ []) (beside w b)
+beside_numbers w (Acknowledges session acks) made ms h =
     let all = acknowledged_all session w.table.subscriptions acks in
-    answered_numbered made ms session (with_results asked all.results)
-    (record { round = w.round; table = record { subscriptions = all.subscriptions; sessions = without_note session w.table.sessions }; items = w.items }) (note_of session w.table.sessions)
-    (note_removed made ms session (with_table w.table.sessions all.subscriptions) (all_acknowledged made ms session w.table.sessions acks (record { results = []; subscriptions = w.table.subscriptions }) h))
+    none_more made ms _ (note_removed made ms session (with_table w.table.sessions all.subscriptions) (all_acknowledged made ms session w.table.sessions acks (record { results = []; subscriptions = w.table.subscriptions }) h))
+beside_numbers w (Refuses session code) made ms h = none_more made ms _ (refused_numbered made ms session code w h)
+beside_numbers w (Leaves session) made ms h = none_more made ms _ (without_numbered made ms session w h)
+beside_numbers w (LeavesAll code) made ms h = none_more made ms _ (record { rising = tt; numbered = h.numbered; notes = λ k. tt })
+beside_numbers w (Loses conn) made ms h = none_more made ms _ (gone_numbered made ms conn w.table h)
+beside_numbers w b made ms h = none_more made ms w.table h
+
+next_numbers : (w v u : World) (es fs : List Encounter) → Numbers w es v → Numbers v fs u → Numbers w (es ++ fs) u
+next_numbers w v u es fs p q made ms h =
+    subst (λ (xs : List Made). IsMessaged made xs u.table) (append_assoc ms (flat_map made_at es) (flat_map made_at fs) ∙ ap (λ (xs : List Made). ms ++ xs) (sym (flat_map-append made_at es fs)))
+    (q made (ms ++ flat_map made_at es) (p made ms h))
+
+one_numbers : (w : World) (n : ℕ) (asked : Call) (s : Subscription) → is_create asked ≡ false → subscription_at n w.table.subscriptions ≡ Some s →
+    Numbers w (Meets (scene_at w n asked s) ∷ []) (world_after n s (fired (scene_at w n asked s)) w.table)
+one_numbers w n asked s plain found made ms h =
+    subst (λ (xs : List Made). IsMessaged made (ms ++ xs) (world_after n s (fired (scene_at w n asked s)) w.table).table) (sym (append-nil (made_at (Meets (scene_at w n asked s))))) (one_messaged made ms w n asked s plain found h)
+
+pub follows_numbers : Follows Any Numbers
+follows_numbers = record {
+  rest = λ whose asked w n ns given. tt;
+  none = λ w made ms h. none_more made ms w.table h;
+  next = next_numbers;
+  passes = λ w n asked made ms h. none_more made ms w.table h;
+  aside = λ w b fits. beside_numbers w b;
+  one = λ whose asked w n ns s plain given meant found. one_numbers w n asked s plain found;
+}
 
 -- ---- any calls
 
@@ -383,31 +305,20 @@ created_run ms r clock session settings enabled h =
     let w = world_of r.subs r.items clock in
     either_numbered (is_full r.subs session) ms r (refused session settings enabled r.subs w) (created_one session settings enabled r.subs w) (refused_run ms r session settings enabled w h) (added_run ms r session settings enabled w h)
 
-items_run : (ms : List Made) (r : Ran) (clock : Moment) (number : ℕ) (asked : ItemsCall) (o : Option Vars) → IsRunNumbered ms r → IsRunNumbered ms (items_ran clock number asked r o)
-items_run ms r clock number asked None h = h
-items_run ms r clock number asked (Some vars) h = met_silent r.subs.made ms (world_of r.subs (item_moves.moved r.items (on_items number asked)).state clock) number (call.Items vars) refl h
+pub created_none : (b : Bool) (number session : ℕ) (settings : Settings) (enabled : Bool) (w : World) → flat_map made_at (Meets (made_scene b number session settings enabled w) ∷ []) ≡ []
+created_none true number session settings enabled w = refl
+created_none false number session settings enabled w = refl
 
-gone_run : (ms : List Made) (r : Ran) (conn : ℕ) → IsRunNumbered ms r → IsMessaged r.subs.made ms (without_conn conn r.subs.table)
-gone_run ms r conn h = record {
-  rising = (conn_fewer conn r.subs.table.sessions).rising h.rising;
-  numbered = h.numbered;
-  notes = λ k. subst (λ (p : SessionSubscriptions). AllNotes r.subs.made ms r.subs.table.subscriptions p.notes) (sym (conn_part conn k r.subs.table.sessions)) (h.notes k);
-}
+plain_run : (ms : List Made) (r : Ran) (m : Move) → makes m ≡ false → IsRunNumbered ms r → IsRunNumbered (ms ++ moved_made r m) (moved r m)
+plain_run ms r m plain h =
+    subst (λ (made : ℕ). IsMessaged made (ms ++ moved_made r m) (moved r m).subs.table) (sym (made_stays r m plain))
+    (subst (IsMessaged r.subs.made (ms ++ moved_made r m)) (sym (left_is r m).table) (walked_on Any Numbers follows_numbers r m plain (any_begins r m) r.subs.made ms h))
 
 pub one_run : (ms : List Made) (r : Ran) (m : Move) → IsRunNumbered ms r → IsRunNumbered (ms ++ moved_made r m) (moved r m)
-one_run ms r (Move.Publish clock session asked acks) h = published_numbered r.subs.made ms session asked acks (world_of r.subs r.items clock) h
-one_run ms r (Move.Timers clock) h = all_messaged r.subs.made call.Timer refl (due_numbers clock r.subs.table.subscriptions) ms (world_of r.subs r.items clock) h
-one_run ms r (Move.Create clock session settings enabled) h = none_more _ ms _ (created_run ms r clock session settings enabled h)
-one_run ms r (Move.Modify clock session number settings) h = none_more _ ms _ (modified_numbered r.subs.made ms session number settings (world_of r.subs r.items clock) h)
-one_run ms r (Move.SetMode clock session numbers enabled) h =
-    none_more _ ms _ (named_numbered r.subs.made ms session (call.SetMode enabled) refl numbers (outcome [] (world_of r.subs r.items clock)) h)
-one_run ms r (Move.Delete clock session numbers) h = none_more _ ms _ (deleted_numbered r.subs.made ms session numbers (world_of r.subs r.items clock) h)
-one_run ms r (Move.Republish clock session number wanted) h = none_more _ ms _ (republished_numbered r.subs.made ms session number wanted (world_of r.subs r.items clock) h)
-one_run ms r (Move.EndSession clock session deleting) h = none_more _ ms _ (ended_numbered r.subs.made ms session deleting (world_of r.subs r.items clock) h)
-one_run ms r (Move.Shutdown clock) h = none_more _ ms _ (shut_down_numbered r.subs.made ms (world_of r.subs r.items clock) h)
-one_run ms r (Move.Gone conn) h = none_more r.subs.made ms (without_conn conn r.subs.table) (gone_run ms r conn h)
-one_run ms r (Move.Items clock number asked) h = none_more _ ms _ (items_run ms r clock number asked (vars_found number r.items r.subs.table) h)
-one_run ms r (Move.Show changed) h = none_more r.subs.made ms r.subs.table h
+one_run ms r (Move.Create clock session settings enabled) h =
+    subst (λ (xs : List Made). IsRunNumbered (ms ++ xs) (moved r (Move.Create clock session settings enabled))) (sym (created_none (is_full r.subs session) (r.subs.made + 1) session settings enabled (world_of r.subs r.items clock)))
+    (none_more _ ms _ (created_run ms r clock session settings enabled h))
+one_run ms r m h = plain_run ms r m refl h
 
 all_run : (moves : List Move) (ms : List Made) (r : Ran) → IsRunNumbered ms r → IsRunNumbered (ms ++ run_made r moves) (fold moved r moves)
 all_run [] ms r h = none_more r.subs.made ms r.subs.table h

@@ -1,28 +1,32 @@
 -- A server's shutdown: what it answers, whom it concerns, and what it leaves.
-use Rattle.std.proofs.Common.{◌≡◌, ℕ, Bool, true, false, cond, List, [], ◌∷◌, ◌++◌, map, Option, Some, None, unwrap_or, refl, ap, ◌∙◌}
+use Rattle.std.proofs.Common.{◌≡◌, ℕ, Bool, true, false, cond, List, [], ◌∷◌, ◌++◌, map, fold, Option, Some, None, unwrap_or, refl, sym, ap, ◌∙◌}
 use Rattle.std.specs.BTreeMap.{is_at}
+use Rattle.std.specs.List.{AllByRecursion, flat_map}
 use Rattle.std.specs.Map.{keys_of, values_of, lookup, set_value}
 use Rattle.std.specs.Ordering.{nat_cmp}
 use Rattle.ua_types.specs.Configuration.{Configuration}
 use Rattle.ua_types.specs.declared.moment.Moment.{Moment}
 use Rattle.ua_types.specs.declared.status.TheConstants.Status as status
+use Rattle.ua_subscription_messages.specs.declared.publishing.SubscriptionAcknowledgement.{SubscriptionAcknowledgement}
 use Rattle.server_messages.specs.declared.reply.Reply.{Reply}
 use Rattle.ua_subscriptions.specs.declared.call.Call.TheVariants as call
 use Rattle.ua_subscriptions.specs.declared.publish_call.PublishCall.{PublishCall}
 use Rattle.ua_subscriptions.specs.declared.session_part.SessionSubscriptions.{SessionSubscriptions}
 use Rattle.ua_subscriptions.specs.declared.subscription.Subscription.{Subscription}
 use Rattle.ua_subscriptions.specs.Answers.{refused_of}
-use Rattle.ua_subscriptions.specs.Calls.{event_of}
 use Rattle.ua_subscriptions.specs.Ending.{all_requests, shut_down}
 use Rattle.ua_subscriptions.specs.Firing.{fired}
+use Rattle.ua_subscriptions.specs.Named as named
+use Rattle.ua_subscriptions.specs.Publishing.{acknowledged_by, acknowledged, AllAcknowledged, with_acknowledged}
 use Rattle.ua_subscriptions.specs.Scenes.{Scene, row_done}
 use Rattle.ua_subscriptions.specs.SubscriptionCalls.{world_of}
-use Rattle.ua_subscriptions.specs.Subscriptions.{no_part, vars_of}
-use Rattle.ua_subscriptions.specs.Tables.{World, no_table, with_call, without_closed, met_found, met, all_met, part_at, part_of, set_part, subscription_at, vars_by}
+use Rattle.ua_subscriptions.specs.Subscriptions.{no_part}
+use Rattle.ua_subscriptions.specs.Tables.{TableState, World, no_table, with_call, without_closed, met_found, met, all_met, part_at, part_of, set_part, subscription_at}
 use Rattle.ua_subscriptions.proofs.Shutdowns.{nothing_left, first_found, first_gone}
-use Rattle.subscription_laws.specs.Concern.{Concern, concern, number_of, if_live, one_concerned, each_concerned, concerned}
-use Rattle.subscription_laws.specs.Runs.{Move, moved, run}
-use Rattle.subscription_laws.proofs.Keeping.{scene_at}
+use Rattle.subscription_laws.specs.Concern.{number_of, concerns_at, concerned}
+use Rattle.subscription_laws.specs.Encounters.{Beside, Acknowledges, beside, Encounter, Meets, scene_at, meets_by, meets, all_meet}
+use Rattle.subscription_laws.specs.Runs.{Move, Ran, moved, run}
+use Rattle.subscription_laws.proofs.Walks.{makes, left_is, Follows, Any, any_begins, walked_on}
 
 -- ---- its row answers nothing, and takes no request
 
@@ -106,18 +110,53 @@ none_is_left config moves clock = let r = run config moves in nothing_left (worl
 
 -- ---- each subscription that lives is concerned
 
-first_is : (w : World) (n : ℕ) (s : Subscription) (es : List (ℕ × Subscription)) → w.table.subscriptions ≡ (n, s) ∷ es →
-    one_concerned w n call.Shutdown ≡ concern n (event_of call.Shutdown) (vars_of s (part_of s.session w.table.sessions) w.items n) ∷ []
+first_is : (w : World) (n : ℕ) (s : Subscription) (es : List (ℕ × Subscription)) → w.table.subscriptions ≡ (n, s) ∷ es → meets w n call.Shutdown ≡ Meets (scene_at w n call.Shutdown s) ∷ []
 first_is w n s es is =
-    ap (λ (xs : List (ℕ × Subscription)). if_live n (event_of call.Shutdown) (vars_by n w.items w.table.sessions (subscription_at n xs))) is
-    ∙ ap (λ (o : Option Subscription). if_live n (event_of call.Shutdown) (vars_by n w.items w.table.sessions o)) (first_found n s es)
+    ap (λ (xs : List (ℕ × Subscription)). meets_by w n call.Shutdown (subscription_at n xs)) is ∙ ap (λ (o : Option Subscription). meets_by w n call.Shutdown o) (first_found n s es)
 
-each_is : (es : List (ℕ × Subscription)) (w : World) → w.table.subscriptions ≡ es → map number_of (each_concerned call.Shutdown w (keys_of es)) ≡ keys_of es
-each_is [] w is = refl
-each_is (e ∷ es) w is =
-    ap (λ (cs : List Concern). map number_of (cs ++ each_concerned call.Shutdown (met w e.0 call.Shutdown) (keys_of es))) (first_is w e.0 e.1 es is)
-    ∙ ap (λ (ns : List ℕ). e.0 ∷ ns) (each_is es (met w e.0 call.Shutdown) (first_gone w e.0 e.1 es is))
+-- whatever is done behind
+each_is : (es : List (ℕ × Subscription)) (w : World) (behind : List Encounter) → flat_map concerns_at behind ≡ [] → w.table.subscriptions ≡ es →
+    map number_of (flat_map concerns_at (all_meet None call.Shutdown w (keys_of es) ++ behind)) ≡ keys_of es
+each_is [] w behind none is = ap (map number_of) none
+each_is (e ∷ es) w behind none is =
+    ap (λ (fs : List Encounter). map number_of (flat_map concerns_at ((fs ++ all_meet None call.Shutdown (met w e.0 call.Shutdown) (keys_of es)) ++ behind))) (first_is w e.0 e.1 es is)
+    ∙ ap (λ (ns : List ℕ). e.0 ∷ ns) (each_is es (met w e.0 call.Shutdown) behind none (first_gone w e.0 e.1 es is))
 
 pub all_are_concerned : (config : Configuration) (moves : List Move) (clock : Moment) → let r = run config moves in
     map number_of (concerned r (Move.Shutdown clock)) ≡ keys_of r.subs.table.subscriptions
-all_are_concerned config moves clock = let r = run config moves in each_is r.subs.table.subscriptions (world_of r.subs r.items clock) refl
+all_are_concerned config moves clock = let r = run config moves in each_is r.subs.table.subscriptions (world_of r.subs r.items clock) _ refl refl
+
+-- ---- and none comes back, but by a call that makes one
+
+abbrev StaysNone : World → List Encounter → World → Type 0
+StaysNone w es v = w.table.subscriptions ≡ [] → v.table.subscriptions ≡ []
+
+one_acknowledged : (session : ℕ) (subscriptions : List (ℕ × Subscription)) (a : SubscriptionAcknowledgement) → subscriptions ≡ [] → (acknowledged session subscriptions a).subscriptions ≡ []
+unfolding acknowledged
+one_acknowledged session subscriptions a none = ap (λ (xs : List (ℕ × Subscription)). (acknowledged_by session xs a (subscription_at a.subscription_id xs)).subscriptions) none
+
+none_acknowledged : (session : ℕ) (acks : List SubscriptionAcknowledgement) (before : AllAcknowledged) → before.subscriptions ≡ [] → (fold (with_acknowledged session) before acks).subscriptions ≡ []
+none_acknowledged session [] before none = none
+none_acknowledged session (a ∷ acks) before none = none_acknowledged session acks (with_acknowledged session before a) (one_acknowledged session before.subscriptions a none)
+
+beside_none : (w : World) (b : Beside) → w.table.subscriptions ≡ [] → (beside w b).table.subscriptions ≡ []
+unfolding named.all_refused
+beside_none w (Acknowledges session acks) none = none_acknowledged session acks (record { results = []; subscriptions = w.table.subscriptions }) none
+beside_none w b none = none
+
+follows_none : Follows Any StaysNone
+follows_none = record {
+  rest = λ whose asked w n ns given. tt;
+  none = λ w none. none;
+  next = λ w v u es fs p q none. q (p none);
+  passes = λ w n asked none. none;
+  aside = λ w b fits none. beside_none w b none;
+  one = λ whose asked w n ns s plain given meant found none. let clash : None ≡ Some s = sym (ap (subscription_at n) none) ∙ found in absurd (cc);
+}
+
+one_none : (r : Ran) (m : Move) → makes m ≡ false → r.subs.table.subscriptions ≡ [] → (moved r m).subs.table.subscriptions ≡ []
+one_none r m plain none = ap (λ (t : TableState). t.subscriptions) (left_is r m).table ∙ walked_on Any StaysNone follows_none r m plain (any_begins r m) none
+
+pub none_comes : (ms : List Move) (r : Ran) → AllByRecursion (λ (m : Move). makes m ≡ false) ms → r.subs.table.subscriptions ≡ [] → (fold moved r ms).subs.table.subscriptions ≡ []
+none_comes [] r plain none = none
+none_comes (m ∷ ms) r plain none = none_comes ms (moved r m) plain.1 (one_none r m plain.0 none)

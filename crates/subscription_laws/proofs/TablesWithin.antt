@@ -1,18 +1,16 @@
 -- Queued requests, subscriptions of a session and kept messages stay within their bounds, whatever is called.
-use Rattle.std.proofs.Common.{◌≡◌, ◌≤◌, ℕ, suc, ◌+◌, ◌-◌, arith, Bool, true, false, ◌||◌, cond, List, [], ◌∷◌, ◌++◌, length, take, drop, fold, Option, Some, None, unwrap_or, Result, Ok, Err, refl, sym, ◌∙◌, subst, length-append, length-drop}
+use Rattle.std.proofs.Common.{◌≡◌, ◌≤◌, ℕ, suc, ◌+◌, ◌-◌, arith, Bool, true, false, ◌||◌, cond, List, [], ◌∷◌, ◌++◌, length, take, drop, fold, Option, Some, None, unwrap_or, refl, sym, ◌∙◌, subst, length-append, length-drop}
 use Rattle.std.proofs.lemmas.List.{length-take}
 use Rattle.std.specs.Prelude.{◌^◌, filter, map, nat_lt, nat_le}
 use Rattle.std.specs.BTreeMap.{is_at}
 use Rattle.std.specs.BTreeSet.{insert_key}
 use Rattle.std.specs.List.{AllByRecursion, position}
-use Rattle.std.specs.Map.{keys_of, set_value, remove_entry}
-use Rattle.std.specs.Option.{is_some, ok_or}
+use Rattle.std.specs.Map.{set_value, remove_entry}
 use Rattle.std.specs.Ordering.{nat_cmp, match_ordering}
 use Rattle.std.specs.Set.{remove_key}
 use Rattle.std.specs.declared.cmp.Ordering.{Ordering}
 use Rattle.std.specs.declared.cmp.Ordering.TheVariants.{Less, Equal, Greater}
 use Rattle.ua_types.specs.Configuration.{Configuration, IsConfigured}
-use Rattle.ua_types.specs.declared.moment.Moment.{Moment}
 use Rattle.ua_types.specs.declared.status.Status.{Status}
 use Rattle.ua_types.specs.declared.status.TheConstants.Status as status
 use Rattle.ua_subscription_messages.specs.declared.publishing.SubscriptionAcknowledgement.{SubscriptionAcknowledgement}
@@ -20,38 +18,35 @@ use Rattle.ua_state_table.specs.StateTable.{actions_of}
 use Rattle.ua_state_table.specs.declared.action.Action.{Action}
 use Rattle.ua_state_table.specs.declared.action.Action.TheVariants.{Initialise, Enqueue, Dequeue, SendNotifications, SendKeepAlive, DeleteItems}
 use Rattle.ua_state_table.specs.declared.row.RowId.{RowId}
-use Rattle.ua_state_table.specs.declared.vars.Vars.{Vars}
 use Rattle.ua_monitored_items.specs.Items.{ItemsState}
-use Rattle.ua_monitored_items.specs.Moves as item_moves
 use Rattle.ua_subscriptions.specs.declared.call.Call.{Call}
 use Rattle.ua_subscriptions.specs.declared.call.Call.TheVariants as call
-use Rattle.ua_subscriptions.specs.declared.making.Revised.{Revised}
 use Rattle.ua_subscriptions.specs.declared.messages.KeptMessage.{KeptMessage}
 use Rattle.ua_subscriptions.specs.declared.publish_call.PublishCall.{PublishCall}
-use Rattle.ua_subscriptions.specs.declared.ranks.Rank.{Rank}
 use Rattle.ua_subscriptions.specs.declared.round.Round.{Round}
 use Rattle.ua_subscriptions.specs.declared.session_part.SessionSubscriptions.{SessionSubscriptions}
-use Rattle.ua_subscriptions.specs.declared.session_part.TimeoutNote.{TimeoutNote}
 use Rattle.ua_subscriptions.specs.declared.settings.Bounds.{Bounds}
 use Rattle.ua_subscriptions.specs.declared.settings.Settings.{Settings}
 use Rattle.ua_subscriptions.specs.declared.subscription.Subscription.{Subscription}
-use Rattle.ua_subscriptions.specs.Ending.{came_by_other, entry_without_conn, session_ended, shut_down}
+use Rattle.ua_subscriptions.specs.Ending.{came_by_other, entry_without_conn}
 use Rattle.ua_subscriptions.specs.Firing.{is_closed, row_of, fired}
-use Rattle.ua_subscriptions.specs.Making.{revised_of, refused_one, added, with_number, kept_at, modified, republished, timed}
+use Rattle.ua_subscriptions.specs.Making.{refused_one, added, with_number}
 use Rattle.ua_subscriptions.specs.Messages.{number_after, has_number}
-use Rattle.ua_subscriptions.specs.Named.{Outcome, outcome, is_own, own_met, named_one, named_all, all_refused, without_requests, has_none, deleted}
-use Rattle.ua_subscriptions.specs.Publishing.{without_at, forgotten, without_kept, Acknowledged, acknowledgement_status, acknowledged_by, acknowledged, AllAcknowledged, with_acknowledged, acknowledged_all, note_of, part_without_note, without_note, asked_by, met_by_best, answered_to, answered_by, with_results, published}
+use Rattle.ua_subscriptions.specs.Named.{all_refused, without_requests}
+use Rattle.ua_subscriptions.specs.Publishing.{without_at, forgotten, without_kept, Acknowledged, acknowledgement_status, acknowledged_by, acknowledged, AllAcknowledged, with_acknowledged, part_without_note}
 use Rattle.ua_subscriptions.specs.Queues.{first_of}
-use Rattle.ua_subscriptions.specs.Ranks.{waiting_of, due_numbers}
 use Rattle.ua_subscriptions.specs.Scenes as scenes
 use Rattle.ua_subscriptions.specs.Scenes.{Scene, scene, Queueing, with_refused, enqueued, enqueued_by, kept_with, message_made, Noting, noting, note_sent, with_asked, Sending, sending, rest_sent, notes_sent, done, all_done, row_done}
 use Rattle.ua_subscriptions.specs.Settings.{bounds_of}
-use Rattle.ua_subscriptions.specs.SubscriptionCalls.{SubscriptionsState, world_of, said, told, is_full, refused, created_one, created}
+use Rattle.ua_subscriptions.specs.SubscriptionCalls.{SubscriptionsState, world_of, is_full}
 use Rattle.ua_subscriptions.specs.Subscriptions.{unborn, no_part, is_of}
-use Rattle.ua_subscriptions.specs.Tables.{TableState, World, OneMet, with_call, met_found, met, all_met, part_at, part_of, set_part, subscription_at, vars_found}
+use Rattle.ua_subscriptions.specs.Tables.{TableState, World, OneMet, with_call, met_found, part_at, part_of, set_part, subscription_at}
 use Rattle.ua_subscriptions.proofs.Choosing.{either}
 use Rattle.ua_subscriptions.proofs.MapEntries.{entries_removed, entries_if_removed, entries_set, entries_found, entries_inserted}
-use Rattle.subscription_laws.specs.Runs.{ItemsCall, on_items, Move, Ran, start, ran_by, items_ran, moved, run}
+use Rattle.subscription_laws.specs.Runs.{Move, Ran, start, moved, run}
+use Rattle.subscription_laws.specs.Encounters.{Beside, Acknowledges, Refuses, Leaves, LeavesAll, Loses, beside, Encounter, scene_at}
+use Rattle.subscription_laws.proofs.Keeping.{world_after}
+use Rattle.subscription_laws.proofs.Walks.{left_is, Follows, FollowsMaking, Any, any_begins, walked}
 
 -- ---- lengths
 
@@ -271,34 +266,7 @@ module _ (b : Bounds) (some : 1 ≤ b.publish_queue) where
         subscriptions = entries_set EachKept round.own (fired c).subscription t.subscriptions after.kept g.subscriptions;
       }
 
-  met_bounded : (w : World) (own : ℕ) (asked : Call) → WorldBounded w → WorldBounded (met w own asked)
-  unfolding met
-  met_bounded w own asked h =
-      let round = with_call w.round own asked in
-      let m = found_bounded round w.table w.items (subscription_at own w.table.subscriptions) (kept_found own w.table.subscriptions h.table.subscriptions) h.bounds h.table in
-      record {
-        bounds = m.bounds;
-        table = record {
-          sessions = m.sessions;
-          subscriptions = entries_if_removed EachKept (met_found round w.table.subscriptions w.table.sessions w.items (subscription_at own w.table.subscriptions)).closed (is_at (nat_cmp own)) _ m.subscriptions;
-        };
-      }
-
-  all_met_bounded : (asked : Call) (numbers : List ℕ) (w : World) → WorldBounded w → WorldBounded (all_met asked w numbers)
-  all_met_bounded asked [] w h = h
-  all_met_bounded asked (number ∷ numbers) w h = all_met_bounded asked numbers (met w number asked) (met_bounded w number asked h)
-
-  -- ---- the calls
-
-  own_met_bounded : (session : ℕ) (asked : Call) (w : World) (number : ℕ) → WorldBounded w → WorldBounded (own_met session asked w number).world
-  unfolding own_met
-  own_met_bounded session asked w number h =
-      either (λ (o : Outcome Status). WorldBounded o.world) (is_own w.table session number) (outcome status.GOOD (met w number asked)) (outcome status.BAD_SUBSCRIPTION_ID_INVALID w) (met_bounded w number asked h) h
-
-  named_bounded : (session : ℕ) (asked : Call) (numbers : List ℕ) (before : Outcome (List Status)) → WorldBounded before.world → WorldBounded (fold (named_one session asked) before numbers).world
-  named_bounded session asked [] before h = h
-  named_bounded session asked (number ∷ numbers) before h =
-      named_bounded session asked numbers (named_one session asked before number) (own_met_bounded session asked before.world number h)
+  -- ---- what a call does
 
   all_refused_bounded : (session : ℕ) (code : Status) (w : World) → WorldBounded w → WorldBounded (all_refused session code w)
   unfolding all_refused
@@ -311,13 +279,6 @@ module _ (b : Bounds) (some : 1 ≤ b.publish_queue) where
           subscriptions = h.table.subscriptions;
         };
       }
-
-  deleted_bounded : (session : ℕ) (w : World) (numbers : List ℕ) → WorldBounded w → WorldBounded (deleted session w numbers).world
-  unfolding deleted
-  deleted_bounded session w numbers h =
-      let v = (named_all session call.Delete w numbers).world in
-      let after = named_bounded session call.Delete numbers (outcome [] w) h in
-      either WorldBounded (has_none session v.table) (all_refused session status.BAD_NO_SUBSCRIPTION v) v (all_refused_bounded session status.BAD_NO_SUBSCRIPTION v after) after
 
   refused_one_bounded : (session : ℕ) (asked : Settings) (enabled : Bool) (w : World) → WorldBounded w → WorldBounded (refused_one session asked enabled w)
   unfolding refused_one
@@ -344,19 +305,6 @@ module _ (b : Bounds) (some : 1 ≤ b.publish_queue) where
         };
       }
 
-  modified_bounded : (session number : ℕ) (asked : Settings) (w : World) → WorldBounded w → WorldBounded (modified session number asked w).world
-  unfolding modified
-  modified_bounded session number asked w h =
-      either (λ (o : Outcome (Result Revised Status)). WorldBounded o.world) (is_own w.table session number) (outcome (Ok (revised_of asked)) (met w number (call.Modify asked))) (outcome (Err status.BAD_SUBSCRIPTION_ID_INVALID) w)
-      (met_bounded w number (call.Modify asked) h) h
-
-  republished_bounded : (session number wanted : ℕ) (w : World) → WorldBounded w → WorldBounded (republished session number wanted w).world
-  unfolding republished
-  republished_bounded session number wanted w h =
-      let kept = kept_at number wanted w.table in
-      either (λ (o : Outcome (Result (List ℕ) Status)). WorldBounded o.world) (is_own w.table session number) (outcome (ok_or kept status.BAD_MESSAGE_NOT_AVAILABLE) (met w number (call.Republish (is_some kept)))) (outcome (Err status.BAD_SUBSCRIPTION_ID_INVALID) w)
-      (met_bounded w number (call.Republish (is_some kept)) h) h
-
   -- ---- Publish
 
   acknowledged_bounded : (session : ℕ) (subscriptions : List (ℕ × Subscription)) (a : SubscriptionAcknowledgement) → AllByRecursion EachKept subscriptions → AllByRecursion EachKept (acknowledged session subscriptions a).subscriptions
@@ -379,50 +327,6 @@ module _ (b : Bounds) (some : 1 ≤ b.publish_queue) where
   all_acknowledged_bounded session [] before h = h
   all_acknowledged_bounded session (a ∷ acks) before h = all_acknowledged_bounded session acks (with_acknowledged session before a) (acknowledged_bounded session before.subscriptions a h)
 
-  best_bounded : (best : Option Rank) (numbers : List ℕ) (w : World) → WorldBounded w → WorldBounded (met_by_best best numbers w)
-  best_bounded (Some rank) numbers w h = met_bounded w rank.number call.Publish h
-  best_bounded None numbers w h = all_met_bounded call.Publish numbers w h
-
-  answered_to_bounded : (numbers : List ℕ) (asked : PublishCall) (w : World) → WorldBounded w → WorldBounded (answered_to numbers asked w)
-  unfolding answered_to
-  answered_to_bounded [] asked w h = record { bounds = h.bounds; table = h.table }
-  answered_to_bounded (n ∷ ns) asked w h = best_bounded (first_of (waiting_of w.table.subscriptions (n ∷ ns))) (n ∷ ns) (asked_by w asked) (record { bounds = h.bounds; table = h.table })
-
-  answered_by_bounded : (note : Option TimeoutNote) (session : ℕ) (asked : PublishCall) (w : World) → WorldBounded w → WorldBounded (answered_by note session asked w)
-  answered_by_bounded (Some note) session asked w h = record { bounds = h.bounds; table = h.table }
-  answered_by_bounded None session asked w h = answered_to_bounded (part_at session w.table.sessions).numbers asked w h
-
-  published_bounded : (session : ℕ) (asked : PublishCall) (acks : List SubscriptionAcknowledgement) (w : World) → WorldBounded w → WorldBounded (published session asked acks w)
-  unfolding published
-  published_bounded session asked acks w h =
-      let all = acknowledged_all session w.table.subscriptions acks in
-      let p = part_bounded session w.table.sessions h.table.sessions in
-      answered_by_bounded (note_of session w.table.sessions) session (with_results asked all.results)
-      (record { round = w.round; table = record { subscriptions = all.subscriptions; sessions = without_note session w.table.sessions }; items = w.items })
-      (record {
-        bounds = h.bounds;
-        table = record {
-          sessions = set_bounded session (part_without_note (part_at session w.table.sessions)) w.table.sessions (record { requests = p.requests; numbers = p.numbers }) h.table.sessions;
-          subscriptions = all_acknowledged_bounded session acks (record { results = []; subscriptions = w.table.subscriptions }) h.table.subscriptions;
-        };
-      })
-
-  -- ---- the end of a session, of the server, and of a connection
-
-  session_ended_bounded : (session : ℕ) (deleting : Bool) (w : World) → WorldBounded w → WorldBounded (session_ended session deleting w)
-  unfolding session_ended
-  session_ended_bounded session deleting w h =
-      let ns = (part_at session w.table.sessions).numbers in
-      let v = all_met (call.SessionEnd deleting) w ns in
-      let after = all_refused_bounded session status.BAD_SESSION_CLOSED v (all_met_bounded (call.SessionEnd deleting) ns w h) in
-      record { bounds = after.bounds; table = record { sessions = entries_removed EachPart (is_at (nat_cmp session)) _ after.table.sessions; subscriptions = after.table.subscriptions } }
-
-  shut_down_bounded : (w : World) → WorldBounded w → WorldBounded (shut_down w)
-  unfolding shut_down
-  shut_down_bounded w h =
-      let after = all_met_bounded call.Shutdown (keys_of w.table.subscriptions) w h in
-      record { bounds = after.bounds; table = record { sessions = tt; subscriptions = after.table.subscriptions } }
-
   without_conn_bounded : (conn : ℕ) (sessions : List (ℕ × SessionSubscriptions)) → AllByRecursion EachPart sessions → AllByRecursion EachPart (map (entry_without_conn conn) sessions)
   without_conn_bounded conn [] h = tt
   without_conn_bounded conn (e ∷ es) h =
@@ -436,24 +340,6 @@ module _ (b : Bounds) (some : 1 ≤ b.publish_queue) where
     pub bounds : r.subs.bounds ≡ b
     pub table : TableBounded r.subs.table
 
-  enter : (r : Ran) (items : ItemsState) (clock : Moment) → RunBounded r → WorldBounded (world_of r.subs items clock)
-  enter r items clock h = record { bounds = h.bounds; table = h.table }
-
-  leave : {A : Type 0} → (r : Ran) (o : Outcome A) → RunBounded r → WorldBounded o.world → RunBounded (ran_by r (said r.subs o))
-  leave r o h k = record { bounds = h.bounds; table = k.table }
-
-  leave_told : (r : Ran) (w : World) → RunBounded r → WorldBounded w → RunBounded (ran_by r (told r.subs w))
-  leave_told r w h k = record { bounds = h.bounds; table = k.table }
-
-  refused_run : (r : Ran) (session : ℕ) (settings : Settings) (enabled : Bool) (w : World) → RunBounded r → WorldBounded w → RunBounded (ran_by r (refused session settings enabled r.subs w))
-  unfolding refused
-  refused_run r session settings enabled w h k = record { bounds = h.bounds; table = (refused_one_bounded session settings enabled w k).table }
-
-  added_run : (r : Ran) (session : ℕ) (settings : Settings) (enabled : Bool) (w : World) → let part : SessionSubscriptions = part_at session w.table.sessions in length part.numbers + 1 ≤ b.subscriptions → RunBounded r → WorldBounded w →
-      RunBounded (ran_by r (created_one session settings enabled r.subs w))
-  unfolding created_one
-  added_run r session settings enabled w room h k = record { bounds = h.bounds; table = (added_bounded session (r.subs.made + 1) settings enabled w room k).table }
-
   room_left : (s : SubscriptionsState) (session : ℕ) → is_full s session ≡ false → length (part_at session s.table.sessions).numbers + 1 ≤ s.bounds.subscriptions
   room_left s session e = by (nat_le s.bounds.subscriptions (length (part_at session s.table.sessions).numbers)) refl e
     where
@@ -461,47 +347,60 @@ module _ (b : Bounds) (some : 1 ≤ b.publish_queue) where
       by true is e = absurd (cc)
       by false is e = grind (arith, is)
 
-  created_run : (r : Ran) (clock : Moment) (session : ℕ) (settings : Settings) (enabled : Bool) → RunBounded r → RunBounded (ran_by r (created session settings enabled r.subs r.items clock))
-  unfolding created
-  created_run r clock session settings enabled h = by (is_full r.subs session) refl
-    where
-      by : (full : Bool) → is_full r.subs session ≡ full → RunBounded (ran_by r (cond full (refused session settings enabled r.subs (world_of r.subs r.items clock)) (created_one session settings enabled r.subs (world_of r.subs r.items clock))))
-      by true is = refused_run r session settings enabled (world_of r.subs r.items clock) h (enter r r.items clock h)
-      by false is =
-          added_run r session settings enabled (world_of r.subs r.items clock)
-          (subst (λ (x : Bounds). length (part_at session r.subs.table.sessions).numbers + 1 ≤ x.subscriptions) h.bounds (room_left r.subs session is)) h (enter r r.items clock h)
+  abbrev StaysBounded : World → List Encounter → World → Type 0
+  StaysBounded w es v = WorldBounded w → WorldBounded v
 
-  items_run : (r : Ran) (clock : Moment) (number : ℕ) (asked : ItemsCall) (o : Option Vars) → RunBounded r → RunBounded (items_ran clock number asked r o)
-  items_run r clock number asked None h = h
-  items_run r clock number asked (Some vars) h =
-      let items = (item_moves.moved r.items (on_items number asked)).state in
-      leave_told r (met (world_of r.subs items clock) number (call.Items vars)) h (met_bounded (world_of r.subs items clock) number (call.Items vars) (enter r items clock h))
+  bounded_beside : (w : World) (x : Beside) → WorldBounded w → WorldBounded (beside w x)
+  bounded_beside w (Acknowledges session acks) h =
+      let p = part_bounded session w.table.sessions h.table.sessions in
+      record {
+        bounds = h.bounds;
+        table = record {
+          sessions = set_bounded session (part_without_note (part_at session w.table.sessions)) w.table.sessions (record { requests = p.requests; numbers = p.numbers }) h.table.sessions;
+          subscriptions = all_acknowledged_bounded session acks (record { results = []; subscriptions = w.table.subscriptions }) h.table.subscriptions;
+        };
+      }
+  bounded_beside w (Refuses session code) h = all_refused_bounded session code w h
+  bounded_beside w (Leaves session) h = record { bounds = h.bounds; table = record { sessions = entries_removed EachPart (is_at (nat_cmp session)) _ h.table.sessions; subscriptions = h.table.subscriptions } }
+  bounded_beside w (LeavesAll code) h = record { bounds = h.bounds; table = record { sessions = tt; subscriptions = h.table.subscriptions } }
+  bounded_beside w (Loses conn) h = record { bounds = h.bounds; table = record { sessions = without_conn_bounded conn w.table.sessions h.table.sessions; subscriptions = h.table.subscriptions } }
+  bounded_beside w b h = record { bounds = h.bounds; table = h.table }
+
+  one_met_bounded : (w : World) (n : ℕ) (asked : Call) (s : Subscription) → subscription_at n w.table.subscriptions ≡ Some s → WorldBounded w → WorldBounded (world_after n s (fired (scene_at w n asked s)) w.table)
+  one_met_bounded w n asked s found h =
+      let k : length s.kept ≤ b.kept = subst (λ (o : Option Subscription). length (unwrap_or o (unborn 0)).kept ≤ b.kept) found (kept_found n w.table.subscriptions h.table.subscriptions) in
+      let m = found_bounded (with_call w.round n asked) w.table w.items (Some s) k h.bounds h.table in
+      record {
+        bounds = m.bounds;
+        table = record {
+          sessions = m.sessions;
+          subscriptions = entries_if_removed EachKept (is_closed (fired (scene_at w n asked s)).subscription) (is_at (nat_cmp n)) _ m.subscriptions;
+        };
+      }
+
+  follows_bounded : Follows Any StaysBounded
+  follows_bounded = record {
+    rest = λ whose asked w n ns given. tt;
+    none = λ w h. h;
+    next = λ w v u es fs p q h. q (p h);
+    passes = λ w n asked h. record { bounds = h.bounds; table = record { sessions = h.table.sessions; subscriptions = h.table.subscriptions } };
+    aside = λ w b fits h. bounded_beside w b h;
+    one = λ whose asked w n ns s plain given meant found h. one_met_bounded w n asked s found h;
+  }
+
+  making_bounded : FollowsMaking StaysBounded
+  making_bounded = record {
+    refuses = λ session number settings enabled w h. refused_one_bounded session settings enabled w h;
+    adds = λ r clock session settings enabled free h.
+        added_bounded session (r.subs.made + 1) settings enabled (world_of r.subs r.items clock)
+        (subst (λ (x : Bounds). length (part_at session r.subs.table.sessions).numbers + 1 ≤ x.subscriptions) h.bounds (room_left r.subs session free)) h;
+  }
 
   pub one_bounded : (r : Ran) (m : Move) → RunBounded r → RunBounded (moved r m)
-  one_bounded r (Move.Create clock session settings enabled) h = created_run r clock session settings enabled h
-  one_bounded r (Move.Modify clock session number settings) h =
-      leave r (modified session number settings (world_of r.subs r.items clock)) h (modified_bounded session number settings (world_of r.subs r.items clock) (enter r r.items clock h))
-  one_bounded r (Move.SetMode clock session numbers enabled) h =
-      leave r (named_all session (call.SetMode enabled) (world_of r.subs r.items clock) numbers) h
-      (named_bounded session (call.SetMode enabled) numbers (outcome [] (world_of r.subs r.items clock)) (enter r r.items clock h))
-  one_bounded r (Move.Delete clock session numbers) h =
-      leave r (deleted session (world_of r.subs r.items clock) numbers) h (deleted_bounded session (world_of r.subs r.items clock) numbers (enter r r.items clock h))
-  one_bounded r (Move.Publish clock session asked acks) h =
-      leave_told r (published session asked acks (world_of r.subs r.items clock)) h (published_bounded session asked acks (world_of r.subs r.items clock) (enter r r.items clock h))
-  one_bounded r (Move.Republish clock session number wanted) h =
-      leave r (republished session number wanted (world_of r.subs r.items clock)) h (republished_bounded session number wanted (world_of r.subs r.items clock) (enter r r.items clock h))
-  one_bounded r (Move.Timers clock) h =
-      leave_told r (timed (world_of r.subs r.items clock)) h (all_met_bounded call.Timer (due_numbers clock r.subs.table.subscriptions) (world_of r.subs r.items clock) (enter r r.items clock h))
-  one_bounded r (Move.EndSession clock session deleting) h =
-      leave_told r (session_ended session deleting (world_of r.subs r.items clock)) h (session_ended_bounded session deleting (world_of r.subs r.items clock) (enter r r.items clock h))
-  one_bounded r (Move.Shutdown clock) h =
-      leave_told r (shut_down (world_of r.subs r.items clock)) h (shut_down_bounded (world_of r.subs r.items clock) (enter r r.items clock h))
-  one_bounded r (Move.Gone conn) h = record {
-    bounds = h.bounds;
-    table = record { sessions = without_conn_bounded conn r.subs.table.sessions h.table.sessions; subscriptions = h.table.subscriptions };
-  }
-  one_bounded r (Move.Items clock number asked) h = items_run r clock number asked (vars_found number r.items r.subs.table) h
-  one_bounded r (Move.Show changed) h = record { bounds = h.bounds; table = h.table }
+  one_bounded r m h =
+      let v = walked Any StaysBounded follows_bounded making_bounded r m (any_begins r m) (record { bounds = h.bounds; table = h.table }) in
+      let is = left_is r m in
+      record { bounds = is.bounds ∙ h.bounds; table = subst TableBounded (sym is.table) v.table }
 
   pub all_bounded : (moves : List Move) (r : Ran) → RunBounded r → RunBounded (fold moved r moves)
   all_bounded [] r h = h

@@ -9,19 +9,15 @@ use Rattle.ua_subscriptions.specs.Messages.{number_after, keep_alive_message}
 use Rattle.ua_subscriptions.specs.Queues.{first_of}
 use Rattle.ua_subscriptions.specs.Scenes as scenes
 use Rattle.ua_subscriptions.specs.Scenes.{Scene, Noting, noting, sending, note_sent, rest_sent, notes_sent, with_asked, with_refused, Queueing, enqueued, enqueued_by, dequeued, started, life_reset, placed, counted, subscription_noted, message_made, row_done}
-use Rattle.ua_subscriptions.specs.Tables.{World, with_call, without_closed, met_found, met, subscription_at}
-use Rattle.ua_subscriptions.specs.declared.call.Call.{Call}
 use Rattle.ua_subscriptions.specs.declared.publish_call.PublishCall.{PublishCall}
 use Rattle.ua_subscriptions.specs.declared.round.Round.{Round}
 use Rattle.ua_subscriptions.specs.declared.session_part.SessionSubscriptions.{SessionSubscriptions}
 use Rattle.ua_subscriptions.specs.declared.subscription.Subscription.{Subscription}
-use Rattle.subscription_laws.specs.Messaging.{Made, made_of, made_by, met_made, messages_for, AreAmong, AreItsMessages}
+use Rattle.subscription_laws.specs.Messaging.{Made, made_of, messages_for, AreAmong, AreItsMessages}
 use Rattle.subscription_laws.specs.Numbering.{note_made, rest_made, notes_made, messages_of}
-use Rattle.subscription_laws.specs.Tellings.{Telling, answer_of, message_in, messages_in, too_many_told, queued_told, note_told, rest_told, notes_told, alive_told, row_told, told_by, met_told, AreInSequence}
-use Rattle.subscription_laws.proofs.BroughtMessages.{IsGiven}
-use Rattle.subscription_laws.proofs.Keeping.{scene_at}
+use Rattle.subscription_laws.specs.Tellings.{Telling, answer_of, message_in, messages_in, too_many_told, queued_told, note_told, rest_told, notes_told, alive_told, row_told, AreInSequence}
+use Rattle.subscription_laws.proofs.RowRequests.{IsGiven}
 use Rattle.subscription_laws.proofs.MessageLists.{last_on, more_own, more_kept}
-use Rattle.subscription_laws.proofs.MessageNotes.{IsMessaged}
 use Rattle.subscription_laws.proofs.Remains.{note_own}
 
 -- ---- answers behind others
@@ -164,19 +160,7 @@ row_tells ms N1 c given h = queued_tells ms c.round c.part
 row_tells ms K1 c given h = queued_tells ms c.round c.part
 row_tells ms r c given h = tells_none ms c.round.replies
 
-fired_tells : (ms : List Made) (c : Scene) → IsGiven (row_of c) c → IsAt c.round.own ms c.subscription →
+pub fired_tells : (ms : List Made) (c : Scene) → IsGiven (row_of c) c → IsAt c.round.own ms c.subscription →
     Tells ms c.round.replies (fired c).round.replies (made_of c.round.own (messages_of (row_of c) c)) (row_told (row_of c) c)
 unfolding fired
 fired_tells ms c given h = row_tells ms (row_of c) c given h
-
--- ---- what a subscription meets
-
-pub met_tells : (made : ℕ) (ms : List Made) (w : World) (n : ℕ) (asked : Call) → ((s : Subscription) → subscription_at n w.table.subscriptions ≡ Some s → IsGiven (row_of (scene_at w n asked s)) (scene_at w n asked s)) → IsMessaged made ms w.table →
-    Tells ms w.round.replies (met w n asked).round.replies (met_made w n asked) (met_told w n asked)
-unfolding met
-met_tells made ms w n asked given h = by (subscription_at n w.table.subscriptions) refl
-  where
-    by : (o : Option Subscription) → subscription_at n w.table.subscriptions ≡ o →
-        Tells ms w.round.replies (without_closed n (met_found (with_call w.round n asked) w.table.subscriptions w.table.sessions w.items o)).round.replies (made_by w n asked o) (told_by w n asked o)
-    by None found = tells_none ms w.round.replies
-    by (Some s) found = fired_tells ms (scene_at w n asked s) (given s found) (h.numbered.live n s found)

@@ -11,6 +11,7 @@ use Rattle.ua_item_queue.specs.Causes.{may_give, GetsOnly}
 use Rattle.ua_item_queue.proofs.CauseLemmas.{own_fates}
 use Rattle.ua_item_queue.proofs.KeptLemmas.{queue_moves_go}
 use Rattle.ua_item_queue.proofs.MarkLemmas.{marks_losses}
+use Rattle.ua_item_queue.proofs.NextMarked.{marks_the_next}
 use Rattle.ua_item_queue.proofs.ValueLemmas.{values_are_sent}
 use Rattle.ua_monitored_items.specs.Items.{ItemsState}
 use Rattle.ua_monitored_items.specs.Moves as item_moves
@@ -19,6 +20,7 @@ use Rattle.ua_monitored_items.proofs.Causing.{fates_have_their_causes}
 use Rattle.ua_monitored_items.proofs.Runs.{queues_are_what_waits, fates_are_final, accounts_are_in_order, accounts_mark_losses}
 use Rattle.subscription_laws.specs.Fates.{queue_moves_at, account_at, AreCaused, HaveTheirCauses, EachLossIsMarked}
 use Rattle.subscription_laws.specs.ItemCalls.{calls_from, item_calls}
+use Rattle.subscription_laws.specs.Marks.{MarksWhatFollows}
 use Rattle.subscription_laws.specs.Runs.{Move, run}
 use Rattle.subscription_laws.proofs.ItemsCalled.{items_come_by_their_calls, calls_go_on}
 
@@ -59,3 +61,6 @@ each_loss_is_marked queue_moves before after size oldest value is large = record
   at_once = subst (λ (ts : List (AccountEntry DataValue)). NewLossesAreMarked (account before) ts) (sym (fold-append account_after [] before (Sample size oldest value ∷ []))) (marks_losses (account before) size oldest value large);
   for_good = stays before (Sample size oldest value) after;
 }
+
+pub marks_what_follows : (queue_moves : List (QueueMove DataValue)) → MarksWhatFollows queue_moves
+marks_what_follows queue_moves before after size oldest value is large above = marks_the_next before after size oldest value large above

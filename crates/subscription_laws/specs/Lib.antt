@@ -9,8 +9,12 @@ pub mod Requests
 pub mod Apartness
 pub mod ItemCalls
 pub mod Fates
+pub mod Marks
 pub mod MessageContents
 pub mod Precedence
 pub mod Concern
 pub mod Bounds
+pub mod LiveItems
+pub mod Encounters
 pub mod Tellings
+pub mod OwnRequests

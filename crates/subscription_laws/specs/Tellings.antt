@@ -1,34 +1,27 @@
 -- What the answers to Publish requests tell, one after the other (IEC 62541-4, "Publish"): messages with notifications, keep-alives,
 -- notes of time-outs, and faults.
 use Rattle.std.specs.Prelude.{◌≡◌, ⊤, ℕ, Bool, false, nat_le, length, List, [], ◌∷◌, ◌++◌, map, drop, Option, Some, None, if◌then◌else◌}
-use Rattle.std.specs.Map.{keys_of, values_of}
+use Rattle.std.specs.List.{flat_map}
+use Rattle.std.specs.Map.{values_of}
 use Rattle.ua_types.specs.declared.moment.Moment.{Moment}
 use Rattle.ua_types.specs.declared.status.Status.{Status}
 use Rattle.ua_types.specs.declared.status.TheConstants.Status as status
 use Rattle.server_messages.specs.declared.reply.Reply.{Reply}
-use Rattle.ua_subscription_messages.specs.declared.publishing.SubscriptionAcknowledgement.{SubscriptionAcknowledgement}
 use Rattle.ua_state_table.specs.declared.row.RowId.{RowId}
 use Rattle.ua_state_table.specs.declared.row.RowId.TheVariants.{N1, N2, N3, N4, L1, L2, K1, K2, K3}
 use Rattle.ua_subscriptions.specs.Answers.{number_of, published_of, refused_of}
 use Rattle.ua_subscriptions.specs.Ending.{all_requests}
 use Rattle.ua_subscriptions.specs.Firing.{row_of}
 use Rattle.ua_subscriptions.specs.Messages.{number_after, keep_alive_message, timeout_message}
-use Rattle.ua_subscriptions.specs.Named.{named_all, has_none}
-use Rattle.ua_subscriptions.specs.Publishing.{acknowledged_all, note_of, without_note, asked_by, with_results}
 use Rattle.ua_subscriptions.specs.Queues.{first_of}
-use Rattle.ua_subscriptions.specs.Ranks.{waiting_of, due_numbers}
-use Rattle.ua_subscriptions.specs.Scenes.{Scene, scene, Noting, noting, subscription_noted, note_sent, with_asked, started, dequeued, life_reset}
-use Rattle.ua_subscriptions.specs.SubscriptionCalls.{world_of}
-use Rattle.ua_subscriptions.specs.Tables.{World, with_call, met, all_met, part_of, part_at, subscription_at}
-use Rattle.ua_subscriptions.specs.declared.call.Call.{Call}
-use Rattle.ua_subscriptions.specs.declared.call.Call.TheVariants as call
+use Rattle.ua_subscriptions.specs.Scenes.{Scene, Noting, noting, subscription_noted, note_sent, with_asked, started, dequeued, life_reset}
+use Rattle.ua_subscriptions.specs.Tables.{World, part_at}
+use Rattle.subscription_laws.specs.Encounters.{Beside, TellsNote, TellsNone, Refuses, LeavesAll, Encounter, Meets, Does, encounters}
 use Rattle.ua_subscriptions.specs.declared.messages.KeptMessage.{KeptMessage}
 use Rattle.ua_subscriptions.specs.declared.publish_call.PublishCall.{PublishCall}
-use Rattle.ua_subscriptions.specs.declared.ranks.Rank.{Rank}
 use Rattle.ua_subscriptions.specs.declared.round.Round.{Round}
 use Rattle.ua_subscriptions.specs.declared.session_part.SessionSubscriptions.{SessionSubscriptions}
 use Rattle.ua_subscriptions.specs.declared.session_part.TimeoutNote.{TimeoutNote}
-use Rattle.ua_subscriptions.specs.declared.subscription.Subscription.{Subscription}
 use Rattle.subscription_laws.specs.Messaging.{Made, messages_for, AreAmong}
 use Rattle.subscription_laws.specs.Numbering.{note_made, last_number}
 use Rattle.subscription_laws.specs.Runs.{Move, Ran, moved}
@@ -117,61 +110,24 @@ row_told K3 c = alive_told (first_of c.part.requests) c
 row_told L2 c = alive_told c.round.asked c
 row_told r c = []
 
--- ---- what a subscription meets
+-- ---- any call
 
-abbrev pub told_by : World → ℕ → Call → Option Subscription → List Telling
-told_by w number asked None = []
-told_by w number asked (Some s) = let c = scene (with_call w.round number asked) s (part_of s.session w.table.sessions) w.items in row_told (row_of c) c
+-- what is told beside the rows: the note of a time-out, that there is no subscription, and that requests wait in vain
+abbrev pub beside_told : World → Beside → List Telling
+beside_told w (TellsNote session asked note) = record { clock = w.round.clock; call = asked; kept = []; told = TimedOut note } ∷ []
+beside_told w (TellsNone asked) = refused_told w.round.clock status.BAD_NO_SUBSCRIPTION asked ∷ []
+beside_told w (Refuses session code) = map (refused_told w.round.clock code) (part_at session w.table.sessions).requests
+beside_told w (LeavesAll code) = map (refused_told w.round.clock code) (all_requests (values_of w.table.sessions))
+beside_told w b = []
 
-abbrev pub met_told : World → ℕ → Call → List Telling
-met_told w number asked = told_by w number asked (subscription_at number w.table.subscriptions)
+-- those of an encounter
+abbrev pub told_at : Encounter → List Telling
+told_at (Meets c) = row_told (row_of c) c
+told_at (Does w b) = beside_told w b
 
-abbrev pub all_told : Call → World → List ℕ → List Telling
-all_told asked w [] = []
-all_told asked w (n ∷ ns) = met_told w n asked ++ all_told asked (met w n asked) ns
-
--- ---- a call
-
-abbrev pub best_told : Option Rank → List ℕ → World → List Telling
-best_told (Some rank) numbers w = met_told w rank.number call.Publish
-best_told None numbers w = all_told call.Publish w numbers
-
-abbrev pub asked_told : List ℕ → PublishCall → World → List Telling
-asked_told [] asked w = refused_told w.round.clock status.BAD_NO_SUBSCRIPTION asked ∷ []
-asked_told (n ∷ ns) asked w = best_told (first_of (waiting_of w.table.subscriptions (n ∷ ns))) (n ∷ ns) (asked_by w asked)
-
--- a note is told to the session's next request, and nothing else then
-abbrev pub unless_noted : Option TimeoutNote → ℕ → PublishCall → World → List Telling
-unless_noted (Some note) session asked w = record { clock = w.round.clock; call = asked; kept = []; told = TimedOut note } ∷ []
-unless_noted None session asked w = asked_told (part_at session w.table.sessions).numbers asked w
-
--- once the acknowledgements were applied, of which the answer tells
-abbrev pub published_told : ℕ → PublishCall → List SubscriptionAcknowledgement → World → List Telling
-published_told session asked acks w =
-    let all = acknowledged_all session w.table.subscriptions acks in
-    unless_noted (note_of session w.table.sessions) session (with_results asked all.results)
-    (record { round = w.round; table = record { subscriptions = all.subscriptions; sessions = without_note session w.table.sessions }; items = w.items })
-
--- all requests of a session that wait are refused
-abbrev pub waiting_told : ℕ → Status → World → List Telling
-waiting_told session code w = map (refused_told w.round.clock code) (part_at session w.table.sessions).requests
-
--- all requests of all sessions that wait are refused
-abbrev pub all_waiting_told : Status → World → List Telling
-all_waiting_told code w = map (refused_told w.round.clock code) (all_requests (values_of w.table.sessions))
-
-abbrev pub if_none_left : ℕ → World → List Telling
-if_none_left session w = if has_none session w.table then waiting_told session status.BAD_NO_SUBSCRIPTION w else []
-
+-- those of a call
 abbrev pub moved_told : Ran → Move → List Telling
-moved_told r (Move.Publish clock session asked acks) = published_told session asked acks (world_of r.subs r.items clock)
-moved_told r (Move.Timers clock) = all_told call.Timer (world_of r.subs r.items clock) (due_numbers clock r.subs.table.subscriptions)
-moved_told r (Move.Delete clock session numbers) = if_none_left session (named_all session call.Delete (world_of r.subs r.items clock) numbers).world
-moved_told r (Move.EndSession clock session deleting) =
-    let w = world_of r.subs r.items clock in
-    waiting_told session status.BAD_SESSION_CLOSED (all_met (call.SessionEnd deleting) w (part_at session w.table.sessions).numbers)
-moved_told r (Move.Shutdown clock) = all_waiting_told status.BAD_SHUTDOWN (all_met call.Shutdown (world_of r.subs r.items clock) (keys_of r.subs.table.subscriptions))
-moved_told r move = []
+moved_told r m = flat_map told_at (encounters r m)
 
 -- by any calls
 abbrev pub run_told : Ran → List Move → List Telling

@@ -2,11 +2,13 @@
 //!
 //! The laws have no code: their contracts state them, over the definitions of the crate [`ua_subscriptions`]. `Runs` has the
 //! list of calls and what it comes to, from no subscription on; `Standings` how a subscription stands, and `Histories` what
-//! the rows that fired count; `Precedence` which subscription comes first; `Numbering` and `Messaging` the messages that were
-//! made, `Answering` the answers that bring them, `Requests` the requests that are answered, `Calm` what always holds, and
-//! `Apartness` what is of other sessions; `ItemCalls` the calls of items that come of any calls, `Fates` and `MessageContents` what
-//! becomes of values and which messages tell them; `Tellings` what the answers tell, and `Bounds` how many there are of each thing.
-//! The module [`shutdowns`] says what is left of all that when the server shuts down: nothing.
+//! the rows that fired count; `Precedence` which subscription comes first. `Encounters` has the one list of what comes of a call:
+//! the subscriptions that are met, each at a scene, and what is done beside. Maps of it are the rows (`Concern`), the messages that
+//! are made (`Messaging`, by the numbers of `Numbering`), the calls of the items (`ItemCalls`) and the answers (`Tellings`).
+//! `Answering` has the answers that bring messages, `Requests` and `OwnRequests` the requests that are answered, `Calm` what always
+//! holds, `Apartness` what is of other sessions, `LiveItems` whose the items are; `Fates`, `Marks` and `MessageContents` what becomes
+//! of values and which messages tell them, and `Bounds` how many there are of each thing. The module [`shutdowns`] says what is left
+//! of all that when the server shuts down: nothing.
 //!
 //! What a contract sees: the list of calls, and what it comes to.
 //!
@@ -14,6 +16,7 @@
 #![tactic(auto)]
 
 pub mod bounds;
+pub mod encounters;
 pub mod shutdowns;
 pub mod tellings;
 
@@ -49,6 +52,7 @@ ghost use Rattle.ua_subscriptions.specs.Scenes.{Scene, row_done};
 ghost use Rattle.ua_subscriptions.specs.SubscriptionCalls.{world_of};
 ghost use Rattle.subscription_laws.specs.Standings.{Counts, standing_in, row_counts, IsAsked};
 ghost use Rattle.ua_subscriptions.specs.Tables.{part_at, subscription_at};
+ghost use Rattle.subscription_laws.specs.Marks.{MarksWhatFollows};
 ghost use Rattle.subscription_laws.specs.MessageContents.{all_taken, AreMadeOf, entries_sent};
 ghost use Rattle.ua_subscriptions.specs.declared.call.Call.TheVariants.{Publish};
 ghost use Rattle.ua_subscriptions.specs.declared.publish_call.PublishCall.{PublishCall};
@@ -238,10 +242,11 @@ pub fn values_have_one_fate()
 /// Whatever is called, no value of an item is lost in silence. Where the queue holds more than one value, each loss is told of
 /// at once: behind the value that is lost a later one waits with the mark of an overflow, which it keeps, also when it is sent.
 /// And behind each value that was lost the first one that was neither lost nor cleared carries the mark, until something of the
-/// item is cleared, or its queue holds one value only.
+/// item is cleared, or its queue holds one value only: a call that finds nothing to clear changes nothing of that.
 pub fn no_value_is_lost_in_silence()
     ensures told { (config : Configuration) (moves : List Move) (number : ℕ) → LossesAreMarked (account_at config moves number) }
     ensures at_once { (config : Configuration) (moves : List Move) (number : ℕ) → EachLossIsMarked (queue_moves_at config moves number) }
+    ensures from_then_on { (config : Configuration) (moves : List Move) (number : ℕ) → MarksWhatFollows (queue_moves_at config moves number) }
 {}
 
 /// Whatever is called, each value that was sent stands in one message that a row made, with its mark. The messages are those

@@ -1,4 +1,4 @@
-use Rattle.subscription_laws.proofs.BroughtByCalls.{messages_brought}
+use Rattle.subscription_laws.proofs.TellingRuns.{messages_brought}
 use Rattle.server_laws.specs.EventMoves.{moves_of}
 use Rattle.server_laws.proofs.ReplyLemmas.{brings_messages, sends_replies}
 use Rattle.server_laws.proofs.messages_are_answers.Goals as goal

@@ -1,4 +1,4 @@
-use Rattle.subscription_laws.proofs.BroughtByCalls.{messages_brought}
+use Rattle.subscription_laws.proofs.TellingRuns.{messages_brought}
 use Rattle.subscription_laws.proofs.messages_are_answers.Goals as goal
 
 pub returns : goal.returns

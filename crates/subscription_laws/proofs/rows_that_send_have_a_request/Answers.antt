@@ -1,4 +1,4 @@
-use Rattle.subscription_laws.proofs.BroughtMessages.{row_given}
+use Rattle.subscription_laws.proofs.RowRequests.{row_given}
 use Rattle.subscription_laws.proofs.rows_that_send_have_a_request.Goals as goal
 
 pub returns : goal.returns
