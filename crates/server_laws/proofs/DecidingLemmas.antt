@@ -11,13 +11,14 @@ use Rattle.ua_item_queue.specs.Fates.Fate.{Waits, WasSent, WasLost, WasCleared}
 use Rattle.ua_item_queue.specs.ItemQueue.{QueueMove, entry}
 use Rattle.ua_item_queue.specs.ItemQueue.QueueChange.{Queued, FrontDropped, NewestReplaced, OnlyReplaced}
 use Rattle.ua_item_queue.specs.ItemQueue.QueueMove.{Sample, Send, Clear, Resize}
+use Rattle.ua_item_queue.specs.Marks.{fate_at}
 use Rattle.ua_monitored_items.specs.Causes.{call_may_give}
 use Rattle.ua_monitored_items.specs.Moves as item_moves
 use Rattle.ua_monitored_items.specs.Moves.{account_of}
 use Rattle.ua_monitored_items.proofs.Causing.{fates_have_their_causes}
 use Rattle.ua_monitored_items.proofs.Runs.{fates_are_final}
 use Rattle.subscription_laws.proofs.ValueFates.{have_their_causes, each_loss_is_marked, stays}
-use Rattle.server_laws.specs.Reaching.{fate_at, is_decided, IsCausedBy, IsDrivenOut}
+use Rattle.server_laws.specs.Reaching.{is_decided, IsCausedBy, IsDrivenOut}
 
 -- ---- the first step after which something holds
 

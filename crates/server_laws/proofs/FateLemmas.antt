@@ -10,7 +10,7 @@ use Rattle.subscription_laws.specs.Fates.{account_at}
 use Rattle.subscription_laws.specs.ItemCalls.{item_calls}
 use Rattle.subscription_laws.specs.Runs.{Move}
 use Rattle.subscription_laws.proofs.MessageContentLemmas.{messages_tell_takings, takings_are_what_was_sent}
-use Rattle.subscription_laws.proofs.ValueFates.{those_wait, they_stay, all_are_made_of, sent_in_order, are_caused, have_their_causes, losses_are_marked, each_loss_is_marked}
+use Rattle.subscription_laws.proofs.ValueFates.{those_wait, they_stay, all_are_made_of, sent_in_order, are_caused, have_their_causes, losses_are_marked, each_loss_is_marked, marks_what_follows}
 use Rattle.server_core.specs.Coherent.{reached, IfRuns}
 use Rattle.server_core.specs.declared.world.World.{World}
 use Rattle.server_core.specs.declared.event.Event.{Event}
@@ -48,4 +48,4 @@ module _ (config : Configuration) (space : SpaceState) (events : List Event) (nu
   stand_in_messages = record { told = messages_tell_takings config moves; sent = takings_are_what_was_sent config moves number }
 
   pub marks_losses : MarksItsLosses config space events number
-  marks_losses = record { told = losses_are_marked config moves number; at_once = each_loss_is_marked (queue_moves_after config space events number) }
+  marks_losses = record { told = losses_are_marked config moves number; at_once = each_loss_is_marked (queue_moves_after config space events number); from_then_on = marks_what_follows (queue_moves_after config space events number) }

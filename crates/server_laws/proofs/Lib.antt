@@ -2,6 +2,7 @@ pub mod MovingLemmas
 pub mod OtherSessions
 pub mod ApartLemmas
 pub mod TableLemmas
+pub mod ShutLemmas
 pub mod MessageLemmas
 pub mod FateLemmas
 pub mod ReplyLemmas

@@ -8,6 +8,7 @@ use Rattle.ua_values.specs.declared.data_value.DataValue.{DataValue}
 use Rattle.ua_item_queue.specs.Fates.{Fate, AccountEntry, waiting, LossesAreMarked}
 use Rattle.ua_item_queue.specs.Fates.Fate.{Waits, WasSent, WasLost, WasCleared}
 use Rattle.ua_item_queue.specs.ItemQueue.{entry}
+use Rattle.ua_item_queue.specs.Marks.{fate_at}
 use Rattle.ua_item_queue.specs.Sendings.{sent_of}
 use Rattle.ua_item_queue.specs.declared.entry.Entry.{Entry}
 use Rattle.ua_monitored_items.specs.Givings.{entries_of}
@@ -29,7 +30,7 @@ use Rattle.server_laws.specs.Fates.{account_after, queue_moves_after, HoldsWhatW
 use Rattle.server_laws.specs.Messages.{made_by, KeepsWhatWasMade, GivesAgainWhatWasMade}
 use Rattle.server_laws.specs.Moving.{StandIn}
 use Rattle.server_laws.specs.Postings.{Posting, reply_posted, posted}
-use Rattle.server_laws.specs.Reaching.{StandsIn, BroughtValue, brought_value, by_answer, brought_values, brought_in, IsAlone, IsBrought, fate_at, Sayings, HasCome, HaveCome, sayings, ValuesHaveCome}
+use Rattle.server_laws.specs.Reaching.{StandsIn, BroughtValue, brought_value, by_answer, brought_values, brought_in, IsAlone, IsBrought, Sayings, HasCome, HaveCome, sayings, ValuesHaveCome}
 use Rattle.server_laws.specs.Tellings.{told_by}
 use Rattle.server_laws.proofs.FateLemmas.{have_one_fate, stand_in_messages, marks_losses}
 use Rattle.server_laws.proofs.DecidingLemmas.{is_caused_by, is_driven_out}

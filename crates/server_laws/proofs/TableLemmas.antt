@@ -25,12 +25,16 @@ use Rattle.server_connections.specs.declared.frame_outcome.FrameOutcome.{FrameOu
 use Rattle.server_connections.specs.declared.frame_outcome.FrameOutcome.TheVariants as outcome
 use Rattle.server_connections.specs.declared.connections.Connections.{Connections}
 use Rattle.server_messages.specs.declared.out.Out.{Out}
+use Rattle.ua_state_table.proofs.SteadyLemmas.{steady_is_sound}
 use Rattle.subscription_laws.specs.Calm.{AreSteady}
 use Rattle.subscription_laws.specs.Histories.{AreLawful}
 use Rattle.subscription_laws.specs.Concern.{concern_of, concerned_from, all_concerned, AreTheRowsFor}
 use Rattle.subscription_laws.specs.Runs.{Move, Ran, moved, start}
 use Rattle.ua_subscriptions.specs.Tables.{TableState}
 use Rattle.subscription_laws.proofs.Concerned.{all_from, one_row_for_each}
+use Rattle.subscription_laws.specs.LiveItems.{AreOfLive}
+use Rattle.subscription_laws.proofs.LiveItemRows.{items_of_live}
+use Rattle.subscription_laws.proofs.OwnAnswers.{answers_are_own}
 use Rattle.subscription_laws.proofs.Reached.{rows_are_lawful, all_steady, none_beside, lives_count, none_skipped}
 use Rattle.server_laws.specs.Moving.{Went, ComesOn, ran_at}
 use Rattle.ua_services.specs.Serving.{Serving, rows_of}
@@ -46,7 +50,7 @@ use Rattle.server_core.specs.Running.{Running, joined_effects, then_run, run_of}
 use Rattle.server_laws.specs.SessionsApart.{KeepsSessionsApart, ServesByFrames, SessionsStayApart}
 use Rattle.server_core.specs.Stepping as stepping
 use Rattle.server_core.specs.Stepping.{Served, served, fed_to, fed, step_of}
-use Rattle.server_laws.specs.Tables.{rows_of_run, IfShown, LeadTo, StaysSteady, NoneWaitsBesideARequest, LivesCountTimers, NoKeepAliveIsSkipped, FiresOneRow, TimesOutExactly, NoneTimesOutBesideARequest}
+use Rattle.server_laws.specs.Tables.{rows_of_run, IfShown, LeadTo, StaysSteady, VariablesAreSound, NoneWaitsBesideARequest, LivesCountTimers, NoKeepAliveIsSkipped, FiresOneRow, TimesOutExactly, NoneTimesOutBesideARequest, ItemsAreOfLive, AnswersStayInSessions}
 use Rattle.server_laws.specs.Concern.{FiresFor, FiresForEach}
 use Rattle.server_laws.specs.EventMoves.{serving_moves, ticking_moves, shutting_moves, forgetting_moves, asked_moves, frame_moves, frames_moves, end_moves, piece_moves, event_moves, moves_then, moves_from, moves_of}
 use Rattle.server_core.specs.World.{opening}
@@ -97,7 +101,7 @@ ticking_goes setting services =
     let s = ticking_of setting services in
     record { goes = goes_on services (ticking_moves setting services) s.state (rows_of s.occurrences) s.replies (ticking_on setting services); fresh = λ from fresh. tick_fresh setting services fresh }
 
-shutting_goes : (setting : Setting) (services : Services) → (let s = shutting_of setting services in Goes services (shutting_moves setting) s.state (rows_of s.occurrences))
+pub shutting_goes : (setting : Setting) (services : Services) → (let s = shutting_of setting services in Goes services (shutting_moves setting) s.state (rows_of s.occurrences))
 shutting_goes setting services =
     let s = shutting_of setting services in
     record { goes = goes_on services (shutting_moves setting) s.state (rows_of s.occurrences) s.replies (shutting_on setting services); fresh = λ from fresh. end_fresh setting services }
@@ -296,6 +300,12 @@ module _ (config : Configuration) (space : SpaceState) (events : List Event) whe
   pub stays_steady : IfRuns (StaysSteady (rows_of_run r)) r.server
   stays_steady = seen (StaysSteady (rows_of_run r)) (subst (λ (ran : Ran). AreSteady ran.subs.table ran.items ran.rows) went.left (all_steady config moves))
 
+  stays_sound : IfRuns VariablesAreSound r.server
+  stays_sound = seen VariablesAreSound (λ number s found. steady_is_sound _ (steady_now number s found))
+    where
+      steady_now : let services : Services = gone.world.core.services in AreSteady services.subs.table services.items (rows_of_run r)
+      steady_now = subst (λ (ran : Ran). AreSteady ran.subs.table ran.items ran.rows) went.left (all_steady config moves)
+
   pub reached_lawful : AreLawful (rows_of_run r)
   reached_lawful = subst (λ (ran : Ran). AreLawful ran.rows) went.left (rows_are_lawful config moves)
 
@@ -318,6 +328,7 @@ module _ (config : Configuration) (space : SpaceState) (events : List Event) whe
     only = λ before f rest is. (reached_lawful before f rest is).only;
     sound = λ before f rest is. (reached_lawful before f rest is).sound;
     steady = stays_steady;
+    sound_now = stays_sound;
   }
 
   pub exact_time_out : TimesOutExactly config space events
@@ -346,3 +357,11 @@ module _ (config : Configuration) (space : SpaceState) (events : List Event) whe
 
   pub sessions_apart : SessionsStayApart config space events
   sessions_apart = record { requests = keeps_sessions_apart; frames = serves_by_frames }
+
+  -- ---- items, and answers
+
+  pub items_live : IfRuns ItemsAreOfLive r.server
+  items_live = seen ItemsAreOfLive (subst (λ (ran : Ran). AreOfLive ran.subs.table.subscriptions ran.items.items) went.left (items_of_live config moves))
+
+  pub answers_stay : AnswersStayInSessions config space events
+  answers_stay before m rest is = answers_are_own config before m

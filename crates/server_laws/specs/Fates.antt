@@ -9,6 +9,7 @@ use Rattle.ua_item_queue.specs.Sendings.{values_of, sampled_by, sent_of}
 use Rattle.ua_monitored_items.specs.Moves.{queue_at}
 use Rattle.subscription_laws.specs.Fates.{queue_moves_at, account_at, AreCaused, HaveTheirCauses, EachLossIsMarked}
 use Rattle.subscription_laws.specs.ItemCalls.{item_calls}
+use Rattle.subscription_laws.specs.Marks.{MarksWhatFollows}
 use Rattle.subscription_laws.specs.MessageContents.{all_taken, AreMadeOf, entries_sent}
 use Rattle.ua_services.specs.declared.services.Services.{Services}
 use Rattle.server_core.specs.Coherent.{reached, IfRuns}
@@ -47,7 +48,9 @@ pub record StandInMessages (config : Configuration) (space : SpaceState) (events
   pub sent : entries_sent number (all_taken config (moves_of config space events)) ≡ sent_of (account_after config space events number)
 
 -- Where the queue holds more than one value, behind each value that is lost a later one waits at once with the mark, which it keeps;
--- and the first one behind it that was neither lost nor cleared carries the mark, until something of the item is cleared
+-- and the first one behind it that was neither lost nor cleared carries the mark, until something of the item is cleared. More than
+-- that: it does as long as the queue holds more than one value and nothing of the item becomes cleared
 pub record MarksItsLosses (config : Configuration) (space : SpaceState) (events : List Event) (number : ℕ) : Type 0 where
   pub told : LossesAreMarked (account_after config space events number)
   pub at_once : EachLossIsMarked (queue_moves_after config space events number)
+  pub from_then_on : MarksWhatFollows (queue_moves_after config space events number)

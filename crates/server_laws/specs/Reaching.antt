@@ -1,5 +1,5 @@
 -- How the values that items queued reach their clients.
-use Rattle.std.specs.Prelude.{◌≡◌, ◌⊎◌, ℕ, zero, suc, ◌<◌, ◌≤◌, Bool, true, false, List, [], ◌∷◌, ◌++◌, drop, length, map, Option, Some, None, Ok, not}
+use Rattle.std.specs.Prelude.{◌≡◌, ◌⊎◌, ℕ, suc, ◌<◌, ◌≤◌, Bool, true, false, List, [], ◌∷◌, ◌++◌, drop, length, map, Option, Some, None, Ok, not}
 use Rattle.ua_types.specs.Configuration.{Configuration}
 use Rattle.ua_types.specs.declared.moment.Moment.{Moment}
 use Rattle.ua_space.specs.Nodes.{SpaceState}
@@ -8,6 +8,7 @@ use Rattle.ua_item_queue.specs.Fates.{Fate, AccountEntry, account, any_marked, i
 use Rattle.ua_item_queue.specs.Fates.Fate.{Waits, WasSent, WasLost, WasCleared}
 use Rattle.ua_item_queue.specs.ItemQueue.{QueueMove, entry}
 use Rattle.ua_item_queue.specs.ItemQueue.QueueMove.{Sample}
+use Rattle.ua_item_queue.specs.Marks.{fate_at}
 use Rattle.ua_item_queue.specs.declared.entry.Entry.{Entry}
 use Rattle.ua_monitored_items.specs.Causes.{call_may_give}
 use Rattle.ua_monitored_items.specs.Givings.{entries_of}
@@ -87,12 +88,6 @@ pub record IsBrought (config : Configuration) (space : SpaceState) (events : Lis
       (republished session b.message.subscription b.message.message.number (world_of services.subs services.items clock)).answer ≡ Ok bytes → bytes ≡ b.message.message.bytes
 
 -- ---- why a value is gone
-
--- the fate of the value at a place of an account, if there is one
-abbrev pub fate_at : {V : Type 0} → ℕ → List (AccountEntry V) → Option Fate
-fate_at place [] = None
-fate_at zero (t ∷ ts) = Some t.fate
-fate_at (suc place) (t ∷ ts) = fate_at place ts
 
 abbrev pub is_decided : Option Fate → Bool
 is_decided None = false

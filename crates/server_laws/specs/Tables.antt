@@ -1,8 +1,9 @@
 -- What holds of the subscriptions of a server, after any events.
-use Rattle.std.specs.Prelude.{◌≡◌, ◌<◌, ◌+◌, ℕ, true, false, List, [], ◌∷◌, ◌++◌, Option, Some}
+use Rattle.std.specs.Prelude.{◌≡◌, ◌<◌, ◌+◌, ℕ, true, false, List, [], ◌∷◌, ◌++◌, Option, Some, None}
 use Rattle.ua_types.specs.Configuration.{Configuration}
 use Rattle.server_messages.specs.declared.fired.Fired.{Fired}
 use Rattle.ua_space.specs.Nodes.{SpaceState}
+use Rattle.ua_monitored_items.specs.ItemTables.{item_at}
 use Rattle.ua_state_table.specs.Sound.{IsSound}
 use Rattle.ua_state_table.specs.StateTable.{fires}
 use Rattle.ua_state_table.specs.declared.event.TableEvent.TheVariants.{Timer}
@@ -12,14 +13,18 @@ use Rattle.subscription_laws.specs.Calm.{AreSteady}
 use Rattle.subscription_laws.specs.Concern.{all_concerned, AreTheRowsFor}
 use Rattle.subscription_laws.specs.Histories.{counts_at, life_at}
 use Rattle.ua_subscriptions.specs.Ranks.{is_waiting}
+use Rattle.subscription_laws.specs.LiveItems.{AreOfLive}
+use Rattle.subscription_laws.specs.OwnRequests.{AreOwnAnswers}
 use Rattle.subscription_laws.specs.Runs.{Move, run}
 use Rattle.ua_subscriptions.specs.SubscriptionCalls.{SubscriptionsState}
-use Rattle.ua_subscriptions.specs.Tables.{TableState, part_at, subscription_at}
+use Rattle.ua_subscriptions.specs.Subscriptions.{vars_of}
+use Rattle.ua_subscriptions.specs.Tables.{TableState, part_at, part_of, subscription_at}
 use Rattle.ua_subscriptions.specs.declared.subscription.Subscription.{Subscription}
 use Rattle.ua_services.specs.declared.services.Services.{Services}
 use Rattle.server_core.specs.Coherent.{reached, IfRuns}
 use Rattle.server_core.specs.Effects.{fired_of}
 use Rattle.server_core.specs.Running.{Running, joined_effects}
+use Rattle.server_core.specs.declared.parts.Core.{Core}
 use Rattle.server_core.specs.declared.world.World.{World}
 use Rattle.server_core.specs.declared.event.Event.{Event}
 use Rattle.server_laws.specs.Concern.{FiresForEach}
@@ -43,6 +48,13 @@ pub record LeadTo (config : Configuration) (moves : List Move) (rows : List Fire
 abbrev pub StaysSteady : List Fired → World → Type 0
 StaysSteady rows world = let services : Services = world.core.services in AreSteady services.subs.table services.items rows
 
+-- and its variables are sound
+abbrev pub VariablesAreSound : World → Type 0
+VariablesAreSound world =
+    let services : Services = world.core.services in
+    let t : TableState = services.subs.table in
+    (number : ℕ) (s : Subscription) → subscription_at number t.subscriptions ≡ Some s → IsSound (vars_of s (part_of s.session t.sessions) services.items number)
+
 -- a session with a subscription that waits has no queued request
 abbrev pub NoneWaitsBesideARequest : TableState → Type 0
 NoneWaitsBesideARequest t = (number session : ℕ) (s : Subscription) → subscription_at number t.subscriptions ≡ Some s → s.session ≡ Some session →
@@ -64,13 +76,14 @@ abbrev pub OfEachRow : (List Fired → Fired → Type 0) → List Fired → Type
 OfEachRow P rows = (before : List Fired) (f : Fired) (rest : List Fired) → before ++ f ∷ rest ≡ rows → P before f
 
 -- One row fires for each subscription that the events concern, in order, and no other; so it is with the next event, too. Each is
--- the only one that the table allows at its variables, which are sound, and each live subscription is steady
+-- the only one that the table allows at its variables, which are sound; and each live subscription is steady, its variables sound
 pub record FiresOneRow (config : Configuration) (space : SpaceState) (events : List Event) : Type 0 where
   pub each : let r = reached config space events in AreTheRowsFor (all_concerned config (moves_of config space events)) (rows_of_run r)
   pub next : IfRuns FiresForEach (reached config space events).server
   pub only : OfEachRow (λ before f. fires f.before f.event ≡ f.row ∷ []) (rows_of_run (reached config space events))
   pub sound : OfEachRow (λ before f. IsSound f.before) (rows_of_run (reached config space events))
   pub steady : let r = reached config space events in IfRuns (StaysSteady (rows_of_run r)) r.server
+  pub sound_now : IfRuns VariablesAreSound (reached config space events).server
 
 -- a timer finds as many timers started, this one included, as the life counter was last set to
 abbrev pub IsLastTimer : List Fired → Fired → Type 0
@@ -85,3 +98,21 @@ pub record TimesOutExactly (config : Configuration) (space : SpaceState) (events
 -- one that times out is late, and no request of its session is queued
 abbrev pub NoneTimesOutBesideARequest : List Fired → Type 0
 NoneTimesOutBesideARequest rows = OfEachRow (λ before f. f.row ≡ G6 → (f.before.state ≡ Late) × (f.before.queued ≡ false)) rows
+
+-- ---- the subscriptions' own
+
+-- each monitored item is of a live subscription
+abbrev pub ItemsAreOfLive : World → Type 0
+ItemsAreOfLive world = let services : Services = world.core.services in AreOfLive services.subs.table.subscriptions services.items.items
+
+-- once the server was shut down, there is none
+abbrev pub IsEmptyOnceShut : World → Type 0
+IsEmptyOnceShut world = let core : Core = world.core in core.is_shut ≡ true → (number : ℕ) → item_at number core.services.items.items ≡ None
+
+pub record ItemsHaveSubscriptions (config : Configuration) (space : SpaceState) (events : List Event) : Type 0 where
+  pub live : IfRuns ItemsAreOfLive (reached config space events).server
+  pub shut : IfRuns IsEmptyOnceShut (reached config space events).server
+
+-- at each call of a run, what is answered about a subscription is given to a Publish request that came in that one's session
+abbrev pub AnswersStayInSessions : Configuration → SpaceState → List Event → Type 0
+AnswersStayInSessions config space events = (before : List Move) (m : Move) (rest : List Move) → before ++ m ∷ rest ≡ moves_of config space events → AreOwnAnswers config before m

@@ -35,7 +35,7 @@ ghost use Rattle.server_laws.specs.Messages.{made_by, NumbersItsMessages, GivesT
 ghost use Rattle.server_laws.specs.Moving.{ComesOn, ComesOnBy};
 ghost use Rattle.server_laws.specs.Replying.{BringsMessages, SendsReplies};
 ghost use Rattle.server_laws.specs.SessionsApart.{SessionsStayApart};
-ghost use Rattle.server_laws.specs.Tables.{rows_of_run, IfShown, LeadTo, NoneWaitsBesideARequest, NoKeepAliveIsSkipped, FiresOneRow, TimesOutExactly, NoneTimesOutBesideARequest};
+ghost use Rattle.server_laws.specs.Tables.{rows_of_run, IfShown, LeadTo, NoneWaitsBesideARequest, NoKeepAliveIsSkipped, FiresOneRow, TimesOutExactly, NoneTimesOutBesideARequest, ItemsHaveSubscriptions, AnswersStayInSessions};
 
 /// What the services do is a function of what is asked: each request, served or refused, each tick, and each connection that is
 /// gone comes to the calls of the subscriptions and their items that `EventMoves` lists for it. The subscriptions and items after
@@ -58,7 +58,8 @@ pub fn subscriptions_come_by_moves()
 ///
 /// - `one_row`: for each subscription that the events concern one row fires, in order, at what comes to it and at the variables at
 ///   which it is met, and no other row; so it is with the next event, whatever it is. It is the only row that the table allows
-///   there, and the variables are sound. Each live subscription is steady, with the counts that the rows tell.
+///   there, and the variables are sound. Each live subscription is steady, with the counts that the rows tell, and its variables are
+///   sound.
 /// - `no_waiting_beside_a_request`: a session with a queued request has no subscription that waits.
 /// - `exact_time_out`: a subscription times out at the timer that finds as many timers started, this one included, as its life
 ///   counter was last set to, and at no other; and the counter lacks one of that for each timer that was started since.
@@ -69,6 +70,9 @@ pub fn subscriptions_come_by_moves()
 ///   those sessions with their continuation points, queued requests and notes, the subscriptions that aren't its own with all
 ///   variables, kept messages and numbers, and the items of those; and none appears under another session. A Write changes of
 ///   items, its own and others, only that they see the values that it accepts. A request is what a frame completes.
+/// - `answers_in_their_sessions`: each answer about a subscription is given to a Publish request that came in that subscription's
+///   session, the note that it has timed out, too: in the session that it had.
+/// - `items_have_subscriptions`: each monitored item is of a live subscription, and once the server was shut down, there is none.
 pub fn table()
     ensures one_row { (config : Configuration) (space : SpaceState) (events : List Event) → FiresOneRow config space events }
     ensures no_waiting_beside_a_request { (config : Configuration) (space : SpaceState) (events : List Event) →
@@ -79,6 +83,8 @@ pub fn table()
     ensures no_keep_alive_skipped { (config : Configuration) (space : SpaceState) (events : List Event) → let r = reached config space events in
         IfShown (NoKeepAliveIsSkipped (rows_of_run r)) r.server }
     ensures sessions_apart { (config : Configuration) (space : SpaceState) (events : List Event) → SessionsStayApart config space events }
+    ensures answers_in_their_sessions { (config : Configuration) (space : SpaceState) (events : List Event) → AnswersStayInSessions config space events }
+    ensures items_have_subscriptions { (config : Configuration) (space : SpaceState) (events : List Event) → ItemsHaveSubscriptions config space events }
 {}
 
 /// Nothing is lost in silence, after every list of events. The account of an item, and the messages that were made, are folds over
@@ -91,7 +97,7 @@ pub fn table()
 ///   notes of what the items gave and nothing else.
 /// - `overflow_marks`: where the queue holds more than one value, a later value that waits carries the mark at once, and keeps it;
 ///   and behind each value that was lost the first one that was neither lost nor cleared carries it, until something of the item is
-///   cleared, or its queue holds one value only.
+///   cleared, or its queue holds one value only. A call that finds nothing to clear changes nothing of that.
 /// - `message_numbers`: the messages of a subscription are numbered from 1 without a gap, after the last of 32 bits comes 1, also
 ///   once it is no more; more events only add messages. A note of a time-out has the number that would have come next.
 /// - `republish_gives_the_first_bytes`: what Republish and [`Server::kept`](server_core::Server::kept) give is, byte for byte, the

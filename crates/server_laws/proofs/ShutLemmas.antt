@@ -1,0 +1,183 @@
+-- Once a server was shut down, it has no subscription and no item.
+use Rattle.std.proofs.Common.{◌≡◌, ◌≢◌, ◌⊎◌, inl, inr, ℕ, Bool, true, false, not, cond, List, [], ◌∷◌, ◌++◌, map, Option, Some, None, Result, Ok, Err, refl, sym, ap, ◌∙◌}
+use Rattle.std.specs.Prelude.{⊤}
+use Rattle.std.specs.FinMap.{FinMap, get, remove, get-empty}
+use Rattle.std.specs.List.{AllByRecursion}
+use Rattle.std.specs.Option.{is_some}
+use Rattle.std.specs.Ordering.{nat_cmp}
+use Rattle.ua_types.specs.Configuration.{Configuration}
+use Rattle.ua_types.specs.Moments.{later}
+use Rattle.ua_types.specs.declared.moment.Moment.{Moment}
+use Rattle.ua_types.specs.declared.status.Status.{Status}
+use Rattle.ua_types.specs.declared.status.TheConstants.Status as status
+use Rattle.ua_tcp.specs.Feeding.{Framing, framed_of}
+use Rattle.ua_tcp.specs.Pieces.{all_handled}
+use Rattle.ua_tcp.specs.declared.frame.Frame.{Frame}
+use Rattle.ua_tcp.specs.declared.frame.FrameFault.{FrameFault}
+use Rattle.server_messages.specs.declared.fired.Fired.{Fired}
+use Rattle.server_messages.specs.declared.out.Out.{Out}
+use Rattle.server_messages.specs.declared.setting.Setting.{Setting}
+use Rattle.server_connections.specs.Connecting.{is_known, is_new, taking_of}
+use Rattle.server_connections.specs.declared.connections.Connections.{Connections}
+use Rattle.server_connections.specs.declared.frame_outcome.FrameOutcome.{FrameOutcome}
+use Rattle.server_connections.specs.declared.frame_outcome.FrameOutcome.TheVariants as outcome
+use Rattle.ua_space.specs.Nodes.{SpaceState}
+use Rattle.ua_monitored_items.specs.ItemTables.{item_at}
+use Rattle.ua_monitored_items.specs.declared.item.Item.{Item}
+use Rattle.ua_session.specs.Sessions.{ended_by}
+use Rattle.ua_subscriptions.specs.SubscriptionCalls.{world_of}
+use Rattle.ua_subscriptions.specs.Tables.{TableState, subscription_at}
+use Rattle.ua_subscriptions.specs.declared.subscription.Subscription.{Subscription}
+use Rattle.ua_subscriptions.proofs.Shutdowns.{nothing_left}
+use Rattle.ua_services.specs.Services.{shutting_of}
+use Rattle.ua_services.specs.declared.services.Services.{Services}
+use Rattle.subscription_laws.specs.Runs.{Move, Ran}
+use Rattle.subscription_laws.proofs.ShutdownLemmas.{none_comes}
+use Rattle.subscription_laws.proofs.Walks.{makes}
+use Rattle.server_core.specs.Coherent.{reached, IfRuns}
+use Rattle.server_core.specs.Effects.{Effect}
+use Rattle.server_core.specs.Handling.{asked_for, handled, broken, setting_at}
+use Rattle.server_core.specs.Stepping as stepping
+use Rattle.server_core.specs.Stepping.{Served, served, fed_to, fed, step_of}
+use Rattle.server_core.specs.World.{opening}
+use Rattle.server_core.specs.declared.event.Event.{Event}
+use Rattle.server_core.specs.declared.event.Event.TheVariants.{Opened, Bytes, Gone, Tick, Shutdown}
+use Rattle.server_core.specs.declared.out.StepFault.{StepFault}
+use Rattle.server_core.specs.declared.out.StepFault.TheVariants.{KnownConnection, UnknownConnection}
+use Rattle.server_core.specs.declared.parts.Core.{Core}
+use Rattle.server_core.specs.declared.world.World.{World}
+use Rattle.server_core.proofs.Keeping.{frames_keep, end_keeps, Kept, lift}
+use Rattle.number_slots.proofs.NumberMaps.{get_removed, get_removed_elsewhere}
+use Rattle.server_laws.specs.EventMoves.{end_move}
+use Rattle.server_laws.specs.Moving.{ComesOn, ran_at}
+use Rattle.server_laws.specs.Tables.{ItemsAreOfLive, IsEmptyOnceShut, ItemsHaveSubscriptions}
+use Rattle.server_laws.proofs.TableLemmas.{shutting_goes, step_goes, items_live}
+use Rattle.subscription_laws.proofs.Entries.{same_or_not}
+
+-- it hears no connection, and has no subscription
+abbrev IsEmpty : World → Type 0
+IsEmpty world = ((conn : ℕ) → get world.framers conn ≡ None) × (let services : Services = world.core.services in services.subs.table.subscriptions ≡ [])
+
+abbrev EndsEmpty : World → Type 0
+EndsEmpty world = world.core.is_shut ≡ true → IsEmpty world
+
+-- ---- a tick, which makes none
+
+abbrev Plain : Move → Type 0
+Plain m = makes m ≡ false
+
+ends_plain : (setting : Setting) (numbers : List ℕ) (rest : List Move) → AllByRecursion Plain rest → AllByRecursion Plain (map (end_move setting) numbers ++ rest)
+ends_plain setting [] rest h = h
+ends_plain setting (n ∷ ns) rest h = (refl, ends_plain setting ns rest h)
+
+none_after : (before after : Services) (moves : List Move) (rows : List Fired) → ComesOn before moves after rows → AllByRecursion Plain moves → before.subs.table.subscriptions ≡ [] → after.subs.table.subscriptions ≡ []
+none_after before after moves rows goes plain none = sym (ap (λ (r : Ran). r.subs.table.subscriptions) (goes [] []).left) ∙ none_comes moves (ran_at before [] []) plain none
+
+ticked_empty : (world : World) (now : Moment) → EndsEmpty world → EndsEmpty (stepping.ticked world now).world
+ticked_empty world now h is =
+    let setting = setting_at world.core (later world.core.setting.clock now) in
+    let empty = h is in
+    (empty.0, none_after world.core.services (stepping.ticked world now).world.core.services _ _ (step_goes world (Tick now)).goes (ends_plain setting (ended_by world.core.services.sessions setting.clock) _ (refl, tt)) empty.1)
+
+-- ---- the shutdown
+
+none_left : (setting : Setting) (services : Services) → (shutting_of setting services).state.subs.table.subscriptions ≡ []
+none_left setting services =
+    sym (ap (λ (r : Ran). r.subs.table.subscriptions) ((shutting_goes setting services).goes [] []).left) ∙ ap (λ (t : TableState). t.subscriptions) (nothing_left (world_of services.subs services.items setting.clock))
+
+shut_empty : (world : World) → EndsEmpty world → EndsEmpty (stepping.shut_down world).world
+unfolding stepping.shut_down
+shut_empty world h = by world.core.is_shut
+  where
+    by : (b : Bool) → EndsEmpty (cond b (served world []) (stepping.ended world)).world
+    by true = h
+    by false = λ is. ((λ conn. get-empty nat_cmp conn), none_left world.core.setting world.core.services)
+
+-- ---- bytes, of a connection that is heard still
+
+module _ (conn : ℕ) (shut : Bool) where
+  asked_same : (core : Core) (connections : Connections) (outs : List Out) (found : FrameOutcome) → core.is_shut ≡ shut → (asked_for conn (record core { connections = connections }) outs found).state.is_shut ≡ shut
+  asked_same core connections outs outcome.Nothing h = h
+  asked_same core connections outs outcome.Closed h = h
+  asked_same core connections outs (outcome.Request request) h = h
+
+  handled_same : (core : Core) (frame : Frame) → core.is_shut ≡ shut → (let d = handled conn core frame in (d.state.is_shut ≡ shut) × ⊤)
+  unfolding handled
+  handled_same core frame h = let t = taking_of core.setting conn core.connections frame in (asked_same core t.connections t.outs t.asked h, tt)
+
+  broken_same : (core : Core) (fault : FrameFault) → core.is_shut ≡ shut → (let d = broken conn core fault in (d.state.is_shut ≡ shut) × ⊤)
+  unfolding broken
+  broken_same core fault h = (h, tt)
+
+  fed_same : (world : World) (piece : List ℕ) (framing : Framing) → world.core.is_shut ≡ shut → (fed_to world conn piece (Some framing)).world.core.is_shut ≡ shut
+  fed_same world piece framing h =
+      let A : Bool → Core → Type 0 = λ b core. core.is_shut ≡ shut in
+      let Q : List Effect → Type 0 = λ effects. ⊤ in
+      let framed = framed_of framing.limit framing.held piece in
+      let d = all_handled (handled conn) world.core framed.frames in
+      let f = frames_keep conn A Q tt (λ xs ys p q. tt) handled_same broken_same framed.frames world.core h in
+      (end_keeps conn A Q tt (λ xs ys p q. tt) handled_same broken_same framed.end d f.0 f.1).0
+
+fed_empty : (world : World) (conn : ℕ) (piece : List ℕ) → EndsEmpty world → EndsEmpty (fed world conn piece).world
+unfolding fed
+fed_empty world conn piece h = by (get world.framers conn) refl
+  where
+    by : (o : Option Framing) → get world.framers conn ≡ o → EndsEmpty (fed_to world conn piece o).world
+    by None found = h
+    by (Some framing) found = λ is.
+        let clash : None ≡ Some framing = sym ((h (sym (fed_same conn world.core.is_shut world piece framing refl) ∙ is)).0 conn) ∙ found in
+        absurd (cc)
+
+-- ---- any event
+
+abbrev Left : Result Served StepFault → Type 0
+Left r = Kept EndsEmpty (λ (effects : List Effect). ⊤) r
+
+either : (b : Bool) (x y : Result Served StepFault) → Left x → Left y → Left (cond b x y)
+either true x y p q = p
+either false x y p q = q
+
+none_greeted : (b : Bool) (code : Status) (o : Option Status) → cond b (Some code) o ≡ None → b ≡ true → ⊥
+none_greeted true code o e is = absurd (cc)
+none_greeted false code o e is = absurd (cc)
+
+opened_empty : (world : World) (conn : ℕ) (key : List ℕ) → EndsEmpty world → (why : Option Status) → stepping.refusal_of world ≡ why → Left (Ok (stepping.opened_by world conn key why))
+opened_empty world conn key h None is = ((λ shut. absurd (none_greeted world.core.is_shut status.BAD_SHUTDOWN _ is shut)), tt)
+opened_empty world conn key h (Some code) is = (h, tt)
+
+gone_at : (framers : FinMap nat_cmp Framing) (conn q : ℕ) → get framers q ≡ None → get (remove framers conn) q ≡ None
+gone_at framers conn q none = by (same_or_not q conn)
+  where
+    by : (q ≡ conn) ⊎ (q ≢ conn) → get (remove framers conn) q ≡ None
+    by (inl same) = ap (λ (k : ℕ). get (remove framers conn) k) same ∙ get_removed framers conn
+    by (inr other) = get_removed_elsewhere framers conn q other ∙ none
+
+step_empty : (world : World) (event : Event) → EndsEmpty world → Left (step_of world event)
+step_empty world (Opened conn key) h =
+    either (not (is_new world.core.connections conn)) (Err KnownConnection) (Ok (stepping.opened_by world conn key (stepping.refusal_of world))) tt (opened_empty world conn key h (stepping.refusal_of world) refl)
+step_empty world (Bytes conn bytes) h = either (is_known world.core.connections conn) (Ok (fed world conn bytes)) (Err UnknownConnection) (fed_empty world conn bytes h, tt) tt
+step_empty world (Gone conn) h =
+    either (is_known world.core.connections conn) (Ok (served (stepping.forgotten world conn) [])) (Err UnknownConnection) ((λ is. let empty = h is in ((λ q. gone_at world.framers conn q (empty.0 q)), empty.1)), tt) tt
+step_empty world (Tick now) h = (ticked_empty world now h, tt)
+step_empty world Shutdown h = (shut_empty world h, tt)
+
+-- ---- any run
+
+no_items : (world : World) → EndsEmpty world → ItemsAreOfLive world → IsEmptyOnceShut world
+no_items world h live is number = by (item_at number world.core.services.items.items) refl
+  where
+    by : (o : Option Item) → item_at number world.core.services.items.items ≡ o → o ≡ None
+    by None e = refl
+    by (Some item) e =
+        let found : is_some (subscription_at item.subscription []) ≡ true = ap (λ (xs : List (ℕ × Subscription)). is_some (subscription_at item.subscription xs)) (sym (h is).1) ∙ live number item e in
+        absurd (cc)
+
+both_run : (P Q R : World → Type 0) → ((world : World) → P world → Q world → R world) → (server : Option World) → IfRuns P server → IfRuns Q server → IfRuns R server
+both_run P Q R f None p q = tt
+both_run P Q R f (Some world) p q = f world p q
+
+pub items_owned : (config : Configuration) (space : SpaceState) (events : List Event) → ItemsHaveSubscriptions config space events
+items_owned config space events =
+    let empty = (lift EndsEmpty (λ (effects : List Effect). ⊤) step_empty events (opening config space) (λ is. absurd (cc))).0 in
+    let live = items_live config space events in
+    record { live = live; shut = both_run EndsEmpty ItemsAreOfLive IsEmptyOnceShut no_items (reached config space events).server empty live }
