@@ -11,3 +11,4 @@ pub mod Bounds
 pub mod Tellings
 pub mod Postings
 pub mod Reaching
+pub mod Stories

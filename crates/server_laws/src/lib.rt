@@ -15,6 +15,7 @@
 
 pub mod bounds;
 pub mod reaching;
+pub mod stories;
 pub mod tellings;
 
 ghost use Rattle.std.specs.Prelude.{ℕ, List, []};
