@@ -8,7 +8,6 @@ Ctrl-C ends all of them, and so does the end of the server or the screen.
 """
 import argparse
 import os
-import re
 import shutil
 import signal
 import socket
@@ -49,7 +48,7 @@ class Demo:
         self.program, self.port, self.page = arguments.program, arguments.port, arguments.page
         self.folder, self.running = tempfile.mkdtemp(prefix='plant.'), {}
         self.url = f'opc.tcp://127.0.0.1:{self.port}'
-        self.database = os.path.join(self.folder, 'history.db')
+        self.database, self.stop_file = os.path.join(self.folder, 'history.db'), os.path.join(self.folder, 'stop')
 
     def start(self, name, *words, **how):
         """Starts a program in a session of its own, so that Ctrl-C in a terminal is this program's alone."""
@@ -66,13 +65,9 @@ class Demo:
             time.sleep(0.1)
 
     def run(self):
-        with open(os.path.join(TOP, 'examples', 'plant', 'plant.toml'), encoding='utf-8') as file:
-            text = re.sub(r'(?m)^url = .*$', f'url = "{self.url}"', file.read())
-        nodes = os.path.join(self.folder, 'plant.toml')
-        with open(nodes, 'w', encoding='utf-8') as file:
-            file.write(text)
-        server = self.start('server', self.program, 'serve', nodes, '--port', str(self.port), '--trace', stdin=subprocess.DEVNULL,
-                            stdout=subprocess.PIPE, stderr=subprocess.DEVNULL)
+        nodes = os.path.join(TOP, 'examples', 'plant', 'plant.toml')
+        server = self.start('server', self.program, 'serve', nodes, '--port', str(self.port), '--url', self.url, '--stop-file', self.stop_file, '--trace',
+                            stdin=subprocess.DEVNULL, stdout=subprocess.PIPE, stderr=subprocess.DEVNULL)
         self.wait_for('server', self.port)
         # The server's rows go to the screen, so both run or none.
         self.client('screen', 'clients/screen.py', '--url', self.url, '--port', str(self.page), '--below', 'ns=1;s=Plant', '--trace', '-', stdin=server.stdout,
@@ -89,17 +84,23 @@ class Demo:
         raise ChildProcessError(f"the {'screen' if server.poll() is None else 'server'} ended")
 
     def end(self):
-        """Ends all by signals, those that need the server first."""
+        """Ends all: those that need the server first, and the server so that its clients are told."""
         for name in ('simulator', 'gateway', 'historian', 'server', 'screen'):
             process = self.running.get(name)
             if process is None or process.poll() is not None:
                 continue
-            process.send_signal(signal.SIGTERM)
+            if name == 'server':
+                with open(self.stop_file, 'w', encoding='utf-8'):
+                    pass
+            else:
+                process.send_signal(signal.SIGTERM)
             try:
                 process.wait(10)
             except subprocess.TimeoutExpired:
                 process.kill()
                 process.wait()
+        if os.path.exists(self.stop_file):
+            os.remove(self.stop_file)
         if not os.path.exists(self.database):
             shutil.rmtree(self.folder)
 

@@ -17,7 +17,13 @@ NOT_LOOKED_AT = {"encoding_examples", "library_tests", "server_tests", "worked_e
 
 # crate/file function: how many places, and why
 SAID = {
+    "commands/serving.rt with_url": (1, "a URL of 2^31 bytes or more can't be told"),
     "command_line/parsing.rt stop_of": (2, "clap's own want of memory, and that of its text"),
+    "node_file_advice/durations_told.rt durations": (1, "the TOML parser's"),
+    "node_file_advice/entries.rt past_told": (1, "handed on: the words for a fault had no room"),
+    "node_file_advice/file.rt advice": (1, "the TOML parser's"),
+    "node_file_advice/file.rt of_table": (1, "handed on: the words for a fault had no room"),
+    "node_file_advice/parts.rt placed": (1, "handed on: the words for a fault had no room"),
     "node_loader/file.rt load": (1, "the TOML parser's"),
     "number_slots/numbered.rt insert": (1, "handed on: the value that came back is let go"),
     "scenario_lines/events.rt print_events": (1, "handed on, once the lines before are out"),
@@ -25,6 +31,7 @@ SAID = {
     "scenario_text/elements.rt held": (1, "a list of 2^31 elements or more can't be spelled"),
     "scenario_text/elements.rt held_octets": (1, "2^31 bytes or more can't be spelled"),
     "scenario_text/values.rt held": (1, "a text of 2^31 bytes or more can't be spelled"),
+    "socket_peers/tally.rt add": (2, "no number is left after 2^64 sockets; and once handed on"),
     "socket_server/events.rt admit": (1, "handed on"),
     "socket_server/events.rt attend": (1, "handed on"),
     "socket_server/events.rt attend_all": (2, "handed on"),
@@ -32,6 +39,7 @@ SAID = {
     "socket_server/events.rt hand_in_piece": (1, "handed on"),
     "socket_server/events.rt hear": (1, "handed on"),
     "socket_server/events.rt read_piece": (1, "handed on"),
+    "socket_server/events.rt sweep": (1, "handed on"),
     "socket_server/serve.rt listen": (1, "handed on"),
     "socket_server/serve.rt tell_the_end": (1, "handed on"),
     "socket_server/serve.rt wait": (1, "handed on"),

@@ -18,7 +18,7 @@ from promise_index import page_with_index  # noqa: E402
 
 ALL = 26000
 BUDGETS = {
-    "README.md": 700, "docs/ARCHITECTURE.md": 1600, "docs/USING.md": 2500, "docs/NODE_FILE.md": 1700, "docs/SCENARIOS.md": 1300,
+    "README.md": 700, "docs/ARCHITECTURE.md": 1600, "docs/USING.md": 2500, "docs/NODE_FILE.md": 1800, "docs/SCENARIOS.md": 1300,
     "docs/SERVICES.md": 2300, "docs/SUBSCRIPTIONS.md": 2500, "docs/ENCODING.md": 1500, "docs/TRANSPORT.md": 1500, "docs/PROMISES.md": 2750,
     "docs/CONTRIBUTING.md": 1800, "docs/GLOSSARY.md": 900, "docs/DECISIONS.md": 3000, "docs/PERFORMANCE.md": 1200, "docs/TRIED.md": 600,
 }

@@ -19,7 +19,7 @@ import sys
 import tempfile
 import time
 
-from lib.serving import PATIENCE, Server, free_port, has_ipv6
+from lib.serving import MOMENT, PATIENCE, Server, free_port, has_ipv6
 
 HELLO = bytes.fromhex('48454c46380000000000000000000100000001000000000000000000180000006f70632e7463703a2f2f6c6f63616c686f73743a34383430')
 POLICY = struct.pack('<I', 47) + b'http://opcfoundation.org/UA/SecurityPolicy#None' + b'\xff' * 8
@@ -296,7 +296,7 @@ def told(program, nodes):
             server.wait_for_line(f'connection 2 from {second_at} refused: as many as may be are open')
             second.close()
             first.close()
-            server.wait_for_line(f'connection 1 from {first_at} closed')
+            server.wait_for_line(f'connection 1 from {first_at} closed by the client')
         finally:
             server.end()
     behind = server.lines[server.lines.index(f'listening {server.port}') + 1:]
@@ -308,7 +308,7 @@ def refused(program, nodes, address, port, why):
     words = [program, 'serve', nodes, '--port', str(port), '--address', address]
     ran = subprocess.run(words, capture_output=True, text=True, timeout=PATIENCE)
     assert (ran.returncode, ran.stdout) == (6, ''), ran
-    lines = ran.stderr.splitlines()
+    lines = [MOMENT.sub('', line) for line in ran.stderr.splitlines()]
     assert lines[0].startswith('29 nodes, 43 references; clients are told opc.tcp://localhost:4840'), ran
     assert lines[1:] == [why, 'network'], ran
 

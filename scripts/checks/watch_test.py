@@ -137,7 +137,7 @@ def told(lines):
     came, went = set(), set()
     for line in lines:
         if line.startswith('connection '):
-            said = re.fullmatch(r'connection (\d+) from (127\.0\.0\.1:\d+)( closed)?', line)
+            said = re.fullmatch(r'connection (\d+) from (127\.0\.0\.1:\d+)( closed by the client)?', line)
             assert said, line
             seen = went if said[3] else came
             assert (said[1], said[2]) not in seen, line

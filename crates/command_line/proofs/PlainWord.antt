@@ -10,7 +10,8 @@ use Rattle.clap.specs.Kinds.{Kinds, or_else}
 use Rattle.clap.specs.Faults.{check_fault, defaults_fault, flag_word_fault, bundle_fault, level_fault, settle_fault, step_fault, turn_fault, walk_fault, word_fault}
 use Rattle.clap.proofs.OnLiterals.{clap_on_literals}
 use Rattle.std.specs.Option.{option_map_or}
-use Rattle.command_line.specs.Words.{IsPlainWord, asked, check_app, faults, program}
+use Rattle.clap.specs.Words.{subcommand_of}
+use Rattle.command_line.specs.Words.{IsPlainWord, asked, check_app, faults, is_given, option_of, program}
 
 -- the word has none of the forms that begin with a hyphen
 record HasNoForm (word : Text) : Type 0 where
@@ -85,3 +86,10 @@ unfolding clap_on_literals
 asked-check nodes plain =
     let s = built_at (codes "check") in
     ap (λ (w : Walk). Some (codes "check", first_of (codes "NODES") (finished s.rules w.held))) (goes s nodes (no_form nodes plain))
+
+-- and nothing is to be explained
+pub explain-check : (nodes : Text) → IsPlainWord nodes → is_given (option_of (codes "explain") (subcommand_of program (codes "check" ∷ nodes ∷ []))) ≡ false
+unfolding clap_on_literals
+explain-check nodes plain =
+    let s = built_at (codes "check") in
+    ap (λ (w : Walk). is_given (first_of (codes "explain") (finished s.rules w.held))) (goes s nodes (no_form nodes plain))

@@ -1,9 +1,8 @@
 -- What the facts of a parse say of the program.
-use Rattle.std.proofs.Common.{rules, arith, ◌≡◌, ◌⊎◌, ◌∙◌, true, List, ℕ, [], ◌∷◌, map, Option, Some, None, Result, Ok, Err, IfOk, IfErr, inl, inr, refl, sym, ap, ap₂, subst, codes, option_map}
+use Rattle.std.proofs.Common.{rules, arith, ◌≡◌, ◌⊎◌, ◌∙◌, true, false, List, ℕ, [], ◌∷◌, map, Option, Some, None, Result, Ok, Err, IfOk, IfErr, inl, inr, refl, sym, ap, ap₂, subst, codes, option_map}
 use Rattle.std.specs.Prelude.{slice_index, unwrap_or}
 use Rattle.std.proofs.lemmas.Option.{none-some}
 use Rattle.std.specs.Borrow.{Bor}
-use Rattle.std.specs.declared.net.ip_addr.IpAddr.{IpAddr}
 use Rattle.clap.specs.Words.{App, HasMatchesOf, IsAmong, Row, Text, first_value, found_of, is_simple, is_simple_and_free, rows_of, subcommand_name_of, subcommand_of, subcommand_rows, subcommand_rows_of}
 use Rattle.clap.specs.declared.error.kind.ErrorKind.{ErrorKind}
 use Rattle.clap.specs.declared.error.kind.ErrorKind.TheVariants.{InvalidSubcommand, OutOfMemory}
@@ -12,9 +11,10 @@ use Rattle.clap.specs.declared.parser.matches.ArgMatches.TheViews.{out-ArgMatche
 use Rattle.std.specs.Box.{box_value}
 use Rattle.clap.proofs.WalkLemmas.{first_value-rows}
 use Rattle.clap.proofs.OnLiterals.{clap_on_literals}
-use Rattle.command_line.specs.Words.{Answers, Asked, AsksFor, Found, HasOptions, IsAddressIn, IsNoCommand, IsPlainWord, IsRequest, IsStopOf, StopsBy, asked, asked_of, faults, option_of, port_of, program, turns_of, words_of}
-use Rattle.command_line.proofs.PlainWord.{asked-check, asked-pipe_nodes, faults-check, faults-pipe_nodes}
+use Rattle.command_line.specs.Words.{Answers, Asked, AsksFor, Found, HasOptions, IsAddressIn, IsNoCommand, IsPlainWord, IsRequest, IsServedWith, IsStopOf, StopsBy, asked, asked_of, bound_of, faults, idle_of, is_given, option_of, port_of, program, words_of}
+use Rattle.command_line.proofs.PlainWord.{asked-check, asked-pipe_nodes, explain-check, faults-check, faults-pipe_nodes}
 use Rattle.command_line.specs.declared.command.Command.{Command}
+use Rattle.command_line.specs.declared.command.ServeOptions.{ServeOptions}
 use Rattle.command_line.specs.declared.command.Command.TheVariants.{Pipe, Check, Asm, Run, Trace, Serve}
 use Rattle.command_line.specs.declared.stop.Stop.{Stop}
 use Rattle.command_line.specs.declared.stop.Stop.TheVariants.{Help, Usage, Memory}
@@ -71,6 +71,14 @@ option_met m given id value name named has is =
     ap (option_of id) (rows_met m name.now (rows_of (found_of given.now)) named has)
     ∙ sym (is ∙ first_value-rows (found_of given.now) id)
 
+-- what stands in a subcommand's own matches is what the matches have there
+pub options_met : (m : ArgMatches) (given : Bor ArgMatches) (name : Bor Text) → Some name.now ≡ subcommand_name_of m
+    → Some (rows_of (found_of given.now)) ≡ option_map (λ p. p.1) (subcommand_rows_of m)
+    → (id : Text) → first_value (found_of given.now) id ≡ option_of id (subcommand_rows_of m)
+options_met m given name named has id =
+    first_value-rows (found_of given.now) id
+    ∙ sym (ap (option_of id) (rows_met m name.now (rows_of (found_of given.now)) named has))
+
 first_letter : (a : Option Asked) (x y : Asked) → a ≡ Some x → a ≡ Some y → slice_index x.0 0 ≡ slice_index y.0 0
 first_letter a x y p q = ap (λ (o : Option Asked). slice_index (unwrap_or o ([], None)).0 0) (sym p ∙ q)
 
@@ -82,7 +90,7 @@ pub no_nodes : (f : Found) → asked_of f ≡ Some (codes "check", None) → IsN
 no_nodes f is (Pipe nodes) (named, _) =
     let first : ◌≡◌ {A = ℕ} 99 112 = first_letter (asked_of f) _ _ is named in
     absurd (omega (arith, first))
-no_nodes f is (Check nodes) (named, _) = absurd (none-some nodes.now (nodes_same (asked_of f) _ _ is named))
+no_nodes f is (Check nodes explain) (named, _) = absurd (none-some nodes.now (nodes_same (asked_of f) _ _ is named))
 no_nodes f is (Asm scenario) (named, _) =
     let first : ◌≡◌ {A = ℕ} 99 97 = first_letter (asked_of f) _ _ is named in
     absurd (omega (arith, first))
@@ -92,7 +100,7 @@ no_nodes f is (Run nodes scenario) (named, _) =
 no_nodes f is (Trace nodes scenario) (named, _) =
     let first : ◌≡◌ {A = ℕ} 99 116 = first_letter (asked_of f) _ _ is named in
     absurd (omega (arith, first))
-no_nodes f is (Serve nodes port turns address trace) (named, _) =
+no_nodes f is (Serve options) (named, _) =
     let first : ◌≡◌ {A = ℕ} 99 115 = first_letter (asked_of f) _ _ is named in
     absurd (omega (arith, first))
 
@@ -102,7 +110,7 @@ pub no_asm : (f : Found) (nodes : Option Text) → asked_of f ≡ Some (codes "a
 no_asm f nodes is none (Pipe given) (named, _) =
     let first : ◌≡◌ {A = ℕ} 97 112 = first_letter (asked_of f) _ _ is named in
     absurd (omega (arith, first))
-no_asm f nodes is none (Check given) (named, _) =
+no_asm f nodes is none (Check given explain) (named, _) =
     let first : ◌≡◌ {A = ℕ} 97 99 = first_letter (asked_of f) _ _ is named in
     absurd (omega (arith, first))
 no_asm f nodes is none (Asm scenario) (named, has) = none scenario.now (nodes_same (asked_of f) _ _ is named) has
@@ -112,7 +120,7 @@ no_asm f nodes is none (Run given scenario) (named, _) =
 no_asm f nodes is none (Trace given scenario) (named, _) =
     let first : ◌≡◌ {A = ℕ} 97 116 = first_letter (asked_of f) _ _ is named in
     absurd (omega (arith, first))
-no_asm f nodes is none (Serve given port turns address trace) (named, _) =
+no_asm f nodes is none (Serve options) (named, _) =
     let first : ◌≡◌ {A = ℕ} 97 115 = first_letter (asked_of f) _ _ is named in
     absurd (omega (arith, first))
 
@@ -122,7 +130,7 @@ pub no_run : (f : Found) (nodes : Option Text) → asked_of f ≡ Some (codes "r
 no_run f nodes is none (Pipe given) (named, _) =
     let first : ◌≡◌ {A = ℕ} 114 112 = first_letter (asked_of f) _ _ is named in
     absurd (omega (arith, first))
-no_run f nodes is none (Check given) (named, _) =
+no_run f nodes is none (Check given explain) (named, _) =
     let first : ◌≡◌ {A = ℕ} 114 99 = first_letter (asked_of f) _ _ is named in
     absurd (omega (arith, first))
 no_run f nodes is none (Asm scenario) (named, _) =
@@ -132,7 +140,7 @@ no_run f nodes is none (Run given scenario) (named, has) = none given.now scenar
 no_run f nodes is none (Trace given scenario) (named, _) =
     let first : ◌≡◌ {A = ℕ} 114 116 = first_letter (asked_of f) _ _ is named in
     absurd (omega (arith, first))
-no_run f nodes is none (Serve given port turns address trace) (named, _) =
+no_run f nodes is none (Serve options) (named, _) =
     let first : ◌≡◌ {A = ℕ} 114 115 = first_letter (asked_of f) _ _ is named in
     absurd (omega (arith, first))
 
@@ -142,7 +150,7 @@ pub no_trace : (f : Found) (nodes : Option Text) → asked_of f ≡ Some (codes 
 no_trace f nodes is none (Pipe given) (named, _) =
     let first : ◌≡◌ {A = ℕ} 116 112 = first_letter (asked_of f) _ _ is named in
     absurd (omega (arith, first))
-no_trace f nodes is none (Check given) (named, _) =
+no_trace f nodes is none (Check given explain) (named, _) =
     let first : ◌≡◌ {A = ℕ} 116 99 = first_letter (asked_of f) _ _ is named in
     absurd (omega (arith, first))
 no_trace f nodes is none (Asm scenario) (named, _) =
@@ -152,18 +160,17 @@ no_trace f nodes is none (Run given scenario) (named, _) =
     let first : ◌≡◌ {A = ℕ} 116 114 = first_letter (asked_of f) _ _ is named in
     absurd (omega (arith, first))
 no_trace f nodes is none (Trace given scenario) (named, has) = none given.now scenario.now (nodes_same (asked_of f) _ _ is named) has
-no_trace f nodes is none (Serve given port turns address trace) (named, _) =
+no_trace f nodes is none (Serve options) (named, _) =
     let first : ◌≡◌ {A = ℕ} 116 115 = first_letter (asked_of f) _ _ is named in
     absurd (omega (arith, first))
 
--- `serve` is no command where its NODES, its port, its turns or its address are none
+-- `serve` is no command where its words say nothing
 pub no_serve : (f : Found) (nodes : Option Text) → asked_of f ≡ Some (codes "serve", nodes)
-    → ((n : Text) (port turns : ℕ) (address : IpAddr) → nodes ≡ Some n → port_of (option_of (codes "port") f) ≡ Some port
-    → turns_of (option_of (codes "turns") f) ≡ Some turns → IsAddressIn (option_of (codes "address") f) address → ⊥) → IsNoCommand f
+    → ((options : ServeOptions) → IsServedWith (λ name. option_of name f) options → ⊥) → IsNoCommand f
 no_serve f nodes is none (Pipe given) (named, _) =
     let first : ◌≡◌ {A = ℕ} 115 112 = first_letter (asked_of f) _ _ is named in
     absurd (omega (arith, first))
-no_serve f nodes is none (Check given) (named, _) =
+no_serve f nodes is none (Check given explain) (named, _) =
     let first : ◌≡◌ {A = ℕ} 115 99 = first_letter (asked_of f) _ _ is named in
     absurd (omega (arith, first))
 no_serve f nodes is none (Asm scenario) (named, _) =
@@ -175,8 +182,22 @@ no_serve f nodes is none (Run given scenario) (named, _) =
 no_serve f nodes is none (Trace given scenario) (named, _) =
     let first : ◌≡◌ {A = ℕ} 115 116 = first_letter (asked_of f) _ _ is named in
     absurd (omega (arith, first))
-no_serve f nodes is none (Serve given port turns address trace) (named, numbers) =
-    none given.now port turns address (nodes_same (asked_of f) _ _ is named) numbers.0 numbers.1 numbers.2
+no_serve f nodes is none (Serve options) (named, has) = none options has
+
+-- what is read behind `serve` by one way is read by another that finds the same words
+pub served_at : (f g : Text → Option Text) (o : ServeOptions) → ((name : Text) → f name ≡ g name) → IsServedWith f o → IsServedWith g o
+served_at f g o same has = record {
+  nodes = sym (same (codes "NODES")) ∙ has.nodes;
+  port = ap port_of (sym (same (codes "port"))) ∙ has.port;
+  turns = ap bound_of (sym (same (codes "turns"))) ∙ has.turns;
+  address = subst (λ t. IsAddressIn t o.address) (same (codes "address")) has.address;
+  trace = ap is_given (sym (same (codes "trace"))) ∙ has.trace;
+  idle = ap idle_of (sym (same (codes "idle"))) ∙ has.idle;
+  per_address = ap bound_of (sym (same (codes "per-address"))) ∙ has.per_address;
+  stop_file = sym (same (codes "stop-file")) ∙ has.stop_file;
+  url = sym (same (codes "url")) ∙ has.url;
+  quiet = ap is_given (sym (same (codes "quiet"))) ∙ has.quiet;
+}
 
 -- neither want of memory nor a word that is no command is a request
 is_no_request : (k : ErrorKind) → k ≡ OutOfMemory → IsRequest k → ⊥
@@ -234,5 +255,6 @@ module _ (ws : List (Bor Text)) (r : Result Command Stop) (ok : IfOk r (AsksFor 
   check_comes nodes plain is =
       let b = second_word ws (codes "check") nodes is in
       subst (λ n. Answers (codes "check", Some n) r) b.1
-      (comes (map (λ w. w.now) ws) (Check b.0) r ok err (ap faults is ∙ faults-check nodes plain)
-      (ap asked is ∙ (asked-check nodes plain ∙ ap (λ n. Some (codes "check", Some n)) (sym b.1))) tt)
+      (comes (map (λ w. w.now) ws) (Check b.0 false) r ok err (ap faults is ∙ faults-check nodes plain)
+      (ap asked is ∙ (asked-check nodes plain ∙ ap (λ n. Some (codes "check", Some n)) (sym b.1)))
+      (ap (λ words. is_given (option_of (codes "explain") (subcommand_of program words))) is ∙ explain-check nodes plain))

@@ -12,6 +12,7 @@ use Rattle.clap.specs.declared.builder.action.ArgAction.TheVariants.{SetTrue}
 use Rattle.clap.specs.declared.error.kind.ErrorKind.{ErrorKind}
 use Rattle.clap.specs.declared.error.kind.ErrorKind.TheVariants.{DisplayHelp, DisplayVersion, OutOfMemory}
 use Rattle.command_line.specs.declared.command.Command.{Command}
+use Rattle.command_line.specs.declared.command.ServeOptions.{ServeOptions}
 use Rattle.command_line.specs.declared.command.Command.TheVariants.{Pipe, Check, Asm, Run, Trace, Serve}
 use Rattle.command_line.specs.declared.stop.Stop.{Stop}
 use Rattle.command_line.specs.declared.stop.Stop.TheVariants.{Help, Usage, Memory}
@@ -23,11 +24,19 @@ nodes_rule = new_rule (codes "NODES")
 abbrev pub scenario_rule : Rule
 scenario_rule = record (new_rule (codes "SCENARIO")) { required = true }
 
+-- an option of this name, which takes a value
+abbrev pub option_rule : Text → Rule
+option_rule name = record (new_rule name) { long = Some name; value_names = 1 }
+
+-- an option of this name without a value, which is there or not
+abbrev pub flag_rule : Text → Rule
+flag_rule name = record (new_rule name) { long = Some name; action = Some SetTrue }
+
 abbrev pub pipe_app : App
 pipe_app = with_rule (new_app (codes "pipe")) nodes_rule
 
 abbrev pub check_app : App
-check_app = with_rule (new_app (codes "check")) (record nodes_rule { required = true })
+check_app = with_rule (with_rule (new_app (codes "check")) (record nodes_rule { required = true })) (flag_rule (codes "explain"))
 
 abbrev pub asm_app : App
 asm_app = with_rule (new_app (codes "asm")) scenario_rule
@@ -38,22 +47,20 @@ run_app = with_rule (with_rule (new_app (codes "run")) (record nodes_rule { requ
 abbrev pub trace_app : App
 trace_app = with_rule (with_rule (new_app (codes "trace")) (record nodes_rule { required = true })) scenario_rule
 
--- an option of this name, which takes a value
-abbrev pub option_rule : Text → Rule
-option_rule name = record (new_rule name) { long = Some name; value_names = 1 }
-
--- an option of this name without a value, which is there or not
-abbrev pub flag_rule : Text → Rule
-flag_rule name = record (new_rule name) { long = Some name; action = Some SetTrue }
-
--- `serve` with its NODES and its numbers
-abbrev pub serve_numbers : App
-serve_numbers =
+-- `serve` with its NODES, its port and its address, then with what bounds it, then with its URL and its file, then whole
+abbrev pub serve_place : App
+serve_place =
     with_rule (with_rule (with_rule (new_app (codes "serve")) (record nodes_rule { required = true })) (record (option_rule (codes "port")) { required = true }))
-    (option_rule (codes "turns"))
+    (option_rule (codes "address"))
+
+abbrev pub serve_bounds : App
+serve_bounds = with_rule (with_rule (with_rule serve_place (option_rule (codes "turns"))) (option_rule (codes "idle"))) (option_rule (codes "per-address"))
+
+abbrev pub serve_paths : App
+serve_paths = with_rule (with_rule serve_bounds (option_rule (codes "url"))) (option_rule (codes "stop-file"))
 
 abbrev pub serve_app : App
-serve_app = with_rule (with_rule serve_numbers (option_rule (codes "address"))) (flag_rule (codes "trace"))
+serve_app = with_rule (with_rule serve_paths (flag_rule (codes "trace"))) (flag_rule (codes "quiet"))
 
 abbrev pub bare_program : App
 bare_program = record (new_app (codes "uaserver")) {
@@ -81,11 +88,11 @@ Asked = Text × Option Text
 
 abbrev pub words_of : Command → Asked
 words_of (Pipe nodes) = (codes "pipe", option_map (λ n. n.now) nodes)
-words_of (Check nodes) = (codes "check", Some nodes.now)
+words_of (Check nodes explain) = (codes "check", Some nodes.now)
 words_of (Asm scenario) = (codes "asm", None)
 words_of (Run nodes scenario) = (codes "run", Some nodes.now)
 words_of (Trace nodes scenario) = (codes "trace", Some nodes.now)
-words_of (Serve nodes port turns address trace) = (codes "serve", Some nodes.now)
+words_of (Serve options) = (codes "serve", Some options.nodes.now)
 
 -- the subcommand of a parse, where there is one, with what its arguments are
 abbrev pub Found : Type 0
@@ -111,10 +118,19 @@ as_port n = if nat_lt 0 n && nat_lt n (2 ^ 16) then Some n else None
 abbrev pub port_of : Option Text → Option ℕ
 port_of text = option_and_then as_port (option_and_then number_of text)
 
--- no turns in words are 0, which is no bound
-abbrev pub turns_of : Option Text → Option ℕ
-turns_of None = Some 0
-turns_of (Some digits) = number_of digits
+-- a bound on turns or on sockets; none in words is 0, which bounds nothing
+abbrev pub bound_of : Option Text → Option ℕ
+bound_of None = Some 0
+bound_of (Some digits) = number_of digits
+
+-- a span of seconds, below 2^32
+abbrev pub as_seconds : ℕ → Option ℕ
+as_seconds n = if nat_lt n (2 ^ 32) then Some n else None
+
+-- how long a socket may be silent, where words say it
+abbrev pub idle_of : Option Text → Option (Option ℕ)
+idle_of None = Some None
+idle_of (Some digits) = option_map Some (option_and_then as_seconds (number_of digits))
 
 -- an address in words, of either version; none is 127.0.0.1, which no other machine reaches
 abbrev pub IsAddressIn : Option Text → IpAddr → Type 0
@@ -125,14 +141,26 @@ abbrev pub is_given : Option Text → Bool
 is_given None = false
 is_given (Some word) = bytes_eq word (codes "true")
 
--- SCENARIO, and the numbers and the address behind the options of a command, and its flag
+-- What the words behind `serve` say, by the word that stands behind each option
+pub record IsServedWith (word : Text → Option Text) (o : ServeOptions) : Type 0 where
+  pub nodes : word (codes "NODES") ≡ Some o.nodes.now
+  pub port : port_of (word (codes "port")) ≡ Some o.port
+  pub turns : bound_of (word (codes "turns")) ≡ Some o.turns
+  pub address : IsAddressIn (word (codes "address")) o.address
+  pub trace : is_given (word (codes "trace")) ≡ o.trace
+  pub idle : idle_of (word (codes "idle")) ≡ Some o.idle
+  pub per_address : bound_of (word (codes "per-address")) ≡ Some o.per_address
+  pub stop_file : word (codes "stop-file") ≡ option_map (λ t. t.now) o.stop_file
+  pub url : word (codes "url") ≡ option_map (λ t. t.now) o.url
+  pub quiet : is_given (word (codes "quiet")) ≡ o.quiet
+
+-- SCENARIO, whether to explain, and what `serve` is told
 abbrev pub HasOptions : Found → Command → Type 0
+HasOptions found (Check nodes explain) = is_given (option_of (codes "explain") found) ≡ explain
 HasOptions found (Asm scenario) = option_of (codes "SCENARIO") found ≡ Some scenario.now
 HasOptions found (Run nodes scenario) = option_of (codes "SCENARIO") found ≡ Some scenario.now
 HasOptions found (Trace nodes scenario) = option_of (codes "SCENARIO") found ≡ Some scenario.now
-HasOptions found (Serve nodes port turns address trace) =
-    (port_of (option_of (codes "port") found) ≡ Some port) × (turns_of (option_of (codes "turns") found) ≡ Some turns)
-    × IsAddressIn (option_of (codes "address") found) address × (is_given (option_of (codes "trace") found) ≡ trace)
+HasOptions found (Serve options) = IsServedWith (λ name. option_of name found) options
 HasOptions found c = ⊤
 
 -- what was found is this command
@@ -146,7 +174,7 @@ asked words = asked_of (subcommand_of program words)
 abbrev pub faults : List Text → Kinds
 faults = fault_of program
 
--- nothing is wrong with the words, and they name the command, its NODES, its SCENARIO, its numbers, its address and its flag
+-- nothing is wrong with the words, and they name the command, its NODES, its SCENARIO and its options
 abbrev pub AsksFor : List Text → Command → Type 0
 AsksFor words c = (faults words ≡ []) × IsAskedBy (subcommand_of program words) c
 
@@ -159,7 +187,7 @@ abbrev pub IsRequest : ErrorKind → Type 0
 IsRequest k = (k ≡ DisplayHelp) ⊎ (k ≡ DisplayVersion)
 
 -- help or the version comes where it is asked for, and usage where something else is wrong, or where nothing is and
--- no command is named: one with a port or turns that are no such number is none, nor is one with an address that is none
+-- no command is named: one whose option has a word that is no such number or no address is none
 abbrev pub StopsBy : List Text → Stop → Type 0
 StopsBy words (Help text) = (k : ErrorKind) × IsAmong k (faults words) × IsRequest k
 StopsBy words (Usage text) = ((k : ErrorKind) × IsAmong k (faults words) × (IsRequest k → ⊥))

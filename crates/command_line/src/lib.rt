@@ -9,6 +9,8 @@
 //! the same of the words, in `program` and `words_of`.
 //!
 //! What a contract sees: the words, and what clap finds wrong with them.
+//!
+//! Read [`parse`] and [`Command`] first.
 #![tactic(auto)]
 
 mod command;
@@ -16,6 +18,6 @@ mod parsing;
 mod program;
 mod stop;
 
-pub use command::Command;
+pub use command::{Command, ServeOptions};
 pub use parsing::parse;
 pub use stop::Stop;

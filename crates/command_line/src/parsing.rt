@@ -2,21 +2,18 @@
 
 ghost use Rattle.std.specs.Prelude.{◌≡◌, ◌∷◌, ℕ, List, [], Some, None, IfOk, IfErr, IfSome, IsNone, codes, map, option_map};
 ghost use Rattle.std.specs.declared.net.ip_addr.IpAddr.{IpAddr};
+ghost use Rattle.command_line.specs.declared.command.ServeOptions.{ServeOptions};
 ghost use Rattle.std.specs.Char.{is_ascii_digit};
 ghost use Rattle.std.specs.List.{list_all};
-ghost use Rattle.clap.specs.Words.{kind_of, subcommand_rows_of};
-ghost use Rattle.command_line.specs.Words.{Answers, AsksFor, IsAddressIn, IsAskedBy, IsNoCommand, IsPlainWord, IsStopOf, StopsBy, is_given as is_given_spec, number_of, port_of as port_in, turns_of as turns_in};
+ghost use Rattle.clap.specs.Words.{first_value, found_of, kind_of, subcommand_rows_of};
+ghost use Rattle.command_line.specs.Words.{Answers, AsksFor, IsAddressIn, IsAskedBy, IsNoCommand, IsPlainWord, IsServedWith, IsStopOf, StopsBy, bound_of as bound_in, idle_of as idle_in, is_given as is_given_spec, number_of, port_of as port_in};
 
 use crate::program::uaserver;
-use crate::{Command, Stop};
+use crate::{Command, ServeOptions, Stop};
 use clap::error::ErrorKind;
 use clap::{ArgMatches, Error};
-use std::alloc::Global;
+use std::alloc::{AllocError, Global};
 use std::net::IpAddr;
-
-// Words that clap takes, and that are still no command.
-const NO_NUMBER: &str =
-    "the port is a number from 1 to 65535, the turns are one below 2^64, and the address is one of IPv4 or IPv6, as 127.0.0.1 or ::1";
 
 /// Reads the words after the program's name.
 ///
@@ -51,7 +48,8 @@ fn answer<'a>(alloc: Global, words: &'a [&'a str]) -> Result<Command<'a>, Stop>
         Ok(matches) => match command_of(&matches) {
             Some(command) => Ok(command),
             None => {
-                let error = program.error(ErrorKind::InvalidSubcommand, NO_NUMBER)?;
+                let why = wrong_word(alloc, &matches)?;
+                let error = program.error(ErrorKind::InvalidSubcommand, why.as_str())?;
                 Err(stop_of(alloc, &error))
             }
         },
@@ -69,7 +67,10 @@ fn command_of<'a>(matches: &ArgMatches<'a>) -> Option<Command<'a>>
     let scenario = given.get_str("SCENARIO");
     match name {
         "pipe" => Some(Command::Pipe { nodes }),
-        "check" => Some(Command::Check { nodes: nodes? }),
+        "check" => Some(Command::Check {
+            nodes: nodes?,
+            explain: is_given(given.get_str("explain")),
+        }),
         "asm" => match nodes {
             None => Some(Command::Asm {
                 scenario: scenario?,
@@ -84,15 +85,73 @@ fn command_of<'a>(matches: &ArgMatches<'a>) -> Option<Command<'a>>
             nodes: nodes?,
             scenario: scenario?,
         }),
-        "serve" => Some(Command::Serve {
-            nodes: nodes?,
-            port: port_of(given.get_str("port"))?,
-            turns: turns_of(given.get_str("turns"))?,
-            address: address_of(given.get_str("address"))?,
-            trace: is_given(given.get_str("trace")),
-        }),
+        "serve" => Some(Command::Serve(serve_options(given)?)),
         _ => None,
     }
+}
+
+// What the words behind `serve` say.
+fn serve_options<'a>(given: &ArgMatches<'a>) -> Option<ServeOptions<'a>>
+    ensures some { IfSome result (IsServedWith (first_value (found_of given.now))) }
+    ensures none { IsNone result → (options : ServeOptions) → IsServedWith (first_value (found_of given.now)) options → ⊥ }
+{
+    Some(ServeOptions {
+        nodes: given.get_str("NODES")?,
+        port: port_of(given.get_str("port"))?,
+        turns: bound_of(given.get_str("turns"))?,
+        address: address_of(given.get_str("address"))?,
+        trace: is_given(given.get_str("trace")),
+        idle: idle_of(given.get_str("idle"))?,
+        per_address: bound_of(given.get_str("per-address"))?,
+        stop_file: given.get_str("stop-file"),
+        url: given.get_str("url"),
+        quiet: is_given(given.get_str("quiet")),
+    })
+}
+
+// Which word of `serve` clap takes though it is none that its option takes, and why.
+fn wrong_word(alloc: Global, matches: &ArgMatches) -> Result<String, AllocError> {
+    let Some((_, given)) = matches.subcommand() else {
+        return String::from_str(alloc, "no command");
+    };
+    let port = given.get_str("port");
+    if port_of(port).is_none() {
+        return wanted(alloc, "port", port, "1 to 65535");
+    }
+    let address = given.get_str("address");
+    if address_of(address).is_none() {
+        return wanted(
+            alloc,
+            "address",
+            address,
+            "an IPv4 or IPv6 address, as 127.0.0.1 or ::1",
+        );
+    }
+    let turns = given.get_str("turns");
+    if bound_of(turns).is_none() {
+        return wanted(alloc, "turns", turns, "a number below 2^64");
+    }
+    let idle = given.get_str("idle");
+    if idle_of(idle).is_none() {
+        return wanted(alloc, "idle", idle, "seconds, below 2^32");
+    }
+    wanted(
+        alloc,
+        "per-address",
+        given.get_str("per-address"),
+        "a number below 2^64",
+    )
+}
+
+// What an option takes, and the word that it has.
+fn wanted(
+    alloc: Global,
+    option: &str,
+    word: Option<&str>,
+    takes: &str,
+) -> Result<String, AllocError> {
+    let word = word.unwrap_or("");
+    format!(in alloc; "--{option} {word}: {takes}")
 }
 
 // One or more decimal digits, and the number that they name where it is one of 64 bits.
@@ -126,13 +185,28 @@ fn port_of(text: Option<&str>) -> Option<u16>
     }
 }
 
-// The turns of the words, or 0.
-fn turns_of(text: Option<&str>) -> Option<u64>
-    ensures { result ≡ turns_in (option_map (λ t. t.now) text.entry) }
+// The bound of the words, or 0.
+fn bound_of(text: Option<&str>) -> Option<u64>
+    ensures { result ≡ bound_in (option_map (λ t. t.now) text.entry) }
 {
     match text {
         Some(digits) => number(digits),
         None => Some(0),
+    }
+}
+
+// How many seconds a socket may be silent, where the words say it.
+fn idle_of(text: Option<&str>) -> Option<Option<u64>>
+    ensures { result ≡ idle_in (option_map (λ t. t.now) text.entry) }
+{
+    let Some(digits) = text else {
+        return Some(None);
+    };
+    let seconds = number(digits)?;
+    if seconds < 4_294_967_296 {
+        Some(Some(seconds))
+    } else {
+        None
     }
 }
 

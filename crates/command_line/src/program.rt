@@ -3,7 +3,7 @@
 ghost use Rattle.std.specs.Prelude.{◌≡◌, IfOk, false};
 ghost use Rattle.clap.specs.Words.{app_of, rule_of};
 ghost use Rattle.clap.specs.declared.builder.command.Command.TheViews.{out-Command as fields_of};
-ghost use Rattle.command_line.specs.Words.{asm_app, check_app, flag_rule, nodes_rule, option_rule, pipe_app, program, run_app, scenario_rule, serve_app, serve_numbers, trace_app, with_nodes, with_scenarios};
+ghost use Rattle.command_line.specs.Words.{asm_app, check_app, flag_rule, nodes_rule, option_rule, pipe_app, program, run_app, scenario_rule, serve_app, serve_bounds, serve_paths, serve_place, trace_app, with_nodes, with_scenarios};
 
 use clap::{Arg, ArgAction, Command};
 use std::alloc::{AllocError, Global};
@@ -51,7 +51,7 @@ fn pipe<'a>(alloc: Global) -> Result<Command<'a>, AllocError>
     ensures { IfOk result (λ c. (app_of c ≡ pipe_app) × ((fields_of c).has_globals ≡ false)) }
 {
     Command::new(alloc, "pipe")
-        .about("Serves one connection on standard input and standard output (README.md)")
+        .about("Serves one connection on standard input and standard output (docs/USING.md)")
         .arg(nodes(alloc).help(
             "a node file (TOML); the standard's base nodes alone where left out",
         ))
@@ -64,7 +64,12 @@ fn check<'a>(alloc: Global) -> Result<Command<'a>, AllocError>
         .about(
             "Counts the nodes and references of a node file, or says what is wrong with it (docs/NODE_FILE.md)",
         )
-        .arg(nodes(alloc).required(true))
+        .arg(nodes(alloc).required(true))?
+        .arg(flag(
+            alloc,
+            "explain",
+            "says on standard error what is wrong in the file's own words, or how long its durations are (docs/NODE_FILE.md)",
+        ))
 }
 
 fn asm<'a>(alloc: Global) -> Result<Command<'a>, AllocError>
@@ -89,7 +94,7 @@ fn trace<'a>(alloc: Global) -> Result<Command<'a>, AllocError>
 {
     Command::new(alloc, "trace")
         .about(
-            "Prints the state table rows that fire when a scenario happens to the server (docs/SUBSCRIPTIONS.md)",
+            "Prints the state table rows that fire when a scenario happens to the server (docs/SCENARIOS.md)",
         )
         .arg(nodes(alloc).required(true))?
         .arg(scenario(alloc))
@@ -98,23 +103,66 @@ fn trace<'a>(alloc: Global) -> Result<Command<'a>, AllocError>
 fn serve<'a>(alloc: Global) -> Result<Command<'a>, AllocError>
     ensures { IfOk result (λ c. (app_of c ≡ serve_app) × ((fields_of c).has_globals ≡ false)) }
 {
-    serve_numbers(alloc)?
-        .arg(option(
-            alloc,
-            "address",
-            "A",
-            "the IPv4 or IPv6 address to listen at; 127.0.0.1 where left out, 0.0.0.0 for all. Whoever reaches it may write",
-        ))?
+    serve_paths(alloc)?
         .arg(flag(
             alloc,
             "trace",
             "prints the state table rows of subscriptions as they fire, behind the line 'listening P' (docs/USING.md)",
+        ))?
+        .arg(flag(
+            alloc,
+            "quiet",
+            "leaves out of standard error who comes and goes",
         ))
 }
 
-// `serve` with its NODES and its numbers.
-fn serve_numbers<'a>(alloc: Global) -> Result<Command<'a>, AllocError>
-    ensures { IfOk result (λ c. (app_of c ≡ serve_numbers) × ((fields_of c).has_globals ≡ false)) }
+// `serve` with its place, what bounds it, its URL and its file.
+fn serve_paths<'a>(alloc: Global) -> Result<Command<'a>, AllocError>
+    ensures { IfOk result (λ c. (app_of c ≡ serve_paths) × ((fields_of c).has_globals ≡ false)) }
+{
+    serve_bounds(alloc)?
+        .arg(option(
+            alloc,
+            "url",
+            "URL",
+            "the endpoint URL that clients are told, in place of the node file's",
+        ))?
+        .arg(option(
+            alloc,
+            "stop-file",
+            "PATH",
+            "ends once this file is there, as after the last turn",
+        ))
+}
+
+// `serve` with its place and what bounds it.
+fn serve_bounds<'a>(alloc: Global) -> Result<Command<'a>, AllocError>
+    ensures { IfOk result (λ c. (app_of c ≡ serve_bounds) × ((fields_of c).has_globals ≡ false)) }
+{
+    serve_place(alloc)?
+        .arg(option(
+            alloc,
+            "turns",
+            "N",
+            "ends after so many turns of the loop, of at most 100 ms each; 0, the default, never ends",
+        ))?
+        .arg(option(
+            alloc,
+            "idle",
+            "SECONDS",
+            "lets go of a socket that is silent for so long; twice the file's session_time, at least 600, where left out; 0 never does",
+        ))?
+        .arg(option(
+            alloc,
+            "per-address",
+            "N",
+            "closes a further socket of an address that has so many; 0, the default, is no bound",
+        ))
+}
+
+// `serve` with its NODES, its port and its address.
+fn serve_place<'a>(alloc: Global) -> Result<Command<'a>, AllocError>
+    ensures { IfOk result (λ c. (app_of c ≡ serve_place) × ((fields_of c).has_globals ≡ false)) }
 {
     Command::new(alloc, "serve")
         .about(
@@ -124,9 +172,9 @@ fn serve_numbers<'a>(alloc: Global) -> Result<Command<'a>, AllocError>
         .arg(option(alloc, "port", "P", "the port, from 1 to 65535").required(true))?
         .arg(option(
             alloc,
-            "turns",
-            "N",
-            "ends after so many turns of the loop, of at most 100 ms each; 0, the default, never ends",
+            "address",
+            "A",
+            "the IPv4 or IPv6 address to listen at; 127.0.0.1 where left out, 0.0.0.0 for all. Whoever reaches it may write",
         ))
 }
 

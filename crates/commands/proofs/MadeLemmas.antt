@@ -1,7 +1,7 @@
 -- What comes of what was made.
 use Rattle.std.proofs.Common.{Option, Some, None, Err, sym}
 use Rattle.std.proofs.lemmas.Option.{none-some}
-use Rattle.commands.specs.Commands.{MadeBy, OfNodes}
+use Rattle.commands.specs.Said.{MadeBy, OfNodes}
 use Rattle.commands.specs.NodeFiles.{Made}
 use Rattle.commands.specs.declared.status.Status.{Status}
 use Rattle.commands.specs.declared.status.Status.TheVariants.{Done, Usage, File, Nodes, Scenario, Halted, Network, Stream}

@@ -1,12 +1,21 @@
--- What `serve` puts out while it serves.
-use Rattle.std.specs.Prelude.{◌≡◌, ℕ, Bool, true, false, [], Option, Result, Ok, Err}
+-- What `serve` comes to, and what it puts out while it serves.
+use Rattle.std.specs.Prelude.{◌≡◌, ◌⊎◌, ℕ, ◌/◌, max, Bool, true, false, List, [], ◌++◌, codes, Option, Some, None, is_some, option_map, Result, Ok, Err}
+use Rattle.std.specs.Fmt.{decimal}
+use Rattle.ua_types.specs.Configuration.{Configuration}
+use Rattle.server_core.specs.World.{opening}
 use Rattle.server_core.specs.declared.world.World.{World}
 use Rattle.scenario_lines.specs.TraceText.{rows_text}
-use Rattle.socket_server.specs.Sockets.{ServeState}
-use Rattle.socket_server.specs.Serving.{IsServed, IsStopped}
+use Rattle.scenario_lines.specs.Held.{Place}
+use Rattle.socket_server.specs.Sockets.{ServeState, IsUnserved}
+use Rattle.socket_server.specs.Serving.{IsServed, IsStopped, IsOutside}
 use Rattle.socket_server.specs.Output.{Output, EventText, no_output}
 use Rattle.socket_server.specs.declared.serve_fault.ServeFault.{ServeFault}
-use Rattle.scenario_lines.specs.Held.{Place}
+use Rattle.socket_server.specs.declared.serve_fault.ServeFault.TheVariants as serve_fault
+use Rattle.command_line.specs.declared.command.ServeOptions.{ServeOptions}
+use Rattle.commands.specs.NodeFiles.{ReadFile, Made}
+use Rattle.commands.specs.Said.{Says, OfNodes, OfFile}
+use Rattle.commands.specs.declared.status.Status.{Status}
+use Rattle.commands.specs.declared.status.Status.TheVariants.{Done, Halted, Network, Stream}
 
 -- what is put out at a place that is lent by this name
 abbrev pub output_at : ℕ → Place → Output
@@ -22,7 +31,55 @@ abbrev pub Between : Bool → (Output → Output → Type 0) → Place → Place
 Between true Goes old new = (writer : ℕ) × Goes (output_at writer old) (output_at writer new)
 Between false Goes old new = Goes no_output no_output × (new ≡ old)
 
--- these sockets and this server serve so many turns, or stop before, and what is put out is of the rows that fire
-abbrev pub ServesWith : Bool → ℕ → ServeState → Option World → Place → Place → Result (Unit {0}) ServeFault → Type 0
-ServesWith trace turns sockets server old new (Ok x) = Between trace (IsServed (text_of trace) sockets server turns) old new
-ServesWith trace turns sockets server old new (Err fault) = Between trace (IsStopped (text_of trace) sockets server fault) old new
+-- These sockets and this server serve the turns that were asked for, fewer only where there is a file to stop at; or stop before. What is put
+-- out is of the rows that fire
+abbrev pub ServesWith : ServeOptions → ServeState → Option World → Place → Place → Result (Unit {0}) ServeFault → Type 0
+ServesWith o sockets server old new (Ok x) = Between o.trace (IsServed (text_of o.trace) sockets server (is_some o.stop_file) o.turns) old new
+ServesWith o sockets server old new (Err fault) = Between o.trace (IsStopped (text_of o.trace) sockets server fault) old new
+
+-- how the end of serving ends the program
+abbrev pub status_served : Result (Unit {0}) ServeFault → Status
+status_served (Ok x) = Done
+status_served (Err (serve_fault.Step f)) = Halted
+status_served (Err serve_fault.Memory) = Halted
+status_served (Err serve_fault.Trace) = Stream
+status_served (Err of_the_network) = Network
+
+unfoldable pub listening_line : ℕ → List ℕ
+listening_line port = codes "listening " ++ decimal port ++ codes "\n"
+
+-- How many seconds nothing may be sent to a socket: as the words say, or else twice the session time, which counts 100 ns, and ten minutes at least
+abbrev pub idle_of : ℕ → Option ℕ → ℕ
+idle_of session_time (Some seconds) = seconds
+idle_of session_time None = max (session_time / 5000000) 600
+
+-- the configuration, with the URL of the words where they have one
+abbrev pub with_url : Configuration → Option (List ℕ) → Configuration
+with_url c None = c
+with_url c (Some url) = record c { url = Some url }
+
+-- The program was asked to listen at this address and this port, within these limits, and nobody has connected yet; it is said that it
+-- listens; and then this server serves so, and what it puts out comes behind that line
+abbrev pub ListensAndServes : Place → Place → ℕ → ServeOptions → Option World → Result (Unit {0}) ServeFault → Type 0
+ListensAndServes old new idle o server result =
+    (sockets : ServeState) × IsUnserved o.address o.port (record { idle = idle; per_address = o.per_address }) sockets × (mid : Place)
+    × Says (listening_line o.port) old mid Done × ServesWith o sockets server mid new result
+
+-- It is said that this server listens, and it serves the turns that were asked for, from no connection on, or stops before, for the fault that
+-- the status tells. Or nothing is said, for such a fault of the program's own; or saying it failed, and nobody is served
+abbrev pub ServesOn : Place → Place → ℕ → ServeOptions → Option World → Status → Type 0
+ServesOn old new idle o server Done = ListensAndServes old new idle o server (Ok tt)
+ServesOn old new idle o server Stream = Says (listening_line o.port) old new Stream ⊎ ListensAndServes old new idle o server (Err serve_fault.Trace)
+ServesOn old new idle o server status =
+    (f : ServeFault) × (status ≡ status_served (Err f)) × (ListensAndServes old new idle o server (Err f) ⊎ (IsOutside f × (new ≡ old)))
+
+-- The server is the new one of what was made, but for the URL of the words; and sockets may be silent for as long as its configuration and the words say
+abbrev pub ServesBy : Place → Place → ServeOptions → Made → Status → Type 0
+ServesBy old new o made =
+    ServesOn old new (idle_of made.0.session_time o.idle) o (Some (opening (with_url made.0 (option_map (λ u. u.now) o.url)) made.1))
+
+abbrev pub ServesMade : Place → Place → ServeOptions → Option Made → Status → Type 0
+ServesMade old new o made status = OfNodes (ServesBy old new o) (new ≡ old) made status
+
+abbrev pub ServesFile : Place → Place → ServeOptions → Status → Option ReadFile → Type 0
+ServesFile old new o status file = OfFile (ServesBy old new o) (new ≡ old) o.nodes.now status file

@@ -14,15 +14,24 @@
 #![tactic(auto)]
 
 mod arguments;
+mod checking;
+mod ends;
+mod log;
 mod program;
 mod scenarios;
+mod serving;
 mod status;
+mod stop_file;
 mod text_file;
 mod watching;
 
 pub use arguments::run_args;
-pub use program::{Ended, Listening, check, no_memory, pipe, run, serve};
+pub use checking::explain;
+pub use log::Log;
+pub use program::{Ended, check, no_memory, pipe, run};
 pub use scenarios::asm;
+pub use serving::serve;
 pub use status::Status;
+pub use stop_file::StopFile;
 pub use text_file::{FileFault, TextFile};
 pub use watching::{Tracing, Visitors};

@@ -4,24 +4,23 @@ ghost use Rattle.std.specs.Prelude.{◌≡◌, Option, Some, None, IfOk, IfErr, 
 ghost use Rattle.server_core.specs.World.{world_of};
 ghost use Rattle.ua_space.specs.Build.{space_of};
 ghost use Rattle.scenario_lines.specs.Held.{place};
-ghost use Rattle.commands.specs.Serving.{ServesWith};
 ghost use Rattle.commands.specs.NodeFiles.{Made, ReadsNone, built, made_in, made_of_none};
-ghost use Rattle.commands.specs.Commands.{MadeBy, Says, Checks, ChecksFile, opened, status_of, status_served, Pipes, PipesMade, PipesFile, ServesOn, ServesBy, ServesMade, ServesFile, Runs};
-ghost use Rattle.commands.specs.Commands.{counts_line as counts_line_spec, listening_line as listening_line_spec};
+ghost use Rattle.commands.specs.Said.{MadeBy, Says};
+ghost use Rattle.commands.specs.Commands.{Checks, opened, status_of, Pipes, PipesMade, PipesFile, Runs};
+ghost use Rattle.commands.specs.Commands.{counts_line as counts_line_spec};
 
+use crate::checking::check_at;
 use crate::scenarios::{asm_at, run_at};
+use crate::serving::serve_at;
 use crate::status::Status;
 use crate::text_file::{FileFault, TextFile};
-use crate::watching::{Tracing, Visitors};
 use command_line::{Command, Stop, parse};
 use node_loader::{Cause, Loaded, load};
-use number_slots::Numbered;
 use scenario_lines::Lines;
 use server_core::{Event, Server, StepFault};
-use socket_server::{Serve, ServeFault};
 use std::alloc::{AllocError, Global};
 use std::io::{Read, Write};
-use std::net::{IpAddr, Net, SocketAddr};
+use std::net::Net;
 use std::random::RandomSource;
 use std::rt::Files;
 use std::sync::Wait;
@@ -94,7 +93,7 @@ pub(crate) fn stream<E: Write>(errors: &mut E) -> Status
 }
 
 // Writes a text whole, or says that the stream failed.
-fn say<O: Write, E: Write>(text: &str, output: &mut Tap<O>, errors: &mut E) -> Status
+pub(crate) fn say<O: Write, E: Write>(text: &str, output: &mut Tap<O>, errors: &mut E) -> Status
     ensures { Says text.now (place O.contents output.old) (place O.contents output.new) result }
 {
     let bytes = text.as_bytes();
@@ -211,24 +210,6 @@ pub fn check<O: Write, E: Write>(
     }
 }
 
-// `check` of the node file at this path.
-fn check_at<R: Files + AllocGlobal, O: Write, E: Write>(
-    rt: &R,
-    path: &str,
-    output: &mut Tap<O>,
-    errors: &mut E,
-) -> Ended
-    ensures { ChecksFile (place O.contents output.old) (place O.contents output.new) path.now result.status result.file }
-{
-    match read_file(rt, path, errors) {
-        Ok(file) => {
-            let status = check(rt.alloc(), file.text(), output, errors);
-            Ended::with_nodes(status, file)
-        }
-        Err(status) => Ended::by(status),
-    }
-}
-
 // A server whose one connection is open.
 fn opened_server(alloc: Global, config: Config, space: Space) -> Result<Server, StepFault>
     ensures { IfOk result (λ server. world_of server ≡ opened (config, space)) }
@@ -324,225 +305,6 @@ fn pipe_with<R: Files + AllocGlobal, I: Read, O: Write, E: Write>(
     }
 }
 
-/// Where to listen, how long to serve, and whether to trace.
-#[derive(Clone, Copy, Debug)]
-pub struct Listening {
-    pub address: IpAddr,
-    pub port: u16,
-    /// 0 is without end.
-    pub turns: u64,
-    pub trace: bool,
-}
-
-// How the end of serving ends the program.
-fn served<E: Write>(ran: Result<(), ServeFault>, errors: &mut E) -> Status
-    ensures { result ≡ status_served ran }
-{
-    match ran {
-        Ok(()) => Status::Done,
-        Err(ServeFault::Step(fault)) => step_fault(fault, errors),
-        Err(ServeFault::Memory) => no_memory(errors),
-        Err(ServeFault::Trace) => stream(errors),
-        Err(ServeFault::Network | ServeFault::Port | ServeFault::Address) => {
-            let _ = writeln!(errors, "network");
-            Status::Network
-        }
-    }
-}
-
-// The line of `serve`.
-#[tactic(auto, unfolding(crate::specs::Commands::listening_line))]
-fn listening_line(alloc: Global, port: u16) -> Result<String, AllocError>
-    ensures { IfOk result (λ line. string_bytes line ≡ listening_line_spec port) }
-{
-    format!(in alloc; "listening {port}\n")
-}
-
-// Whether a URL leads to this port. Where it names none, that is 4840, the one of `opc.tcp`.
-fn leads_to(url: &str, port: u16) -> bool {
-    let host = match url.split_once("://") {
-        Some((_, rest)) => rest,
-        None => url,
-    };
-    let host = match host.split_once('/') {
-        Some((front, _)) => front,
-        None => host,
-    };
-    match host.rsplit_once(':') {
-        // An IPv6 address has colons of its own, in brackets.
-        Some((_, digits)) if !digits.ends_with(']') => digits.parse::<u16>() == Ok(port),
-        _ => port == 4840,
-    }
-}
-
-// Says on standard error what will be served, and whether clients are told another port.
-fn tell_served<E: Write>(config: &Config, space: &Space, port: u16, errors: &mut E) {
-    let nodes = space.node_count();
-    let references = space.triple_count();
-    let url = config.url.as_str().unwrap_or("");
-    let _ = write!(
-        errors,
-        "{nodes} nodes, {references} references; clients are told {url}"
-    );
-    if leads_to(url, port) {
-        let _ = writeln!(errors);
-    } else {
-        let _ = writeln!(
-            errors,
-            ", which isn't port {port}: change `url` in the node file"
-        );
-    }
-}
-
-// Says on standard error which address or port can't be had.
-fn tell_not_had<E: Write>(fault: ServeFault, address: IpAddr, port: u16, errors: &mut E) {
-    let at = SocketAddr::from((address, port));
-    let _ = match fault {
-        ServeFault::Port => writeln!(
-            errors,
-            "can't listen at {at}: another program has the port {port}, or only an administrator may"
-        ),
-        ServeFault::Address => {
-            writeln!(
-                errors,
-                "can't listen at {at}: the address {address} is none of this machine's"
-            )
-        }
-        _ => writeln!(errors, "can't listen at {at}"),
-    };
-}
-
-// Serves by this server, and tells what happens.
-fn serve_and_tell<R: Clock + Wait, O: Write, E: Write>(
-    rt: &R,
-    alloc: Global,
-    serve: &mut Serve,
-    server: &mut Server,
-    listening: Listening,
-    output: &mut Tap<O>,
-    errors: &mut E,
-) -> Result<(), ServeFault>
-    ensures { ServesWith listening.trace listening.turns serve.old (world_of server.old) (place O.contents output.old) (place O.contents output.new) result }
-{
-    let mut addresses = Numbered::new(alloc);
-    if listening.trace {
-        let mut text = String::new(alloc);
-        let mut tracing = Tracing {
-            output,
-            errors,
-            addresses: &mut addresses,
-            text: &mut text,
-        };
-        serve.run(rt, alloc, server, &mut tracing, listening.turns)
-    } else {
-        let mut visitors = Visitors {
-            errors,
-            addresses: &mut addresses,
-        };
-        serve.run(rt, alloc, server, &mut visitors, listening.turns)
-    }
-}
-
-// Serves by this server, which knows no connection.
-fn serve_on<R: Net + RandomSource + Clock + Wait, O: Write, E: Write>(
-    rt: &R,
-    alloc: Global,
-    server: &mut Server,
-    listening: Listening,
-    output: &mut Tap<O>,
-    errors: &mut E,
-) -> Status
-    ensures { ServesOn (place O.contents output.old) (place O.contents output.new) listening (world_of server.old) result }
-{
-    let Listening { address, port, .. } = listening;
-    let Ok(line) = listening_line(alloc, port) else {
-        return no_memory(errors);
-    };
-    let mut serve = match Serve::listen(rt, alloc, address, port) {
-        Ok(serve) => serve,
-        Err(fault) => {
-            tell_not_had(fault, address, port, errors);
-            return served(Err(fault), errors);
-        }
-    };
-    match say(line.as_str(), output, errors) {
-        Status::Done => {
-            let ran = serve_and_tell(rt, alloc, &mut serve, server, listening, output, errors);
-            served(ran, errors)
-        }
-        status => status,
-    }
-}
-
-/// Serves connections to a port of an address by a server of this configuration and address space, for so
-/// many turns, or without end for 0. Says `listening` and the port once clients can connect, and before
-/// that, on standard error, what is served. There it tells too which connections come and go.
-///
-/// With a trace the rows of the subscriptions' state table that fire follow, a line for each, in the form of
-/// [`scenario_lines`]. The events that the server is handed count from 1 on.
-///
-/// `Done` comes after the turns, `Network` where the port or the address can't be had, or where the system
-/// refuses the wait, the clock or random bytes, and `Halted` where memory ran out or the server halted. `Stream`
-/// comes where a call of the output failed: nobody is served where it isn't known that the program listens,
-/// and nobody any more where the trace can't be written.
-pub fn serve<R: Net + RandomSource + Clock + Wait, O: Write, E: Write>(
-    rt: &R,
-    alloc: Global,
-    config: Config,
-    space: Space,
-    listening: Listening,
-    output: &mut Tap<O>,
-    errors: &mut E,
-) -> Status
-    ensures { ServesBy (place O.contents output.old) (place O.contents output.new) listening (config, space) result }
-{
-    tell_served(&config, &space, listening.port, errors);
-    match Server::new(alloc, config, space) {
-        Ok(mut server) => serve_on(rt, alloc, &mut server, listening, output, errors),
-        Err(_) => no_memory(errors),
-    }
-}
-
-// `serve` of what was made.
-fn serve_made<R: Net + RandomSource + Clock + Wait, O: Write, E: Write>(
-    rt: &R,
-    alloc: Global,
-    made: Result<(Config, Space), Status>,
-    listening: Listening,
-    output: &mut Tap<O>,
-    errors: &mut E,
-) -> Status
-    ensures { (said : Option Made) → MadeBy made said →
-        ServesMade (place O.contents output.old) (place O.contents output.new) listening said result }
-{
-    match made {
-        Ok((config, space)) => serve(rt, alloc, config, space, listening, output, errors),
-        Err(status) => status,
-    }
-}
-
-// `serve` of the node file at this path.
-fn serve_at<R: Files + AllocGlobal + Net + RandomSource + Clock + Wait, O: Write, E: Write>(
-    rt: &R,
-    path: &str,
-    listening: Listening,
-    output: &mut Tap<O>,
-    errors: &mut E,
-) -> Ended
-    ensures { ServesFile (place O.contents output.old) (place O.contents output.new) listening path.now
-        result.status result.file }
-{
-    let alloc = rt.alloc();
-    match read_file(rt, path, errors) {
-        Ok(file) => {
-            let made = nodes_in(alloc, file.text(), errors);
-            let status = serve_made(rt, alloc, made, listening, output, errors);
-            Ended::with_nodes(status, file)
-        }
-        Err(status) => Ended::by(status),
-    }
-}
-
 /// Does what these words ask for: the words after the program's name. What is asked for goes to
 /// `output`, what went wrong to `errors`, each as a line.
 pub fn run<R: Files + AllocGlobal + Net + RandomSource + Clock + Wait, I: Read, O: Write, E: Write>(
@@ -556,7 +318,7 @@ pub fn run<R: Files + AllocGlobal + Net + RandomSource + Clock + Wait, I: Read, 
 {
     match parse(rt.alloc(), words) {
         Ok(Command::Pipe { nodes }) => pipe_with(rt, nodes, input, output, errors),
-        Ok(Command::Check { nodes }) => check_at(rt, nodes, output, errors),
+        Ok(Command::Check { nodes, explain }) => check_at(rt, nodes, explain, output, errors),
         Ok(Command::Asm { scenario }) => asm_at(rt, scenario, output, errors),
         Ok(Command::Run { nodes, scenario }) => {
             run_at(rt, Lines::Outs, nodes, scenario, output, errors)
@@ -564,23 +326,7 @@ pub fn run<R: Files + AllocGlobal + Net + RandomSource + Clock + Wait, I: Read, 
         Ok(Command::Trace { nodes, scenario }) => {
             run_at(rt, Lines::Rows, nodes, scenario, output, errors)
         }
-        Ok(
-            Command::Serve {
-                nodes,
-                port,
-                turns,
-                address,
-                trace,
-            },
-        ) => {
-            let listening = Listening {
-                address,
-                port,
-                turns,
-                trace,
-            };
-            serve_at(rt, nodes, listening, output, errors)
-        }
+        Ok(Command::Serve(options)) => serve_at(rt, &options, output, errors),
         Err(Stop::Help(text)) => Ended::by(say(text.as_str(), output, errors)),
         Err(Stop::Usage(text)) => {
             let _ = write!(errors, "{text}");

@@ -7,13 +7,15 @@ ghost use Rattle.scenario_lines.specs.Held.{place};
 ghost use Rattle.socket_server.specs.Output.{PutsOrFails, no_output};
 ghost use Rattle.commands.specs.Serving.{output_at};
 
+use crate::ends::{tell_end, tell_status};
 use number_slots::Numbered;
 use scenario_lines::{PrintFault, put_rows};
 use server_core::Fired;
-use socket_server::{Observer, ServeFault};
+use socket_server::{End, Observer, ServeFault};
 use std::io::Write;
 use std::net::SocketAddr;
 use stream_taps::Tap;
+use ua_types::Status;
 
 // Where there is no memory for the address, the end of the connection won't be told.
 fn tell_connected<E: Write>(
@@ -33,9 +35,37 @@ fn tell_refused<E: Write>(errors: &mut E, number: u64, address: SocketAddr) {
     );
 }
 
-fn tell_closed<E: Write>(errors: &mut E, addresses: &mut Numbered<SocketAddr>, number: u64) {
+fn tell_crowded<E: Write>(errors: &mut E, address: SocketAddr) {
+    let _ = writeln!(
+        errors,
+        "a connection from {address} turned away: as many as may be of its address are open"
+    );
+}
+
+fn tell_session_refused<E: Write>(
+    errors: &mut E,
+    addresses: &Numbered<SocketAddr>,
+    number: u64,
+    status: Status,
+) {
+    if let Some(address) = addresses.get(number) {
+        let _ = write!(
+            errors,
+            "connection {number} from {address} is refused a session: "
+        );
+        tell_status(errors, status);
+    }
+}
+
+fn tell_closed<E: Write>(
+    errors: &mut E,
+    addresses: &mut Numbered<SocketAddr>,
+    number: u64,
+    end: End,
+) {
     if let Some(address) = addresses.remove(number) {
-        let _ = writeln!(errors, "connection {number} from {address} closed");
+        let _ = write!(errors, "connection {number} from {address} ");
+        tell_end(errors, end);
     }
 }
 
@@ -64,8 +94,16 @@ impl<E: Write> Observer for Visitors<'_, '_, E> {
         tell_refused(self.errors, number, address);
     }
 
-    fn closed(&mut self, number: u64) {
-        tell_closed(self.errors, self.addresses, number);
+    fn crowded(&mut self, address: SocketAddr) {
+        tell_crowded(self.errors, address);
+    }
+
+    fn session_refused(&mut self, number: u64, status: Status) {
+        tell_session_refused(self.errors, self.addresses, number, status);
+    }
+
+    fn closed(&mut self, number: u64, end: End) {
+        tell_closed(self.errors, self.addresses, number, end);
     }
 }
 
@@ -118,7 +156,15 @@ impl<O: Write, E: Write> Observer for Tracing<'_, '_, '_, '_, O, E> {
         tell_refused(self.errors, number, address);
     }
 
-    fn closed(&mut self, number: u64) {
-        tell_closed(self.errors, self.addresses, number);
+    fn crowded(&mut self, address: SocketAddr) {
+        tell_crowded(self.errors, address);
+    }
+
+    fn session_refused(&mut self, number: u64, status: Status) {
+        tell_session_refused(self.errors, self.addresses, number, status);
+    }
+
+    fn closed(&mut self, number: u64, end: End) {
+        tell_closed(self.errors, self.addresses, number, end);
     }
 }

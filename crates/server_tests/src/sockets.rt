@@ -1,20 +1,24 @@
 //! What clients get to see over sockets. The loop takes turns in the same thread, between what the clients write and what
 //! they read.
 
+ghost use Rattle.std.specs.Prelude.{true, []};
+ghost use Rattle.socket_server.specs.Output.{no_output};
+
 use crate::bytes_due::{ACKNOWLEDGE, HELLO};
 use crate::events::base_server;
 use crate::holding::holds;
 use node_loader::{Loaded, load};
 use scenario_events::assemble;
-use server_core::{Event, Server};
-use socket_server::{Serve, Unobserved};
+use server_core::{Event, Fired, Server};
+use socket_server::{End, Limits, Observer, Serve, ServeFault, Turns, Unobserved, Until};
 use std::alloc::Global;
 use std::io::{ErrorKind, Read, Write};
-use std::net::{Shutdown, SocketAddr, TcpStream};
+use std::net::{IpAddr, Ipv4Addr, Shutdown, SocketAddr, TcpStream};
 use std::sync::Wait;
 use std::test::*;
 use std::time::Clock;
 use ua_space::Space;
+use ua_types::Status;
 
 // What a client says behind its Hello: an opening, GetEndpoints, and the end of the channel.
 const ASKED: &[u8] =
@@ -69,7 +73,7 @@ fn is_told_the_end(read: &[u8]) -> bool {
 fn takes_turns<R: Clock + Wait>(rt: &R, alloc: Global, serve: &mut Serve) -> Result<bool, Fail> {
     let mut server = base_server(alloc)?;
     let is_done = serve
-        .run(rt, alloc, &mut server, &mut Unobserved, 8)
+        .run(rt, alloc, &mut server, &mut Unobserved, &mut Turns(8))
         .is_ok();
     Ok(is_done && serve.len() == 1)
 }
@@ -119,7 +123,7 @@ fn is_gone_behind_its_hello<R: Clock + Wait>(
     one.shutdown(Shutdown::Write)?;
     let mut server = base_server(alloc)?;
     let is_done = serve
-        .run(rt, alloc, &mut server, &mut Unobserved, 3)
+        .run(rt, alloc, &mut server, &mut Unobserved, &mut Turns(3))
         .is_ok();
     let answered = all_of(alloc, one)?;
     Ok(is_done && serve.len() == 0 && answered.as_slice() == ACKNOWLEDGE)
@@ -239,7 +243,9 @@ fn is_one_dropped<R: Clock + Wait>(
     let mut one = client(host, address, &[])?;
     let mut two = client(host, address, &[])?;
     say(alloc, server, &mut one, &mut two)?;
-    let is_done = serve.run(rt, alloc, server, &mut Unobserved, 1).is_ok();
+    let is_done = serve
+        .run(rt, alloc, server, &mut Unobserved, &mut Turns(1))
+        .is_ok();
     let told = waiting(alloc, &two)?;
     Ok(is_done && serve.len() == 1 && told.as_slice().ends_with(WAITED))
 }
@@ -254,5 +260,141 @@ fn a_client_that_never_reads(rt: HostRuntime) -> Result<(), Fail> {
         "dropped",
         is_one_dropped(&rt, &rt, alloc, &mut serve, &mut server)?,
     );
+    Ok(())
+}
+
+// Stops behind the third turn.
+#[derive(Drop)]
+struct ThreeTurns {
+    asked: usize,
+}
+
+impl<R> Until<R> for ThreeTurns {
+    ghost most = { λ _. 0 };
+
+    ghost may_ask = { true };
+
+    fn turns(&self) -> u64 {
+        0
+    }
+
+    fn asks_to_stop(&mut self, _rt: &R) -> bool {
+        self.asked = self.asked.wrapping_add(1);
+        self.asked == 3
+    }
+}
+
+// Whether the server ends where it is asked to, and tells its client so.
+fn ends_when_asked<R: Clock + Wait>(
+    host: &HostRuntime,
+    rt: &R,
+    alloc: Global,
+    serve: &mut Serve,
+) -> Result<bool, Fail> {
+    let one = client(host, serve.address()?, &[HELLO])?;
+    let mut server = base_server(alloc)?;
+    let mut until = ThreeTurns { asked: 0 };
+    let is_done = serve
+        .run(rt, alloc, &mut server, &mut Unobserved, &mut until)
+        .is_ok();
+    let told = waiting(alloc, &one)?;
+    Ok(is_done && until.asked == 3 && is_told_the_end(told.as_slice()))
+}
+
+#[test]
+fn it_ends_when_asked(rt: HostRuntime) -> Result<(), Fail> {
+    let alloc = rt.alloc();
+    let mut serve = Serve::bind(&rt, alloc, 0)?;
+    holds(&rt, "ended", ends_when_asked(&rt, &rt, alloc, &mut serve)?);
+    Ok(())
+}
+
+// How many were turned away since there are too many of their address, and how the last connection ended.
+#[derive(Drop)]
+struct Noting {
+    crowded: usize,
+    end: Option<End>,
+}
+
+impl Observer for Noting {
+    ghost output = { λ _. no_output };
+
+    ghost text = { λ _ _. [] };
+
+    fn saw(&mut self, _event: u64, _rows: &[Fired]) -> Result<(), ServeFault> {
+        Ok(())
+    }
+
+    fn connected(&mut self, _number: u64, _address: SocketAddr) {}
+
+    fn refused(&mut self, _number: u64, _address: SocketAddr) {}
+
+    fn crowded(&mut self, _address: SocketAddr) {
+        self.crowded = self.crowded.wrapping_add(1);
+    }
+
+    fn session_refused(&mut self, _number: u64, _status: Status) {}
+
+    fn closed(&mut self, _number: u64, end: End) {
+        self.end = Some(end);
+    }
+}
+
+// What is noted in so many turns.
+fn noted<R: Clock + Wait>(
+    rt: &R,
+    alloc: Global,
+    serve: &mut Serve,
+    turns: u64,
+) -> Result<Noting, Fail> {
+    let mut server = base_server(alloc)?;
+    let mut noting = Noting {
+        crowded: 0,
+        end: None,
+    };
+    match serve.run(rt, alloc, &mut server, &mut noting, &mut Turns(turns)) {
+        Ok(()) => Ok(noting),
+        Err(_) => Err(Fail::new("it stopped")),
+    }
+}
+
+// Listens at a free port for sockets that keep to these limits.
+fn limited(rt: &HostRuntime, alloc: Global, limits: Limits) -> Result<Serve, Fail> {
+    let address = IpAddr::V4(Ipv4Addr::LOCALHOST);
+    Ok(Serve::listen(rt, alloc, address, 0, limits)?)
+}
+
+// One more client of an address than may be reads its end at once.
+#[test]
+fn one_too_many_of_an_address(rt: HostRuntime) -> Result<(), Fail> {
+    let alloc = rt.alloc();
+    let limits = Limits {
+        idle: 0,
+        per_address: 1,
+    };
+    let mut serve = limited(&rt, alloc, limits)?;
+    let address = serve.address()?;
+    let _one = client(&rt, address, &[])?;
+    let two = client(&rt, address, &[])?;
+    let noting = noted(&rt, alloc, &mut serve, 2)?;
+    holds(&rt, "one", serve.len() == 1 && noting.crowded == 1);
+    holds(&rt, "closed", all_of(alloc, two)?.is_empty());
+    Ok(())
+}
+
+// A client that says nothing for a second is let go of. A turn takes at most 100 ms.
+#[test]
+fn a_silent_client(rt: HostRuntime) -> Result<(), Fail> {
+    let alloc = rt.alloc();
+    let limits = Limits {
+        idle: 1,
+        per_address: 0,
+    };
+    let mut serve = limited(&rt, alloc, limits)?;
+    let one = client(&rt, serve.address()?, &[])?;
+    let noting = noted(&rt, alloc, &mut serve, 14)?;
+    holds(&rt, "gone", serve.len() == 0);
+    holds(&rt, "for its silence", noting.end == Some(End::Silent(1)));
+    holds(&rt, "closed", all_of(alloc, one)?.is_empty());
     Ok(())
 }

@@ -6,11 +6,13 @@ use commands::{Tracing, Visitors};
 use number_slots::Numbered;
 use scenario_events::assemble;
 use server_core::Server;
-use socket_server::Observer;
+use socket_server::{End, Observer};
 use std::alloc::Global;
+use std::io::ErrorKind;
 use std::net::SocketAddr;
 use std::test::*;
 use stream_taps::Tap;
+use ua_types::Status;
 
 // A subscription whose client never sends a Publish request: it is late at the first tick.
 const IS_LATE: &str = "open 1 0000000000000000000000000000000000000000000000000000000000000000
@@ -63,16 +65,57 @@ fn rows_are_told(rt: HostRuntime) -> Result<(), Fail> {
     Ok(())
 }
 
-// One comes and goes, and another one is turned away, whose end is no line.
+// One comes and goes, and others are turned away, whose ends are no lines.
 fn come_and_go<W: Observer>(observer: &mut W) {
     let one = SocketAddr::from(([192, 168, 0, 7], 51344));
     let two = SocketAddr::from(([192, 168, 0, 9], 40022));
     observer.connected(3, one);
     observer.refused(4, two);
-    observer.closed(4);
-    observer.closed(3);
-    observer.closed(3);
+    observer.crowded(two);
+    observer.session_refused(3, Status::BAD_TOO_MANY_SESSIONS);
+    observer.session_refused(4, Status::BAD_TOO_MANY_SESSIONS);
+    observer.closed(4, End::Client);
+    observer.closed(3, End::Client);
+    observer.closed(3, End::Client);
 }
+
+// Each way in which a connection ends.
+const ENDS: [End; 9] = [
+    End::Client,
+    End::Server(None),
+    End::Server(Some(Status::BAD_SECURITY_POLICY_REJECTED)),
+    End::Server(Some(Status(0x8001_0000))),
+    End::Silent(600),
+    End::Owed(4_194_305),
+    End::Owed(1_050_007_009),
+    End::Failed(Some(ErrorKind::ConnectionReset)),
+    End::Failed(None),
+];
+
+const TOLD_OF_ENDS: &[u8] = b"connection 3 from 192.168.0.7:51344
+connection 4 from 192.168.0.9:40022 refused: as many as may be are open
+a connection from 192.168.0.9:40022 turned away: as many as may be of its address are open
+connection 3 from 192.168.0.7:51344 is refused a session: Bad_TooManySessions
+connection 3 from 192.168.0.7:51344 closed by the client
+connection 5 from [::1]:4840
+connection 5 from [::1]:4840 closed by the client
+connection 5 from [::1]:4840
+connection 5 from [::1]:4840 closed by the client
+connection 5 from [::1]:4840
+connection 5 from [::1]:4840 ended by the server: Bad_SecurityPolicyRejected
+connection 5 from [::1]:4840
+connection 5 from [::1]:4840 ended by the server: 0x80010000
+connection 5 from [::1]:4840
+connection 5 from [::1]:4840 let go: silent for 600 s
+connection 5 from [::1]:4840
+connection 5 from [::1]:4840 let go: owed 4,194,305 bytes
+connection 5 from [::1]:4840
+connection 5 from [::1]:4840 let go: owed 1050,007,009 bytes
+connection 5 from [::1]:4840
+connection 5 from [::1]:4840 failed: ConnectionReset
+connection 5 from [::1]:4840
+connection 5 from [::1]:4840 failed
+";
 
 #[test]
 fn connections_are_told(rt: HostRuntime) {
@@ -84,9 +127,9 @@ fn connections_are_told(rt: HostRuntime) {
         addresses: &mut addresses,
     };
     come_and_go(&mut visitors);
-    let due = b"connection 3 from 192.168.0.7:51344
-connection 4 from 192.168.0.9:40022 refused: as many as may be are open
-connection 3 from 192.168.0.7:51344 closed
-";
-    holds(&rt, "connections", errors.as_slice() == due.as_slice());
+    for end in ENDS {
+        visitors.connected(5, SocketAddr::from(([0, 0, 0, 0, 0, 0, 0, 1], 4840)));
+        visitors.closed(5, end);
+    }
+    holds(&rt, "connections", errors.as_slice() == TOLD_OF_ENDS);
 }

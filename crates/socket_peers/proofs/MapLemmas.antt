@@ -20,7 +20,7 @@ module _ {S : Type 0} where
   -- a socket that was changed in its place, and is on the list of those to be looked at where this says so
   pub woken_back : (is_woken : Bool) (old : PeersState S) (number : ℕ) (peer after : PeerState S) (connected : FinMap nat_cmp (PeerState S)) (awake : List ℕ)
       → connected ≡ insert old.connected number after → awake ≡ listed_if is_woken old.awake number peer → after ≡ woken_if is_woken peer
-      → record { connected = connected; last = old.last; awake = awake; touched = old.touched } ≡ with_woken_if is_woken old number peer
+      → record old { connected = connected; awake = awake } ≡ with_woken_if is_woken old number peer
   woken_back is_woken old number peer after connected awake e list woken =
       let there : connected ≡ insert old.connected number (woken_if is_woken peer) = e ∙ ap (insert old.connected number) woken in
       ap (λ m. record old { connected = m; awake = awake }) there ∙ ap (λ l. record old { connected = insert old.connected number (woken_if is_woken peer); awake = l }) list
@@ -29,10 +29,10 @@ module _ {S : Type 0} where
   pub reported_back : (old now : PeersState S) (number : ℕ) (readiness : Readiness) (peer found after : PeerState S) (connected : FinMap nat_cmp (PeerState S)) (awake : List ℕ)
       → old ≡ now → at old number ≡ Some found → peer ≡ ready readiness found
       → connected ≡ insert old.connected number after → awake ≡ listed_if true old.awake number peer → after ≡ woken_if true peer
-      → record { connected = connected; last = old.last; awake = awake; touched = old.touched } ≡ reported now number readiness
+      → record old { connected = connected; awake = awake } ≡ reported now number readiness
   reported_back old now number readiness peer found after connected awake same is e back list woken =
-      subst (λ p. record { connected = connected; last = old.last; awake = awake; touched = old.touched } ≡ reported p number readiness) same
-      (subst (λ o. record { connected = connected; last = old.last; awake = awake; touched = old.touched } ≡ reported_by old number readiness o) (sym is)
+      subst (λ p. record old { connected = connected; awake = awake } ≡ reported p number readiness) same
+      (subst (λ o. record old { connected = connected; awake = awake } ≡ reported_by old number readiness o) (sym is)
       (woken_back true old number peer after connected awake back list woken ∙ ap (with_woken_if true old number) e))
 
   -- the server is told that its connection is no more
@@ -56,7 +56,7 @@ module _ {S : Type 0} where
   -- it is owed more, or closes, and is to be flushed
   pub touched_back : (old now : PeersState S) (number : ℕ) (found after : PeerState S) (change : PeerState S → PeerState S) (connected : FinMap nat_cmp (PeerState S)) (touched : List ℕ)
       → old ≡ now → at old number ≡ Some found → after ≡ change found → connected ≡ insert old.connected number after → touched ≡ old.touched ++ number ∷ []
-      → record { connected = connected; last = old.last; awake = old.awake; touched = touched } ≡ touching now number change
+      → record old { connected = connected; touched = touched } ≡ touching now number change
   touched_back old now number found after change connected touched same is e back more =
       subst (λ p. record old { connected = connected; touched = touched } ≡ touching p number change) same
       (subst (λ o. record old { connected = connected; touched = touched } ≡ touching_by old number change o) (sym is)
@@ -92,7 +92,7 @@ module _ {S : Type 0} (remaining contents : S → Option (List ℕ)) (calls : S 
   pub flush_at : (old now : PeersState S) (number : ℕ) (found flushed after : PeerState S) (is_interrupted is_woken : Bool) (connected : FinMap nat_cmp (PeerState S)) (awake : List ℕ) → old ≡ now → at old number ≡ Some found
       → Flushes remaining contents calls found flushed is_interrupted → is_woken ≡ (is_interrupted || is_over flushed)
       → connected ≡ insert old.connected number after → awake ≡ listed_if is_woken old.awake number flushed → after ≡ woken_if is_woken flushed
-      → FlushesAt remaining contents calls number now (record { connected = connected; last = old.last; awake = awake; touched = old.touched })
+      → FlushesAt remaining contents calls number now (record old { connected = connected; awake = awake })
   flush_at old now number found flushed after is_interrupted is_woken connected awake same is flushes why back list woken =
       let new = record old { connected = connected; awake = awake } in
       subst (λ p. FlushesAt remaining contents calls number p new) same
@@ -102,7 +102,7 @@ module _ {S : Type 0} (remaining contents : S → Option (List ℕ)) (calls : S 
   pub look_at : (old now : PeersState S) (number : ℕ) (found flushed after : PeerState S) (is_interrupted : Bool) (connected : FinMap nat_cmp (PeerState S)) (awake : List ℕ) → old ≡ now → at old number ≡ Some found
       → Flushes remaining contents calls (awake_if false found) flushed is_interrupted
       → connected ≡ insert old.connected number after → awake ≡ listed_if is_interrupted old.awake number flushed → after ≡ woken_if is_interrupted flushed
-      → LooksAt remaining contents calls number now (record { connected = connected; last = old.last; awake = awake; touched = old.touched })
+      → LooksAt remaining contents calls number now (record old { connected = connected; awake = awake })
   look_at old now number found flushed after is_interrupted connected awake same is flushes back list woken =
       let new = record old { connected = connected; awake = awake } in
       subst (λ p. LooksAt remaining contents calls number p new) same

@@ -7,8 +7,10 @@ use Rattle.std.proofs.lemmas.List.{drop-drop, length-drop}
 use Rattle.std.specs.Io.KnownBytes.{Appends, Keeps}
 use Rattle.std.proofs.KnownBytes.{Appends-nil, Appends-trans, Keeps-refl}
 use Rattle.bytes.specs.Unread.{IsChunkOf, concat_slices}
-use Rattle.socket_peers.specs.Socket.{Calls}
-use Rattle.socket_peers.specs.Peer.{PeerState, most_unsent, dropped, judged, is_settled, Tallies, Writes, Drains, Flushes}
+use Rattle.socket_peers.specs.declared.socket.Missed.{Missed}
+use Rattle.socket_peers.specs.declared.socket.Missed.TheVariants.{Failed}
+use Rattle.socket_peers.specs.Socket.{Calls, OneMissed}
+use Rattle.socket_peers.specs.Peer.{PeerState, most_unsent, failing, dropped, judged, one_if, is_settled, Tallies, Writes, Drains, Flushes}
 
 -- some bytes at the front
 pub front_part : (xs rest all : List ℕ) → all ≡ xs ++ rest → 0 < length xs → IsChunkOf xs all
@@ -56,6 +58,17 @@ tallies_trans a b c n None y z p q = tt
 tallies_trans a b c n (Some x) None z p q = absurd p
 tallies_trans a b c n (Some x) (Some y) None p q = absurd q
 tallies_trans a b c n (Some x) (Some y) (Some z) (f, w, i) (f', w', i') = (omega arith, omega arith, omega arith)
+
+keeps_appends : (a b : Option (List ℕ)) → Keeps a b → Appends a b []
+keeps_appends None b k = tt
+keeps_appends (Some x) None k = absurd k
+keeps_appends (Some x) (Some y) k = k ∙ sym (append-nil x)
+
+tallies_failed : {S : Type 0} (old : PeerState S) (stream : S) (a b : Option Calls) → old.has_failed ≡ false → OneMissed Failed a b → Tallies old (failing (record old { stream = stream })) 0 a b
+tallies_failed old stream None b none one = tt
+tallies_failed old stream (Some x) b none one =
+    let before : one_if old.has_failed ≡ 0 = ap one_if none in
+    subst (λ (o : Option Calls). Tallies old (failing (record old { stream = stream })) 0 (Some x) o) (sym one) (omega arith, refl, omega arith)
 
 -- ---- a flush, write by write
 
@@ -108,10 +121,39 @@ module _ {S : Type 0} (remaining contents : S → Option (List ℕ)) (calls : S 
     ended = refl;
     gone = refl;
     awake = refl;
+    served = refl;
+    origin = refl;
     failed = λ e. e;
     full = λ e. e;
     tallies = tallies_none p (calls p.stream);
   }
+
+  -- a write that failed
+  pub writes_failed : (old now : PeerState S) (stream : S) (new : PeerState S) (why : Missed) → old ≡ now → now.has_failed ≡ false → new ≡ failing (record old { stream = stream }) → why ≡ Failed
+      → Keeps (contents old.stream) (contents stream) → Keeps (remaining old.stream) (remaining stream) → OneMissed why (calls old.stream) (calls stream)
+      → Writes remaining contents calls now new 0
+  writes_failed old now stream new why same none e failed took gave one =
+      let before : old.has_failed ≡ false = ap (λ (p : PeerState S). p.has_failed) same ∙ none in
+      let to : PeerState S = failing (record old { stream = stream }) in
+      let wrote : Writes remaining contents calls old to 0 = record {
+        count = 0;
+        fits = omega arith;
+        taken = keeps_appends (contents old.stream) (contents stream) took;
+        read = gave;
+        owed = refl;
+        closes = refl;
+        ends = refl;
+        ended = refl;
+        gone = refl;
+        awake = refl;
+        served = refl;
+        origin = refl;
+        failed = λ h. refl;
+        full = λ h. h;
+        tallies = tallies_failed old stream (calls old.stream) (calls stream) before (subst (λ (w : Missed). OneMissed w (calls old.stream) (calls stream)) failed one);
+      } in
+      subst (λ (p : PeerState S). Writes remaining contents calls p new 0) same
+      (subst (λ (p : PeerState S). Writes remaining contents calls old p 0) (sym e) wrote)
 
   pub writes_trans : (a b c : PeerState S) (n : ℕ) → Writes remaining contents calls a b 0 → Writes remaining contents calls b c n → Writes remaining contents calls a c n
   writes_trans a b c n p q =
@@ -130,6 +172,8 @@ module _ {S : Type 0} (remaining contents : S → Option (List ℕ)) (calls : S 
         ended = q.ended ∙ p.ended;
         gone = q.gone ∙ p.gone;
         awake = q.awake ∙ p.awake;
+        served = q.served ∙ p.served;
+        origin = q.origin ∙ p.origin;
         failed = λ e. q.failed (p.failed e);
         full = λ e. q.full (p.full e);
         tallies = tallies_trans a b c n (calls a.stream) (calls b.stream) (calls c.stream) p.tallies q.tallies;

@@ -1,3 +1,4 @@
 pub mod Socket
+pub mod Tally
 pub mod Peer
 pub mod Peers

@@ -1,7 +1,8 @@
 -- One socket, and the bytes that it is owed.
-use Rattle.std.specs.Prelude.{◌≡◌, ◌⊎◌, ⊤, ℕ, ◌+◌, ◌<◌, ◌≤◌, ◌==◌, ◌&&◌, ◌||◌, Bool, true, false, not, nat_lt, List, [], ◌++◌, length, take, drop, Option, Some, None, if◌then◌else◌, refl}
-use Rattle.std.specs.Coded.{Coded, code_by, coded×, coded_ℕ, coded_bool, coded_list}
+use Rattle.std.specs.Prelude.{◌≡◌, ◌⊎◌, ⊤, ℕ, ℤ, ◌+◌, ◌<◌, ◌≤◌, ◌==◌, ◌&&◌, ◌||◌, Bool, true, false, not, nat_lt, int_le, ◌+ℤ◌, ◌*◌, pos, List, [], ◌++◌, length, take, drop, Option, Some, None, if◌then◌else◌, refl}
+use Rattle.std.specs.Coded.{Coded, code_by, coded×, coded_ℕ, coded_ℤ, coded_bool, coded_list}
 use Rattle.std.specs.Io.KnownBytes.{Appends, Consumes, Keeps, IsAtEnd}
+use Rattle.ua_types.specs.declared.moment.Moment.{Moment}
 use Rattle.socket_peers.specs.declared.peer.Readiness.{Readiness}
 use Rattle.socket_peers.specs.declared.peer.Heard.{Heard}
 use Rattle.socket_peers.specs.declared.peer.Heard.TheVariants.{Piece, Last, Again, Nothing, End}
@@ -11,7 +12,8 @@ use Rattle.socket_peers.specs.Socket.{Calls, NoneMissed, OneMissed}
 -- Its stream, the bytes that were sent to it and that the stream hasn't taken yet, whether nothing more is read from it, whether
 -- it was reported as ending: its end lies behind what is still to be read; whether its input is at its end, whether it has failed,
 -- whether the server was told that its connection is no more, whether the stream took less than there was and wasn't reported as
--- writable since, and whether it stands on the list of those to be looked at
+-- writable since, whether it stands on the list of those to be looked at, when it was last owed something, or taken in, and the number
+-- of its client's address
 pub record PeerState (S : Type 0) : Type 0 where
   pub stream : S
   pub owed : List ℕ
@@ -22,8 +24,10 @@ pub record PeerState (S : Type 0) : Type 0 where
   pub is_gone : Bool
   pub is_full : Bool
   pub is_awake : Bool
+  pub served : Moment
+  pub origin : ℕ
 
--- nothing is read from a socket that is owed more than this
+-- nothing is read from a socket that is owed more than this, unless it was reported as ending
 abbrev pub most_owed : ℕ
 most_owed = 1048576
 
@@ -50,9 +54,9 @@ may_be_more other = false
 module _ {S : Type 0} where
   abbrev pub peer_code : Coded S → Coded (PeerState S)
   peer_code stream =
-      code_by (S × (List ℕ × (Bool × (Bool × (Bool × (Bool × (Bool × (Bool × Bool))))))))
-      (coded× stream (coded× (coded_list coded_ℕ) (coded× coded_bool (coded× coded_bool (coded× coded_bool (coded× coded_bool (coded× coded_bool (coded× coded_bool coded_bool))))))))
-      (λ p. (p.stream, (p.owed, (p.is_closing, (p.is_ending, (p.has_ended, (p.has_failed, (p.is_gone, (p.is_full, p.is_awake)))))))))
+      code_by (S × (List ℕ × (Bool × (Bool × (Bool × (Bool × (Bool × (Bool × (Bool × (ℤ × ℕ))))))))))
+      (coded× stream (coded× (coded_list coded_ℕ) (coded× coded_bool (coded× coded_bool (coded× coded_bool (coded× coded_bool (coded× coded_bool (coded× coded_bool (coded× coded_bool (coded× coded_ℤ coded_ℕ))))))))))
+      (λ p. (p.stream, (p.owed, (p.is_closing, (p.is_ending, (p.has_ended, (p.has_failed, (p.is_gone, (p.is_full, (p.is_awake, (p.served.0, p.origin)))))))))))
       (λ t. record {
         stream = t.0;
         owed = t.1.0;
@@ -62,12 +66,14 @@ module _ {S : Type 0} where
         has_failed = t.1.1.1.1.1.0;
         is_gone = t.1.1.1.1.1.1.0;
         is_full = t.1.1.1.1.1.1.1.0;
-        is_awake = t.1.1.1.1.1.1.1.1;
+        is_awake = t.1.1.1.1.1.1.1.1.0;
+        served = record { 0 = t.1.1.1.1.1.1.1.1.1.0 };
+        origin = t.1.1.1.1.1.1.1.1.1.1;
       })
       (λ _. refl)
 
-  abbrev pub fresh : S → PeerState S
-  fresh stream = record {
+  abbrev pub fresh : ℕ → Moment → S → PeerState S
+  fresh origin now stream = record {
     stream = stream;
     owed = [];
     is_closing = false;
@@ -77,14 +83,19 @@ module _ {S : Type 0} where
     is_gone = false;
     is_full = false;
     is_awake = false;
+    served = now;
+    origin = origin;
   }
 
-  -- behind all that it is owed already
-  abbrev pub owing : List ℕ → PeerState S → PeerState S
-  owing bytes p = record p { owed = p.owed ++ bytes }
+  -- behind all that it is owed already, from this moment on
+  abbrev pub owing : Moment → List ℕ → PeerState S → PeerState S
+  owing now bytes p = record p { owed = p.owed ++ bytes; served = now }
 
   abbrev pub closing : PeerState S → PeerState S
   closing p = record p { is_closing = true }
+
+  abbrev pub failing : PeerState S → PeerState S
+  failing p = record p { has_failed = true }
 
   -- It was reported as ready. Where it takes bytes it is full no more, and once it was reported as ending it stays so
   abbrev pub ready : Readiness → PeerState S → PeerState S
@@ -110,8 +121,13 @@ module _ {S : Type 0} where
   abbrev pub is_done : PeerState S → Bool
   is_done p = p.is_gone && is_over p
 
+  -- there are seconds after which a socket is silent, and nothing was sent to this one for so many, in units of 100 ns
+  abbrev pub is_silent : ℕ → Moment → PeerState S → Bool
+  is_silent idle now p = nat_lt 0 idle && int_le (p.served.0 +ℤ pos (idle * 10000000)) now.0
+
+  -- it doesn't close and hasn't failed, and it was reported as ending or isn't owed too much
   abbrev pub listens : PeerState S → Bool
-  listens p = not p.is_closing && (not p.has_failed && not (nat_lt most_owed (length p.owed)))
+  listens p = not p.is_closing && (not p.has_failed && (p.is_ending || not (nat_lt most_owed (length p.owed))))
 
   -- There is no more to be read for now: this piece is less than there was room for, and the socket wasn't reported as ending, so that
   -- its end doesn't lie behind the piece already
@@ -193,6 +209,8 @@ module _ {S : Type 0} where
       pub ended : new.has_ended ≡ old.has_ended
       pub gone : new.is_gone ≡ old.is_gone
       pub awake : new.is_awake ≡ old.is_awake
+      pub served : new.served ≡ old.served
+      pub origin : new.origin ≡ old.origin
       pub failed : old.has_failed ≡ true → new.has_failed ≡ true
       pub full : old.is_full ≡ true → new.is_full ≡ true
       pub tallies : Tallies old new interrupted (calls old.stream) (calls new.stream)

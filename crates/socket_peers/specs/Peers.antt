@@ -1,23 +1,32 @@
 -- All sockets, under the numbers of their connections.
-use Rattle.std.specs.Prelude.{◌≡◌, ℕ, ◌+◌, ◌^◌, ◌||◌, nat_lt, Bool, true, false, List, [], ◌∷◌, ◌++◌, Option, Some, None, if◌then◌else◌, fold, refl}
-use Rattle.std.specs.Coded.{Coded, code_by, coded×, coded_ℕ, coded_list}
-use Rattle.std.specs.FinMap.{FinMap, get, insert, remove, empty, code}
+use Rattle.std.specs.Prelude.{◌≡◌, ℕ, ℤ, ◌+◌, ◌^◌, ◌||◌, ◌&&◌, not, nat_lt, int_lt, int_le, ◌+ℤ◌, pos, Bool, true, false, List, [], ◌∷◌, ◌++◌, Option, Some, None, if◌then◌else◌, fold, refl}
+use Rattle.std.specs.Coded.{Coded, code_by, coded×, coded_ℕ, coded_ℤ, coded_list}
+use Rattle.std.specs.FinMap.{FinMap, get, insert, remove, empty, entries, code}
+use Rattle.std.specs.Map.{keys_of}
 use Rattle.std.specs.Ordering.{nat_cmp}
+use Rattle.ua_types.specs.declared.moment.Moment.{Moment}
 use Rattle.server_messages.specs.declared.out.Out.{Out}
 use Rattle.server_messages.specs.declared.out.Out.TheVariants.{Send, Close}
 use Rattle.socket_peers.specs.declared.peer.Heard.{Heard}
 use Rattle.socket_peers.specs.declared.peer.Heard.TheVariants.{Nothing}
 use Rattle.socket_peers.specs.declared.peer.Readiness.{Readiness}
+use Rattle.socket_peers.specs.declared.limits.Limits.{Limits}
 use Rattle.socket_peers.specs.Socket.{Calls}
-use Rattle.socket_peers.specs.Peer.{PeerState, peer_code, owing, closing, ready, awake_if, fresh, departs, departed, is_done, is_over, Reads, Loses, Flushes}
+use Rattle.socket_peers.specs.Tally.{Counts, count_of, one_more, one_less}
+use Rattle.socket_peers.specs.Peer.{PeerState, peer_code, owing, closing, ready, awake_if, fresh, departs, departed, is_done, is_over, is_silent, Reads, Loses, Flushes}
 
--- The sockets that are connected; the number that was given last, 0 before the first; the list of those to be looked at; and those
--- that were owed something or closed since all were flushed
+-- The sockets that are connected; the number that was given last, 0 before the first; the list of those to be looked at; those that
+-- were owed something or closed since all were flushed; what is asked of each; how many there are of each address; the moment that was
+-- told last; and that at which silent ones were last looked for
 pub record PeersState (S : Type 0) : Type 0 where
   pub connected : FinMap nat_cmp (PeerState S)
   pub last : ℕ
   pub awake : List ℕ
   pub touched : List ℕ
+  pub limits : Limits
+  pub tally : Counts
+  pub clock : Moment
+  pub swept : Moment
 
 -- the number behind this one, where 64 bits have one
 abbrev pub number_after : ℕ → Option ℕ
@@ -26,14 +35,33 @@ number_after last = if nat_lt (last + 1) (2 ^ 64) then Some (last + 1) else None
 module _ {S : Type 0} where
   abbrev pub peers_code : Coded S → Coded (PeersState S)
   peers_code stream =
-      code_by (FinMap nat_cmp (PeerState S) × (ℕ × (List ℕ × List ℕ)))
-      (coded× (code coded_ℕ (peer_code stream)) (coded× coded_ℕ (coded× (coded_list coded_ℕ) (coded_list coded_ℕ))))
-      (λ p. (p.connected, (p.last, (p.awake, p.touched))))
-      (λ t. record { connected = t.0; last = t.1.0; awake = t.1.1.0; touched = t.1.1.1 })
+      code_by (FinMap nat_cmp (PeerState S) × (ℕ × (List ℕ × (List ℕ × (ℕ × (ℕ × (Counts × (ℤ × ℤ))))))))
+      (coded× (code coded_ℕ (peer_code stream)) (coded× coded_ℕ (coded× (coded_list coded_ℕ) (coded× (coded_list coded_ℕ) (coded× coded_ℕ (coded× coded_ℕ (coded× (coded_list (coded× coded_ℕ coded_ℕ)) (coded× coded_ℤ coded_ℤ))))))))
+      (λ p. (p.connected, (p.last, (p.awake, (p.touched, (p.limits.idle, (p.limits.per_address, (p.tally, (p.clock.0, p.swept.0)))))))))
+      (λ t. record {
+        connected = t.0;
+        last = t.1.0;
+        awake = t.1.1.0;
+        touched = t.1.1.1.0;
+        limits = record { idle = t.1.1.1.1.0; per_address = t.1.1.1.1.1.0 };
+        tally = t.1.1.1.1.1.1.0;
+        clock = record { 0 = t.1.1.1.1.1.1.1.0 };
+        swept = record { 0 = t.1.1.1.1.1.1.1.1 };
+      })
       (λ _. refl)
 
-  abbrev pub nobody : PeersState S
-  nobody = record { connected = empty; last = 0; awake = []; touched = [] }
+  -- nobody yet, at a moment that isn't given
+  abbrev pub nobody : Limits → PeersState S
+  nobody limits = record {
+    connected = empty;
+    last = 0;
+    awake = [];
+    touched = [];
+    limits = limits;
+    tally = [];
+    clock = record { 0 = pos 0 };
+    swept = record { 0 = pos 0 };
+  }
 
   -- the socket under a number
   abbrev pub at : PeersState S → ℕ → Option (PeerState S)
@@ -54,12 +82,25 @@ module _ {S : Type 0} where
   abbrev pub with_peer : PeersState S → ℕ → PeerState S → PeersState S
   with_peer p number peer = record p { connected = insert p.connected number peer }
 
-  abbrev pub without : PeersState S → ℕ → PeersState S
-  without p number = record p { connected = remove p.connected number }
+  abbrev pub without_by : PeersState S → ℕ → Option (PeerState S) → PeersState S
+  without_by p number None = p
+  without_by p number (Some peer) = record p { connected = remove p.connected number; tally = one_less p.tally peer.origin }
 
-  -- a new socket gets the next number
-  abbrev pub with_joined : PeersState S → S → PeersState S
-  with_joined p stream = record p { connected = insert p.connected (p.last + 1) (fresh stream); last = p.last + 1 }
+  -- this socket is let go of, and counts for its address no more
+  abbrev pub without : PeersState S → ℕ → PeersState S
+  without p number = without_by p number (at p number)
+
+  -- a new socket gets the next number, and counts for its address
+  abbrev pub with_joined : PeersState S → ℕ → S → PeersState S
+  with_joined p origin stream = record p {
+    connected = insert p.connected (p.last + 1) (fresh origin p.clock stream);
+    last = p.last + 1;
+    tally = one_more p.tally origin;
+  }
+
+  -- there is a bound for the sockets of an address, and there are so many of this one
+  abbrev pub is_crowded : PeersState S → ℕ → Bool
+  is_crowded p origin = nat_lt 0 p.limits.per_address && not (nat_lt (count_of p.tally origin) p.limits.per_address)
 
   -- a socket that is done with is let go of, and no other
   abbrev pub LetsGo : ℕ → PeersState S → PeersState S → Bool → Type 0
@@ -81,6 +122,36 @@ module _ {S : Type 0} where
   abbrev pub Departs : ℕ → PeersState S → PeersState S → Bool → Type 0
   Departs number old new true = (departs_at old number ≡ true) × (new ≡ with_departed old number)
   Departs number old new false = (departs_at old number ≡ false) × (new ≡ old)
+
+  -- ---- silent sockets
+
+  -- it is so late now
+  abbrev pub at_time : Moment → PeersState S → PeersState S
+  at_time now p = record p { clock = now }
+
+  -- nothing was sent to the socket under this number for as long as one may stay so
+  abbrev pub is_silent_at : PeersState S → ℕ → Bool
+  is_silent_at p number = is_true_of (is_silent p.limits.idle p.clock) (at p number)
+
+  -- the server was told that the connection of this number is no more
+  abbrev pub is_gone_at : PeersState S → ℕ → Bool
+  is_gone_at p number = is_true_of (λ peer. peer.is_gone) (at p number)
+
+  -- silent ones are let go of, and were last looked for a second ago or more, or by a clock that was set back since
+  abbrev pub is_sweep_due : PeersState S → Bool
+  is_sweep_due p = nat_lt 0 p.limits.idle && (int_lt p.clock.0 p.swept.0 || int_le (p.swept.0 +ℤ pos 10000000) p.clock.0)
+
+  abbrev pub swept_now : PeersState S → PeersState S
+  swept_now p = record p { swept = p.clock }
+
+  -- the numbers of all sockets, rising
+  abbrev pub numbers_of : PeersState S → List ℕ
+  numbers_of p = keys_of (entries p.connected)
+
+  -- a silent socket is let go of, whatever it is owed, and no other; and this says whether the server was told of its connection
+  abbrev pub Expires : ℕ → PeersState S → PeersState S → Option Bool → Type 0
+  Expires number old new (Some is_told) = (is_silent_at old number ≡ true) × (is_gone_at old number ≡ is_told) × (new ≡ without old number)
+  Expires number old new None = (is_silent_at old number ≡ false) × (new ≡ old)
 
   -- ---- those to be looked at
 
@@ -120,7 +191,7 @@ module _ {S : Type 0} where
   touching p number change = touching_by p number change (at p number)
 
   abbrev pub owed_out : PeersState S → Out → PeersState S
-  owed_out p (Send conn bytes) = touching p conn (owing bytes)
+  owed_out p (Send conn bytes) = touching p conn (owing p.clock bytes)
   owed_out p (Close conn) = touching p conn closing
 
   abbrev pub owed_all : PeersState S → List Out → PeersState S

@@ -2,14 +2,16 @@
 
 ghost use Rattle.std.specs.Prelude.{◌≡◌, ◌<◌, ◌≤◌, ℕ, ◌||◌, true, false, [], nat_lt, take, IfOk, OnOk, OnErr, length};
 ghost use Rattle.bytes.specs.Unread.{IsChunkOf, concat_slices};
-ghost use Rattle.socket_peers.specs.Peer.{is_piece as is_piece_spec, may_be_more as may_be_more_spec, fresh, owing, closing, ready, awake_if, is_over as is_over_spec, departs as departs_spec, departed, is_done as is_done_spec, listens as listens_spec, judged, one_if, Reads, Loses, Writes, Drains, Flushes};
+ghost use Rattle.socket_peers.specs.Peer.{is_piece as is_piece_spec, may_be_more as may_be_more_spec, fresh, owing, closing, failing, ready, awake_if, is_over as is_over_spec, departs as departs_spec, departed, is_done as is_done_spec, is_silent as is_silent_spec, listens as listens_spec, judged, one_if, Reads, Loses, Writes, Drains, Flushes};
 
+use crate::end::{End, status_of_error};
 use crate::socket::{Missed, Socket, why_missed};
 use bytes::{Buf, Bytes, BytesQueue};
 use std::alloc::{AllocError, AllocFailed, Global};
 use std::marker::Model;
+use ua_types::Moment;
 
-/// Nothing is read from a peer that is owed more than this many bytes, until it takes some.
+/// Nothing is read from a peer that is owed more than this many bytes, until it takes some or was reported as ending.
 pub(crate) const MOST_OWED: usize = 1_048_576;
 
 /// A peer that is owed more than this many bytes once it was flushed is dropped: it has failed.
@@ -19,6 +21,9 @@ pub(crate) const MOST_UNSENT: usize = 4_194_304;
 const MOST_JOINED: usize = 65_536;
 
 const MOST_FRAMES: usize = 64;
+
+// The 100 ns units of a second.
+const UNITS: i128 = 10_000_000;
 
 /// How a socket was reported as ready.
 #[derive(Clone, Copy, Debug, PartialEq, Eq)]
@@ -82,6 +87,12 @@ pub struct Peer<S> {
     is_full: bool,
     // It stands on the list of those to be looked at.
     is_awake: bool,
+    // The moment at which it was last owed something; when it was taken in, at first.
+    served: Moment,
+    // The number of the address of its client.
+    origin: u128,
+    // How its connection ends, as far as that is known. Contracts see nothing of it.
+    end: End,
 }
 
 impl<S> Model for Peer<S> {
@@ -101,6 +112,8 @@ impl<S> Model for Peer<S> {
       is_gone = p.is_gone;
       is_full = p.is_full;
       is_awake = p.is_awake;
+      served = p.served;
+      origin = p.origin;
     } };
 }
 
@@ -140,9 +153,9 @@ fn front<'a>(owed: &'a BytesQueue, joint: &'a mut Vec<u8>) -> &'a [u8]
 }
 
 impl<S> Peer<S> {
-    /// A socket that is owed nothing.
-    pub fn new(alloc: Global, stream: S) -> Peer<S>
-        ensures { result ≡ fresh stream }
+    /// A socket that is owed nothing, of a client at the address of this number, taken in at this moment.
+    pub fn new(alloc: Global, stream: S, origin: u128, now: Moment) -> Peer<S>
+        ensures { result ≡ fresh origin now stream }
     {
         Peer {
             stream,
@@ -154,6 +167,9 @@ impl<S> Peer<S> {
             is_gone: false,
             is_full: false,
             is_awake: false,
+            served: now,
+            origin,
+            end: End::Server(None),
         }
     }
 
@@ -171,6 +187,9 @@ impl<S> Peer<S> {
             is_gone: _,
             is_full: _,
             is_awake: _,
+            served: _,
+            origin: _,
+            end: _,
         } = self;
         stream
     }
@@ -204,19 +223,75 @@ impl<S> Peer<S> {
         self.is_gone && self.is_over()
     }
 
-    /// Whether there is something to read from it now: it isn't closing, and isn't owed too much.
+    /// Whether there is something to read from it now: it isn't closing, and isn't owed too much. One that was reported as ending is
+    /// read to its end whatever it is owed: what its socket still holds is finite.
     pub fn listens(&self) -> bool
         ensures { result ≡ listens_spec self.now }
     {
-        !self.is_closing && !self.has_failed && self.owed.len() <= MOST_OWED
+        !self.is_closing && !self.has_failed && (self.is_ending || self.owed.len() <= MOST_OWED)
     }
 
-    /// Owes it these bytes, after all others.
-    pub fn owe(&mut self, bytes: Bytes) -> Result<(), AllocFailed<Bytes>>
-        ensures ok { OnOk result (self.new ≡ owing bytes self.old) }
+    /// Whether nothing was sent to it for so many seconds. Never for 0.
+    pub fn is_silent(&self, idle: u64, now: Moment) -> bool
+        ensures { result ≡ is_silent_spec idle now self.now }
+    {
+        idle > 0 && self.served.0 as i128 + idle as i128 * UNITS <= now.0 as i128
+    }
+
+    /// Whether the server was told that its connection is no more.
+    pub fn is_gone(&self) -> bool
+        ensures { result ≡ self.now.is_gone }
+    {
+        self.is_gone
+    }
+
+    /// The number of the address of its client.
+    pub fn origin(&self) -> u128
+        ensures { result ≡ self.now.origin }
+    {
+        self.origin
+    }
+
+    /// How its connection ended, once it has.
+    pub fn end(&self) -> End {
+        self.end
+    }
+
+    // Its connection ends so, unless the server closed it before.
+    fn note(&mut self, end: End)
+        ensures { self.new ≡ self.old }
+    {
+        if !self.is_closing {
+            self.end = end;
+        }
+    }
+
+    // It has failed, for this reason.
+    fn fail(&mut self, end: End)
+        ensures { self.new ≡ failing self.old }
+    {
+        self.note(end);
+        self.has_failed = true;
+    }
+
+    // The server sends this.
+    fn note_sent(&mut self, bytes: &Bytes)
+        ensures { self.new ≡ self.old }
+    {
+        if let Some(status) = status_of_error(bytes) {
+            self.note(End::Server(Some(status)));
+        }
+    }
+
+    /// Owes it these bytes, after all others, from this moment on.
+    pub fn owe(&mut self, bytes: Bytes, now: Moment) -> Result<(), AllocFailed<Bytes>>
+        ensures ok { OnOk result (self.new ≡ owing now bytes self.old) }
         ensures err { OnErr result (self.new ≡ self.old) }
     {
-        self.owed.push(bytes)
+        self.note_sent(&bytes);
+        self.owed.push(bytes)?;
+        self.served = now;
+        Ok(())
     }
 
     /// Nothing more is read, and once all it is owed is out, the socket is over.
@@ -230,9 +305,10 @@ impl<S> Peer<S> {
     fn judge(&mut self)
         ensures { self.new ≡ judged self.old }
     {
-        if self.owed.len() > MOST_UNSENT {
+        let owed = self.owed.len();
+        if owed > MOST_UNSENT {
             self.owed.clear();
-            self.has_failed = true;
+            self.fail(End::Owed(owed));
         }
     }
 
@@ -281,6 +357,7 @@ impl<S: Socket> Peer<S> {
         }
         match self.stream.receive(room) {
             Ok(0) => {
+                self.note(End::Client);
                 self.is_closing = true;
                 self.has_ended = true;
                 Ok(Heard::End)
@@ -297,7 +374,7 @@ impl<S: Socket> Peer<S> {
                 Missed::Waits => Ok(Heard::Nothing),
                 Missed::Interrupted => Ok(Heard::Again),
                 Missed::Failed => {
-                    self.has_failed = true;
+                    self.fail(End::Failed(Some(error.kind())));
                     Ok(Heard::End)
                 }
             },
@@ -313,12 +390,12 @@ impl<S: Socket> Peer<S> {
         ensures moves { result ≡ false → (self.new.is_full || self.new.has_failed || nat_lt (length self.new.owed) (length self.old.owed)) ≡ true }
     {
         match self.stream.send(front(&self.owed, joint)) {
-            Ok(0) => self.has_failed = true,
+            Ok(0) => self.fail(End::Failed(None)),
             Ok(count) => self.owed.advance(count),
             Err(error) => match why_missed(&error) {
                 Missed::Waits => self.is_full = true,
                 Missed::Interrupted => return true,
-                Missed::Failed => self.has_failed = true,
+                Missed::Failed => self.fail(End::Failed(Some(error.kind()))),
             },
         }
         false

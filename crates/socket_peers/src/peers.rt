@@ -2,25 +2,33 @@
 
 ghost use Rattle.std.specs.Prelude.{◌≡◌, ◌+◌, ◌<◌, ◌==◌, not, true, [], IfOk, OnOk, OnErr, length, Some};
 ghost use Rattle.std.specs.FinMap as map;
-ghost use Rattle.socket_peers.specs.Peers.{nobody, number_after, with_joined, listed_if, woken_if, reported, owed_out, owed_all, Departs, LetsGo, ReadsAt, LosesAt, FlushesAt, LooksAt, FlushesAll};
+ghost use Rattle.socket_peers.specs.Peers.{nobody, number_after, with_joined, without, at_time, is_crowded as is_crowded_spec, is_sweep_due as is_sweep_due_spec, swept_now, numbers_of, listed_if, woken_if, reported, owed_out, owed_all, Departs, LetsGo, Expires, ReadsAt, LosesAt, FlushesAt, LooksAt, FlushesAll};
 
+use crate::end::End;
+use crate::limits::Limits;
 use crate::peer::{Heard, Peer, Readiness};
 use crate::socket::Socket;
+use crate::tally::Tally;
 use number_slots::Numbered;
 use server_messages::Out;
 use short_lists::ShortList;
 use std::alloc::{AllocError, Global};
 use std::marker::Model;
 use std::mem;
+use ua_types::Moment;
 
 // The most bytes of a piece.
 const PIECE: usize = 4096;
+
+// How long it takes until silent sockets are looked for again: a second, in units of 100 ns.
+const BETWEEN_SWEEPS: i128 = 10_000_000;
 
 /// The sockets that are connected, under the numbers of their connections, and which of them are to be
 /// looked at.
 ///
 /// Numbers count up from 1, and none is given twice. Contracts see the sockets, the number that was given
-/// last, and both lists. At an `Err`, which is want of memory, nothing is known of what is left.
+/// last, both lists, the limits, the counts of addresses, and the moments. At an `Err`, which is want of memory, nothing is known of
+/// what is left.
 #[derive(Drop)]
 pub struct Peers<S> {
     connected: Numbered<Peer<S>>,
@@ -30,6 +38,14 @@ pub struct Peers<S> {
     awake: Vec<u64>,
     // Sockets that were owed something or closed since all were flushed.
     touched: Vec<u64>,
+    // What is asked of each.
+    limits: Limits,
+    // How many there are of each address.
+    tally: Tally,
+    // The moment that was told last. 0 before the first.
+    clock: Moment,
+    // The moment at which silent ones were last looked for. 0 before the first.
+    swept: Moment,
     // Room for frames that are joined for one write.
     joint: Vec<u8>,
     // Room for what one read gives.
@@ -43,19 +59,32 @@ impl<S> Model for Peers<S> {
 
     ghost coded = { peers_code S.code };
 
-    ghost view = { λ p. record { connected = p.connected; last = p.last; awake = p.awake.items; touched = p.touched.items } };
+    ghost view = { λ p. record {
+      connected = p.connected;
+      last = p.last;
+      awake = p.awake.items;
+      touched = p.touched.items;
+      limits = p.limits;
+      tally = p.tally;
+      clock = p.clock;
+      swept = p.swept;
+    } };
 }
 
 impl<S> Peers<S> {
     /// None yet. Takes no memory.
-    pub fn new(alloc: Global) -> Peers<S>
-        ensures { result ≡ nobody }
+    pub fn new(alloc: Global, limits: Limits) -> Peers<S>
+        ensures { result ≡ nobody limits }
     {
         Peers {
             connected: Numbered::new(alloc),
             last: 0,
             awake: Vec::new(alloc),
             touched: Vec::new(alloc),
+            limits,
+            tally: Tally::new(alloc),
+            clock: Moment(0),
+            swept: Moment(0),
             joint: Vec::new(alloc),
             room: [0; PIECE],
         }
@@ -73,6 +102,47 @@ impl<S> Peers<S> {
         ensures { result ≡ number_after self.now.last }
     {
         self.last.checked_add(1)
+    }
+
+    /// It is so late now.
+    pub fn tell_time(&mut self, now: Moment)
+        ensures { self.new ≡ at_time now self.old }
+    {
+        self.clock = now;
+    }
+
+    /// Whether there are as many sockets of the address of this number as may be.
+    pub fn is_crowded(&self, origin: u128) -> bool
+        ensures { result ≡ is_crowded_spec self.now origin }
+    {
+        self.limits.per_address > 0 && self.tally.of(origin) >= self.limits.per_address
+    }
+
+    /// Whether silent sockets are to be looked for now: where that was done last a second ago or more, or by a clock that was set back
+    /// since. Never where a socket may stay for ever.
+    pub fn is_sweep_due(&self) -> bool
+        ensures { result ≡ is_sweep_due_spec self.now }
+    {
+        self.limits.idle > 0
+            && (self.clock.0 < self.swept.0
+                || self.swept.0 as i128 + BETWEEN_SWEEPS <= self.clock.0 as i128)
+    }
+
+    /// All sockets, among which silent ones are looked for now.
+    pub fn begin_sweep(&mut self, alloc: Global) -> Result<Vec<u64>, AllocError>
+        ensures numbers { IfOk result (λ numbers. numbers.items ≡ numbers_of self.old) }
+        ensures swept { OnOk result (self.new ≡ swept_now self.old) }
+    {
+        self.swept = self.clock;
+        self.connected.numbers(alloc)
+    }
+
+    /// How the connection of this number ended, of which the socket is still there.
+    pub fn end_of(&self, number: u64) -> End {
+        match self.connected.get(number) {
+            Some(peer) => peer.end(),
+            None => End::Silent(self.limits.idle),
+        }
     }
 
     /// Whether some socket is to be looked at.
@@ -111,13 +181,46 @@ fn wake_if<S>(
 }
 
 impl<S: Drop> Peers<S> {
-    /// Takes in a socket under the next number.
-    pub fn admit(&mut self, alloc: Global, number: u64, stream: S) -> Result<(), AllocError>
+    /// Takes in a socket under the next number, of a client at the address of a number of 128 bits.
+    pub fn admit(
+        &mut self,
+        alloc: Global,
+        number: u64,
+        origin: u128,
+        stream: S,
+    ) -> Result<(), AllocError>
         requires { number ≡ self.old.last + 1 }
-        ensures { OnOk result (self.new ≡ with_joined self.old stream) }
+        ensures { OnOk result (self.new ≡ with_joined self.old origin stream) }
     {
         self.last = number;
-        self.connected.insert(number, Peer::new(alloc, stream))
+        self.tally.add(origin)?;
+        self.connected
+            .insert(number, Peer::new(alloc, stream, origin, self.clock))
+    }
+
+    // Lets go of a socket.
+    fn forget(&mut self, number: u64)
+        ensures { self.new ≡ without self.old number }
+    {
+        if let Some(peer) = self.connected.remove(number) {
+            self.tally.subtract(peer.origin());
+        }
+    }
+
+    /// Lets go of a socket to which nothing was sent for as long as one may stay so, whatever it is owed, and of no other. Says
+    /// whether the server was told before that its connection is no more. None: it stays. Takes no memory.
+    pub fn expire(&mut self, number: u64) -> Option<bool>
+        ensures { Expires number self.old self.new result }
+    {
+        let Some(peer) = self.connected.get(number) else {
+            return None;
+        };
+        if !peer.is_silent(self.limits.idle, self.clock) {
+            return None;
+        }
+        let is_told = peer.is_gone();
+        self.forget(number);
+        Some(is_told)
     }
 
     /// A socket was reported as ready, and is to be looked at.
@@ -157,7 +260,7 @@ impl<S: Drop> Peers<S> {
         if !peer.is_done() {
             return false;
         }
-        self.connected.remove(number);
+        self.forget(number);
         true
     }
 
@@ -171,7 +274,7 @@ impl<S: Drop> Peers<S> {
                     return Ok(());
                 };
                 self.touched.push(conn)?;
-                peer.owe(bytes)?;
+                peer.owe(bytes, self.clock)?;
             }
             Out::Close { conn } => {
                 let Some(peer) = self.connected.get_mut(conn) else {

@@ -10,7 +10,7 @@ use Rattle.server_messages.specs.declared.out.Out.TheVariants.{Send, Close}
 use Rattle.server_core.specs.declared.event.Event.{Event}
 use Rattle.server_core.specs.declared.event.Event.TheVariants.{Gone}
 use Rattle.socket_peers.specs.Peer.{PeerState, departs, departed, is_over}
-use Rattle.socket_peers.specs.Peers.{PeersState, at, is_true_of, departs_at, with_departed, changed_by, touching_by, owed_out, owed_all, LetsGo}
+use Rattle.socket_peers.specs.Peers.{PeersState, at, is_true_of, departs_at, with_departed, without_by, changed_by, touching_by, owed_out, owed_all, LetsGo}
 use Rattle.socket_server.specs.declared.serve_fault.ServeFault.{ServeFault}
 use Rattle.rand_core.specs.Stream.{Stream}
 use Rattle.socket_server.specs.Output.{EventText}
@@ -56,9 +56,13 @@ module _ {S : Type 0} where
   pub with_departed_told : (p : PeersState S) (q : ℕ) → IsTold (at (with_departed p q) q)
   with_departed_told p q = departed_told p q (at p q) refl
 
+  left_told : (p : PeersState S) (conn : ℕ) (o : Option (PeerState S)) → at p conn ≡ o → is_true_of departs (at (without_by p conn o) conn) ≡ false
+  left_told p conn None is = ap (is_true_of departs) is
+  left_told p conn (Some x) is = ap (is_true_of departs) (get_removed p.connected conn)
+
   -- letting go of it leaves nothing to be told
   pub released_told : (conn : ℕ) (old new : PeersState S) (is_gone : Bool) → departs_at old conn ≡ false → LetsGo conn old new is_gone → departs_at new conn ≡ false
-  released_told conn old new true h (done, e) = subst (λ p. departs_at p conn ≡ false) (sym e) (ap (is_true_of departs) (get_removed old.connected conn))
+  released_told conn old new true h (done, e) = subst (λ p. departs_at p conn ≡ false) (sym e) (left_told old conn (at old conn) refl)
   released_told conn old new false h (not_done, e) = subst (λ p. departs_at p conn ≡ false) (sym e) h
 
 module _ {S : Type 0} (text : EventText) where

@@ -1,2 +1,3 @@
 pub mod ServingLemmas
 pub mod DepartLemmas
+pub mod SilenceLemmas

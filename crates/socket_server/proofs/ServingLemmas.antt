@@ -1,5 +1,5 @@
 -- Acts, one after the other.
-use Rattle.std.proofs.Common.{◌≡◌, ℕ, suc, zero, ◌+◌, ◌<◌, Bool, true, false, cond, List, [], ◌∷◌, ◌++◌, Option, Some, None, Result, Ok, Err, MatchResult, OnOk, refl, sym, ap, ◌∙◌, subst, inl, inr, arith}
+use Rattle.std.proofs.Common.{◌≡◌, ℕ, suc, zero, ◌+◌, ◌-◌, ◌<◌, ◌≤◌, ◌≢◌, Bool, true, false, cond, List, [], ◌∷◌, ◌++◌, Option, Some, None, Result, Ok, Err, MatchResult, refl, sym, ap, ◌∙◌, subst, inl, inr, arith}
 use Rattle.std.specs.List.{concat}
 use Rattle.std.proofs.lemmas.Bool.{true≢false}
 use Rattle.mio.specs.declared.event.event.Event as ready
@@ -14,18 +14,20 @@ use Rattle.socket_peers.specs.declared.peer.Readiness.{Readiness}
 use Rattle.socket_peers.specs.Peer.{PeerState, is_piece, may_be_more}
 use Rattle.mio.specs.declared.net.stream.TcpStream.{TcpStream}
 use Rattle.socket_peers.specs.Socket.{Calls}
-use Rattle.socket_peers.specs.Peers.{PeersState, at, with_joined, with_departed, departs_at, LetsGo, reported, ReadsBy, ReadsAt}
+use Rattle.socket_peers.specs.Peers.{PeersState, at, with_joined, with_departed, without, departs_at, is_crowded, at_time, is_silent_at, is_gone_at, is_sweep_due, swept_now, numbers_of, LetsGo, reported, ReadsBy, ReadsAt}
 use Rattle.socket_server.specs.Sockets.{Sockets}
 use Rattle.socket_server.specs.Output.{Output, EventText, Puts}
 use Rattle.socket_server.specs.declared.serve_fault.ServeFault.TheVariants as serve_fault
 use Rattle.socket_server.specs.declared.serve_fault.ServeFault.{ServeFault}
 use Rattle.rand_core.specs.Stream.{Stream}
-use Rattle.socket_server.specs.Serving.{State, Scene, scene, IsNextKey, IsQuiet, Happening, Connects, Reports, Gathers, Looks, Hears, Waits, Writes, Leaves, Drops, Passes, readable, Does, Runs, ticks, Takes, Fails, IsOutside, HandsIn, Goes, Stops, Serves, Heeds, GoesOn, ReadsOn, Attends, AttendsEach, AttendsGroups, AttendsAll, TakesTurn, Turns, ServesToTheEnd, unknown, uncounted, readiness_of, is_of_listener, reported_event, reported_events, begun, IsServed, IsStopped}
+use Rattle.socket_server.specs.Serving.{State, Scene, scene, IsNextKey, IsQuiet, Happening, Connects, Reports, Gathers, Looks, Hears, Waits, Writes, Leaves, Drops, Passes, Sweeps, Expires, LetsExpire, AreNoneSilent, readable, Does, Runs, ticks, Takes, Fails, IsOutside, HandsIn, Goes, Stops, Serves, Heeds, GoesOn, ReadsOn, Attends, AttendsEach, AttendsGroups, AttendsAll, ReportsEach, TakesIn, MayTakeIn, TakesInMany, TakesInSome, ExpiresMany, MayExpire, ExpiresAmong, SweepsIfDue, TakesTurn, Turns, IsTurns, ServesUntil, unknown, uncounted, readiness_of, is_of_listener, reported_events, begun, IsServed, IsStopped}
 
 ticks_append : (xs ys : List Happening) → ticks (xs ++ ys) ≡ ticks xs + ticks ys
 ticks_append [] ys = omega arith
 ticks_append (Passes now ∷ xs) ys = let e = ticks_append xs ys in omega arith
-ticks_append (Connects key ∷ xs) ys = ticks_append xs ys
+ticks_append (Connects origin key ∷ xs) ys = ticks_append xs ys
+ticks_append (Sweeps ∷ xs) ys = ticks_append xs ys
+ticks_append (Expires conn ∷ xs) ys = ticks_append xs ys
 ticks_append (Reports conn readiness ∷ xs) ys = ticks_append xs ys
 ticks_append (Gathers conns ∷ xs) ys = ticks_append xs ys
 ticks_append (Looks conn ∷ xs) ys = ticks_append xs ys
@@ -34,6 +36,10 @@ ticks_append (Waits conn ∷ xs) ys = ticks_append xs ys
 ticks_append (Writes ∷ xs) ys = ticks_append xs ys
 ticks_append (Leaves conn ∷ xs) ys = ticks_append xs ys
 ticks_append (Drops conn ∷ xs) ys = ticks_append xs ys
+
+-- how many turns are left behind so many, of a bound, or none where there is none
+abbrev pub IsLeft : ℕ → ℕ → ℕ → Type 0
+IsLeft most turns left = (left ≡ 0 → most ≡ 0) × (0 < left → turns + left ≡ most)
 
 module _ {S : Type 0} where
   scene_path : (a b : Scene S) → a.keys ≡ b.keys → a.server ≡ b.server → a.peers ≡ b.peers → a.events ≡ b.events → a.output ≡ b.output → a ≡ b
@@ -90,9 +96,8 @@ module _ {S : Type 0} (remaining contents : S → Option (List ℕ)) (calls : S 
   quiet : (act : Happening) (a c : Scene S) → ticks (act ∷ []) ≡ 0 → Does remaining contents calls text act a c → Goes remaining contents calls text 0 a c
   quiet act a c none does = (act ∷ [], none, (c, does, refl))
 
-  pub connects : (key : List ℕ) (left : Stream) (stream : S) (a c : Scene S) → IsNextKey a.keys left key
-      → Takes text (Opened (a.peers.last + 1) key) (record a { keys = left; peers = with_joined a.peers stream }) c → Goes remaining contents calls text 0 a c
-  connects key left stream a c drawn takes = quiet (Connects key) a c refl (stream, left, drawn, takes)
+  pub connects : (origin : ℕ) (key : List ℕ) (a c : Scene S) → Does remaining contents calls text (Connects origin key) a c → Goes remaining contents calls text 0 a c
+  connects origin key a c does = quiet (Connects origin key) a c refl does
 
   hears : (conn : ℕ) (h : Heard) (is : Bool) (a c : Scene S) → is_piece h ≡ is → Heeds remaining contents calls text conn h is a c → Goes remaining contents calls text 0 a c
   hears conn h true a c is (piece, p, reads, takes) = quiet (Hears conn piece) a c refl (h, is, p, reads, takes)
@@ -110,8 +115,8 @@ module _ {S : Type 0} (remaining contents : S → Option (List ℕ)) (calls : S 
       → Goes remaining contents calls text 0 a c
   leaves conn a c over takes = quiet (Leaves conn) a c refl (over, takes)
 
-  pub passes : (now : Moment) (a c : Scene S) → Takes text (Tick now) a c → Goes remaining contents calls text 1 a c
-  passes now a c takes = (Passes now ∷ [], refl, (c, takes, refl))
+  pub passes : (now : Moment) (a c : Scene S) → Does remaining contents calls text (Passes now) a c → Goes remaining contents calls text 1 a c
+  passes now a c does = (Passes now ∷ [], refl, (c, does, refl))
 
   pub looks : (conn : ℕ) (a c : Scene S) → Does remaining contents calls text (Looks conn) a c → Goes remaining contents calls text 0 a c
   looks conn a c does = quiet (Looks conn) a c refl does
@@ -151,12 +156,24 @@ module _ {S : Type 0} (remaining contents : S → Option (List ℕ)) (calls : S 
   abbrev Handed : Event → Scene S → Scene S → {X : Type 0} → Result X ServeFault → Type 0
   Handed event a c r = MatchResult r (λ _. Takes text event a c) (Fails text event a c)
 
-  pub connect_serves : {X : Type 0} (number : ℕ) (key : List ℕ) (left : Stream) (stream : S) (a : Scene S) (p : PeersState S) (c : Scene S) (r : Result X ServeFault) → number ≡ a.peers.last + 1
-      → p ≡ with_joined a.peers stream → IsNextKey a.keys left key → Handed (Opened number key) (record a { keys = left; peers = p }) c r → Serves remaining contents calls text 0 a c r
-  connect_serves number key left stream a p c (Ok x) n j drawn h =
-      connects key left stream a c drawn (subst (λ k. Takes text (Opened k key) (record a { keys = left; peers = with_joined a.peers stream }) c) n
-      (subst (λ q. Takes text (Opened number key) (record a { keys = left; peers = q }) c) j h))
-  connect_serves number key left stream a p c (Err fault) n j drawn h = stops_at (Opened number key) a c fault (fails_from (Opened number key) a c p left fault h)
+  pub connect_does : {X : Type 0} (number origin : ℕ) (key : List ℕ) (left : Stream) (stream : S) (a : Scene S) (p : PeersState S) (c : Scene S) (r : Result X ServeFault) → number ≡ a.peers.last + 1
+      → is_crowded a.peers origin ≡ false → p ≡ with_joined a.peers origin stream → IsNextKey a.keys left key → Handed (Opened number key) (record a { keys = left; peers = p }) c r
+      → MatchResult r (λ _. Does remaining contents calls text (Connects origin key) a c) (Stops remaining contents calls text a c)
+  connect_does number origin key left stream a p c (Ok x) n room j drawn h = (
+    stream,
+    left,
+    drawn,
+    room,
+    subst (λ k. Takes text (Opened k key) (record a { keys = left; peers = with_joined a.peers origin stream }) c) n
+        (subst (λ q. Takes text (Opened number key) (record a { keys = left; peers = q }) c) j h),
+  )
+  connect_does number origin key left stream a p c (Err fault) n room j drawn h = stops_at (Opened number key) a c fault (fails_from (Opened number key) a c p left fault h)
+
+  -- the sockets and the server are told the time
+  pub time_told : {X : Type 0} (now : Moment) (a : Scene S) (p : PeersState S) (c : Scene S) (r : Result X ServeFault) → p ≡ at_time now a.peers
+      → Handed (Tick now) (record a { peers = p }) c r → MatchResult r (λ _. Does remaining contents calls text (Passes now) a c) (Fails text (Tick now) a c)
+  time_told now a p c (Ok x) e h = subst (λ (q : PeersState S). Takes text (Tick now) (record a { peers = q }) c) e h
+  time_told now a p c (Err fault) e h = fails_from (Tick now) a c p a.keys fault h
 
   -- ---- one read
 
@@ -219,8 +236,132 @@ module _ {S : Type 0} (remaining contents : S → Option (List ℕ)) (calls : S 
   all_go a c (written, gathered, groups, does, taken, rest) =
       goes_on a written c (writes a written does) (goes_on written gathered c (gathers (concat groups) written gathered taken) (groups_go groups gathered c rest))
 
+  -- ---- reports
+
+  reports_go : (list : List (ℕ × Readiness)) (a c : Scene S) → ReportsEach remaining contents calls text list a c → Goes remaining contents calls text 0 a c
+  reports_go [] a c e = goes_same a c e
+  reports_go (report ∷ list) a c (mid, does, each) = goes_on a mid c (reports report.0 report.1 a mid does) (reports_go list mid c each)
+
+  reported_once : (number : ℕ) (readiness : Readiness) (rest : List ready.Event) (a c : Scene S) (b : Bool)
+      → c.peers ≡ reported_events (cond b a.peers (reported a.peers number readiness)) rest
+      → (c.peers ≡ reported_events a.peers rest → (list : List (ℕ × Readiness)) × ReportsEach remaining contents calls text list a c)
+      → (c.peers ≡ reported_events (reported a.peers number readiness) rest
+      → (list : List (ℕ × Readiness)) × ReportsEach remaining contents calls text list (record a { peers = reported a.peers number readiness }) c)
+      → (list : List (ℕ × Readiness)) × ReportsEach remaining contents calls text list a c
+  reported_once number readiness rest a c true h f g = f h
+  reported_once number readiness rest a c false h f g =
+      let others = g h in
+      ((number, readiness) ∷ others.0, (record a { peers = reported a.peers number readiness }, (refl, (refl, refl, refl, refl)), others.1))
+
+  -- what the system reports; of the listening socket nothing is noted
+  pub reported_each : (events : List ready.Event) (a c : Scene S) → c.peers ≡ reported_events a.peers events → IsQuiet a c
+      → (list : List (ℕ × Readiness)) × ReportsEach remaining contents calls text list a c
+  reported_each [] a c e same = ([], same_scene a c e same)
+  reported_each (event ∷ rest) a c e same =
+      let mid = record a { peers = reported a.peers (event_token event).0 (readiness_of event) } in
+      reported_once (event_token event).0 (readiness_of event) rest a c (is_of_listener event) e
+      (λ h. reported_each rest a c h same) (λ h. reported_each rest mid c h same)
+
+  -- ---- those who connect
+
+  takes_in_goes : (origin : ℕ) (a c : Scene S) → TakesIn remaining contents calls text origin a c → Goes remaining contents calls text 0 a c
+  takes_in_goes origin a c (key, opened, does, attends) = goes_on a opened c (connects origin key a opened does) (attends_go (a.peers.last + 1) opened c attends)
+
+  many_taken_in_go : (count : ℕ) (a c : Scene S) → TakesInMany remaining contents calls text count a c → Goes remaining contents calls text 0 a c
+  many_taken_in_go zero a c e = goes_same a c e
+  many_taken_in_go (suc count) a c (mid, origin, many, one) = goes_on a mid c (many_taken_in_go count a mid many) (takes_in_goes origin mid c one)
+
+  -- at most so many
+  abbrev pub TakesInUpTo : ℕ → Scene S → Scene S → Type 0
+  TakesInUpTo most a c = (count : ℕ) × (count ≤ most) × TakesInMany remaining contents calls text count a c
+
+  pub none_taken_in : (a : Scene S) → TakesInUpTo 0 a a
+  none_taken_in a = (0, omega arith, refl)
+
+  pub taken_in_go : (most : ℕ) (a c : Scene S) → TakesInUpTo most a c → Goes remaining contents calls text 0 a c
+  taken_in_go most a c (count, few, many) = many_taken_in_go count a c many
+
+  pub next_taken_in : (most origin : ℕ) (a b c : Scene S) → TakesInUpTo most a b → MayTakeIn remaining contents calls text origin b c → TakesInUpTo (most + 1) a c
+  next_taken_in most origin a b c (count, few, many) (inl e) = (count, omega arith, subst (λ (s : Scene S). TakesInMany remaining contents calls text count a s) (sym e) many)
+  next_taken_in most origin a b c (count, few, many) (inr one) = (suc count, omega arith, (b, origin, many, one))
+
+  pub fewer_taken_in : (most more : ℕ) (a b c : Scene S) → most ≤ more → c ≡ b → TakesInUpTo most a b → TakesInUpTo more a c
+  fewer_taken_in most more a b c le e (count, few, many) = (count, omega arith, subst (λ (s : Scene S). TakesInMany remaining contents calls text count a s) (sym e) many)
+
+  -- a socket that has connected is attended to
+  pub joined : {X : Type 0} (number origin : ℕ) (key : List ℕ) (a opened c : Scene S) (r : Result X ServeFault) → number ≡ a.peers.last + 1
+      → Does remaining contents calls text (Connects origin key) a opened
+      → MatchResult r (λ _. Attends remaining contents calls text number opened c) (Stops remaining contents calls text opened c)
+      → MatchResult r (λ _. TakesIn remaining contents calls text origin a c) (Stops remaining contents calls text a c)
+  joined number origin key a opened c (Ok x) n does attends = (key, opened, does, subst (λ k. Attends remaining contents calls text k opened c) n attends)
+  joined number origin key a opened c (Err fault) n does stops = stops_after 0 a opened c fault (connects origin key a opened does) stops
+
+  -- it is taken in, or what it is turned away for
+  pub may_be_joined : {X : Type 0} (origin : ℕ) (a c : Scene S) (r : Result X ServeFault)
+      → MatchResult r (λ _. TakesIn remaining contents calls text origin a c) (Stops remaining contents calls text a c)
+      → MatchResult r (λ _. MayTakeIn remaining contents calls text origin a c) (Stops remaining contents calls text a c)
+  may_be_joined origin a c (Ok x) h = inr h
+  may_be_joined origin a c (Err fault) h = h
+
+  -- ---- silent sockets
+
+  many_expired_go : (count : ℕ) (a c : Scene S) → ExpiresMany remaining contents calls text count a c → Goes remaining contents calls text 0 a c
+  many_expired_go zero a c e = goes_same a c e
+  many_expired_go (suc count) a c (mid, conn, many, does) = goes_on a mid c (many_expired_go count a mid many) (quiet (Expires conn) mid c refl does)
+
+  -- some of them
+  abbrev pub ExpiresSome : Scene S → Scene S → Type 0
+  ExpiresSome a c = (count : ℕ) × ExpiresMany remaining contents calls text count a c
+
+  pub expired_go : (a c : Scene S) → ExpiresSome a c → Goes remaining contents calls text 0 a c
+  expired_go a c (count, many) = many_expired_go count a c many
+
+  pub none_expired : (a : Scene S) → ExpiresSome a a
+  none_expired a = (0, refl)
+
+  pub next_expired : (conn : ℕ) (a b c : Scene S) → ExpiresSome a b → MayExpire remaining contents calls text conn b c → ExpiresSome a c
+  next_expired conn a b c (count, many) (inl e) = (count, subst (λ (s : Scene S). ExpiresMany remaining contents calls text count a s) (sym e) many)
+  next_expired conn a b c (count, many) (inr does) = (suc count, (b, conn, many, does))
+
+  -- one that the server was told of
+  pub expires_told : (conn : ℕ) (a c : Scene S) → is_silent_at a.peers conn ≡ true → is_gone_at a.peers conn ≡ true → c.peers ≡ without a.peers conn → IsQuiet a c
+      → MayExpire remaining contents calls text conn a c
+  expires_told conn a c silent gone e same = inr (silent, subst (λ (b : Bool). LetsExpire remaining contents calls text b conn a c) (sym gone) (e, same))
+
+  -- and one that it is told of now
+  pub expires_untold : {X : Type 0} (conn : ℕ) (a : Scene S) (p : PeersState S) (c : Scene S) (r : Result X ServeFault) → is_silent_at a.peers conn ≡ true → is_gone_at a.peers conn ≡ false
+      → p ≡ without a.peers conn → Handed (Gone conn) (record a { peers = p }) c r
+      → MatchResult r (λ _. MayExpire remaining contents calls text conn a c) (Stops remaining contents calls text a c)
+  expires_untold conn a p c (Ok x) silent open_still e h =
+      inr (silent, subst (λ (b : Bool). LetsExpire remaining contents calls text b conn a c) (sym open_still) (subst (λ (q : PeersState S). Takes text (Gone conn) (record a { peers = q }) c) e h))
+  expires_untold conn a p c (Err fault) silent open_still e h = stops_at (Gone conn) a c fault (fails_from (Gone conn) a c p a.keys fault h)
+
+  pub sweeps : (a c : Scene S) → Does remaining contents calls text Sweeps a c → Goes remaining contents calls text 0 a c
+  sweeps a c does = quiet Sweeps a c refl does
+
+  pub sweeping_goes : (due : Bool) (a c : Scene S) → SweepsIfDue remaining contents calls text due a c → Goes remaining contents calls text 0 a c
+  sweeping_goes true a c (begun, count, does, many, none) = goes_on a begun c (sweeps a begun does) (many_expired_go count begun c many)
+  sweeping_goes false a c e = goes_same a c e
+
+  -- all are looked through
+  pub swept_through : {X : Type 0} (a at_first c : Scene S) (r : Result X ServeFault) → is_sweep_due a.peers ≡ true → Does remaining contents calls text Sweeps a at_first
+      → MatchResult r (λ _. ExpiresAmong remaining contents calls text (numbers_of a.peers) at_first c) (Stops remaining contents calls text at_first c)
+      → ((at_first.peers ≡ swept_now a.peers) → AreNoneSilent (numbers_of a.peers) at_first.peers c.peers → (conn : ℕ) → is_silent_at c.peers conn ≡ false)
+      → MatchResult r (λ _. SweepsIfDue remaining contents calls text (is_sweep_due a.peers) a c) (Stops remaining contents calls text a c)
+  swept_through a at_first c (Ok x) due does (count, many, silent) none =
+      subst (λ (b : Bool). SweepsIfDue remaining contents calls text b a c) (sym due) (at_first, count, does, many, none does.1 silent)
+  swept_through a at_first c (Err fault) due does stops none = stops_after 0 a at_first c fault (sweeps a at_first does) stops
+
+  -- ---- turns
+
   turn_goes : (a c : Scene S) → TakesTurn remaining contents calls text a c → Goes remaining contents calls text 1 a c
-  turn_goes a c (mid, goes, attends) = goes_trans 1 0 a mid c goes (all_go mid c attends)
+  turn_goes a c t =
+      goes_trans 1 0 a t.swept c
+      (goes_trans 1 0 a t.joined t.swept
+      (goes_trans 1 0 a t.told t.joined
+      (goes_trans 0 1 a t.reported t.told (reports_go t.reports a t.reported t.reporting) (passes t.now t.reported t.told t.telling))
+      (taken_in_go 256 t.told t.joined t.joining)) (sweeping_goes (is_sweep_due t.joined.peers) t.joined t.swept t.sweeping))
+      (all_go t.swept c t.attending)
 
   pub turns_go : (n : ℕ) (a c : Scene S) → Turns remaining contents calls text n a c → Goes remaining contents calls text n a c
   turns_go zero a c e = goes_same a c e
@@ -228,16 +369,30 @@ module _ {S : Type 0} (remaining contents : S → Option (List ℕ)) (calls : S 
       let next : n + 1 ≡ suc n = omega arith in
       subst (λ m. Goes remaining contents calls text m a c) next (goes_trans n 1 a mid c (turns_go n a mid turns) (turn_goes mid c turn))
 
+  pub left_at_first : (most left : ℕ) → left ≡ most → IsLeft most 0 left
+  left_at_first most left e = (λ none. sym e ∙ none, λ some. omega arith)
+
+  one_less : (most turns left : ℕ) → IsLeft most turns left → left ≢ 1 → IsLeft most (turns + 1) (left - 1)
+  one_less most turns zero (none, some) more = (λ e. none refl, λ h. omega arith)
+  one_less most turns (suc zero) (none, some) more = absurd (more refl)
+  one_less most turns (suc (suc left)) (none, some) more = let all = some (omega arith) in (λ e. omega arith, λ h. omega arith)
+
+  pub one_left_less : (most turns left less : ℕ) → IsLeft most turns left → left ≢ 1 → less ≡ left - 1 → IsLeft most (turns + 1) less
+  one_left_less most turns left less at more e = subst (λ (n : ℕ). IsLeft most (turns + 1) n) (sym e) (one_less most turns left at more)
+
+  -- the last one is taken
+  pub last_taken : (may_ask : Bool) (most turns left : ℕ) → IsLeft most turns left → left ≡ 1 → IsTurns may_ask most (turns + 1)
+  last_taken may_ask most turns left (none, some) one = let all = some (omega arith) in (omega arith, λ h. omega arith, λ never. omega arith)
+
+  -- it is asked to stop
+  pub asked_to_stop : (may_ask : Bool) (most turns left : ℕ) → IsLeft most turns left → may_ask ≡ true → IsTurns may_ask most (turns + 1)
+  asked_to_stop may_ask most turns zero (none, some) asks = (omega arith, λ h. let no = none refl in omega arith, λ never. absurd (true≢false (sym asks ∙ never)))
+  asked_to_stop may_ask most turns (suc left) (none, some) asks = let all = some (omega arith) in (omega arith, λ h. omega arith, λ never. absurd (true≢false (sym asks ∙ never)))
+
   pub next_turn : (n : ℕ) (a b c : Scene S) → Turns remaining contents calls text n a b → TakesTurn remaining contents calls text b c → Turns remaining contents calls text (n + 1) a c
   next_turn n a b c turns turn =
       let next : suc n ≡ n + 1 = omega arith in
       subst (λ m. Turns remaining contents calls text m a c) next (b, turns, turn)
-
-  -- a socket that was attended to
-  pub attended : {X : Type 0} (conn : ℕ) (a c : Scene S) (r : Result X ServeFault)
-      → MatchResult r (λ _. Attends remaining contents calls text conn a c) (Stops remaining contents calls text a c) → Serves remaining contents calls text 0 a c r
-  attended conn a c (Ok x) h = attends_go conn a c h
-  attended conn a c (Err fault) h = h
 
   -- after the look and the reads the server is told
   pub attends_then : {X : Type 0} (conn : ℕ) (a looked read c : Scene S) (r : Result X ServeFault) → Does remaining contents calls text (Looks conn) a looked
@@ -247,19 +402,45 @@ module _ {S : Type 0} (remaining contents : S → Option (List ℕ)) (calls : S 
   attends_then conn a looked read c (Err fault) does reads stops =
       stops_after 0 a read c fault (goes_on a looked read (looks conn a looked does) (reads_go conn looked read reads)) stops
 
-  -- a turn ends with attending to all
-  pub turned : {X : Type 0} (a b c : Scene S) (r : Result X ServeFault) → Goes remaining contents calls text 1 a b
-      → MatchResult r (λ _. AttendsAll remaining contents calls text b c) (Stops remaining contents calls text b c)
-      → MatchResult r (λ _. TakesTurn remaining contents calls text a c) (Stops remaining contents calls text a c)
-  turned a b c (Ok x) goes attends = (b, goes, attends)
-  turned a b c (Err fault) goes stops = stops_after 1 a b c fault goes stops
+  -- up to the time, up to those who connected, and up to the silent ones
+  pub told_time : (a b c : Scene S) (now : Moment) → ((list : List (ℕ × Readiness)) × ReportsEach remaining contents calls text list a b) → Does remaining contents calls text (Passes now) b c
+      → Goes remaining contents calls text 1 a c
+  told_time a b c now (list, each) does = goes_trans 0 1 a b c (reports_go list a b each) (passes now b c does)
 
-  -- so many turns, and then the server is told to end
-  pub to_the_end : {X : Type 0} (n : ℕ) (a b c : Scene S) (r : Result X ServeFault) → Turns remaining contents calls text n a b
+  pub reports_stop : (a b c : Scene S) (fault : ServeFault) → ((list : List (ℕ × Readiness)) × ReportsEach remaining contents calls text list a b) → Stops remaining contents calls text b c fault
+      → Stops remaining contents calls text a c fault
+  reports_stop a b c fault (list, each) stops = stops_after 0 a b c fault (reports_go list a b each) stops
+
+  -- a turn ends with attending to all
+  pub turned : {X : Type 0} (a reported told joined swept c : Scene S) (now : Moment) (r : Result X ServeFault)
+      → ((list : List (ℕ × Readiness)) × ReportsEach remaining contents calls text list a reported)
+      → Does remaining contents calls text (Passes now) reported told → TakesInSome remaining contents calls text told joined
+      → SweepsIfDue remaining contents calls text (is_sweep_due joined.peers) joined swept
+      → MatchResult r (λ _. AttendsAll remaining contents calls text swept c) (Stops remaining contents calls text swept c)
+      → MatchResult r (λ _. TakesTurn remaining contents calls text a c) (Stops remaining contents calls text a c)
+  turned a reported told joined swept c now (Ok x) (list, each) does joining sweeping attends = record {
+    reports = list;
+    now = now;
+    reported = reported;
+    told = told;
+    joined = joined;
+    swept = swept;
+    reporting = each;
+    telling = does;
+    joining = joining;
+    sweeping = sweeping;
+    attending = attends;
+  }
+  turned a reported told joined swept c now (Err fault) each does joining sweeping stops =
+      stops_after 1 a swept c fault
+      (goes_trans 1 0 a joined swept (goes_trans 1 0 a told joined (told_time a reported told now each does) (taken_in_go 256 told joined joining)) (sweeping_goes (is_sweep_due joined.peers) joined swept sweeping)) stops
+
+  -- some turns, and then the server is told to end
+  pub to_the_end : {X : Type 0} (may_ask : Bool) (most : ℕ) (a b c : Scene S) (r : Result X ServeFault) → ((n : ℕ) × IsTurns may_ask most n × Turns remaining contents calls text n a b)
       → MatchResult r (λ _. HandsIn remaining contents calls text Shutdown b c) (Stops remaining contents calls text b c)
-      → MatchResult r (λ _. ServesToTheEnd remaining contents calls text n a c) (Stops remaining contents calls text a c)
-  to_the_end n a b c (Ok x) turns hands = (b, turns, hands)
-  to_the_end n a b c (Err fault) turns stops = stops_after n a b c fault (turns_go n a b turns) stops
+      → MatchResult r (λ _. ServesUntil remaining contents calls text may_ask most a c) (Stops remaining contents calls text a c)
+  to_the_end may_ask most a b c (Ok x) (n, are, turns) hands = (n, are, (b, turns, hands))
+  to_the_end may_ask most a b c (Err fault) (n, are, turns) stops = stops_after n a b c fault (turns_go n a b turns) stops
 
   -- the server was told to end, and there is no memory to write what it sends then
   pub unwritten : (a b c : Scene S) → Takes text Shutdown a b → c.server ≡ b.server → c.output ≡ b.output → Stops remaining contents calls text a c serve_fault.Memory
@@ -273,22 +454,14 @@ module _ {S : Type 0} (remaining contents : S → Option (List ℕ)) (calls : S 
       let same : scene c.keys c.server b.peers c.events c.output ≡ b = scene_path (scene c.keys c.server b.peers c.events c.output) b keys server refl events output in
       (b.peers, subst (Takes text event a) (sym same) takes, flushes)
 
-  -- sockets that are reported
-  reported_once : (event : ready.Event) (b : Bool) (a c : Scene S) → c.peers ≡ cond b a.peers (reported a.peers (event_token event).0 (readiness_of event)) → IsQuiet a c
-      → Goes remaining contents calls text 0 a c
-  reported_once event true a c e same = goes_same a c (same_scene a c e same)
-  reported_once event false a c e same = reports (event_token event).0 (readiness_of event) a c (e, same)
-
-  pub reported_go : (events : List ready.Event) (a c : Scene S) → c.peers ≡ reported_events a.peers events → IsQuiet a c → Goes remaining contents calls text 0 a c
-  reported_go [] a c e same = goes_same a c (same_scene a c e same)
-  reported_go (event ∷ rest) a c e same =
-      let mid = record a { peers = reported_event a.peers event } in
-      goes_on a mid c (reported_once event (is_of_listener event) a mid refl (refl, refl, refl, refl)) (reported_go rest mid c e same)
-
   -- ---- an observer puts all into the writer that was lent to it
 
+  expired_writer : (gone : Bool) (conn : ℕ) (a b : Scene S) → LetsExpire remaining contents calls text gone conn a b → b.output.writer ≡ a.output.writer
+  expired_writer true conn a b (e, (server, events, output, keys)) = ap (λ (t : Output). t.writer) output
+  expired_writer false conn a b (x, steps, owed, events, puts, keys) = puts.writer
+
   does_writer : (act : Happening) (a b : Scene S) → Does remaining contents calls text act a b → b.output.writer ≡ a.output.writer
-  does_writer (Connects key) a b (stream, left, drawn, (x, steps, owed, events, puts, keys)) = puts.writer
+  does_writer (Connects origin key) a b (stream, left, drawn, room, (x, steps, owed, events, puts, keys)) = puts.writer
   does_writer (Reports conn readiness) a b (e, (server, events, output, keys)) = ap (λ (t : Output). t.writer) output
   does_writer (Gathers conns) a b (taken, e, (server, events, output, keys)) = ap (λ (t : Output). t.writer) output
   does_writer (Looks conn) a b (looked, (server, events, output, keys)) = ap (λ (t : Output). t.writer) output
@@ -298,6 +471,8 @@ module _ {S : Type 0} (remaining contents : S → Option (List ℕ)) (calls : S 
   does_writer (Leaves conn) a b (over, (x, steps, owed, events, puts, keys)) = puts.writer
   does_writer (Drops conn) a b (done, e, (server, events, output, keys)) = ap (λ (t : Output). t.writer) output
   does_writer (Passes now) a b (x, steps, owed, events, puts, keys) = puts.writer
+  does_writer Sweeps a b (due, e, (server, events, output, keys)) = ap (λ (t : Output). t.writer) output
+  does_writer (Expires conn) a b (silent, lets) = expired_writer (is_gone_at a.peers conn) conn a b lets
 
   runs_writer : (acts : List Happening) (a b : Scene S) → Runs remaining contents calls text acts a b → b.output.writer ≡ a.output.writer
   runs_writer [] a b e = ap (λ (s : Scene S). s.output.writer) e
@@ -319,18 +494,17 @@ module _ {S : Type 0} (remaining contents : S → Option (List ℕ)) (calls : S 
   goes_writer : (turns : ℕ) (a b : Scene S) → Goes remaining contents calls text turns a b → b.output.writer ≡ a.output.writer
   goes_writer turns a b (acts, t, p) = runs_writer acts a b p
 
-  pub run_writer : {X : Type 0} (turns : ℕ) (a b : Scene S) (r : Result X ServeFault)
-      → MatchResult r (λ _. ServesToTheEnd remaining contents calls text turns a b) (Stops remaining contents calls text a b) → b.output.writer ≡ a.output.writer
-  run_writer turns a b (Ok x) (mid, h, (peers, (given, steps, owed, events, puts, keys), flushed)) = puts.writer ∙ goes_writer turns a mid (turns_go turns a mid h)
-  run_writer turns a b (Err fault) h = stops_writer a b fault h
+  pub run_writer : {X : Type 0} (may_ask : Bool) (most : ℕ) (a b : Scene S) (r : Result X ServeFault)
+      → MatchResult r (λ _. ServesUntil remaining contents calls text may_ask most a b) (Stops remaining contents calls text a b) → b.output.writer ≡ a.output.writer
+  run_writer may_ask most a b (Ok x) (turns, are, (mid, h, (peers, (given, steps, owed, events, puts, keys), flushed))) = puts.writer ∙ goes_writer turns a mid (turns_go turns a mid h)
+  run_writer may_ask most a b (Err fault) h = stops_writer a b fault h
 
 -- a run, from a server that is known
-pub ran : {X : Type 0} (text : EventText) (first server server' : State) (old new : Sockets TcpStream) (output output' : Output) (turns : ℕ) (r : Result X ServeFault) → server ≡ first
-    → MatchResult r (λ _. ServesToTheEnd unknown unknown uncounted text turns (begun old server output) (begun new server' output'))
+pub ran : {X : Type 0} (text : EventText) (first server server' : State) (old new : Sockets TcpStream) (output output' : Output) (may_ask : Bool) (most : ℕ) (r : Result X ServeFault) → server ≡ first
+    → MatchResult r (λ _. ServesUntil unknown unknown uncounted text may_ask most (begun old server output) (begun new server' output'))
     (Stops unknown unknown uncounted text (begun old server output) (begun new server' output'))
-    → OnOk r (0 < turns)
-    → MatchResult r (λ _. IsServed text old first turns output output') (λ fault. IsStopped text old first fault output output')
-ran text first server server' old new output output' turns (Ok x) e h bounded =
-    (bounded, begun new server' output', refl, subst (λ (s : State). ServesToTheEnd unknown unknown uncounted text turns (begun old s output) (begun new server' output')) e h)
-ran text first server server' old new output output' turns (Err fault) e h bounded =
+    → MatchResult r (λ _. IsServed text old first may_ask most output output') (λ fault. IsStopped text old first fault output output')
+ran text first server server' old new output output' may_ask most (Ok x) e h =
+    (begun new server' output', refl, subst (λ (s : State). ServesUntil unknown unknown uncounted text may_ask most (begun old s output) (begun new server' output')) e h)
+ran text first server server' old new output output' may_ask most (Err fault) e h =
     (begun new server' output', refl, subst (λ (s : State). Stops unknown unknown uncounted text (begun old s output) (begun new server' output') fault) e h)

@@ -15,7 +15,7 @@ use Rattle.socket_peers.specs.declared.peer.Heard.{Heard}
 use Rattle.socket_peers.specs.declared.peer.Readiness.{Readiness}
 use Rattle.socket_peers.specs.Peer.{is_piece, may_be_more}
 use Rattle.socket_peers.specs.Socket.{Calls}
-use Rattle.socket_peers.specs.Peers.{PeersState, with_joined, with_departed, without, departs_at, is_done_at, reported, owed_all, ReadsAt, LooksAt, FlushesAll}
+use Rattle.socket_peers.specs.Peers.{PeersState, with_joined, with_departed, without, departs_at, is_done_at, is_crowded, at_time, is_silent_at, is_gone_at, is_sweep_due, swept_now, reported, owed_all, ReadsAt, LooksAt, FlushesAll}
 use Rattle.socket_server.specs.Sockets.{Sockets, key_stream}
 use Rattle.socket_server.specs.Output.{Output, EventText, Puts, PutsPart}
 use Rattle.socket_server.specs.declared.serve_fault.ServeFault.{ServeFault}
@@ -40,12 +40,12 @@ IsNextKey keys left key = (key, left) ≡ fill_bytes 32 keys
 abbrev pub Drawn : {G : Type 0} → (G → Stream) → G → G → List ℕ → Type 0
 Drawn stream old new key = IsNextKey (stream old) (stream new) key
 
--- One thing that happens: a socket connects and gets this key; a socket is reported as ready, maybe to take bytes, maybe as ending; the
--- list of those to be looked at is taken; a socket on it is looked at, and written what it is owed; a piece comes from a socket; a read
--- from one gives nothing; sockets take some of what they are owed, and fail where too much is left; a connection is no more; its socket
--- is let go of; time passes
+-- One thing that happens: a socket of this address connects and gets this key; a socket is reported as ready, maybe to take bytes, maybe
+-- as ending; the list of those to be looked at is taken; a socket on it is looked at, and written what it is owed; a piece comes from a
+-- socket; a read from one gives nothing; sockets take some of what they are owed, and fail where too much is left; a connection is no
+-- more; its socket is let go of; time passes; silent sockets begin to be looked for; a silent one is let go of
 pub data Happening : Type 0 where
-  Connects : List ℕ → Happening
+  Connects : ℕ → List ℕ → Happening
   Reports : ℕ → Readiness → Happening
   Gathers : List ℕ → Happening
   Looks : ℕ → Happening
@@ -55,6 +55,8 @@ pub data Happening : Type 0 where
   Leaves : ℕ → Happening
   Drops : ℕ → Happening
   Passes : Moment → Happening
+  Sweeps : Happening
+  Expires : ℕ → Happening
 
 module _ {S : Type 0} where
   abbrev pub scene : Stream → State → PeersState S → ℕ → Output → Scene S
@@ -72,14 +74,20 @@ module _ {S : Type 0} where
       × (new.events ≡ old.events + 1) × Puts old.output new.output (text (old.events + 1) x.rows) × (new.keys ≡ old.keys)
 
 module _ {S : Type 0} (remaining contents : S → Option (List ℕ)) (calls : S → Option Calls) (text : EventText) where
+  -- a silent socket is let go of, and the server is told that its connection is no more, unless it was told before
+  abbrev pub LetsExpire : Bool → ℕ → Scene S → Scene S → Type 0
+  LetsExpire true conn old new = (new.peers ≡ without old.peers conn) × IsQuiet old new
+  LetsExpire false conn old new = Takes text (Gone conn) (record old { peers = without old.peers conn }) new
+
   -- What an act does. What comes from a socket is handed in as it came, in pieces of at most 4096 bytes; a socket that connects has
-  -- the next number, and the next key of the generator; a connection is gone once the input of its socket is at its end, whatever the
-  -- socket is still owed, or the socket is over; and the socket is let go of after that, once it is over. What is put out is of events
-  -- alone
+  -- the next number, and the next key of the generator, and comes from an address of which there are fewer than may be; a connection is
+  -- gone once the input of its socket is at its end, whatever the socket is still owed, or the socket is over; and the socket is let go
+  -- of after that, once it is over. One to which nothing was sent for as long as a socket may stay so is let go of whatever it is owed.
+  -- What is put out is of events alone
   abbrev pub Does : Happening → Scene S → Scene S → Type 0
-  Does (Connects key) old new =
-      (stream : S) × (left : Stream) × IsNextKey old.keys left key
-      × Takes text (Opened (old.peers.last + 1) key) (record old { keys = left; peers = with_joined old.peers stream }) new
+  Does (Connects origin key) old new =
+      (stream : S) × (left : Stream) × IsNextKey old.keys left key × (is_crowded old.peers origin ≡ false)
+      × Takes text (Opened (old.peers.last + 1) key) (record old { keys = left; peers = with_joined old.peers origin stream }) new
   Does (Reports conn readiness) old new = (new.peers ≡ reported old.peers conn readiness) × IsQuiet old new
   Does (Gathers conns) old new = (conns ≡ old.peers.awake) × (new.peers ≡ record old.peers { awake = [] }) × IsQuiet old new
   Does (Looks conn) old new = LooksAt remaining contents calls conn old.peers new.peers × IsQuiet old new
@@ -91,12 +99,23 @@ module _ {S : Type 0} (remaining contents : S → Option (List ℕ)) (calls : S 
   Does Writes old new = FlushesAll remaining contents calls old.peers new.peers × IsQuiet old new
   Does (Leaves conn) old new = (departs_at old.peers conn ≡ true) × Takes text (Gone conn) (record old { peers = with_departed old.peers conn }) new
   Does (Drops conn) old new = (is_done_at old.peers conn ≡ true) × (new.peers ≡ without old.peers conn) × IsQuiet old new
-  Does (Passes now) old new = Takes text (Tick now) old new
+  Does (Passes now) old new = Takes text (Tick now) (record old { peers = at_time now old.peers }) new
+  Does Sweeps old new = (is_sweep_due old.peers ≡ true) × (new.peers ≡ swept_now old.peers) × IsQuiet old new
+  Does (Expires conn) old new = (is_silent_at old.peers conn ≡ true) × LetsExpire (is_gone_at old.peers conn) conn old new
 
   -- one act after the other
   abbrev pub Runs : List Happening → Scene S → Scene S → Type 0
   Runs [] old new = new ≡ old
   Runs (act ∷ acts) old new = (mid : Scene S) × Does act old mid × Runs acts mid new
+
+abbrev pub is_among : ℕ → List ℕ → Bool
+is_among number [] = false
+is_among number (other ∷ others) = (other == number) || is_among number others
+
+-- a socket that is silent was so before, and is none of these
+abbrev pub AreNoneSilent : {S : Type 0} → List ℕ → PeersState S → PeersState S → Type 0
+AreNoneSilent conns old new =
+    (number : ℕ) → is_silent_at new number ≡ true → (is_silent_at old number ≡ true) × (is_among number conns ≡ false)
 
 -- there may be more to read from a socket, and nothing else is known
 abbrev pub readable : Readiness
@@ -113,6 +132,10 @@ abbrev pub IsOutside : ServeFault → Type 0
 IsOutside (serve_fault.Step fault) = ⊥
 IsOutside serve_fault.Trace = ⊥
 IsOutside fault = ⊤
+
+-- So many turns are well done: some, at most so many where there is such a bound, and as many where nothing may ask to stop
+abbrev pub IsTurns : Bool → ℕ → ℕ → Type 0
+IsTurns may_ask most turns = (0 < turns) × (0 < most → turns ≤ most) × (may_ask ≡ false → turns ≡ most)
 
 module _ {S : Type 0} (text : EventText) where
   -- Why an event was not handed in whole: the server didn't answer it; or of the text of its rows a part was put out, from the beginning
@@ -189,10 +212,69 @@ module _ {S : Type 0} (remaining contents : S → Option (List ℕ)) (calls : S 
       (written : Scene S) × (gathered : Scene S) × (groups : List (List ℕ)) × Does remaining contents calls text Writes old written
       × Does remaining contents calls text (Gathers (concat groups)) written gathered × AttendsGroups groups gathered new
 
-  -- Sockets are reported, the server is told the time, once, and who has connected is taken in. And then what is owed is written, and each
-  -- socket that is to be looked at is attended to
-  abbrev pub TakesTurn : Scene S → Scene S → Type 0
-  TakesTurn old new = (mid : Scene S) × Goes 1 old mid × AttendsAll mid new
+  -- sockets are reported as ready
+  abbrev pub ReportsEach : List (ℕ × Readiness) → Scene S → Scene S → Type 0
+  ReportsEach [] old new = new ≡ old
+  ReportsEach (report ∷ reports) old new =
+      (mid : Scene S) × Does remaining contents calls text (Reports report.0 report.1) old mid × ReportsEach reports mid new
+
+  -- a socket of this address has connected, and is attended to at once
+  abbrev pub TakesIn : ℕ → Scene S → Scene S → Type 0
+  TakesIn origin old new =
+      (key : List ℕ) × (opened : Scene S) × Does remaining contents calls text (Connects origin key) old opened × Attends (old.peers.last + 1) opened new
+
+  -- or it is turned away, and nothing changes
+  abbrev pub MayTakeIn : ℕ → Scene S → Scene S → Type 0
+  MayTakeIn origin old new = (new ≡ old) ⊎ TakesIn origin old new
+
+  -- so many have connected
+  abbrev pub TakesInMany : ℕ → Scene S → Scene S → Type 0
+  TakesInMany zero old new = new ≡ old
+  TakesInMany (suc count) old new = (mid : Scene S) × (origin : ℕ) × TakesInMany count old mid × TakesIn origin mid new
+
+  -- who has connected is taken in, at most 256
+  abbrev pub TakesInSome : Scene S → Scene S → Type 0
+  TakesInSome old new = (count : ℕ) × (count ≤ 256) × TakesInMany count old new
+
+  -- so many silent sockets are let go of
+  abbrev pub ExpiresMany : ℕ → Scene S → Scene S → Type 0
+  ExpiresMany zero old new = new ≡ old
+  ExpiresMany (suc count) old new =
+      (mid : Scene S) × (conn : ℕ) × ExpiresMany count old mid × Does remaining contents calls text (Expires conn) mid new
+
+  -- one may be, or stays as it is
+  abbrev pub MayExpire : ℕ → Scene S → Scene S → Type 0
+  MayExpire conn old new = (new ≡ old) ⊎ Does remaining contents calls text (Expires conn) old new
+
+  -- of these numbers those of silent sockets are let go of
+  abbrev pub ExpiresAmong : List ℕ → Scene S → Scene S → Type 0
+  ExpiresAmong conns old new = (count : ℕ) × ExpiresMany count old new × AreNoneSilent conns old.peers new.peers
+
+  -- silent sockets are looked for and let go of, and none is left
+  abbrev pub LetsGoOfSilent : Scene S → Scene S → Type 0
+  LetsGoOfSilent old new =
+      (begun : Scene S) × (count : ℕ) × Does remaining contents calls text Sweeps old begun × ExpiresMany count begun new
+      × ((conn : ℕ) → is_silent_at new.peers conn ≡ false)
+
+  -- a second after that was done last it is done again
+  abbrev pub SweepsIfDue : Bool → Scene S → Scene S → Type 0
+  SweepsIfDue true old new = LetsGoOfSilent old new
+  SweepsIfDue false old new = new ≡ old
+
+  -- Sockets are reported, the server is told the time, once, who has connected is taken in, and silent sockets are let go of where it is
+  -- time to. And then what is owed is written, and each socket that is to be looked at is attended to
+  pub record TakesTurn (old new : Scene S) : Type 0 where
+    pub reports : List (ℕ × Readiness)
+    pub now : Moment
+    pub reported : Scene S
+    pub told : Scene S
+    pub joined : Scene S
+    pub swept : Scene S
+    pub reporting : ReportsEach reports old reported
+    pub telling : Does remaining contents calls text (Passes now) reported told
+    pub joining : TakesInSome told joined
+    pub sweeping : SweepsIfDue (is_sweep_due joined.peers) joined swept
+    pub attending : AttendsAll swept new
 
   -- so many turns, one after the other
   abbrev pub Turns : ℕ → Scene S → Scene S → Type 0
@@ -202,6 +284,10 @@ module _ {S : Type 0} (remaining contents : S → Option (List ℕ)) (calls : S 
   -- so many turns, and then the server is told to end, and the sockets take some of what they are owed then
   abbrev pub ServesToTheEnd : ℕ → Scene S → Scene S → Type 0
   ServesToTheEnd turns old new = (mid : Scene S) × Turns turns old mid × HandsIn Shutdown mid new
+
+  -- some turns, up to the bound or until it is asked to stop, and then the server is told to end
+  abbrev pub ServesUntil : Bool → ℕ → Scene S → Scene S → Type 0
+  ServesUntil may_ask most old new = (turns : ℕ) × IsTurns may_ask most turns × ServesToTheEnd turns old new
 
 -- what comes and goes over a network is not known, and neither is what its calls come to
 abbrev pub unknown : TcpStream → Option (List ℕ)
@@ -236,11 +322,11 @@ reported_events p events = fold reported_event p events
 abbrev pub begun : Sockets TcpStream → State → Output → Scene TcpStream
 begun sockets server output = scene (key_stream sockets.keys) server sockets.peers sockets.events output
 
--- From there on so many turns are well done, which are some, since without a bound they end with a fault alone, and then the server has
--- ended; or it stopped in one. And this is what was put out before and after
-abbrev pub IsServed : EventText → Sockets TcpStream → State → ℕ → Output → Output → Type 0
-IsServed text sockets server turns old new =
-    (0 < turns) × (after : Scene TcpStream) × (after.output ≡ new) × ServesToTheEnd unknown unknown uncounted text turns (begun sockets server old) after
+-- From there on some turns are well done, at most so many where there is such a bound, and as many where nothing may ask to stop: without
+-- a bound they end with a fault then. And then the server has ended; or it stopped in one. And this is what was put out before and after
+abbrev pub IsServed : EventText → Sockets TcpStream → State → Bool → ℕ → Output → Output → Type 0
+IsServed text sockets server may_ask most old new =
+    (after : Scene TcpStream) × (after.output ≡ new) × ServesUntil unknown unknown uncounted text may_ask most (begun sockets server old) after
 
 abbrev pub IsStopped : EventText → Sockets TcpStream → State → ServeFault → Output → Output → Type 0
 IsStopped text sockets server fault old new =

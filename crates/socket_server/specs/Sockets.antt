@@ -1,12 +1,14 @@
 -- What the loop keeps between its turns.
-use Rattle.std.specs.Prelude.{◌≡◌, ℕ, List, [], ◌∷◌, refl}
+use Rattle.std.specs.Prelude.{◌≡◌, ℕ, ◌+◌, List, [], ◌∷◌, refl}
 use Rattle.std.specs.Coded.{Coded, code_by, coded×, coded_ℕ, coded_list}
 use Rattle.std.specs.declared.net.ip_addr.IpAddr.{IpAddr}
 use Rattle.std.specs.declared.net.ip_addr.IpAddr.TheVariants.{V4, V6}
+use Rattle.std.specs.Net.Addr.{ipv4_bits, ipv6_bits}
 use Rattle.mio.specs.declared.net.stream.TcpStream.{TcpStream}
 use Rattle.rand_core.specs.Stream.{Stream}
 use Rattle.rand_core.specs.Steps.{stream_of, steps_u32}
 use Rattle.rand_chacha.specs.ChaCha.{ChaCha, next_word}
+use Rattle.socket_peers.specs.declared.limits.Limits.{Limits}
 use Rattle.socket_peers.specs.Peers.{PeersState, peers_code, nobody}
 
 -- the address and the port that it was asked to listen at, the generator of keys, the sockets, and how many events the server was
@@ -40,12 +42,22 @@ key_stream keys = stream_of (steps_u32 (next_word 6)) keys
 abbrev pub ServeState : Type 0
 ServeState = Sockets TcpStream
 
--- it was asked to listen there, and nobody has connected yet
-abbrev pub unserved : IpAddr → ℕ → ChaCha → ServeState
-unserved address port keys = record { address = address; port = port; keys = keys; peers = nobody; events = 0 }
+-- it was asked to listen there, for sockets that keep to these limits, and nobody has connected yet
+abbrev pub unserved : IpAddr → ℕ → Limits → ChaCha → ServeState
+unserved address port limits keys = record { address = address; port = port; keys = keys; peers = nobody limits; events = 0 }
 
-abbrev pub IsUnserved : IpAddr → ℕ → ServeState → Type 0
-IsUnserved address port sockets = sockets ≡ unserved address port sockets.keys
+abbrev pub IsUnserved : IpAddr → ℕ → Limits → ServeState → Type 0
+IsUnserved address port limits sockets = sockets ≡ unserved address port limits sockets.keys
+
+-- no limits
+abbrev pub unlimited : Limits
+unlimited = record { idle = 0; per_address = 0 }
+
+-- The number of an address: its 128 bits, of which one of 32 bits has the last 32, behind ::ffff:0:0, as where a socket of the longer form
+-- takes it in
+abbrev pub origin_of : IpAddr → ℕ
+origin_of (V4 address) = 281470681743360 + ipv4_bits address
+origin_of (V6 address) = ipv6_bits address
 
 -- 127.0.0.1
 abbrev pub IsLocal : IpAddr → Type 0

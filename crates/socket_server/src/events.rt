@@ -1,18 +1,19 @@
 //! The server and the sockets: what happens at a socket is an event of the server, and what the server
 //! sends is owed to the sockets.
 
-ghost use Rattle.std.specs.Prelude.{◌≡◌, ◌+◌, true, false, OnOk, MatchResult};
+ghost use Rattle.std.specs.Prelude.{◌≡◌, ◌+◌, [], ◌∷◌, true, false, OnOk, MatchResult};
 ghost use Rattle.rand_core.specs.Stream.{Stream};
 ghost use Rattle.server_core.specs.declared.event.Event.TheVariants as happening;
 ghost use Rattle.server_core.specs.World.{world_of};
-ghost use Rattle.socket_peers.specs.Peers.{departs_at};
-ghost use Rattle.socket_server.specs.Serving.{scene, IsNextKey, Takes, Fails, GoesOn, ReadsOn, Attends, AttendsEach, AttendsAll, Serves, Stops};
+ghost use Rattle.socket_peers.specs.Peers.{departs_at, is_crowded, is_sweep_due};
+ghost use Rattle.socket_server.specs.Serving.{scene, IsNextKey, Connects, Does, Takes, Fails, GoesOn, ReadsOn, Attends, AttendsEach, AttendsAll, TakesIn, AreNoneSilent, MayExpire, ExpiresAmong, SweepsIfDue, Serves, Stops};
 
 use crate::observer::Observer;
+use crate::refusals::{refusal_among, tell_refusal};
 use crate::serve_fault::ServeFault;
 use bytes::Bytes;
 use server_core::{Event, Out, Server, Step};
-use socket_peers::{Peers, Readiness, Socket};
+use socket_peers::{End, Peers, Readiness, Socket};
 use std::alloc::Global;
 use std::net::SocketAddr;
 
@@ -32,7 +33,16 @@ pub(crate) struct Arrival {
     pub(crate) number: u64,
     /// Where its peer is.
     pub(crate) address: SocketAddr,
+    /// The number of that address, without the port.
+    pub(crate) origin: u128,
     pub(crate) key: [u8; 32],
+}
+
+// A connection that is no more.
+#[derive(Clone, Copy)]
+struct Departure {
+    number: u64,
+    end: End,
 }
 
 // Whether a connection is to be closed.
@@ -67,12 +77,16 @@ pub(crate) fn hand_in<S: Socket + Drop, W: Observer>(
         Err(fault) => return Err(ServeFault::Step(fault)),
     };
     let is_close = closes(outs.as_slice());
+    let refusal = refusal_among(outs.as_slice());
     if peers.owe_all(outs).is_err() {
         return Err(ServeFault::Memory);
     }
     *events = number;
     match observer.saw(number, rows.as_slice()) {
-        Ok(()) => Ok(is_close),
+        Ok(()) => {
+            tell_refusal(observer, refusal);
+            Ok(is_close)
+        }
         Err(fault) => Err(fault),
     }
 }
@@ -119,11 +133,17 @@ fn admit<S: Socket + Drop, W: Observer>(
     arrival: Arrival,
     stream: S,
 ) -> Result<(), ServeFault>
-    requires { arrival.number ≡ peers.old.last + 1 }
-    ensures { (keys : Stream) → (left : Stream) → IsNextKey keys left arrival.key → Serves S.remaining S.contents S.calls W.text 0 (scene keys (world_of server.old) peers.old events.old (W.output observer.old))
-        (scene left (world_of server.new) peers.new events.new (W.output observer.new)) result }
+    requires number { arrival.number ≡ peers.old.last + 1 }
+    requires room { is_crowded peers.old arrival.origin ≡ false }
+    ensures { (keys : Stream) → (left : Stream) → IsNextKey keys left arrival.key →
+        let old = scene keys (world_of server.old) peers.old events.old (W.output observer.old) in
+        let new = scene left (world_of server.new) peers.new events.new (W.output observer.new) in
+        MatchResult result (λ _. Does S.remaining S.contents S.calls W.text (Connects arrival.origin arrival.key) old new) (Stops S.remaining S.contents S.calls W.text old new) }
 {
-    if peers.admit(alloc, arrival.number, stream).is_err() {
+    if peers
+        .admit(alloc, arrival.number, arrival.origin, stream)
+        .is_err()
+    {
         return Err(ServeFault::Memory);
     }
     hand_in_opening(alloc, peers, events, server, observer, arrival)
@@ -192,17 +212,19 @@ fn hand_in_end<S: Socket + Drop, W: Observer>(
     events: &mut u64,
     server: &mut Server,
     observer: &mut W,
-    number: u64,
+    departure: Departure,
 ) -> Result<(), ServeFault>
     ensures { (keys : Stream) → let old = scene keys (world_of server.old) peers.old events.old (W.output observer.old) in
         let new = scene keys (world_of server.new) peers.new events.new (W.output observer.new) in
-        MatchResult result (λ _. Takes W.text (happening.Gone number) old new)
-        (Fails W.text (happening.Gone number) old new) }
+        MatchResult result (λ _. Takes W.text (happening.Gone departure.number) old new)
+        (Fails W.text (happening.Gone departure.number) old new) }
 {
-    let gone = Event::Gone { conn: number };
+    let gone = Event::Gone {
+        conn: departure.number,
+    };
     match hand_in(alloc, peers, events, server, observer, &gone) {
         Ok(_) => {
-            observer.closed(number);
+            observer.closed(departure.number, departure.end);
             Ok(())
         }
         Err(fault) => Err(fault),
@@ -223,7 +245,11 @@ fn depart<S: Socket + Drop, W: Observer>(
     ensures told { OnOk result (departs_at peers.new number ≡ false) }
 {
     if peers.depart(number) {
-        return hand_in_end(alloc, peers, events, server, observer, number);
+        let departure = Departure {
+            number,
+            end: peers.end_of(number),
+        };
+        return hand_in_end(alloc, peers, events, server, observer, departure);
     }
     Ok(())
 }
@@ -366,13 +392,91 @@ pub(crate) fn join_socket<S: Socket + Drop, W: Observer>(
     arrival: Arrival,
     stream: S,
 ) -> Result<(), ServeFault>
-    requires { arrival.number ≡ peers.old.last + 1 }
-    ensures { (keys : Stream) → (left : Stream) → IsNextKey keys left arrival.key → Serves S.remaining S.contents S.calls W.text 0 (scene keys (world_of server.old) peers.old events.old (W.output observer.old))
-        (scene left (world_of server.new) peers.new events.new (W.output observer.new)) result }
+    requires number { arrival.number ≡ peers.old.last + 1 }
+    requires room { is_crowded peers.old arrival.origin ≡ false }
+    ensures { (keys : Stream) → (left : Stream) → IsNextKey keys left arrival.key →
+        let old = scene keys (world_of server.old) peers.old events.old (W.output observer.old) in
+        let new = scene left (world_of server.new) peers.new events.new (W.output observer.new) in
+        MatchResult result (λ _. TakesIn S.remaining S.contents S.calls W.text arrival.origin old new) (Stops S.remaining S.contents S.calls W.text old new) }
 {
     let number = arrival.number;
     match admit(alloc, peers, events, server, observer, arrival, stream) {
         Ok(()) => attend(alloc, peers, events, server, observer, number),
         Err(fault) => Err(fault),
     }
+}
+
+// Lets go of a socket to which nothing was sent for as long as one may stay so, and of no other. The server and the observer are told
+// that its connection is no more, unless they were told before.
+fn expire<S: Socket + Drop, W: Observer>(
+    alloc: Global,
+    peers: &mut Peers<S>,
+    events: &mut u64,
+    server: &mut Server,
+    observer: &mut W,
+    number: u64,
+) -> Result<(), ServeFault>
+    ensures expires { (keys : Stream) →
+        let old = scene keys (world_of server.old) peers.old events.old (W.output observer.old) in
+        let new = scene keys (world_of server.new) peers.new events.new (W.output observer.new) in
+        MatchResult result (λ _. MayExpire S.remaining S.contents S.calls W.text number old new) (Stops S.remaining S.contents S.calls W.text old new) }
+    ensures silent { OnOk result (AreNoneSilent (number ∷ []) peers.old peers.new) }
+{
+    match peers.expire(number) {
+        Some(false) => {
+            let departure = Departure {
+                number,
+                end: peers.end_of(number),
+            };
+            hand_in_end(alloc, peers, events, server, observer, departure)
+        }
+        Some(true) => Ok(()),
+        None => Ok(()),
+    }
+}
+
+// Lets go of the silent ones among these sockets.
+fn expire_each<S: Socket + Drop, W: Observer>(
+    alloc: Global,
+    peers: &mut Peers<S>,
+    events: &mut u64,
+    server: &mut Server,
+    observer: &mut W,
+    numbers: &[u64],
+) -> Result<(), ServeFault>
+    ensures { (keys : Stream) →
+        let old = scene keys (world_of server.old) peers.old events.old (W.output observer.old) in
+        let new = scene keys (world_of server.new) peers.new events.new (W.output observer.new) in
+        MatchResult result (λ _. ExpiresAmong S.remaining S.contents S.calls W.text numbers.now old new) (Stops S.remaining S.contents S.calls W.text old new) }
+{
+    for number in numbers {
+        match expire(alloc, peers, events, server, observer, *number) {
+            Ok(()) => {}
+            Err(fault) => return Err(fault),
+        }
+    }
+    Ok(())
+}
+
+/// Lets go of the sockets to which nothing was sent for as long as one may stay so, where they were last looked for a second ago or
+/// more.
+pub(crate) fn sweep<S: Socket + Drop, W: Observer>(
+    alloc: Global,
+    peers: &mut Peers<S>,
+    events: &mut u64,
+    server: &mut Server,
+    observer: &mut W,
+) -> Result<(), ServeFault>
+    ensures { (keys : Stream) →
+        let old = scene keys (world_of server.old) peers.old events.old (W.output observer.old) in
+        let new = scene keys (world_of server.new) peers.new events.new (W.output observer.new) in
+        MatchResult result (λ _. SweepsIfDue S.remaining S.contents S.calls W.text (is_sweep_due peers.old) old new) (Stops S.remaining S.contents S.calls W.text old new) }
+{
+    if !peers.is_sweep_due() {
+        return Ok(());
+    }
+    let Ok(numbers) = peers.begin_sweep(alloc) else {
+        return Err(ServeFault::Memory);
+    };
+    expire_each(alloc, peers, events, server, observer, numbers.as_slice())
 }

@@ -3,21 +3,26 @@
 //! [`Serve::listen`] listens, and [`Serve::run`] takes turns: it waits until a socket is ready or 100 ms are
 //! over, takes in who connects, hands each piece that is read to the [`server_core::Server`] as an event,
 //! puts what the server sends into the queues of the sockets, and writes what they take. An [`Observer`] is
-//! told which rows of the subscriptions' state table fire at each event, and which connections come and go.
+//! told which rows of the subscriptions' state table fire at each event, and which connections come and go. An [`Until`]
+//! says when to stop, and [`Limits`] what is asked of each socket.
 //!
 //! Only `src/serve.rt` knows of `mio`. What a turn is made of stands in `src/events.rt`, over any stream
 //! whose reads and writes don't wait, so that contracts can name the bytes. `docs/USING.md` has the loop as
 //! a picture, and `docs/PROMISES.md` says which part of it is proved.
 //!
-//! What a contract sees: of [`Serve`] where it was asked to listen, its generator of keys, its peers, and how many
-//! events there were. A run is so many turns, and a turn is a list of acts.
+//! What a contract sees: of [`Serve`] where it was asked to listen, its generator of keys, its peers with their limits,
+//! and how many events there were. A run is some turns, and a turn is a list of acts.
 #![tactic(auto)]
 
 mod events;
 mod observer;
+mod refusals;
 mod serve;
 mod serve_fault;
+mod until;
 
 pub use observer::{Observer, Unobserved};
 pub use serve::Serve;
 pub use serve_fault::ServeFault;
+pub use socket_peers::{End, Limits};
+pub use until::{Turns, Until};

@@ -6,7 +6,9 @@ ghost use Rattle.socket_server.specs.Output.{Output, PutsOrFails, no_output};
 
 use crate::serve_fault::ServeFault;
 use server_core::Fired;
+use socket_peers::End;
 use std::net::SocketAddr;
+use ua_types::Status;
 
 /// Who is told what happens while the server serves: which rows of the subscriptions' state table fire, and
 /// which connections come and go.
@@ -33,8 +35,18 @@ pub trait Observer {
     fn refused(&mut self, number: u64, address: SocketAddr)
         ensures { output self.new ≡ output self.old };
 
-    /// The connection of this number is over.
-    fn closed(&mut self, number: u64)
+    /// A further socket of this address was closed at once, since as many of its IP address as may be are there. The server is told
+    /// nothing of it, and it has no number.
+    fn crowded(&mut self, address: SocketAddr)
+        ensures { output self.new ≡ output self.old };
+
+    /// The server refused a session to the connection of this number, or its user, with this status: `Bad_TooManySessions` or
+    /// `Bad_IdentityTokenRejected`. Of several refusals at one event the first is told.
+    fn session_refused(&mut self, number: u64, status: Status)
+        ensures { output self.new ≡ output self.old };
+
+    /// The connection of this number is over, and this is how it ended.
+    fn closed(&mut self, number: u64, end: End)
         ensures { output self.new ≡ output self.old };
 }
 
@@ -55,5 +67,9 @@ impl Observer for Unobserved {
 
     fn refused(&mut self, _number: u64, _address: SocketAddr) {}
 
-    fn closed(&mut self, _number: u64) {}
+    fn crowded(&mut self, _address: SocketAddr) {}
+
+    fn session_refused(&mut self, _number: u64, _status: Status) {}
+
+    fn closed(&mut self, _number: u64, _end: End) {}
 }

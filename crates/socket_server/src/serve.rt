@@ -1,19 +1,22 @@
 //! The loop over `mio`.
 
-ghost use Rattle.std.specs.Prelude.{◌≡◌, ◌+◌, ◌<◌, List, OnOk, IfOk, IfErr, MatchResult};
+ghost use Rattle.std.specs.Prelude.{◌≡◌, ℕ, List, OnOk, IfOk, IfErr, MatchResult};
 ghost use Rattle.std.specs.FinMap as map;
 ghost use Rattle.std.specs.Duration.{as_nanos};
+ghost use Rattle.std.specs.Net.Socket.{socket_ip};
 ghost use Rattle.mio.specs.declared.event.event.Event as ready;
 ghost use Rattle.mio.specs.Events.{items};
 ghost use Rattle.server_core.specs.World.{world_of};
 ghost use Rattle.server_core.specs.declared.event.Event.TheVariants as ending;
 ghost use Rattle.socket_server.specs.Moments.{moment_since_1970};
-ghost use Rattle.socket_server.specs.Sockets.{IsUnserved, IsLocal, key_stream};
-ghost use Rattle.socket_server.specs.Serving.{scene, unknown, uncounted, is_of_listener, readiness_of as readiness_of_spec, reported_event, reported_events, IsOutside, Takes, HandsIn, Fails, Serves, Stops, TakesTurn, Turns, ServesToTheEnd, Drawn};
+ghost use Rattle.socket_server.specs.Sockets.{IsUnserved, IsLocal, unlimited, origin_of as origin_of_spec, key_stream};
+ghost use Rattle.socket_server.specs.Serving.{scene, unknown, uncounted, is_of_listener, readiness_of as readiness_of_spec, reported_event, reported_events, Passes, Does, IsOutside, Takes, HandsIn, Fails, Stops, MayTakeIn, TakesInSome, SweepsIfDue, TakesTurn, Turns, IsTurns, ServesUntil, Drawn};
+ghost use Rattle.socket_peers.specs.Peers.{is_sweep_due};
 
-use crate::events::{Arrival, attend_all, hand_in, join_socket};
+use crate::events::{Arrival, attend_all, hand_in, join_socket, sweep};
 use crate::observer::Observer;
 use crate::serve_fault::ServeFault;
+use crate::until::Until;
 use mio::event::Event;
 use mio::net::{TcpListener, TcpStream};
 use mio::{Events, Interest, Poll, Token};
@@ -21,7 +24,7 @@ use rand::make_rng;
 use rand::rngs::StdRng;
 use rand_core::Rng;
 use server_core::{Event as ServerEvent, Server};
-use socket_peers::{Peers, Readiness};
+use socket_peers::{Limits, Peers, Readiness};
 use std::alloc::{AllocError, Global};
 use std::io;
 use std::io::ErrorKind;
@@ -44,6 +47,9 @@ const REPORTS: usize = 1024;
 // The most connections that are taken in within a turn.
 const ACCEPTS: usize = 256;
 
+// What the address ::ffff:0:0 is as a number. Behind it lie those of 32 bits.
+const MAPPED: u128 = 0xffff_0000_0000;
+
 // The 100 ns units from 1601, where moments begin, to 1970, where the system's clock does.
 const FROM_1601_TO_1970: u128 = 116_444_736_000_000_000;
 
@@ -59,6 +65,8 @@ pub struct Serve {
     keys: StdRng,
     // There may be a connection to be taken in.
     may_accept: bool,
+    // As many were taken in within the last turn as may be: there may be more.
+    is_backlogged: bool,
     peers: Peers<TcpStream>,
     // How many events the server was handed. The next has the number behind that.
     events_so_far: u64,
@@ -128,6 +136,16 @@ fn not_had(kind: ErrorKind) -> ServeFault
     }
 }
 
+// The number of an address.
+fn origin_of(address: IpAddr) -> u128
+    ensures { result ≡ origin_of_spec address }
+{
+    match address {
+        IpAddr::V4(short) => MAPPED + short.to_bits() as u128,
+        IpAddr::V6(long) => long.to_bits(),
+    }
+}
+
 // The key of a new connection: the next bytes of a generator that the system seeded.
 fn fresh_key<K: Rng>(keys: &mut K) -> [u8; 32]
     ensures { Drawn K.stream keys.old keys.new result }
@@ -162,10 +180,16 @@ impl Serve {
         alloc: Global,
         port: u16,
     ) -> Result<Serve, ServeFault>
-        ensures ok { IfOk result (λ serve. IsLocal serve.address × IsUnserved serve.address port serve) }
+        ensures ok { IfOk result (λ serve. IsLocal serve.address × IsUnserved serve.address port unlimited serve) }
         ensures err { IfErr result IsOutside }
     {
-        Serve::listen(rt, alloc, IpAddr::V4(Ipv4Addr::LOCALHOST), port)
+        Serve::listen(
+            rt,
+            alloc,
+            IpAddr::V4(Ipv4Addr::LOCALHOST),
+            port,
+            Limits::NONE,
+        )
     }
 
     /// Listens at this port of this address, where port 0 is one that the system chooses, and the
@@ -175,8 +199,9 @@ impl Serve {
         alloc: Global,
         address: IpAddr,
         port: u16,
+        limits: Limits,
     ) -> Result<Serve, ServeFault>
-        ensures ok { IfOk result (IsUnserved address port) }
+        ensures ok { IfOk result (IsUnserved address port limits) }
         ensures err { IfErr result IsOutside }
     {
         let mut listener = match TcpListener::bind(rt, SocketAddr::from((address, port))) {
@@ -207,7 +232,8 @@ impl Serve {
             asked_port: port,
             keys,
             may_accept: true,
-            peers: Peers::new(alloc),
+            is_backlogged: false,
+            peers: Peers::new(alloc, limits),
             events_so_far: 0,
         })
     }
@@ -224,78 +250,63 @@ impl Serve {
         self.peers.len()
     }
 
-    /// Serves for so many turns, or without end for 0. A turn waits until a socket is ready, at most for
-    /// 100 ms; then it tells the server the time, takes in who has connected, and looks at each socket that
-    /// is ready. After the last turn the server is told to end: what waits is answered, each connection is
-    /// told that the server shuts down, and what is owed then is written as far as the sockets take it at
-    /// once. The observer is told which rows fire at each event, and which connections come and go.
+    /// Serves until it is to end: for so many turns, without end for 0, or until it is asked to stop. A turn waits until a socket is
+    /// ready, at most for 100 ms; then it tells the server the time, takes in who has connected, lets go of silent sockets, once a
+    /// second, and looks at each socket that is ready. After the last turn the server is told to end: what waits is answered, each
+    /// connection is told that the server shuts down, and what is owed then is written as far as the sockets take it at once. The
+    /// observer is told which rows fire at each event, and which connections come and go.
     ///
-    /// Each event that is handed to the server counts, from 1 on; a later run counts on. Without end it ends
-    /// with a fault alone.
+    /// Each event that is handed to the server counts, from 1 on; a later run counts on. Without end it ends with a fault alone, or as
+    /// it is asked to.
     ///
     /// The server should know no connection of another's, since numbers count up from 1. At `Step`,
     /// `Trace` and `Memory` it is as its last step left it. What the events before sent is still written then, as far as the sockets
     /// take it, but where memory is wanting for that, too; what the last one sent may be lost, at `Memory` also what was read last.
-    pub fn run<R: Clock + Wait, W: Observer>(
+    pub fn run<R: Clock + Wait, W: Observer, U: Until<R>>(
         &mut self,
         rt: &R,
         alloc: Global,
         server: &mut Server,
         observer: &mut W,
-        turns: u64,
+        until: &mut U,
     ) -> Result<(), ServeFault>
-        ensures serves { let old = scene (key_stream self.old.keys) (world_of server.old) self.old.peers self.old.events (W.output observer.old) in
+        ensures { let old = scene (key_stream self.old.keys) (world_of server.old) self.old.peers self.old.events (W.output observer.old) in
             let new = scene (key_stream self.new.keys) (world_of server.new) self.new.peers self.new.events (W.output observer.new) in
-            MatchResult result (λ _. ServesToTheEnd unknown unknown uncounted W.text turns old new) (Stops unknown unknown uncounted W.text old new) }
-        ensures bounded { OnOk result (0 < turns) }
+            MatchResult result (λ _. ServesUntil unknown unknown uncounted W.text U.may_ask (U.most until.old) old new) (Stops unknown unknown uncounted W.text old new) }
     {
-        if turns == 0 {
-            return Err(self.run_on(rt, alloc, server, observer));
-        }
-        match self.run_turns(rt, alloc, server, observer, turns) {
+        match self.run_on(rt, alloc, server, observer, until) {
             Ok(()) => self.tell_the_end(alloc, server, observer),
             Err(fault) => Err(fault),
         }
     }
 
-    // So many turns.
-    fn run_turns<R: Clock + Wait, W: Observer>(
+    // Turns, up to the bound or until it is asked to stop.
+    fn run_on<R: Clock + Wait, W: Observer, U: Until<R>>(
         &mut self,
         rt: &R,
         alloc: Global,
         server: &mut Server,
         observer: &mut W,
-        turns: u64,
+        until: &mut U,
     ) -> Result<(), ServeFault>
         ensures { let old = scene (key_stream self.old.keys) (world_of server.old) self.old.peers self.old.events (W.output observer.old) in
             let new = scene (key_stream self.new.keys) (world_of server.new) self.new.peers self.new.events (W.output observer.new) in
-            MatchResult result (λ _. Turns unknown unknown uncounted W.text turns old new) (Stops unknown unknown uncounted W.text old new) }
+            MatchResult result (λ _. (turns : ℕ) × IsTurns U.may_ask (U.most until.old) turns × Turns unknown unknown uncounted W.text turns old new) (Stops unknown unknown uncounted W.text old new) }
     {
-        for _turn in 0..turns {
+        // 0 where there is no bound.
+        let mut left = until.turns();
+        for _turn in rt.forever() {
             match self.turn(rt, alloc, server, observer) {
                 Ok(()) => {}
                 Err(fault) => return Err(fault),
             }
-        }
-        Ok(())
-    }
-
-    // Turns without end. Says why they ended.
-    fn run_on<R: Clock + Wait, W: Observer>(
-        &mut self,
-        rt: &R,
-        alloc: Global,
-        server: &mut Server,
-        observer: &mut W,
-    ) -> ServeFault
-        ensures { Stops unknown unknown uncounted W.text (scene (key_stream self.old.keys) (world_of server.old) self.old.peers self.old.events (W.output observer.old))
-            (scene (key_stream self.new.keys) (world_of server.new) self.new.peers self.new.events (W.output observer.new)) result }
-    {
-        for _turn in rt.forever() {
-            match self.turn(rt, alloc, server, observer) {
-                Ok(()) => {}
-                Err(fault) => return fault,
+            if left == 1 {
+                return Ok(());
             }
+            if until.asks_to_stop(rt) {
+                return Ok(());
+            }
+            left = left.saturating_sub(1);
         }
         unreachable!()
     }
@@ -339,11 +350,15 @@ impl Serve {
         let Ok(now) = moment(rt) else {
             return Err(ServeFault::Network);
         };
-        match self.tell(alloc, server, observer, &ServerEvent::Tick { now }) {
+        match self.tick(alloc, server, observer, now) {
             Ok(()) => {}
             Err(fault) => return Err(fault),
         }
         match self.accept_all(alloc, server, observer) {
+            Ok(()) => {}
+            Err(fault) => return Err(fault),
+        }
+        match self.expire_silent(alloc, server, observer) {
             Ok(()) => attend_all(
                 alloc,
                 &mut self.peers,
@@ -353,6 +368,42 @@ impl Serve {
             ),
             Err(fault) => Err(fault),
         }
+    }
+
+    // Tells the sockets and the server the time.
+    fn tick<W: Observer>(
+        &mut self,
+        alloc: Global,
+        server: &mut Server,
+        observer: &mut W,
+        now: Moment,
+    ) -> Result<(), ServeFault>
+        ensures { let old = scene (key_stream self.old.keys) (world_of server.old) self.old.peers self.old.events (W.output observer.old) in
+            let new = scene (key_stream self.new.keys) (world_of server.new) self.new.peers self.new.events (W.output observer.new) in
+            MatchResult result (λ _. Does unknown unknown uncounted W.text (Passes now) old new) (Fails W.text (ending.Tick now) old new) }
+    {
+        self.peers.tell_time(now);
+        self.tell(alloc, server, observer, &ServerEvent::Tick { now })
+    }
+
+    // Lets go of silent sockets, once a second.
+    fn expire_silent<W: Observer>(
+        &mut self,
+        alloc: Global,
+        server: &mut Server,
+        observer: &mut W,
+    ) -> Result<(), ServeFault>
+        ensures { let old = scene (key_stream self.old.keys) (world_of server.old) self.old.peers self.old.events (W.output observer.old) in
+            let new = scene (key_stream self.new.keys) (world_of server.new) self.new.peers self.new.events (W.output observer.new) in
+            MatchResult result (λ _. SweepsIfDue unknown unknown uncounted W.text (is_sweep_due self.old.peers) old new) (Stops unknown unknown uncounted W.text old new) }
+    {
+        sweep(
+            alloc,
+            &mut self.peers,
+            &mut self.events_so_far,
+            server,
+            observer,
+        )
     }
 
     // Tells the server what happened.
@@ -406,7 +457,7 @@ impl Serve {
         ensures ok { OnOk result ((events : List ready.Event) × (self.new ≡ record self.old { peers = reported_events self.old.peers events })) }
         ensures outside { IfErr result IsOutside }
     {
-        let wait = if self.peers.is_any_awake() {
+        let wait = if self.is_backlogged || self.peers.is_any_awake() {
             Duration::ZERO
         } else {
             Duration::from_millis(WAIT)
@@ -423,26 +474,47 @@ impl Serve {
         }
     }
 
-    // Takes in those who have connected.
+    // Takes in those who have connected. Where there may be more than a turn takes in, the next one doesn't wait.
     fn accept_all<W: Observer>(
         &mut self,
         alloc: Global,
         server: &mut Server,
         observer: &mut W,
     ) -> Result<(), ServeFault>
-        ensures { Serves unknown unknown uncounted W.text 0 (scene (key_stream self.old.keys) (world_of server.old) self.old.peers self.old.events (W.output observer.old))
-            (scene (key_stream self.new.keys) (world_of server.new) self.new.peers self.new.events (W.output observer.new)) result }
+        ensures { let old = scene (key_stream self.old.keys) (world_of server.old) self.old.peers self.old.events (W.output observer.old) in
+            let new = scene (key_stream self.new.keys) (world_of server.new) self.new.peers self.new.events (W.output observer.new) in
+            MatchResult result (λ _. TakesInSome unknown unknown uncounted W.text old new) (Stops unknown unknown uncounted W.text old new) }
+    {
+        match self.accept_some(alloc, server, observer) {
+            Ok(is_backlogged) => {
+                self.is_backlogged = is_backlogged;
+                Ok(())
+            }
+            Err(fault) => Err(fault),
+        }
+    }
+
+    // Takes in as many of those who have connected as a turn may. Says whether they were as many.
+    fn accept_some<W: Observer>(
+        &mut self,
+        alloc: Global,
+        server: &mut Server,
+        observer: &mut W,
+    ) -> Result<bool, ServeFault>
+        ensures { let old = scene (key_stream self.old.keys) (world_of server.old) self.old.peers self.old.events (W.output observer.old) in
+            let new = scene (key_stream self.new.keys) (world_of server.new) self.new.peers self.new.events (W.output observer.new) in
+            MatchResult result (λ _. TakesInSome unknown unknown uncounted W.text old new) (Stops unknown unknown uncounted W.text old new) }
     {
         for _accept in 0..ACCEPTS {
             let Some((stream, address)) = self.accept() else {
-                return Ok(());
+                return Ok(false);
             };
             match self.take_in(alloc, server, observer, stream, address) {
                 Ok(()) => {}
                 Err(fault) => return Err(fault),
             }
         }
-        Ok(())
+        Ok(true)
     }
 
     // The next who has connected. A connection that is gone again is passed over. Where there are no more
@@ -468,7 +540,8 @@ impl Serve {
         None
     }
 
-    // Takes in one who has connected. A socket that can't be waited for is let go of.
+    // Takes in one who has connected. A further socket of an address of which there are as many as may be is closed at once, and
+    // one that can't be waited for is let go of.
     fn take_in<W: Observer>(
         &mut self,
         alloc: Global,
@@ -477,9 +550,15 @@ impl Serve {
         mut stream: TcpStream,
         address: SocketAddr,
     ) -> Result<(), ServeFault>
-        ensures { Serves unknown unknown uncounted W.text 0 (scene (key_stream self.old.keys) (world_of server.old) self.old.peers self.old.events (W.output observer.old))
-            (scene (key_stream self.new.keys) (world_of server.new) self.new.peers self.new.events (W.output observer.new)) result }
+        ensures { let old = scene (key_stream self.old.keys) (world_of server.old) self.old.peers self.old.events (W.output observer.old) in
+            let new = scene (key_stream self.new.keys) (world_of server.new) self.new.peers self.new.events (W.output observer.new) in
+            MatchResult result (λ _. MayTakeIn unknown unknown uncounted W.text (origin_of_spec (socket_ip address)) old new) (Stops unknown unknown uncounted W.text old new) }
     {
+        let origin = origin_of(address.ip());
+        if self.peers.is_crowded(origin) {
+            observer.crowded(address);
+            return Ok(());
+        }
         let Some(number) = self.peers.next() else {
             return Ok(());
         };
@@ -497,6 +576,7 @@ impl Serve {
         let arrival = Arrival {
             number,
             address,
+            origin,
             key: fresh_key(&mut self.keys),
         };
         join_socket(

@@ -13,6 +13,7 @@
 //! - `last NODES SCENARIO`: the last of these lines, where the last that was sent is a message;
 //! - `behind SCENARIO LINE`: what `asm` prints where this line stands behind the scenario's;
 //! - `nodes TEXT`: what `check` says of a node file of this text, in which `\n` stands for the end of a line;
+//! - `explain TEXT`: the same, and below it what `check --explain` explains;
 //! - `uaserver`: what the program prints where no word follows its name;
 //! - `state_table`: the rows of the state table of subscriptions, each with where and at which event it may fire, its
 //!   conditions, its actions, and the state afterwards.
@@ -75,10 +76,11 @@ use std::{env, io};
 use stream_taps::Tap;
 
 // The files of lines, in the order in which they are printed.
-const FILES: [&str; 5] = [
+const FILES: [&str; 6] = [
     "examples",
     "encoding",
     "conversations",
+    "explained",
     "plant_cases",
     "again",
 ];
@@ -162,10 +164,13 @@ fn write_example<R: Files + AllocGlobal + Net + RandomSource + Clock + Wait>(
     if let Some((scenario, last)) = named(line) {
         return write_behind(rt, scenario, last, output);
     }
-    let words: Vec<&str> = line.split(' ').collect(rt.alloc())?;
-    if words.first() == Some(&"nodes") {
-        return write_nodes(rt.alloc(), line, output);
+    let (kind, text) = line.split_once(' ').unwrap_or((line, ""));
+    match kind {
+        "nodes" => return write_nodes(rt.alloc(), text, false, output),
+        "explain" => return write_nodes(rt.alloc(), text, true, output),
+        _ => {}
     }
+    let words: Vec<&str> = line.split(' ').collect(rt.alloc())?;
     match write_encoding(rt.alloc(), words.as_slice(), output) {
         Some(written) => written,
         None => write_command(rt, words.as_slice(), output),

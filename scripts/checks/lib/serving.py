@@ -3,12 +3,16 @@
 Nothing here waits for long where all goes well, and nothing gives up within minutes: a machine may be slow and busy.
 """
 import random
+import re
 import signal
 import socket
 import subprocess
 import threading
 
 PATIENCE = 300  # seconds, after which a program is given up
+
+# What stands before each line that `serve` writes on standard error while it serves.
+MOMENT = re.compile(r'^\d{4}-\d\d-\d\dT\d\d:\d\d:\d\d\.\d{3}Z ')
 
 
 def has_ipv6():
@@ -66,11 +70,14 @@ class Program:
     def read(self):
         for line in self.process.stdout:
             with self.changed:
-                self.lines.append(line.rstrip('\n'))
+                self.lines.append(self.line_of(line.rstrip('\n')))
                 self.changed.notify_all()
         with self.changed:
             self.is_over = True
             self.changed.notify_all()
+
+    def line_of(self, line):
+        return line
 
     def wait_for(self, is_there):
         """Waits until this is true of the lines. False where the program ended before."""
@@ -100,13 +107,16 @@ class Program:
 
 
 class Server(Program):
-    """A server that listens on 127.0.0.1."""
+    """A server that listens on 127.0.0.1. Its lines have no moments."""
 
-    def __init__(self, program, nodes, *options, **how):
+    def __init__(self, program, nodes, *options, words=None, **how):
         self.port = free_port()
-        super().__init__([program, 'serve', nodes, '--port', str(self.port), *options], **how)
+        super().__init__(words(program, str(self.port)) if words else [program, 'serve', nodes, '--port', str(self.port), *options], **how)
         if not self.wait_for(lambda lines: f'listening {self.port}' in lines):
             raise AssertionError(f'{program} serves nothing: {self.lines}')
+
+    def line_of(self, line):
+        return MOMENT.sub('', line)
 
     def is_running(self):
         return self.process.poll() is None

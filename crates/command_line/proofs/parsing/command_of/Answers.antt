@@ -1,9 +1,9 @@
 use Rattle.std.proofs.Common.{◌∙◌, Option, Some, IfSome, ap, ap₂, refl, sym, subst, codes, option_map}
 use Rattle.std.proofs.lemmas.Option.{none-some}
 use Rattle.std.specs.Borrow.{Bor}
-use Rattle.clap.specs.Words.{Text}
-use Rattle.command_line.specs.Words.{IsAddressIn, is_given, port_of, turns_of}
-use Rattle.command_line.proofs.ProgramLemmas.{asked_met, no_asm, no_nodes, no_run, no_serve, no_trace, option_met}
+use Rattle.clap.specs.Words.{Text, first_value, found_of, subcommand_rows_of}
+use Rattle.command_line.specs.Words.{IsServedWith, is_given, option_of}
+use Rattle.command_line.proofs.ProgramLemmas.{asked_met, no_asm, no_nodes, no_run, no_serve, no_trace, option_met, options_met, served_at}
 use Rattle.command_line.proofs.parsing.command_of.Goals as goal
 
 pub returns-in-pipe-clause-some : goal.returns-in-pipe-clause-some
@@ -14,55 +14,32 @@ returns-in-pipe-clause-some c =
 pub returns-in_ok-nodes-in-check-clause-some : goal.returns-in_ok-nodes-in-check-clause-some
 returns-in_ok-nodes-in-check-clause-some c =
     let met = asked_met c.args.matches.now c.in_ok-name.name c.in_ok-name.given c.get_str-nodes.result c.in_ok-name.ensures.name c.in_ok-name.ensures.rows c.get_str-nodes.ensures in
-    (met ∙ ap₂ (λ n m. Some (n, option_map (λ n. n.now) m)) c.in-check.is c.in_ok-nodes-in-check.was, tt)
+    let there = option_met c.args.matches.now c.in_ok-name.given (codes "explain") c.get_str.result c.in_ok-name.name c.in_ok-name.ensures.name c.in_ok-name.ensures.rows c.get_str.ensures in
+    (met ∙ ap₂ (λ n m. Some (n, option_map (λ n. n.now) m)) c.in-check.is c.in_ok-nodes-in-check.was, ap is_given there ∙ sym c.is_given.ensures)
 
 pub returns-in_err-nodes-in-check-clause-none : goal.returns-in_err-nodes-in-check-clause-none
 returns-in_err-nodes-in-check-clause-none c = λ is_none.
     let met = asked_met c.args.matches.now c.in_ok-name.name c.in_ok-name.given c.get_str-nodes.result c.in_ok-name.ensures.name c.in_ok-name.ensures.rows c.get_str-nodes.ensures in
     no_nodes _ (met ∙ ap₂ (λ n m. Some (n, option_map (λ n. n.now) m)) c.in-check.is c.in_err-nodes-in-check.was)
 
-pub returns-in_err-nodes-in-serve-clause-none : goal.returns-in_err-nodes-in-serve-clause-none
-returns-in_err-nodes-in-serve-clause-none c = λ is_none.
+pub returns-in_ok-serve_options-in-serve-clause-some : goal.returns-in_ok-serve_options-in-serve-clause-some
+returns-in_ok-serve_options-in-serve-clause-some c =
     let met = asked_met c.args.matches.now c.in_ok-name.name c.in_ok-name.given c.get_str-nodes.result c.in_ok-name.ensures.name c.in_ok-name.ensures.rows c.get_str-nodes.ensures in
-    no_serve _ _ (met ∙ ap₂ (λ n m. Some (n, option_map (λ n. n.now) m)) c.in-serve.is c.in_err-nodes-in-serve.was) (λ n port turns address is p t a. none-some n is)
-
-pub returns-in_err-port_of-in-serve-clause-none : goal.returns-in_err-port_of-in-serve-clause-none
-returns-in_err-port_of-in-serve-clause-none c = λ is_none.
-    let met = asked_met c.args.matches.now c.in_ok-name.name c.in_ok-name.given c.get_str-nodes.result c.in_ok-name.ensures.name c.in_ok-name.ensures.rows c.get_str-nodes.ensures in
-    let there = option_met c.args.matches.now c.in_ok-name.given (codes "port") c.get_str.result c.in_ok-name.name c.in_ok-name.ensures.name c.in_ok-name.ensures.rows c.get_str.ensures in
-    no_serve _ _ (met ∙ ap (λ n. Some (n, option_map (λ n. n.now) c.get_str-nodes.result)) c.in-serve.is)
-    (λ n port turns address is p t a. none-some port (sym c.in_err-port_of-in-serve.was ∙ c.port_of.ensures ∙ ap port_of (sym there) ∙ p))
-
-pub returns-in_err-turns_of-in-serve-clause-none : goal.returns-in_err-turns_of-in-serve-clause-none
-returns-in_err-turns_of-in-serve-clause-none c = λ is_none.
-    let met = asked_met c.args.matches.now c.in_ok-name.name c.in_ok-name.given c.get_str-nodes.result c.in_ok-name.ensures.name c.in_ok-name.ensures.rows c.get_str-nodes.ensures in
-    let there = option_met c.args.matches.now c.in_ok-name.given (codes "turns") c.get_str-in-serve.result c.in_ok-name.name c.in_ok-name.ensures.name c.in_ok-name.ensures.rows c.get_str-in-serve.ensures in
-    no_serve _ _ (met ∙ ap (λ n. Some (n, option_map (λ n. n.now) c.get_str-nodes.result)) c.in-serve.is)
-    (λ n port turns address is p t a. none-some turns (sym c.in_err-turns_of-in-serve.was ∙ c.turns_of.ensures ∙ ap turns_of (sym there) ∙ t))
-
-pub returns-in_ok-address_of-in-serve-clause-some : goal.returns-in_ok-address_of-in-serve-clause-some
-returns-in_ok-address_of-in-serve-clause-some c =
-    let met = asked_met c.args.matches.now c.in_ok-name.name c.in_ok-name.given c.get_str-nodes.result c.in_ok-name.ensures.name c.in_ok-name.ensures.rows c.get_str-nodes.ensures in
-    let port_there = option_met c.args.matches.now c.in_ok-name.given (codes "port") c.get_str.result c.in_ok-name.name c.in_ok-name.ensures.name c.in_ok-name.ensures.rows c.get_str.ensures in
-    let turns_there = option_met c.args.matches.now c.in_ok-name.given (codes "turns") c.get_str-in-serve.result c.in_ok-name.name c.in_ok-name.ensures.name c.in_ok-name.ensures.rows c.get_str-in-serve.ensures in
-    let address_there = option_met c.args.matches.now c.in_ok-name.given (codes "address") c.get_str-in-serve-2.result c.in_ok-name.name c.in_ok-name.ensures.name c.in_ok-name.ensures.rows c.get_str-in-serve-2.ensures in
-    let trace_there = option_met c.args.matches.now c.in_ok-name.given (codes "trace") c.get_str-in-serve-3.result c.in_ok-name.name c.in_ok-name.ensures.name c.in_ok-name.ensures.rows c.get_str-in-serve-3.ensures in (
-      met ∙ ap₂ (λ n m. Some (n, option_map (λ n. n.now) m)) c.in-serve.is c.in_ok-nodes-in-serve.was,
-      (
-        ap port_of port_there ∙ sym c.port_of.ensures ∙ c.in_ok-port_of-in-serve.was,
-        ap turns_of turns_there ∙ sym c.turns_of.ensures ∙ c.in_ok-turns_of-in-serve.was,
-        subst (λ t. IsAddressIn t c.in_ok-address_of-in-serve.field-0) (sym address_there)
-            (subst (λ r. IfSome r (IsAddressIn (option_map (λ t. t.now) c.get_str-in-serve-2.result))) c.in_ok-address_of-in-serve.was c.address_of.ensures.some),
-        ap is_given trace_there ∙ sym c.is_given.ensures,
-      ),
+    let word = first_value (found_of c.in_ok-name.given.now) in
+    let has = subst (λ r. IfSome r (IsServedWith word)) c.in_ok-serve_options-in-serve.was c.serve_options.ensures.some in (
+      met ∙ ap₂ (λ n m. Some (n, m)) c.in-serve.is (c.get_str-nodes.ensures ∙ has.nodes),
+      served_at word (λ name. option_of name (subcommand_rows_of c.args.matches.now)) c.in_ok-serve_options-in-serve.field-0
+          (options_met c.args.matches.now c.in_ok-name.given c.in_ok-name.name c.in_ok-name.ensures.name c.in_ok-name.ensures.rows) has,
     )
 
-pub returns-in_err-address_of-in-serve-clause-none : goal.returns-in_err-address_of-in-serve-clause-none
-returns-in_err-address_of-in-serve-clause-none c = λ is_none.
+pub returns-in_err-serve_options-in-serve-clause-none : goal.returns-in_err-serve_options-in-serve-clause-none
+returns-in_err-serve_options-in-serve-clause-none c = λ is_none.
     let met = asked_met c.args.matches.now c.in_ok-name.name c.in_ok-name.given c.get_str-nodes.result c.in_ok-name.ensures.name c.in_ok-name.ensures.rows c.get_str-nodes.ensures in
-    let there = option_met c.args.matches.now c.in_ok-name.given (codes "address") c.get_str-in-serve-2.result c.in_ok-name.name c.in_ok-name.ensures.name c.in_ok-name.ensures.rows c.get_str-in-serve-2.ensures in
+    let word = first_value (found_of c.in_ok-name.given.now) in
     no_serve _ _ (met ∙ ap (λ n. Some (n, option_map (λ n. n.now) c.get_str-nodes.result)) c.in-serve.is)
-    (λ n port turns address is p t a. c.address_of.ensures.none (rw c.in_err-address_of-in-serve.was refl) address (subst (λ t. IsAddressIn t address) there a))
+    (λ options has. c.serve_options.ensures.none (rw c.in_err-serve_options-in-serve.was refl) options
+    (served_at (λ name. option_of name (subcommand_rows_of c.args.matches.now)) word options
+    (λ id. sym (options_met c.args.matches.now c.in_ok-name.given c.in_ok-name.name c.in_ok-name.ensures.name c.in_ok-name.ensures.rows id)) has))
 
 -- `asm`, `run` and `trace`
 abbrev texts : Option (Bor Text) → Option Text

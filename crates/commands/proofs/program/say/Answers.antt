@@ -4,7 +4,7 @@ use Rattle.std.proofs.KnownBytes.{Appends-kept}
 use Rattle.stream_taps.proofs.TapLemmas.{counted-le, counted-Rose}
 use Rattle.scenario_lines.specs.Held.{place}
 use Rattle.scenario_lines.proofs.HeldLemmas.{all_out, cut_at}
-use Rattle.commands.specs.Commands.{Says}
+use Rattle.commands.specs.Said.{Says}
 use Rattle.commands.proofs.program.say.Goals as goal
 
 pub returns-then-count-bytes : goal.returns-then-count-bytes

@@ -10,7 +10,7 @@ returns-in_ok-owe-in-Send g c =
     let there = lent_found c.get_mut.result _ c.in-Some.peer c.in-Some.is c.get_mut.ensures.found in
     let back = given_back _ c.get_mut.result c.in-Some.peer c.in-Some.is (c.get_mut.follows.holds c.owe.new.self) in
     let more : c.push.new.self.items ≡ c.self.inside.touched.items ++ c.in-Send.conn ∷ [] = search rules in
-    touched_back _ c.args.self.now c.in-Send.conn c.in-Some.peer.now c.owe.new.self (owing c.in-Send.bytes) _ _ c.self.view_is there (search rules) back more
+    touched_back _ c.args.self.now c.in-Send.conn c.in-Some.peer.now c.owe.new.self (owing c.args.self.now.clock c.in-Send.bytes) _ _ c.self.view_is there (search rules) back more
     ∙ ap (owed_out c.args.self.now) (sym c.in-Send.is)
 
 pub returns-in_ok-push-in-Close : goal.returns-in_ok-push-in-Close

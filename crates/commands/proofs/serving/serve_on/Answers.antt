@@ -1,28 +1,29 @@
 use Rattle.std.proofs.Common.{◌∙◌, List, ℕ, refl, subst, sym}
 use Rattle.server_core.specs.World.{world_of}
 use Rattle.scenario_lines.specs.Held.{place}
-use Rattle.commands.specs.Commands.{Says, ServesOn, listening_line}
+use Rattle.commands.specs.Said.{Says}
+use Rattle.commands.specs.Serving.{ServesOn, listening_line}
 use Rattle.commands.specs.declared.status.Status.{Status}
 use Rattle.commands.specs.declared.status.Status.TheVariants.{Done}
 use Rattle.commands.proofs.ServeLemmas.{ended, refused}
-use Rattle.commands.proofs.program.serve_on.Goals as goal
+use Rattle.commands.proofs.serving.serve_on.Goals as goal
 
 pub returns-in-Err : goal.returns-in-Err
 returns-in-Err g c =
     let first = world_of c.args.server.now in
     let at = place g.O.Write.contents c.args.output.now in
-    subst (ServesOn at at c.args.listening first) (sym c.served.ensures)
-    (refused at at c.args.listening first c.in-Err.fault c.in-Err.ensures.err refl)
+    subst (ServesOn at at c.args.idle c.args.options.now first) (sym c.served.ensures)
+    (refused at at c.args.idle c.args.options.now first c.in-Err.fault c.in-Err.ensures.err refl)
 
 pub returns-in-Done : goal.returns-in-Done
 returns-in-Done g c =
     let first = world_of c.args.server.now in
     let old = place g.O.Write.contents c.args.output.now in
     let mid = place g.O.Write.contents c.say.new.output in
-    let new = place g.O.Write.contents c.serve_and_tell-ran.new.output in
-    let said : Says (listening_line c.args.listening.port) old mid Done =
+    let new = place g.O.Write.contents c.serve_and_log-ran.new.output in
+    let said : Says (listening_line c.args.options.now.port) old mid Done =
     subst (λ (text : List ℕ). Says text old mid Done) (c.as_str.ensures.value ∙ c.in-Ok.ensures)
     (subst (λ (status : Status). Says c.as_str.result.now old mid status) c.in-Done.is c.say.ensures)
     in
-    subst (ServesOn old new c.args.listening first) (sym c.served-in-Done.ensures)
-    (ended old new c.args.listening first c.serve_and_tell-ran.result (_, c.in-Ok-listen.ensures.ok, mid, said, c.serve_and_tell-ran.ensures))
+    subst (ServesOn old new c.args.idle c.args.options.now first) (sym c.served-in-Done.ensures)
+    (ended old new c.args.idle c.args.options.now first c.serve_and_log-ran.result (_, c.in-Ok-listen.ensures.ok, mid, said, c.serve_and_log-ran.ensures))

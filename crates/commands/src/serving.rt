@@ -1,0 +1,356 @@
+//! What `serve` does.
+
+ghost use Rattle.std.specs.Prelude.{◌≡◌, Option, IfOk, MatchResult, is_some, option_map, string_bytes};
+ghost use Rattle.server_core.specs.World.{world_of};
+ghost use Rattle.socket_server.specs.Sockets.{key_stream};
+ghost use Rattle.socket_server.specs.Serving.{scene, unknown, uncounted, ServesUntil, Stops};
+ghost use Rattle.scenario_lines.specs.Held.{place};
+ghost use Rattle.commands.specs.NodeFiles.{Made};
+ghost use Rattle.commands.specs.Said.{MadeBy};
+ghost use Rattle.commands.specs.Serving.{ServesWith, ServesOn, ServesBy, ServesMade, ServesFile, status_served};
+ghost use Rattle.commands.specs.Serving.{idle_of as idle_of_spec, listening_line as listening_line_spec, with_url as with_url_spec};
+
+use crate::log::Log;
+use crate::program::{Ended, no_memory, nodes_in, read_file, say, step_fault, stream};
+use crate::status::Status;
+use crate::stop_file::StopFile;
+use crate::watching::{Tracing, Visitors};
+use command_line::ServeOptions;
+use number_slots::Numbered;
+use server_core::Server;
+use socket_server::{Limits, Observer, Serve, ServeFault, Turns};
+use std::alloc::{AllocError, Global};
+use std::io::{Write, sink};
+use std::net::{IpAddr, Net, SocketAddr};
+use std::random::RandomSource;
+use std::rt::Files;
+use std::sync::Wait;
+use std::time::Clock;
+use stream_taps::Tap;
+use ua_space::Space;
+use ua_types::{Config, Text};
+
+// How the end of serving ends the program.
+fn served<E: Write>(ran: Result<(), ServeFault>, errors: &mut E) -> Status
+    ensures { result ≡ status_served ran }
+{
+    match ran {
+        Ok(()) => Status::Done,
+        Err(ServeFault::Step(fault)) => step_fault(fault, errors),
+        Err(ServeFault::Memory) => no_memory(errors),
+        Err(ServeFault::Trace) => stream(errors),
+        Err(ServeFault::Network | ServeFault::Port | ServeFault::Address) => {
+            let _ = writeln!(errors, "network");
+            Status::Network
+        }
+    }
+}
+
+// The line of `serve`.
+#[tactic(auto, unfolding(crate::specs::Serving::listening_line))]
+fn listening_line(alloc: Global, port: u16) -> Result<String, AllocError>
+    ensures { IfOk result (λ line. string_bytes line ≡ listening_line_spec port) }
+{
+    format!(in alloc; "listening {port}\n")
+}
+
+// How long nothing may be sent to a socket, in seconds: as the words say, or else twice as long as a session lasts without a
+// request, and ten minutes at least.
+fn idle_of(session_time: u64, asked: Option<u64>) -> u64
+    ensures { result ≡ idle_of_spec session_time asked }
+{
+    match asked {
+        Some(seconds) => seconds,
+        None => (session_time / 5_000_000).max(600),
+    }
+}
+
+// The configuration with the URL of the words, where they have one.
+fn with_url(alloc: Global, mut config: Config, url: Option<&str>) -> Result<Config, AllocError>
+    ensures { IfOk result (λ c. c ≡ with_url_spec config (option_map (λ u. u.now) url.entry)) }
+{
+    if let Some(url) = url {
+        if url.len() >= 2_147_483_648 {
+            return Err(AllocError);
+        }
+        config.url = Text::from_str(alloc, url)?;
+    }
+    Ok(config)
+}
+
+// The host and the port that a URL names. Where it names no port, that is 4840, the one of `opc.tcp`. An IPv6 address has no brackets here.
+fn host_and_port(url: &str) -> (&str, Option<u16>) {
+    let rest = match url.split_once("://") {
+        Some((_, rest)) => rest,
+        None => url,
+    };
+    let place = match rest.split_once('/') {
+        Some((front, _)) => front,
+        None => rest,
+    };
+    match place.rsplit_once(':') {
+        // An IPv6 address has colons of its own, in brackets.
+        Some((host, digits)) if !digits.ends_with(']') => (
+            without_brackets(host),
+            digits.parse::<u16>().ok(),
+        ),
+        _ => (without_brackets(place), Some(4840)),
+    }
+}
+
+fn without_brackets(host: &str) -> &str {
+    match host.strip_prefix('[') {
+        Some(rest) => rest.strip_suffix(']').unwrap_or(rest),
+        None => host,
+    }
+}
+
+// What is wrong with a host by which clients are to reach an address, where something is.
+fn doubt_of(host: &str, address: IpAddr) -> Option<&'static str> {
+    let named = host.parse::<IpAddr>().ok();
+    let is_local = host == "localhost" || named.is_some_and(|named| named.is_loopback());
+    if address.is_loopback() {
+        if is_local {
+            return None;
+        }
+        return Some(
+            "which other machines can't reach: it listens on this machine alone, without --address",
+        );
+    }
+    if is_local {
+        return Some("which to other machines are themselves: name this machine by --url");
+    }
+    match named {
+        Some(named) if named != address && !address.is_unspecified() => {
+            Some("which isn't the address that it listens at")
+        }
+        _ => None,
+    }
+}
+
+// Says what will be served, and whether clients are told where it isn't.
+fn tell_served<E: Write>(
+    config: &Config,
+    space: &Space,
+    options: &ServeOptions<'_>,
+    errors: &mut E,
+) {
+    let nodes = space.node_count();
+    let references = space.triple_count();
+    let url = config.url.as_str().unwrap_or("");
+    let _ = write!(
+        errors,
+        "{nodes} nodes, {references} references; clients are told {url}"
+    );
+    let (host, port) = host_and_port(url);
+    if port != Some(options.port) {
+        let asked = options.port;
+        let _ = write!(
+            errors,
+            ", which isn't port {asked}: change `url` in the node file"
+        );
+    }
+    if let Some(doubt) = doubt_of(host, options.address) {
+        let _ = write!(errors, ", {doubt}");
+    }
+    let _ = writeln!(errors);
+}
+
+// Says on standard error which address or port can't be had.
+fn tell_not_had<E: Write>(fault: ServeFault, address: IpAddr, port: u16, errors: &mut E) {
+    let at = SocketAddr::from((address, port));
+    let _ = match fault {
+        ServeFault::Port => writeln!(
+            errors,
+            "can't listen at {at}: another program has the port {port}, or only an administrator may"
+        ),
+        ServeFault::Address => {
+            writeln!(
+                errors,
+                "can't listen at {at}: the address {address} is none of this machine's"
+            )
+        }
+        _ => writeln!(errors, "can't listen at {at}"),
+    };
+}
+
+// Serves until the turns are over, or the file to stop at is there.
+fn run_until<R: Files + Clock + Wait, W: Observer>(
+    rt: &R,
+    alloc: Global,
+    serve: &mut Serve,
+    server: &mut Server,
+    observer: &mut W,
+    options: &ServeOptions<'_>,
+) -> Result<(), ServeFault>
+    ensures { let old = scene (key_stream serve.old.keys) (world_of server.old) serve.old.peers serve.old.events (W.output observer.old) in
+        let new = scene (key_stream serve.new.keys) (world_of server.new) serve.new.peers serve.new.events (W.output observer.new) in
+        MatchResult result (λ _. ServesUntil unknown unknown uncounted W.text (is_some options.now.stop_file) options.now.turns old new)
+        (Stops unknown unknown uncounted W.text old new) }
+{
+    match options.stop_file {
+        Some(path) => {
+            let mut until = StopFile::new(path, options.turns);
+            serve.run(rt, alloc, server, observer, &mut until)
+        }
+        None => serve.run(rt, alloc, server, observer, &mut Turns(options.turns)),
+    }
+}
+
+// Serves by this server, and tells what happens.
+fn serve_and_tell<R: Files + Clock + Wait, O: Write, E: Write>(
+    rt: &R,
+    alloc: Global,
+    serve: &mut Serve,
+    server: &mut Server,
+    options: &ServeOptions<'_>,
+    output: &mut Tap<O>,
+    errors: &mut E,
+) -> Result<(), ServeFault>
+    ensures { ServesWith options.now serve.old (world_of server.old) (place O.contents output.old) (place O.contents output.new) result }
+{
+    let mut addresses = Numbered::new(alloc);
+    if options.trace {
+        let mut text = String::new(alloc);
+        let mut tracing = Tracing {
+            output,
+            errors,
+            addresses: &mut addresses,
+            text: &mut text,
+        };
+        run_until(rt, alloc, serve, server, &mut tracing, options)
+    } else {
+        let mut visitors = Visitors {
+            errors,
+            addresses: &mut addresses,
+        };
+        run_until(rt, alloc, serve, server, &mut visitors, options)
+    }
+}
+
+// The same, into a log, or where it is to be quiet without telling who comes and goes.
+fn serve_and_log<R: Files + Clock + Wait, O: Write, E: Write>(
+    rt: &R,
+    alloc: Global,
+    serve: &mut Serve,
+    server: &mut Server,
+    options: &ServeOptions<'_>,
+    output: &mut Tap<O>,
+    errors: &mut E,
+) -> Result<(), ServeFault>
+    ensures { ServesWith options.now serve.old (world_of server.old) (place O.contents output.old) (place O.contents output.new) result }
+{
+    if options.quiet {
+        serve_and_tell(rt, alloc, serve, server, options, output, &mut sink())
+    } else {
+        let mut log = Log::new(alloc, rt, errors);
+        serve_and_tell(rt, alloc, serve, server, options, output, &mut log)
+    }
+}
+
+// Serves by this server, which knows no connection.
+fn serve_on<R: Files + Net + RandomSource + Clock + Wait, O: Write, E: Write>(
+    rt: &R,
+    alloc: Global,
+    server: &mut Server,
+    idle: u64,
+    options: &ServeOptions<'_>,
+    output: &mut Tap<O>,
+    errors: &mut E,
+) -> Status
+    ensures { ServesOn (place O.contents output.old) (place O.contents output.new) idle options.now (world_of server.old) result }
+{
+    let address = options.address;
+    let port = options.port;
+    let Ok(line) = listening_line(alloc, port) else {
+        return no_memory(errors);
+    };
+    let limits = Limits {
+        idle,
+        per_address: options.per_address,
+    };
+    let mut serve = match Serve::listen(rt, alloc, address, port, limits) {
+        Ok(serve) => serve,
+        Err(fault) => {
+            tell_not_had(fault, address, port, errors);
+            return served(Err(fault), errors);
+        }
+    };
+    match say(line.as_str(), output, errors) {
+        Status::Done => {
+            let ran = serve_and_log(rt, alloc, &mut serve, server, options, output, errors);
+            served(ran, errors)
+        }
+        status => status,
+    }
+}
+
+/// Serves connections to a port of an address by a server of this configuration and address space, for so
+/// many turns, or without end for 0, or until the file to stop at is there. Says `listening` and the port once clients can connect, and before
+/// that, on standard error, what is served. There it tells too which connections come and how they end.
+///
+/// With a trace the rows of the subscriptions' state table that fire follow, a line for each, in the form of
+/// [`scenario_lines`]. The events that the server is handed count from 1 on.
+///
+/// `Done` comes after the turns, or where it was asked to stop, `Network` where the port or the address can't be had, or where the system
+/// refuses the wait, the clock or random bytes, and `Halted` where memory ran out or the server halted. `Stream`
+/// comes where a call of the output failed: nobody is served where it isn't known that the program listens,
+/// and nobody any more where the trace can't be written.
+pub fn serve<R: Files + Net + RandomSource + Clock + Wait, O: Write, E: Write>(
+    rt: &R,
+    alloc: Global,
+    config: Config,
+    space: Space,
+    options: &ServeOptions<'_>,
+    output: &mut Tap<O>,
+    errors: &mut E,
+) -> Status
+    ensures { ServesBy (place O.contents output.old) (place O.contents output.new) options.now (config, space) result }
+{
+    let Ok(config) = with_url(alloc, config, options.url) else {
+        return no_memory(errors);
+    };
+    let idle = idle_of(config.session_time, options.idle);
+    tell_served(&config, &space, options, &mut Log::new(alloc, rt, errors));
+    match Server::new(alloc, config, space) {
+        Ok(mut server) => serve_on(rt, alloc, &mut server, idle, options, output, errors),
+        Err(_) => no_memory(errors),
+    }
+}
+
+// `serve` of what was made.
+fn serve_made<R: Files + Net + RandomSource + Clock + Wait, O: Write, E: Write>(
+    rt: &R,
+    alloc: Global,
+    made: Result<(Config, Space), Status>,
+    options: &ServeOptions<'_>,
+    output: &mut Tap<O>,
+    errors: &mut E,
+) -> Status
+    ensures { (said : Option Made) → MadeBy made said →
+        ServesMade (place O.contents output.old) (place O.contents output.new) options.now said result }
+{
+    match made {
+        Ok((config, space)) => serve(rt, alloc, config, space, options, output, errors),
+        Err(status) => status,
+    }
+}
+
+// `serve` of the node file that the words name.
+pub(crate) fn serve_at<
+    R: Files + AllocGlobal + Net + RandomSource + Clock + Wait,
+    O: Write,
+    E: Write,
+>(rt: &R, options: &ServeOptions<'_>, output: &mut Tap<O>, errors: &mut E) -> Ended
+    ensures { ServesFile (place O.contents output.old) (place O.contents output.new) options.now result.status result.file }
+{
+    let alloc = rt.alloc();
+    match read_file(rt, options.nodes, errors) {
+        Ok(file) => {
+            let made = nodes_in(alloc, file.text(), errors);
+            let status = serve_made(rt, alloc, made, options, output, errors);
+            Ended::with_nodes(status, file)
+        }
+        Err(status) => Ended::by(status),
+    }
+}

@@ -1,8 +1,0 @@
-use Rattle.server_core.specs.World.{world_of}
-use Rattle.socket_server.specs.Sockets.{key_stream}
-use Rattle.socket_server.specs.Serving.{scene, unknown, uncounted, Goes}
-use Rattle.socket_server.proofs.serve.Serve.accept_all.Given as goal
-
-abbrev pub invariant-loop-accept : goal.invariant-loop-accept
-invariant-loop-accept g l = Goes unknown unknown uncounted g.W.Observer.text 0 (scene (key_stream l.initial.self.keys) (world_of l.initial.server) l.initial.self.peers l.initial.self.events (g.W.Observer.output l.initial.observer))
-    (scene (key_stream l.self.keys) (world_of l.server) l.self.peers l.self.events (g.W.Observer.output l.observer))
