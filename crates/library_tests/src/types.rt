@@ -39,9 +39,15 @@ fn a_null_identifier_is_written_as_an_empty_one(rt: HostRuntime) -> Result<(), F
 #[test]
 fn what_a_block_and_a_list_hold_is_taken_out(rt: HostRuntime) -> Result<(), Fail> {
     let alloc = rt.alloc();
-    let boxed = Boxed::new(alloc, 7u32)?;
-    holds(&rt, "in the block", *boxed == 7);
-    holds(&rt, "out of the block", boxed.into_inner() == 7);
+    let block = Shared::new(alloc, 7u32)?;
+    let other = block.copy(alloc)?;
+    holds(&rt, "in the block", *other == 7);
+    holds(
+        &rt,
+        "a copy of what another owns",
+        block.unwrap_or_copy(alloc)? == 7,
+    );
+    holds(&rt, "out of the block", other.unwrap_or_copy(alloc)? == 7);
     let list = Array::new(Vec::from_slice(alloc, &[7u8])?);
     let elements = list.into_vec().unwrap_or(Vec::new(alloc));
     holds(

@@ -21,7 +21,7 @@ use crate::keys::{
 use std::alloc::Global;
 use toml::{Table, Value};
 use ua_space::ValueRank;
-use ua_types::{Array, ByteString, Guid, Moment, Status, Text};
+use ua_types::{ByteString, Guid, Moment, SharedList, Status, Text};
 use ua_values::{Content, ValueType, Variant};
 
 /// What the values of a variable, or of those of a type, are: their type, and one or a list.
@@ -53,7 +53,7 @@ pub(crate) fn bytes_of(alloc: Global, digits: &str) -> Result<ByteString, Cause>
     match hex::decode(alloc, digits) {
         Ok(bytes) => {
             if bytes.len() < 1 << 31 {
-                Ok(ByteString::new(bytes))
+                Ok(ByteString::new(bytes)?)
             } else {
                 Err(Cause::OutOfRange)
             }
@@ -173,7 +173,8 @@ fn list<T: Element>(alloc: Global, highest: u16, values: &[Value]) -> Result<Con
     requires { length values.now < 2 ^ 31 }
     ensures { Gives Memory result (as_list (elements (T.reading highest) (items_view values.now))) }
 {
-    Ok(Content::Array(Array::new(elements(alloc, highest, values)?)))
+    let elements = elements(alloc, highest, values)?;
+    Ok(Content::Array(SharedList::new(elements)?))
 }
 
 // A list of values of a type.

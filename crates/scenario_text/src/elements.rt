@@ -10,7 +10,7 @@ ghost use Rattle.scenario_text.specs.Elements.{octets_of, boolean_of, sbyte_of, 
 use crate::fault::Cause;
 use crate::numbers::{named_id, signed, truth};
 use std::alloc::{AllocError, Global};
-use ua_types::{Array, ByteString, Guid, Moment, NodeId, Status, decimal_up_to};
+use ua_types::{ByteString, Guid, Moment, NodeId, SharedList, Status, decimal_up_to};
 use ua_values::Content;
 
 /// A value of a type that a text says, alone or as an element of a list.
@@ -41,7 +41,7 @@ fn held_octets(bytes: Vec<u8>) -> Result<ByteString, Cause>
     if bytes.len() >= 1 << 31 {
         return Err(Cause::Memory);
     }
-    Ok(ByteString::new(bytes))
+    Ok(ByteString::new(bytes)?)
 }
 
 impl Element for bool {
@@ -214,13 +214,13 @@ fn elements<T: Element>(alloc: Global, texts: &[&str]) -> Result<Vec<T>, Cause>
 }
 
 // A list of these elements. One of 2^31 elements or more counts as want of memory.
-fn held<T: Drop>(items: Vec<T>) -> Result<Array<T>, Cause>
+fn held<T: Drop>(items: Vec<T>) -> Result<SharedList<T>, Cause>
     ensures { Gives Memory result (Ok (Some items.items)) }
 {
     if items.len() >= 1 << 31 {
         return Err(Cause::Memory);
     }
-    Ok(Array::new(items))
+    Ok(SharedList::new(items)?)
 }
 
 /// One value, or a list of values with commas between them.

@@ -7,7 +7,7 @@ use Rattle.ua_values.specs.declared.content.Content.{Content}
 use Rattle.ua_values.specs.declared.content.Content.TheVariants.{Scalar, Array, Matrix}
 use Rattle.ua_values.specs.declared.variant.Variant.{Variant}
 use Rattle.ua_values.specs.declared.variant.Variant.TheVariants as variants
-use Rattle.ua_values.specs.Matrices.{is_shape}
+use Rattle.ua_values.specs.Matrices.{is_shape, or_none}
 use Rattle.ua_binary.specs.declared.fault.TakeFault.TheVariants.{Form, Kind}
 use Rattle.ua_binary.specs.Reading.{Reading, ◌>>=◌, done, refuse}
 use Rattle.ua_binary.specs.Numbers.{boolean_reading, boolean_encoding, byte_reading, byte_encoding, sbyte_reading, sbyte_encoding, number_reading, number_encoding, signed_reading, signed_encoding}
@@ -23,11 +23,6 @@ use Rattle.ua_binary.specs.LocalizedTexts.{localized_text_reading, localized_tex
 use Rattle.ua_binary.specs.ExtensionObjects.{extension_object_reading, extension_object_encoding}
 
 -- ---- reading
-
--- a null list of dimensions is an empty one
-abbrev pub or_empty : Option (List ℕ) → List ℕ
-or_empty None = []
-or_empty (Some dimensions) = dimensions
 
 -- a list with dimensions isn't null, and has as many elements as they say
 abbrev pub in_dimensions : {A : Type 0} → Option (List A) → List ℕ → Reading (Content A)
@@ -46,7 +41,7 @@ content_reading element flags =
     else if flags == 3 then (do
       elements ← array_reading element
       dimensions ← array_reading (number_reading w32)
-      in_dimensions elements (or_empty dimensions))
+      in_dimensions elements (or_none dimensions))
     else refuse Form
 
 -- a variant of one type

@@ -18,7 +18,8 @@ use ua_types::Array;
 /// The most elements for which room is taken before they are read.
 const ROOM: usize = 1024;
 
-fn elements<T: Wire>(
+// So many elements.
+pub(crate) fn elements<T: Wire>(
     alloc: Global,
     count: usize,
     cursor: &mut Cursor<'_>,

@@ -37,6 +37,7 @@ mod numbers;
 mod parts;
 mod qualified_names;
 mod scalars;
+mod shared_lists;
 mod texts;
 mod variants;
 mod wire;

@@ -1,38 +1,35 @@
 //! Values of any type.
 
 ghost use Rattle.std.specs.Prelude.{◌≡◌, ◌≢◌, ◌<◌, ◌≤◌, ◌⊎◌, ◌++◌, ℕ, List, Ok, Err, OnOk, OnErr};
+ghost use Rattle.ua_values.specs.Matrices.{or_none};
 ghost use Rattle.ua_values.specs.declared.content.Content.TheVariants as contents;
 ghost use Rattle.ua_binary.specs.declared.fault.TakeFault.TheVariants.{Memory};
 ghost use Rattle.ua_binary.specs.Reading.{Reads, ReadsInto, Extends};
 ghost use Rattle.ua_binary.specs.Texts.{ClaimsTooMany, IsBacked};
 ghost use Rattle.ua_binary.specs.Backing.{IsBackedOrBoxed, IsContent, IsBoxedContent, FoundNoRoom};
-ghost use Rattle.ua_binary.specs.Variants.{in_dimensions, or_empty, content_reading, typed_reading, variant_reading, ClaimsTooManyElements, flags_of, content_encoding, typed_encoding, variant_encoding};
+ghost use Rattle.ua_binary.specs.Variants.{in_dimensions, content_reading, typed_reading, variant_reading, ClaimsTooManyElements, flags_of, content_encoding, typed_encoding, variant_encoding};
 
 use crate::arrays::write_list;
 use crate::cursor::Cursor;
 use crate::fault::TakeFault;
 use crate::wire::Wire;
 use std::alloc::{AllocError, Global};
-use ua_types::{Array, Boxed};
+use ua_types::{Shared, SharedList};
 use ua_values::{Content, Matrix, Variant, has_shape};
 
 // A list in dimensions that were read after it.
 fn with_dimensions<T: Drop>(
-    alloc: Global,
-    elements: Array<T>,
-    dimensions: Array<u32>,
+    elements: SharedList<T>,
+    dimensions: SharedList<u32>,
 ) -> Result<Content<T>, TakeFault>
-    ensures reads { (rest : List ℕ) → Reads result rest (in_dimensions elements (or_empty dimensions) rest) }
+    ensures reads { (rest : List ℕ) → Reads result rest (in_dimensions elements (or_none dimensions) rest) }
     ensures no_memory { result ≢ Err Memory }
 {
-    let Some(elements) = elements.into_vec() else {
+    let Some(elements) = elements.into_shared() else {
         return Err(TakeFault::Form);
     };
-    let dimensions = match dimensions.into_vec() {
-        Some(dimensions) => dimensions,
-        None => Vec::new(alloc),
-    };
-    if !has_shape(&dimensions, elements.len()) {
+    let sides = dimensions.as_slice().unwrap_or(&[]);
+    if !has_shape(sides, elements.len()) {
         return Err(TakeFault::Form);
     }
     Ok(Content::Matrix(Matrix::new(elements, dimensions)))
@@ -56,13 +53,13 @@ fn decode_content<T: Wire>(
             Ok(Content::Scalar(value))
         }
         2 => {
-            let elements = Array::<T>::decode(alloc, cursor)?;
+            let elements = SharedList::<T>::decode(alloc, cursor)?;
             Ok(Content::Array(elements))
         }
         3 => {
-            let elements = Array::<T>::decode(alloc, cursor)?;
-            let dimensions = Array::<u32>::decode(alloc, cursor)?;
-            with_dimensions(alloc, elements, dimensions)
+            let elements = SharedList::<T>::decode(alloc, cursor)?;
+            let dimensions = SharedList::<u32>::decode(alloc, cursor)?;
+            with_dimensions(elements, dimensions)
         }
         _ => Err(TakeFault::Form),
     }
@@ -75,14 +72,14 @@ fn decode_boxed<'a, T: Wire>(
     flags: u8,
     start: &'a [u8],
     cursor: &mut Cursor<'a>,
-) -> Result<Boxed<Content<T>>, TakeFault>
+) -> Result<Shared<Content<T>>, TakeFault>
     requires backed { (bytes : List ℕ) → T.wants_memory bytes → IsBacked bytes }
     ensures reads { Reads result cursor.new (content_reading T.reading flags cursor.old) }
     ensures claim { 2 ≤ flags → ClaimsTooMany cursor.old → result ≢ Err Memory }
     ensures backed { result ≡ Err Memory → FoundNoRoom start.now (IsContent T.reading flags cursor.old) cursor.new }
 {
     let content = decode_content(alloc, flags, cursor)?;
-    match Boxed::new(alloc, content) {
+    match Shared::new(alloc, content) {
         Ok(content) => Ok(content),
         Err(_) => {
             *cursor = Cursor::new(start);
@@ -277,7 +274,7 @@ pub fn decode_variant(
 #[inline(never)]
 fn encode_typed_array<T: Wire>(
     number: u8,
-    elements: &Array<T>,
+    elements: &SharedList<T>,
     out: &mut Vec<u8>,
 ) -> Result<(), AllocError>
     requires { number < 64 }

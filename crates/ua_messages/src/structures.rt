@@ -124,7 +124,7 @@ pub fn object_of_bytes(type_id: u32, bytes: Vec<u8>) -> Result<ExtensionObject, 
     }
     Ok(ExtensionObject {
         type_id: NodeId::numeric(0, type_id),
-        body: ExtensionObjectBody::Binary(ByteString::new(bytes)),
+        body: ExtensionObjectBody::Binary(ByteString::new(bytes)?),
     })
 }
 

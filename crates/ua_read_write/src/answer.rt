@@ -17,7 +17,7 @@ use std::alloc::{AllocError, Global};
 use std::marker::Model;
 use ua_binary::{BorrowedDataValue, BorrowedVariant, Wire, Written};
 use ua_space::Variable;
-use ua_types::{Boxed, Copyable, Moment, NodeId, Status};
+use ua_types::{Copyable, Moment, NodeId, Shared, Status};
 use ua_values::{Content, DataValue, Variant};
 
 /// The answer to one read: the attribute with the times that are wanted, or why it can't be read.
@@ -224,7 +224,7 @@ pub(crate) fn copied(
         Attribute::Id(id) => Variant::NodeId(Content::Scalar(id.copy(alloc)?)),
         Attribute::Name(name) => Variant::QualifiedName(Content::Scalar(name.copy(alloc)?)),
         Attribute::Words(words) => {
-            Variant::LocalizedText(Boxed::new(alloc, Content::Scalar(words.copy(alloc)?))?)
+            Variant::LocalizedText(Shared::new(alloc, Content::Scalar(words.copy(alloc)?))?)
         }
         Attribute::Type(number) => {
             Variant::NodeId(Content::Scalar(NodeId::numeric(0, number as u32)))

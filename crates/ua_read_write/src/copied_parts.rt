@@ -5,7 +5,7 @@ ghost use Rattle.ua_values.specs.Parts.{part_in, part_of};
 
 use crate::index_range::IndexRange;
 use std::alloc::{AllocError, Global};
-use ua_types::{Array, Boxed, Copyable, copy_all};
+use ua_types::{Copyable, Shared, SharedList, copy_all};
 use ua_values::{Content, Variant};
 
 // These elements of a list without dimensions, or all of what is no such list.
@@ -20,7 +20,7 @@ fn copied_content<T: Copyable>(
         if let Some(elements) = list.as_slice() {
             let (_, rest) = elements.split_at((range.first as usize).min(elements.len()));
             let (part, _) = rest.split_at((range.count as usize).min(rest.len()));
-            return Ok(Content::Array(Array::new(copy_all(alloc, part)?)));
+            return Ok(Content::Array(SharedList::new(copy_all(alloc, part)?)?));
         }
     }
     content.copy(alloc)
@@ -57,7 +57,7 @@ pub(crate) fn copied_part(
             alloc, content, range,
         )?)),
         Variant::NodeId(content) => Ok(Variant::NodeId(copied_content(alloc, content, range)?)),
-        Variant::ExpandedNodeId(content) => Ok(Variant::ExpandedNodeId(Boxed::new(
+        Variant::ExpandedNodeId(content) => Ok(Variant::ExpandedNodeId(Shared::new(
             alloc,
             copied_content(alloc, content, range)?,
         )?)),
@@ -67,11 +67,11 @@ pub(crate) fn copied_part(
         Variant::QualifiedName(content) => Ok(Variant::QualifiedName(copied_content(
             alloc, content, range,
         )?)),
-        Variant::LocalizedText(content) => Ok(Variant::LocalizedText(Boxed::new(
+        Variant::LocalizedText(content) => Ok(Variant::LocalizedText(Shared::new(
             alloc,
             copied_content(alloc, content, range)?,
         )?)),
-        Variant::ExtensionObject(content) => Ok(Variant::ExtensionObject(Boxed::new(
+        Variant::ExtensionObject(content) => Ok(Variant::ExtensionObject(Shared::new(
             alloc,
             copied_content(alloc, content, range)?,
         )?)),

@@ -38,7 +38,7 @@ pub fn session_token(alloc: Global, secret: &[u8; 16], number: u32) -> Result<No
     bytes.extend_from_slice(&number.to_le_bytes()[..])?;
     Ok(NodeId {
         namespace: 0,
-        identifier: Identifier::Opaque(ByteString::new(bytes)),
+        identifier: Identifier::Opaque(ByteString::new(bytes)?),
     })
 }
 

@@ -13,7 +13,8 @@ use crate::node::{Node, NodeDetails, ValueRank, Variable};
 use crate::triple::{Part, Triple};
 use std::alloc::{AllocError, Global};
 use ua_types::{
-    Array, Config, Copyable, Listed, LocalizedText, Moment, NodeId, QualifiedName, Status, Text,
+    Config, Copyable, Listed, LocalizedText, Moment, NodeId, QualifiedName, SharedList, Status,
+    Text,
 };
 use ua_values::{Content, DataValue, Variant};
 
@@ -233,11 +234,12 @@ fn add_reference_types(alloc: Global, nodes: &mut Vec<Node>) -> Result<(), Alloc
     add_all(alloc, nodes, &names, Kind::ReferenceType)
 }
 
-fn list(texts: Vec<Text>) -> Variant
+fn list(texts: Vec<Text>) -> Result<Variant, AllocError>
     requires { vec_len texts < 2 ^ 31 }
-    ensures { result ≡ variants.String (content.Array (Some texts.items)) }
+    ensures { IfOk result (λ value. value ≡ variants.String (content.Array (Some texts.items))) }
 {
-    Variant::String(Content::Array(Array::new(texts)))
+    let texts = SharedList::new(texts)?;
+    Ok(Variant::String(Content::Array(texts)))
 }
 
 #[tactic(auto, unfolding(crate::specs::Variables::has_rank))]
@@ -246,7 +248,7 @@ fn server_array(alloc: Global, config: &Config) -> Result<NodeDetails, AllocErro
 {
     let mut texts = Vec::new(alloc);
     texts.push(config.uri.copy(alloc)?)?;
-    Ok(readable(12, ValueRank::List, config.start, list(texts)))
+    Ok(readable(12, ValueRank::List, config.start, list(texts)?))
 }
 
 fn namespaces(alloc: Global, config: &Config) -> Result<Vec<Text>, AllocError>
@@ -267,7 +269,7 @@ fn namespace_array(alloc: Global, config: &Config) -> Result<NodeDetails, AllocE
     ensures { IfOk result (λ details. details ≡ namespace_array config.now) }
 {
     let texts = namespaces(alloc, config)?;
-    Ok(readable(12, ValueRank::List, config.start, list(texts)))
+    Ok(readable(12, ValueRank::List, config.start, list(texts)?))
 }
 
 #[tactic(auto, unfolding(crate::specs::Variables::has_rank))]

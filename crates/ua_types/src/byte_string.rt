@@ -12,6 +12,7 @@ ghost use Rattle.ua_types.specs.Given.{is_given};
 ghost use Rattle.ua_types.specs.NullableOrder.{ties};
 
 use crate::copyable::Copyable;
+use crate::shared::Shared;
 use std::alloc::{AllocError, Global};
 use std::cmp::Ordering;
 use std::marker::Model;
@@ -22,7 +23,7 @@ use std::marker::Model;
 #[derive(Debug)]
 pub struct ByteString {
     // None is null, which differs from empty.
-    inside: Option<Vec<u8>>,
+    inside: Option<Shared<Vec<u8>>>,
 }
 
 impl Model for ByteString {
@@ -41,14 +42,15 @@ impl ByteString {
         ByteString { inside: None }
     }
 
-    /// A byte string of these bytes.
-    pub fn new(bytes: Vec<u8>) -> ByteString
+    /// A byte string of these bytes, which takes a block beside theirs.
+    pub fn new(bytes: Vec<u8>) -> Result<ByteString, AllocError>
         requires { vec_len bytes < 2 ^ 31 }
-        ensures { result ≡ Some bytes.items }
+        ensures { IfOk result (λ b. b ≡ Some bytes.items) }
     {
-        ByteString {
-            inside: Some(bytes),
-        }
+        let alloc = *bytes.allocator();
+        Ok(ByteString {
+            inside: Some(Shared::new(alloc, bytes)?),
+        })
     }
 
     /// A byte string with a copy of these bytes.
@@ -56,7 +58,7 @@ impl ByteString {
         requires { length bytes.now < 2 ^ 31 }
         ensures { IfOk result (λ b. b ≡ Some bytes.now) }
     {
-        Ok(ByteString::new(Vec::from_slice(alloc, bytes)?))
+        ByteString::new(Vec::from_slice(alloc, bytes)?)
     }
 
     /// Whether it is null.
@@ -86,15 +88,6 @@ impl ByteString {
             Some(bytes) => Some(bytes.as_slice()),
         }
     }
-
-    /// The bytes themselves, unless it is null.
-    pub fn into_vec(self) -> Option<Vec<u8>>
-        ensures bytes { option_map (λ v. v.items) result ≡ self }
-        ensures short { IfSome result (λ v. vec_len v < 2 ^ 31) }
-    {
-        let ByteString { inside } = self;
-        inside
-    }
 }
 
 // Written out, so that a proof sees a drop as one call and not as its cases.
@@ -105,10 +98,12 @@ impl Drop for ByteString {
 }
 
 impl Copyable for ByteString {
-    fn copy(&self, alloc: Global) -> Result<ByteString, AllocError> {
-        match self.as_slice() {
+    fn copy(&self, _alloc: Global) -> Result<ByteString, AllocError> {
+        match &self.inside {
             None => Ok(ByteString::null()),
-            Some(bytes) => ByteString::from_slice(alloc, bytes),
+            Some(bytes) => Ok(ByteString {
+                inside: Some(bytes.share()?),
+            }),
         }
     }
 }

@@ -55,7 +55,7 @@ fn opaque(alloc: Global, text: &str) -> Result<Identifier, IdFault>
     match hex::decode(alloc, text) {
         Ok(bytes) => {
             if bytes.len() < 1 << 31 {
-                Ok(Identifier::Opaque(ByteString::new(bytes)))
+                Ok(Identifier::Opaque(ByteString::new(bytes)?))
             } else {
                 Err(IdFault::Bytes)
             }

@@ -5,20 +5,20 @@
 //! Everything here is plain data. Nothing reads bytes of the wire (`ua_binary` does), a clock or a
 //! socket. What a contract sees:
 //!
-//! - `Text`, `ByteString` and `Array` are optional lists, where null is `None` and differs from empty;
+//! - `Text`, `ByteString`, `Array` and `SharedList` are optional lists, where null is `None` and differs from empty;
 //! - `NodeId`, `ExtensionObject` and the other structures are the records of their fields;
 //! - the text of a node id is read by a grammar and written in one way ([`NodeId::parse`], [`write_id`]);
-//! - `Listed` is a list, whatever room it has, and `Boxed` the value in its block;
+//! - `Listed` is a list, whatever room it has, and `Shared` the value in its block, whoever else owns it;
 //! - `Config` is a record whose numbers always lie in their ranges (`IsConfigured`), which [`NumberRange`] has.
 //!
 //! Memory is always taken from an allocator that is passed in, and a refusal is answered as
-//! [`Memory`]. A value that holds texts or lists isn't `Clone`: it is copied by [`Copyable`].
+//! [`Memory`]. A value that holds texts or lists isn't `Clone`: it is copied by [`Copyable`], and the copy of a text, a byte
+//! string or a `SharedList` is one more owner of the same block, whatever its length.
 //!
 //! Read [`NodeId`] and [`Text`] first.
 #![tactic(auto)]
 
 mod array;
-mod boxed;
 mod byte_string;
 mod config;
 mod copyable;
@@ -36,11 +36,12 @@ mod number_range;
 mod parsing;
 mod qualified_name;
 mod refusal;
+mod shared;
+mod shared_list;
 mod status;
 mod text;
 
 pub use array::Array;
-pub use boxed::Boxed;
 pub use byte_string::ByteString;
 pub use config::Config;
 pub use copyable::{Copyable, copy_all};
@@ -57,6 +58,8 @@ pub use number_range::NumberRange;
 pub use parsing::{behind, decimal_up_to};
 pub use qualified_name::QualifiedName;
 pub use refusal::Refusal;
+pub use shared::Shared;
+pub use shared_list::SharedList;
 pub use status::Status;
 pub use std::alloc::AllocError as Memory;
 pub use text::Text;

@@ -12,6 +12,7 @@ ghost use Rattle.ua_types.specs.Given.{is_given};
 ghost use Rattle.ua_types.specs.NullableOrder.{ties};
 
 use crate::copyable::Copyable;
+use crate::shared::Shared;
 use std::alloc::{AllocError, Global};
 use std::cmp::Ordering;
 use std::marker::Model;
@@ -22,7 +23,7 @@ use std::marker::Model;
 #[derive(Debug)]
 pub struct Text {
     // None is null, which differs from empty.
-    inside: Option<String>,
+    inside: Option<Shared<String>>,
 }
 
 impl Model for Text {
@@ -41,12 +42,15 @@ impl Text {
         Text { inside: None }
     }
 
-    /// A text with these characters.
-    pub fn new(text: String) -> Text
+    /// A text with these characters, which takes a block beside theirs.
+    pub fn new(text: String) -> Result<Text, AllocError>
         requires { string_len text < 2 ^ 31 }
-        ensures { result ≡ Some (string_bytes text) }
+        ensures { IfOk result (λ t. t ≡ Some (string_bytes text)) }
     {
-        Text { inside: Some(text) }
+        let alloc = *text.allocator();
+        Ok(Text {
+            inside: Some(Shared::new(alloc, text)?),
+        })
     }
 
     /// A text with a copy of these characters.
@@ -54,7 +58,7 @@ impl Text {
         requires { length text.now < 2 ^ 31 }
         ensures { IfOk result (λ t. t ≡ Some text.now) }
     {
-        Ok(Text::new(String::from_str(alloc, text)?))
+        Text::new(String::from_str(alloc, text)?)
     }
 
     /// Whether it is null.
@@ -84,15 +88,6 @@ impl Text {
             Some(text) => Some(text.as_str()),
         }
     }
-
-    /// The characters themselves, unless it is null.
-    pub fn into_string(self) -> Option<String>
-        ensures text { option_map (λ s. string_bytes s) result ≡ self }
-        ensures short { IfSome result (λ s. string_len s < 2 ^ 31) }
-    {
-        let Text { inside } = self;
-        inside
-    }
 }
 
 // Written out, so that a proof sees a drop as one call and not as its cases.
@@ -103,10 +98,12 @@ impl Drop for Text {
 }
 
 impl Copyable for Text {
-    fn copy(&self, alloc: Global) -> Result<Text, AllocError> {
-        match self.as_str() {
+    fn copy(&self, _alloc: Global) -> Result<Text, AllocError> {
+        match &self.inside {
             None => Ok(Text::null()),
-            Some(text) => Text::from_str(alloc, text),
+            Some(text) => Ok(Text {
+                inside: Some(text.share()?),
+            }),
         }
     }
 }

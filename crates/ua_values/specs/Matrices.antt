@@ -1,6 +1,6 @@
 -- Lists with dimensions: which elements fit in which dimensions, and how such lists are compared, element
 -- by element, and then by the dimensions.
-use Rattle.std.specs.Prelude.{◌≡◌, ℕ, ◌*◌, ◌<◌, ◌^◌, List, [], ◌∷◌, length, Bool, true, nat_lt, ◌==◌, ◌&&◌}
+use Rattle.std.specs.Prelude.{◌≡◌, ℕ, ◌*◌, ◌<◌, ◌^◌, List, [], ◌∷◌, length, Bool, true, nat_lt, ◌==◌, ◌&&◌, Option, None, Some}
 use Rattle.std.specs.List.{list_all}
 use Rattle.std.specs.declared.cmp.Ordering.{Ordering}
 use Rattle.std.specs.Cmp.{IsEquivalence, IsTotalOrder, on_equiv, and_equiv, on_total, then_total, both_tied}
@@ -15,6 +15,11 @@ product (d ∷ ds) = d * product ds
 -- no dimension is negative, which as an unsigned number is 2 ^ 31 or more, and the product is the number of elements
 abbrev pub is_shape : List ℕ → ℕ → Bool
 is_shape dimensions count = list_all (λ d. nat_lt d (2 ^ 31)) dimensions && (product dimensions == count)
+
+-- null dimensions are none
+abbrev pub or_none : Option (List ℕ) → List ℕ
+or_none None = []
+or_none (Some dimensions) = dimensions
 
 -- the elements lie in the dimensions, and both are lists that can be written
 pub record IsShaped {A : Type 0} (elements : List A) (dimensions : List ℕ) : Type 0 where

@@ -1,6 +1,6 @@
 //! What a value holds: one value, a list, or a list with dimensions.
 
-ghost use Rattle.std.specs.Prelude.{◌≡◌, ◌≤◌, ◌+◌, ◌++◌, take, drop, option_map, refl};
+ghost use Rattle.std.specs.Prelude.{◌≡◌, ◌≤◌, ◌+◌, ◌++◌, take, drop, option_map, refl, IfOk};
 ghost use Rattle.std.specs.Cmp.{partial_equiv_from_equiv, po};
 ghost use Rattle.std.specs.Vec.{vec_len};
 ghost use Rattle.std.specs.Ordering.{as_partial_cmp};
@@ -10,7 +10,7 @@ use crate::matrix::Matrix;
 use crate::shape::Shape;
 use std::alloc::{AllocError, Global};
 use std::cmp::Ordering;
-use ua_types::{Array, Copyable};
+use ua_types::{Copyable, SharedList};
 
 // A list with others in the place of as many of its elements, from one on. They are moved, and those that stood there are dropped.
 fn replaced<T: Drop>(whole: Vec<T>, from: usize, part: Vec<T>) -> Vec<T>
@@ -35,7 +35,7 @@ fn replaced<T: Drop>(whole: Vec<T>, from: usize, part: Vec<T>) -> Vec<T>
 pub enum Content<T> {
     Scalar(T),
     /// A list without dimensions, which may be null.
-    Array(Array<T>),
+    Array(SharedList<T>),
     /// A list with dimensions. With no dimensions it has one element, and still isn't a scalar.
     Matrix(Matrix<T>),
 }
@@ -73,7 +73,7 @@ impl<T> Content<T> {
 }
 
 impl<T: Drop> Content<T> {
-    ghost use Rattle.ua_values.specs.Parts.{list_len_in, flattened_in, with_part_in, HasRoom};
+    ghost use Rattle.ua_values.specs.Parts.{flattened_in};
 
     // A list with one dimension without it, and all else as it is.
     pub(crate) fn flattened(self) -> Content<T>
@@ -82,7 +82,7 @@ impl<T: Drop> Content<T> {
         match self {
             Content::Matrix(matrix) => {
                 if matrix.dimensions().len() == 1 {
-                    Content::Array(Array::new(matrix.into_elements()))
+                    Content::Array(SharedList::from_shared(matrix.into_elements()))
                 } else {
                     Content::Matrix(matrix)
                 }
@@ -91,20 +91,32 @@ impl<T: Drop> Content<T> {
             Content::Array(list) => Content::Array(list),
         }
     }
+}
+
+impl<T: Copyable> Content<T> {
+    ghost use Rattle.ua_values.specs.Parts.{list_len_in, with_part_in, HasRoom};
 
     // A list with those of another list in the place of as many of its elements, from one on.
-    pub(crate) fn with_part(self, from: usize, part: Content<T>) -> Content<T>
+    pub(crate) fn with_part(
+        self,
+        alloc: Global,
+        from: usize,
+        part: Content<T>,
+    ) -> Result<Content<T>, AllocError>
         requires { HasRoom from (list_len_in part) (list_len_in self) }
-        ensures { result ≡ with_part_in from part self }
+        ensures { IfOk result (λ list. list ≡ with_part_in from part self) }
     {
         match self {
             Content::Scalar(_) => unreachable!(),
             Content::Array(whole) => match part {
-                Content::Array(part) => match whole.into_vec() {
-                    None => Content::Array(Array::null()),
-                    Some(whole) => match part.into_vec() {
-                        None => Content::Array(Array::new(whole)),
-                        Some(part) => Content::Array(Array::new(replaced(whole, from, part))),
+                Content::Array(part) => match whole.into_vec(alloc)? {
+                    None => Ok(Content::Array(SharedList::null())),
+                    Some(whole) => match part.into_vec(alloc)? {
+                        None => Ok(Content::Array(SharedList::new(whole)?)),
+                        Some(part) => {
+                            let elements = replaced(whole, from, part);
+                            Ok(Content::Array(SharedList::new(elements)?))
+                        }
                     },
                 },
                 Content::Scalar(_) => unreachable!(),

@@ -4,12 +4,12 @@ ghost use Rattle.std.specs.Prelude.{◌≡◌, ℕ, ◌<◌, ◌^◌, List, leng
 ghost use Rattle.std.specs.Cmp.{partial_equiv_from_equiv, po};
 ghost use Rattle.std.specs.Ordering.{as_partial_cmp};
 ghost use Rattle.std.specs.Vec.{vec_len};
-ghost use Rattle.ua_values.specs.Matrices.{IsShaped, is_shape, same_matrix, matrix_cmp, same_matrix_equiv, matrix_cmp_total, matrix_ties};
+ghost use Rattle.ua_values.specs.Matrices.{IsShaped, is_shape, or_none, same_matrix, matrix_cmp, same_matrix_equiv, matrix_cmp_total, matrix_ties};
 
 use std::alloc::{AllocError, Global};
 use std::cmp::Ordering;
 use std::marker::Model;
-use ua_types::{Copyable, copy_all};
+use ua_types::{Copyable, Shared, SharedList};
 
 /// Whether so many elements lie in these dimensions: each is below 2^31, and their product is the
 /// number of elements. The product of no dimensions is 1.
@@ -35,24 +35,24 @@ pub fn has_shape(dimensions: &[u32], count: usize) -> bool
 #[derive(Debug)]
 pub struct Matrix<T> {
     // With the last dimension running fastest.
-    elements: Vec<T>,
-    // The slowest first; their product is the number of elements.
-    dimensions: Vec<u32>,
+    elements: Shared<Vec<T>>,
+    // The slowest first, or null for none; their product is the number of elements.
+    dimensions: SharedList<u32>,
 }
 
 impl<T> Model for Matrix<T> {
     ghost Value = { List T × List ℕ };
 
-    ghost view = { λ m. (m.elements.items, m.dimensions.items) };
+    ghost view = { λ m. (m.elements.items, or_none m.dimensions) };
 
-    ghost invariant = { λ m. IsShaped m.elements.items m.dimensions.items };
+    ghost invariant = { λ m. IsShaped m.elements.items (or_none m.dimensions) };
 }
 
 impl<T> Matrix<T> {
-    /// A list of elements in dimensions. [`has_shape`] says whether they fit.
-    pub fn new(elements: Vec<T>, dimensions: Vec<u32>) -> Matrix<T>
-        requires { IsShaped elements.items dimensions.items }
-        ensures { result ≡ (elements.items, dimensions.items) }
+    /// A list of elements in dimensions, of which null are none. [`has_shape`] says whether they fit. Takes no memory.
+    pub fn new(elements: Shared<Vec<T>>, dimensions: SharedList<u32>) -> Matrix<T>
+        requires { IsShaped elements.items (or_none dimensions) }
+        ensures { result ≡ (elements.items, or_none dimensions) }
     {
         Matrix {
             elements,
@@ -69,7 +69,7 @@ impl<T> Matrix<T> {
     }
 
     /// The elements themselves, with the last dimension running fastest.
-    pub fn into_elements(self) -> Vec<T>
+    pub fn into_elements(self) -> Shared<Vec<T>>
         ensures elements { result.items ≡ self.0 }
         ensures short { vec_len result < 2 ^ 31 }
     {
@@ -84,7 +84,10 @@ impl<T> Matrix<T> {
     pub fn dimensions(&self) -> &[u32]
         ensures { result.now ≡ self.now.1 }
     {
-        self.dimensions.as_slice()
+        match self.dimensions.as_slice() {
+            None => &[],
+            Some(dimensions) => dimensions,
+        }
     }
 }
 
@@ -98,10 +101,10 @@ impl<T: Drop> Drop for Matrix<T> {
     }
 }
 
-impl<T: Copyable> Copyable for Matrix<T> {
+impl<T: Drop> Copyable for Matrix<T> {
     fn copy(&self, alloc: Global) -> Result<Matrix<T>, AllocError> {
-        let elements = copy_all(alloc, self.elements())?;
-        let dimensions = Vec::from_slice(alloc, self.dimensions())?;
+        let elements = self.elements.share()?;
+        let dimensions = self.dimensions.copy(alloc)?;
         Ok(Matrix::new(elements, dimensions))
     }
 }
@@ -112,7 +115,7 @@ impl<T: Eq> PartialEq for Matrix<T> {
     ghost laws = { partial_equiv_from_equiv (same_matrix_equiv T.Eq.laws) };
 
     fn eq(&self, other: &Matrix<T>) -> bool {
-        self.elements == other.elements && self.dimensions == other.dimensions
+        self.elements() == other.elements() && self.dimensions() == other.dimensions()
     }
 }
 

@@ -10,31 +10,33 @@ use crate::float::{Double, Float};
 use crate::shape::Shape;
 use std::alloc::{AllocError, Global};
 use ua_types::{
-    Boxed, ByteString, Copyable, ExpandedNodeId, ExtensionObject, Guid, LocalizedText, Moment,
-    NodeId, QualifiedName, Status, Text,
+    ByteString, Copyable, ExpandedNodeId, ExtensionObject, Guid, LocalizedText, Moment, NodeId,
+    QualifiedName, Shared, Status, Text,
 };
 
 // The content of a block of its own, flattened, in another block.
-fn flattened_boxed<T: Drop>(
+fn flattened_shared<T: Copyable>(
     alloc: Global,
-    content: Boxed<Content<T>>,
-) -> Result<Boxed<Content<T>>, AllocError>
+    content: Shared<Content<T>>,
+) -> Result<Shared<Content<T>>, AllocError>
     ensures { IfOk result (λ flat. flat ≡ flattened_in content) }
 {
-    Boxed::new(alloc, content.into_inner().flattened())
+    Shared::new(alloc, content.unwrap_or_copy(alloc)?.flattened())
 }
 
 // A list in a block of its own with others in the place of some of its elements, in another block.
-fn boxed_with_part<T: Drop>(
+fn shared_with_part<T: Copyable>(
     alloc: Global,
-    whole: Boxed<Content<T>>,
+    whole: Shared<Content<T>>,
     from: usize,
-    part: Boxed<Content<T>>,
-) -> Result<Boxed<Content<T>>, AllocError>
+    part: Shared<Content<T>>,
+) -> Result<Shared<Content<T>>, AllocError>
     requires { HasRoom from (list_len_in part) (list_len_in whole) }
     ensures { IfOk result (λ list. list ≡ with_part_in from part whole) }
 {
-    Boxed::new(alloc, whole.into_inner().with_part(from, part.into_inner()))
+    let whole = whole.unwrap_or_copy(alloc)?;
+    let part = part.unwrap_or_copy(alloc)?;
+    Shared::new(alloc, whole.with_part(alloc, from, part)?)
 }
 
 /// A value of any built-in type (Variant, IEC 62541-6, 5.2.2.16), but for `DataValue`, `Variant` and
@@ -64,11 +66,11 @@ pub enum Variant {
     /// An XML element, whose bytes nobody checks.
     XmlElement(Content<ByteString>),
     NodeId(Content<NodeId>),
-    ExpandedNodeId(Boxed<Content<ExpandedNodeId>>),
+    ExpandedNodeId(Shared<Content<ExpandedNodeId>>),
     StatusCode(Content<Status>),
     QualifiedName(Content<QualifiedName>),
-    LocalizedText(Boxed<Content<LocalizedText>>),
-    ExtensionObject(Boxed<Content<ExtensionObject>>),
+    LocalizedText(Shared<Content<LocalizedText>>),
+    ExtensionObject(Shared<Content<ExtensionObject>>),
 }
 
 impl Variant {
@@ -158,15 +160,15 @@ impl Variant {
             Variant::ByteString(content) => Ok(Variant::ByteString(content.flattened())),
             Variant::XmlElement(content) => Ok(Variant::XmlElement(content.flattened())),
             Variant::NodeId(content) => Ok(Variant::NodeId(content.flattened())),
-            Variant::ExpandedNodeId(content) => Ok(Variant::ExpandedNodeId(flattened_boxed(
+            Variant::ExpandedNodeId(content) => Ok(Variant::ExpandedNodeId(flattened_shared(
                 alloc, content,
             )?)),
             Variant::StatusCode(content) => Ok(Variant::StatusCode(content.flattened())),
             Variant::QualifiedName(content) => Ok(Variant::QualifiedName(content.flattened())),
-            Variant::LocalizedText(content) => Ok(Variant::LocalizedText(flattened_boxed(
+            Variant::LocalizedText(content) => Ok(Variant::LocalizedText(flattened_shared(
                 alloc, content,
             )?)),
-            Variant::ExtensionObject(content) => Ok(Variant::ExtensionObject(flattened_boxed(
+            Variant::ExtensionObject(content) => Ok(Variant::ExtensionObject(flattened_shared(
                 alloc, content,
             )?)),
         }
@@ -183,97 +185,105 @@ impl Variant {
         match self {
             Variant::Null => Ok(Variant::Null),
             Variant::Boolean(whole) => match part {
-                Variant::Boolean(part) => Ok(Variant::Boolean(whole.with_part(from, part))),
+                Variant::Boolean(part) => Ok(Variant::Boolean(whole.with_part(alloc, from, part)?)),
                 _ => unreachable!(),
             },
             Variant::SByte(whole) => match part {
-                Variant::SByte(part) => Ok(Variant::SByte(whole.with_part(from, part))),
+                Variant::SByte(part) => Ok(Variant::SByte(whole.with_part(alloc, from, part)?)),
                 _ => unreachable!(),
             },
             Variant::Byte(whole) => match part {
-                Variant::Byte(part) => Ok(Variant::Byte(whole.with_part(from, part))),
+                Variant::Byte(part) => Ok(Variant::Byte(whole.with_part(alloc, from, part)?)),
                 _ => unreachable!(),
             },
             Variant::Int16(whole) => match part {
-                Variant::Int16(part) => Ok(Variant::Int16(whole.with_part(from, part))),
+                Variant::Int16(part) => Ok(Variant::Int16(whole.with_part(alloc, from, part)?)),
                 _ => unreachable!(),
             },
             Variant::UInt16(whole) => match part {
-                Variant::UInt16(part) => Ok(Variant::UInt16(whole.with_part(from, part))),
+                Variant::UInt16(part) => Ok(Variant::UInt16(whole.with_part(alloc, from, part)?)),
                 _ => unreachable!(),
             },
             Variant::Int32(whole) => match part {
-                Variant::Int32(part) => Ok(Variant::Int32(whole.with_part(from, part))),
+                Variant::Int32(part) => Ok(Variant::Int32(whole.with_part(alloc, from, part)?)),
                 _ => unreachable!(),
             },
             Variant::UInt32(whole) => match part {
-                Variant::UInt32(part) => Ok(Variant::UInt32(whole.with_part(from, part))),
+                Variant::UInt32(part) => Ok(Variant::UInt32(whole.with_part(alloc, from, part)?)),
                 _ => unreachable!(),
             },
             Variant::Int64(whole) => match part {
-                Variant::Int64(part) => Ok(Variant::Int64(whole.with_part(from, part))),
+                Variant::Int64(part) => Ok(Variant::Int64(whole.with_part(alloc, from, part)?)),
                 _ => unreachable!(),
             },
             Variant::UInt64(whole) => match part {
-                Variant::UInt64(part) => Ok(Variant::UInt64(whole.with_part(from, part))),
+                Variant::UInt64(part) => Ok(Variant::UInt64(whole.with_part(alloc, from, part)?)),
                 _ => unreachable!(),
             },
             Variant::Float(whole) => match part {
-                Variant::Float(part) => Ok(Variant::Float(whole.with_part(from, part))),
+                Variant::Float(part) => Ok(Variant::Float(whole.with_part(alloc, from, part)?)),
                 _ => unreachable!(),
             },
             Variant::Double(whole) => match part {
-                Variant::Double(part) => Ok(Variant::Double(whole.with_part(from, part))),
+                Variant::Double(part) => Ok(Variant::Double(whole.with_part(alloc, from, part)?)),
                 _ => unreachable!(),
             },
             Variant::String(whole) => match part {
-                Variant::String(part) => Ok(Variant::String(whole.with_part(from, part))),
+                Variant::String(part) => Ok(Variant::String(whole.with_part(alloc, from, part)?)),
                 _ => unreachable!(),
             },
             Variant::DateTime(whole) => match part {
-                Variant::DateTime(part) => Ok(Variant::DateTime(whole.with_part(from, part))),
+                Variant::DateTime(part) => Ok(Variant::DateTime(whole.with_part(
+                    alloc, from, part,
+                )?)),
                 _ => unreachable!(),
             },
             Variant::Guid(whole) => match part {
-                Variant::Guid(part) => Ok(Variant::Guid(whole.with_part(from, part))),
+                Variant::Guid(part) => Ok(Variant::Guid(whole.with_part(alloc, from, part)?)),
                 _ => unreachable!(),
             },
             Variant::ByteString(whole) => match part {
-                Variant::ByteString(part) => Ok(Variant::ByteString(whole.with_part(from, part))),
+                Variant::ByteString(part) => Ok(Variant::ByteString(whole.with_part(
+                    alloc, from, part,
+                )?)),
                 _ => unreachable!(),
             },
             Variant::XmlElement(whole) => match part {
-                Variant::XmlElement(part) => Ok(Variant::XmlElement(whole.with_part(from, part))),
+                Variant::XmlElement(part) => Ok(Variant::XmlElement(whole.with_part(
+                    alloc, from, part,
+                )?)),
                 _ => unreachable!(),
             },
             Variant::NodeId(whole) => match part {
-                Variant::NodeId(part) => Ok(Variant::NodeId(whole.with_part(from, part))),
+                Variant::NodeId(part) => Ok(Variant::NodeId(whole.with_part(alloc, from, part)?)),
                 _ => unreachable!(),
             },
             Variant::ExpandedNodeId(whole) => match part {
-                Variant::ExpandedNodeId(part) => Ok(Variant::ExpandedNodeId(boxed_with_part(
+                Variant::ExpandedNodeId(part) => Ok(Variant::ExpandedNodeId(shared_with_part(
                     alloc, whole, from, part,
                 )?)),
                 _ => unreachable!(),
             },
             Variant::StatusCode(whole) => match part {
-                Variant::StatusCode(part) => Ok(Variant::StatusCode(whole.with_part(from, part))),
+                Variant::StatusCode(part) => Ok(Variant::StatusCode(whole.with_part(
+                    alloc, from, part,
+                )?)),
                 _ => unreachable!(),
             },
             Variant::QualifiedName(whole) => match part {
                 Variant::QualifiedName(part) => Ok(Variant::QualifiedName(whole.with_part(
-                    from, part,
-                ))),
+                    alloc, from, part,
+                )?)),
                 _ => unreachable!(),
             },
             Variant::LocalizedText(whole) => match part {
-                Variant::LocalizedText(part) => Ok(Variant::LocalizedText(boxed_with_part(
+                Variant::LocalizedText(part) => Ok(Variant::LocalizedText(shared_with_part(
                     alloc, whole, from, part,
                 )?)),
                 _ => unreachable!(),
             },
             Variant::ExtensionObject(whole) => match part {
-                Variant::ExtensionObject(part) => Ok(Variant::ExtensionObject(boxed_with_part(
+                Variant::ExtensionObject(part) => Ok(Variant::ExtensionObject(shared_with_part(
                     alloc, whole, from, part,
                 )?)),
                 _ => unreachable!(),

@@ -17,7 +17,8 @@ use Rattle.ua_binary.specs.declared.fault.TakeFault.TheVariants.{Form}
 use Rattle.ua_binary.specs.Reading.{Reading, go_on, done, refuse}
 use Rattle.ua_binary.specs.Arrays.{array_reading}
 use Rattle.ua_binary.specs.Numbers.{byte_reading, number_reading}
-use Rattle.ua_binary.specs.Variants.{or_empty, in_dimensions, content_reading, variant_of, typed_reading, variant_reading}
+use Rattle.ua_values.specs.Matrices.{or_none}
+use Rattle.ua_binary.specs.Variants.{in_dimensions, content_reading, variant_of, typed_reading, variant_reading}
 use Rattle.ua_views.specs.Views.{value_or}
 use Rattle.ua_views.specs.VariantBytes.{shape_flagged, shape_announced}
 
@@ -46,12 +47,12 @@ module _ {A : Type 0} where
   of_dimensions (Some elements) dimensions rest = where_shaped (is_shape dimensions (length elements)) elements dimensions rest
 
   behind : (elements : Option (List A)) (r : Result (Option (List ℕ) × List ℕ) TakeFault)
-      → HasShape shapes.Matrix (go_on r (λ dimensions. in_dimensions elements (or_empty dimensions)))
-  behind elements (Ok x) = of_dimensions elements (or_empty x.0) x.1
+      → HasShape shapes.Matrix (go_on r (λ dimensions. in_dimensions elements (or_none dimensions)))
+  behind elements (Ok x) = of_dimensions elements (or_none x.0) x.1
   behind elements (Err e) = tt
 
   of_matrix : (r : Result (Option (List A) × List ℕ) TakeFault) (next : Reading (Option (List ℕ)))
-      → HasShape shapes.Matrix (go_on r (λ elements rest. go_on (next rest) (λ dimensions. in_dimensions elements (or_empty dimensions))))
+      → HasShape shapes.Matrix (go_on r (λ elements rest. go_on (next rest) (λ dimensions. in_dimensions elements (or_none dimensions))))
   of_matrix (Ok x) next = behind x.0 (next x.1)
   of_matrix (Err e) next = tt
 

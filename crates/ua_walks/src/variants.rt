@@ -7,7 +7,8 @@ ghost use Rattle.ua_values.specs.Parts.{flat_len_in, flat_len};
 ghost use Rattle.ua_binary.specs.declared.fault.TakeFault.TheVariants.{Memory};
 ghost use Rattle.ua_binary.specs.Numbers.{number_reading};
 ghost use Rattle.ua_binary.specs.Arrays.{array_reading, elements_reading};
-ghost use Rattle.ua_binary.specs.Variants.{or_empty, content_reading, typed_reading, variant_reading};
+ghost use Rattle.ua_values.specs.Matrices.{or_none};
+ghost use Rattle.ua_binary.specs.Variants.{content_reading, typed_reading, variant_reading};
 ghost use Rattle.ua_walks.specs.Walks.{Tells};
 ghost use Rattle.ua_walks.specs.Shapes.{with_dimension as with_dimension_spec, rank_where_shaped};
 
@@ -54,7 +55,7 @@ fn skip_shape(rank: u32, count: u32, cursor: &mut Cursor<'_>) -> Result<bool, Ta
 // is as an empty one.
 #[tactic(auto, using(crate::proofs::Flat::ranked), unfolding(ua_binary::specs::Arrays::array_reading))]
 fn skip_dimensions(count: u32, cursor: &mut Cursor<'_>) -> Result<Option<u32>, TakeFault>
-    ensures tells { Tells (λ dimensions. rank_where_shaped (or_empty dimensions) count) result cursor.new (array_reading (number_reading w32) cursor.old) }
+    ensures tells { Tells (λ dimensions. rank_where_shaped (or_none dimensions) count) result cursor.new (array_reading (number_reading w32) cursor.old) }
     ensures no_memory { result ≢ Err Memory }
 {
     let rank = cursor.number()?;
