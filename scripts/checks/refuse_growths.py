@@ -46,6 +46,7 @@ SPARED = {
     (HINTED, "ua_space::node_table::NodeTable::new"): "the table of nodes is collected, likewise",
     (HINTED, "uaserver::main"): "the words of the command line are collected, likewise",
     (SHRUNK, "ua_subscriptions::messages::data_message"): "a message that is kept gives back the room that it doesn't need",
+    ("", "ua_item_queue::queue::give_back"): "a ring with more places than its values need stays as it is where a smaller one is refused",
     ("", "stream_server::joined_in"): "sends that can't be joined for one write are written one by one",
 }
 

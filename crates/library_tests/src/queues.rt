@@ -9,7 +9,7 @@ use ua_item_queue::*;
 fn sampled(alloc: Global, size: usize, is_oldest: bool) -> Result<ItemQueue<u32>, AllocError> {
     let mut queue = ItemQueue::new(alloc, size.max(1), is_oldest)?;
     for value in 1..7u32 {
-        queue.sample(value);
+        queue.sample(value)?;
     }
     Ok(queue)
 }
@@ -55,12 +55,12 @@ fn another_size_marks_nothing(rt: HostRuntime) -> Result<(), Fail> {
         (7, false, 102030405060, 10203040506090),
     ] {
         let mut queue = sampled(alloc, 6, true)?;
-        queue.resize(Room::new(alloc, size)?, is_oldest);
+        queue.resize(QueueSize::new(size.max(1)), is_oldest);
         holds(&rt, "what is left", digits(&queue) == number);
 
         let mut queue = sampled(alloc, 6, true)?;
-        queue.resize(Room::new(alloc, size)?, is_oldest);
-        queue.sample(9);
+        queue.resize(QueueSize::new(size.max(1)), is_oldest);
+        queue.sample(9)?;
         holds(&rt, "what waits", digits(&queue) == later);
     }
     Ok(())
@@ -83,11 +83,26 @@ fn what_was_sent_waits_no_more(rt: HostRuntime) -> Result<(), Fail> {
         queue.send(count);
         holds(&rt, "what waits", digits(&queue) == number);
         holds(&rt, "the last one", queue.last() == Some(&6));
-        queue.sample(9);
+        queue.sample(9)?;
         holds(&rt, "the next one", queue.last() == Some(&9));
     }
     let mut queue = sampled(rt.alloc(), 6, true)?;
-    queue.resize(Room::new(rt.alloc(), 2)?, false);
+    queue.resize(QueueSize::new(2), false);
     holds(&rt, "which was cleared", queue.last() == Some(&6));
+    Ok(())
+}
+
+// A queue takes memory for what waits, not for its size; and after a burst that was sent it goes on as before.
+#[test]
+fn a_queue_grows_as_it_fills(rt: HostRuntime) -> Result<(), Fail> {
+    for size in [7, usize::MAX] {
+        let mut queue = sampled(rt.alloc(), size, true)?;
+        queue.send(6);
+        holds(&rt, "the last one", queue.last() == Some(&6));
+        for value in 1..7u32 {
+            queue.sample(value)?;
+        }
+        holds(&rt, "what waits", digits(&queue) == 102030405060);
+    }
     Ok(())
 }

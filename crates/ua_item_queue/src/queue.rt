@@ -1,26 +1,30 @@
 //! The queue of a monitored item.
 
-ghost use Rattle.std.specs.Prelude.{◌≡◌, ◌≤◌, ◌<◌, ◌+◌, ◌-◌, IfOk, length, [], ◌∷◌, ◌++◌, None, take, drop, true, IsTrue, ◌↔◌, slice_get};
+ghost use Rattle.std.specs.Prelude.{◌≡◌, ◌≤◌, ◌<◌, ◌+◌, ◌-◌, IfOk, IsOk, OnOk, OnErr, length, [], ◌∷◌, ◌++◌, None, take, drop, true, IsTrue, ◌↔◌, slice_get};
 ghost use Rattle.std.specs.Option.{option_copied};
 ghost use Rattle.circular_buffer.specs.Buffer.{buffer};
 ghost use Rattle.ua_item_queue.specs.ItemQueue.{QueueState, queue_after, marked_front, newest as newest_spec, waiting_of, sampled, sent, cleared, resized};
 ghost use Rattle.ua_item_queue.specs.ItemQueue.QueueMove.{Sample, Resize};
 
 use crate::entry::Entry;
-use crate::room::{Room, ring_for};
+use crate::queue_size::QueueSize;
 use circular_buffer::HeapCircularBuffer;
 use std::alloc::{AllocError, Global};
 use std::marker::Model;
 
+/// How many places of a ring stay where all of its values were sent or cleared.
+const PLACES_KEPT: usize = 4;
+
 /// The values of a monitored item that wait to be sent, oldest first: at most as many as its size; and the value
 /// that was queued last, with which the next one is compared.
 ///
-/// They stand in a ring, which has a place for each value that may wait from the beginning, and one more: so a value
-/// that comes in wants no memory, and one that is sent as the last one stays where it is.
+/// They stand in a ring, which begins with one place and doubles as it fills, up to the queue's size: so an idle queue takes
+/// little memory, and one that is full, or in which none waits, wants none for a value that comes in.
 pub struct ItemQueue<T> {
     // The values that wait, the oldest first, and behind them the one that was queued last, where it waits no more.
-    // Its capacity is the queue's size, at least 1, and one more.
     ring: HeapCircularBuffer<Entry<T>>,
+    // How many values may wait: at least 1.
+    size: usize,
     // Whether the newest value of the ring waits no more, and is only kept.
     keeps_last: bool,
     // Which value is lost where the queue is full: the oldest one, or the newest.
@@ -30,21 +34,22 @@ pub struct ItemQueue<T> {
 impl<T> Model for ItemQueue<T> {
     ghost Value = { QueueState T };
 
-    ghost view = { λ q. record { entries = waiting_of q.keeps_last q.ring.items; size = q.ring.capacity - 1; discard_oldest = q.discard_oldest; last = newest_spec q.ring.items } };
+    ghost view = { λ q. record { entries = waiting_of q.keeps_last q.ring.items; size = q.size; discard_oldest = q.discard_oldest; last = newest_spec q.ring.items } };
 
-    ghost invariant = { λ q. 2 ≤ q.ring.capacity };
+    ghost invariant = { λ q. (1 ≤ q.size) × (1 ≤ q.ring.capacity) };
 }
 
 impl<T: Drop> ItemQueue<T> {
     /// An empty queue of this size, at least 1, which loses its oldest value where it is full, or else
-    /// its newest.
+    /// its newest. It has one place.
     pub fn new(alloc: Global, size: usize, discard_oldest: bool) -> Result<ItemQueue<T>, AllocError>
         requires { 1 ≤ size }
         ensures { IfOk result (λ queue. queue ≡ record { entries = []; size = size; discard_oldest = discard_oldest; last = None }) }
     {
-        let ring = ring_for(alloc, size)?;
+        let ring = HeapCircularBuffer::with_capacity(alloc, 1)?;
         Ok(ItemQueue {
             ring,
+            size,
             keeps_last: false,
             discard_oldest,
         })
@@ -85,14 +90,20 @@ impl<T: Drop> ItemQueue<T> {
 
     /// Takes in a value. Where the queue is full, a value is lost: the oldest, and the new oldest is
     /// marked; or the newest, and the value that comes in is marked. A queue of size 1 marks nothing.
-    /// Takes no memory.
+    /// Wants memory only where the ring has no place for it, and never where the queue is full, or where nothing waits. At an
+    /// `Err` nothing changed.
     #[tactic(auto, using(crate::proofs::LastLemmas::newest_sampled))]
-    pub fn sample(&mut self, value: T)
-        ensures { self.new ≡ sampled self.old value }
+    pub fn sample(&mut self, value: T) -> Result<(), AllocError>
+        ensures ok { OnOk result (self.new ≡ sampled self.old value) }
+        ensures err { OnErr result (self.new ≡ self.old) }
+        ensures full { self.old.size ≤ length self.old.entries → IsOk result }
+        ensures empty { self.old.entries ≡ [] → IsOk result }
     {
+        make_place(&mut self.ring, self.keeps_last, self.size)?;
         forget_kept(&mut self.ring, self.keeps_last);
         self.keeps_last = false;
-        sample_into(&mut self.ring, self.discard_oldest, value);
+        sample_into(&mut self.ring, self.size, self.discard_oldest, value);
+        Ok(())
     }
 
     /// The oldest values are sent, so many or all, and wait no more.
@@ -107,30 +118,61 @@ impl<T: Drop> ItemQueue<T> {
         }
     }
 
-    /// All values are cleared.
+    /// All values are cleared. A ring of more than 4 places goes back to one, where there is memory
+    /// for that.
     #[tactic(auto, using(crate::proofs::LastLemmas::newest_kept, crate::proofs::LastLemmas::none_waits))]
     pub fn clear(&mut self)
         ensures { self.new ≡ cleared self.old }
     {
         self.ring.truncate_front(1);
         self.keeps_last = true;
+        give_back(&mut self.ring, PLACES_KEPT);
     }
 
-    /// Gives the queue the size of `room`, and another choice of what is lost. Where more values wait than
-    /// that, the oldest or newest of them are cleared, and nothing is marked. Takes no memory.
-    pub fn resize(&mut self, room: Room<T>, discard_oldest: bool)
-        ensures { self.new ≡ resized self.old room discard_oldest }
+    /// Gives the queue another size, at least 1, and another choice of what is lost. Where more values wait than that, the
+    /// oldest or newest of them are cleared, and nothing is marked. Wants no memory: a ring that is larger than the size is
+    /// made smaller where there is memory for that.
+    pub fn resize(&mut self, size: QueueSize, discard_oldest: bool)
+        ensures { self.new ≡ resized self.old size discard_oldest }
     {
-        let mut ring = room.into_ring();
-        cut(
-            &mut self.ring,
-            &mut self.keeps_last,
-            ring.capacity() - 1,
-            discard_oldest,
-        );
-        move_all(&mut self.ring, &mut ring);
-        self.ring = ring;
+        let size = size.places();
+        cut(&mut self.ring, &mut self.keeps_last, size, discard_oldest);
+        give_back(&mut self.ring, size);
+        self.size = size;
         self.discard_oldest = discard_oldest;
+    }
+}
+
+// A place more, where a value that comes in needs one: twice as many as there are, and at most so many.
+fn make_place<T>(
+    ring: &mut HeapCircularBuffer<Entry<T>>,
+    keeps_last: bool,
+    size: usize,
+) -> Result<(), AllocError>
+    requires { 1 ≤ ring.old.capacity }
+    ensures items { ring.new.items ≡ ring.old.items }
+    ensures err { OnErr result (ring.new ≡ ring.old) }
+    ensures place { OnOk result (length (waiting_of keeps_last ring.new.items) < size → length (waiting_of keeps_last ring.new.items) < ring.new.capacity) }
+    ensures some { 1 ≤ ring.new.capacity }
+    ensures full { size ≤ length (waiting_of keeps_last ring.old.items) → IsOk result }
+    ensures empty { waiting_of keeps_last ring.old.items ≡ [] → IsOk result }
+{
+    let places = ring.capacity();
+    if waiting(ring, keeps_last) < places || places >= size {
+        return Ok(());
+    }
+    ring.resize(places.saturating_mul(2).min(size))
+}
+
+// Makes a ring of more than so many places as small as its values allow, where there is memory for the smaller one.
+fn give_back<T>(ring: &mut HeapCircularBuffer<Entry<T>>, most: usize)
+    requires { 1 ≤ ring.old.capacity }
+    ensures items { ring.new.items ≡ ring.old.items }
+    ensures some { 1 ≤ ring.new.capacity }
+{
+    let places = ring.len().max(1);
+    if ring.capacity() > most && places < ring.capacity() {
+        let _ = ring.resize(places);
     }
 }
 
@@ -176,11 +218,16 @@ fn forget_kept<T: Drop>(ring: &mut HeapCircularBuffer<Entry<T>>, keeps_last: boo
 }
 
 // Takes in a value, where all values of the ring wait.
-fn sample_into<T: Drop>(ring: &mut HeapCircularBuffer<Entry<T>>, discard_oldest: bool, value: T)
-    requires { 2 ≤ ring.old.capacity }
-    ensures { ring.new ≡ buffer (queue_after ring.old.items (Sample (ring.old.capacity - 1) discard_oldest value)) ring.old.capacity }
+fn sample_into<T: Drop>(
+    ring: &mut HeapCircularBuffer<Entry<T>>,
+    size: usize,
+    discard_oldest: bool,
+    value: T,
+)
+    requires some { 1 ≤ size }
+    requires place { length ring.old.items < size → length ring.old.items < ring.old.capacity }
+    ensures { ring.new ≡ buffer (queue_after ring.old.items (Sample size discard_oldest value)) ring.old.capacity }
 {
-    let size = ring.capacity() - 1;
     if ring.len() < size {
         push(ring, value, false);
     } else if size == 1 {
@@ -224,6 +271,7 @@ fn cut<T: Drop>(
     ensures entries { waiting_of keeps_last.new ring.new.items ≡ queue_after (waiting_of keeps_last.old ring.old.items) (Resize size discard_oldest) }
     ensures newest { newest_spec ring.new.items ≡ newest_spec ring.old.items }
     ensures within { length ring.new.items ≤ size + 1 }
+    ensures capacity { ring.new.capacity ≡ ring.old.capacity }
 {
     let waiting = waiting(ring, *keeps_last);
     if waiting <= size {
@@ -244,21 +292,11 @@ fn keep_front<T: Drop>(ring: &mut HeapCircularBuffer<Entry<T>>, keeps_last: bool
     ensures entries { waiting_of true ring.new.items ≡ take size (waiting_of keeps_last ring.old.items) }
     ensures newest { newest_spec ring.new.items ≡ newest_spec ring.old.items }
     ensures within { length ring.new.items ≡ size + 1 }
+    ensures capacity { ring.new.capacity ≡ ring.old.capacity }
 {
     if let Some(last) = ring.pop_back() {
         ring.truncate_back(size);
         push(ring, last.value, last.marked);
-    }
-}
-
-// Moves all values over, where there are places for them.
-fn move_all<T: Drop>(from: &mut HeapCircularBuffer<Entry<T>>, to: &mut HeapCircularBuffer<Entry<T>>)
-    requires none { to.old.items ≡ [] }
-    requires room { length from.old.items ≤ to.old.capacity }
-    ensures { to.new ≡ buffer from.old.items to.old.capacity }
-{
-    while let Some(entry) = from.pop_front() {
-        let _ = to.try_push_back(entry);
     }
 }
 
@@ -267,6 +305,7 @@ impl<T: Drop> Drop for ItemQueue<T> {
     fn drop(self) {
         let ItemQueue {
             ring: _,
+            size: _,
             keeps_last: _,
             discard_oldest: _,
         } = self;

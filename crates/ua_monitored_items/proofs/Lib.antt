@@ -1,7 +1,10 @@
 pub mod Edits
+pub mod DisabledItems
+pub mod MadeItems
 pub mod Tables
 pub mod Serving
 pub mod Releasing
+pub mod Once
 pub mod Linking
 pub mod Giving
 pub mod Ending
@@ -14,7 +17,6 @@ pub mod FirstNotes
 pub mod Undoing
 pub mod Counting
 pub mod Readiness
-pub mod Modifications
 pub mod Sent
 pub mod Showing
 pub mod Causing

@@ -17,6 +17,7 @@ use Rattle.ua_monitored_items.specs.Sampling.{visits_by, index_visits, index_sho
 use Rattle.ua_monitored_items.specs.declared.item.Item.{Item}
 use Rattle.ua_monitored_items.specs.declared.kinds.Mode.{Mode}
 use Rattle.ua_monitored_items.specs.declared.releases.Release.{Release}
+use Rattle.ua_monitored_items.proofs.DisabledItems.{empty_released}
 use Rattle.ua_monitored_items.proofs.Tables.{IsThere, table_changed, table_sampled}
 
 pub there_released : (subscription : ℕ) (item : Item) → IsThere item (released_in subscription item)
@@ -42,7 +43,7 @@ module _ (made : ℕ) (of_subscription : BTreeMap ℕ (BTreeSet ℕ)) (on_node :
   pub table_released : (items : NumberedItems) (releases : List Release) → IsTable made items of_subscription on_node → IsTable made (all_released items releases) of_subscription on_node
   table_released items [] h = h
   table_released items (r ∷ rs) h =
-      table_released (with_release items r) rs (table_changed made items of_subscription on_node h r.number (released_in r.subscription) (there_released r.subscription))
+      table_released (with_release items r) rs (table_changed made items of_subscription on_node h r.number (released_in r.subscription) (there_released r.subscription) (empty_released r.subscription))
 
   pub table_seen : (items : NumberedItems) (visits : List Visit) → IsTable made items of_subscription on_node → IsTable made (seen_by_all items visits) of_subscription on_node
   table_seen items visits h = table_released (sampled_items items visits) (sample_releases items visits) (table_sampled made of_subscription on_node items visits h)

@@ -7,14 +7,14 @@ use Rattle.std.specs.Set.{remove_key}
 use Rattle.number_slots.proofs.NumberMaps.{same_number}
 use Rattle.std.proofs.lemmas.Bool.{false≢true}
 use Rattle.std.specs.Cmp.{nat_cmp_is, nat_cmp_total, eq_by_cmp_equiv}
-use Rattle.std.specs.Prelude.{◌==◌, ◌&&◌, fold, not, OnOk, OnErr}
+use Rattle.std.specs.Prelude.{◌==◌, ◌&&◌, fold, not, OnOk, OnErr, IfSome}
 use Rattle.std.specs.Ordering.{nat_cmp, is_eq, match_ordering}
 use Rattle.std.specs.declared.cmp.Ordering.{Ordering}
 use Rattle.std.specs.declared.cmp.Ordering.TheVariants.{Less, Equal, Greater}
 use Rattle.ua_types.specs.NodeIdOrder.{id_cmp, same_id}
 use Rattle.ua_types.specs.contracts.node_id.NodeIdOrd.TheImpl.Laws.{matches_eq-law}
 use Rattle.ua_types.specs.declared.node_id.NodeId.{NodeId}
-use Rattle.ua_monitored_items.specs.ItemTables.{NumberedItems, item_at, numbers_where, numbers_of, is_of, is_on, with_found, with_item, numbers_at, AreWithin, AreAbove, AreRising, IsTable, IsPut, IsTakenOut, IsPutBack}
+use Rattle.ua_monitored_items.specs.ItemTables.{NumberedItems, item_at, numbers_where, numbers_of, is_of, is_on, with_found, with_item, numbers_at, AreWithin, AreAbove, AreRising, DisabledIsEmpty, IsTable, IsPut, IsTakenOut, IsPutBack}
 use Rattle.ua_values.specs.declared.data_value.DataValue.{DataValue}
 use Rattle.ua_read_write.specs.declared.timestamps.Timestamps.{Timestamps}
 use Rattle.ua_subscription_messages.specs.declared.monitoring_parameters.MonitoringParameters.{MonitoringParameters}
@@ -27,6 +27,7 @@ use Rattle.ua_monitored_items.specs.Taking.{TakenSome}
 use Rattle.ua_monitored_items.specs.declared.item.Item.{Item}
 use Rattle.ua_monitored_items.specs.declared.kinds.Mode.{Mode}
 use Rattle.ua_monitored_items.specs.declared.kinds.Trigger.{Trigger}
+use Rattle.ua_monitored_items.proofs.DisabledItems.{KeepsEmpty, empty_set, empty_put, empty_removed, empty_found, empty_seen, empty_gave}
 
 -- ---- numbers are compared
 
@@ -237,35 +238,38 @@ same_on item new h id =
     ap (λ (a : ℕ). a == 13 && same_id new.node_id id) h.attribute ∙ ap (λ (n : NodeId). item.attribute_id == 13 && same_id n id) h.node
 
 module _ (made : ℕ) (items : NumberedItems) (of_subscription : BTreeMap ℕ (BTreeSet ℕ)) (on_node : BTreeMap NodeId (BTreeSet ℕ)) (h : IsTable made items of_subscription on_node) where
-  pub table_set : (number : ℕ) (v w : Item) → IsThere v w → item_at number items ≡ Some v → IsTable made (set_value (is_at (nat_cmp number)) items w) of_subscription on_node
-  table_set number v w there found = record {
+  pub table_set : (number : ℕ) (v w : Item) → IsThere v w → DisabledIsEmpty w → item_at number items ≡ Some v → IsTable made (set_value (is_at (nat_cmp number)) items w) of_subscription on_node
+  table_set number v w there empty found = record {
     within = within_set made number w items h.within;
     rising = rising_set number w items h.rising;
+    disabled = empty_set number w empty items h.disabled;
     subscriptions = λ q. h.subscriptions q ∙ sym (where_set (is_of q) number v w (same_of v w there q) items found);
     nodes = λ id. h.nodes id ∙ sym (where_set (is_on id) number v w (same_on v w there id) items found);
   }
 
-  pub table_changed : (number : ℕ) (change : Item → Item) → ((item : Item) → IsThere item (change item)) → IsTable made (with_item number change items) of_subscription on_node
-  table_changed number change there = by (item_at number items) refl
+  pub table_changed : (number : ℕ) (change : Item → Item) → ((item : Item) → IsThere item (change item)) → KeepsEmpty change → IsTable made (with_item number change items) of_subscription on_node
+  table_changed number change there keeps = by (item_at number items) refl (empty_found number items h.disabled)
     where
-      by : (found : Option Item) → item_at number items ≡ found → IsTable made (with_found number change items found) of_subscription on_node
-      by None e = h
-      by (Some v) e = table_set number v (change v) (there v) e
+      by : (found : Option Item) → item_at number items ≡ found → IfSome found DisabledIsEmpty → IsTable made (with_found number change items found) of_subscription on_node
+      by None e empty = h
+      by (Some v) e empty = table_set number v (change v) (there v) (keeps v empty) e
 
   pub table_back : (subs : BTreeMap ℕ (BTreeSet ℕ)) (nodes : BTreeMap NodeId (BTreeSet ℕ)) → IsTable made (remove_entry (is_at (nat_cmp made)) items) subs nodes → IsTable (made - 1) (remove_entry (is_at (nat_cmp made)) items) subs nodes
   table_back subs nodes after = record {
     within = within_back made items h.within h.rising;
     rising = after.rising;
+    disabled = after.disabled;
     subscriptions = after.subscriptions;
     nodes = after.nodes;
   }
 
   module _ (item : Item) (subs : BTreeMap ℕ (BTreeSet ℕ)) (nodes : BTreeMap NodeId (BTreeSet ℕ)) where
-    pub table_put : IsPut nat_cmp of_subscription subs (λ q. is_of q item) (made + 1) → IsPut id_cmp on_node nodes (λ id. is_on id item) (made + 1)
+    pub table_put : DisabledIsEmpty item → IsPut nat_cmp of_subscription subs (λ q. is_of q item) (made + 1) → IsPut id_cmp on_node nodes (λ id. is_on id item) (made + 1)
         → IsTable (made + 1) (insert_entry nat_cmp items (made + 1) item) subs nodes
-    table_put put_sub put_node = record {
+    table_put empty put_sub put_node = record {
       within = within_put made item items h.within;
       rising = rising_put made (made + 1) item (omega arith) items h.within h.rising;
+      disabled = empty_put (made + 1) item empty items h.disabled;
       subscriptions = λ q.
           put_sub q
           ∙ ap (λ (ns : List ℕ). cond (is_of q item) (insert_key nat_cmp ns (made + 1)) ns) (h.subscriptions q)
@@ -280,6 +284,7 @@ module _ (made : ℕ) (items : NumberedItems) (of_subscription : BTreeMap ℕ (B
     table_put_back put_sub put_node = record {
       within = h.within;
       rising = h.rising;
+      disabled = h.disabled;
       subscriptions = λ q. put_sub q (same_back (is_of q) _ (h.subscriptions q)) ∙ h.subscriptions q;
       nodes = λ id. put_node id (same_back (is_on id) _ (h.nodes id)) ∙ h.nodes id;
     }
@@ -299,6 +304,7 @@ module _ (made : ℕ) (items : NumberedItems) (of_subscription : BTreeMap ℕ (B
     table_removed number found put_sub put_node = record {
       within = within_removed made number items h.within;
       rising = rising_removed number items h.rising;
+      disabled = empty_removed number items h.disabled;
       subscriptions = λ q. put_sub q ∙ out (is_of q) number (is_of q item) refl _ (h.subscriptions q) found;
       nodes = λ id. put_node id ∙ out (is_on id) number (is_on id item) refl _ (h.nodes id) found;
     }
@@ -360,7 +366,7 @@ there_gave n item = record { subscription = refl; node = refl; attribute = refl 
 module _ (made : ℕ) (of_subscription : BTreeMap ℕ (BTreeSet ℕ)) (on_node : BTreeMap NodeId (BTreeSet ℕ)) where
   pub table_sampled : (items : NumberedItems) (visits : List Visit) → IsTable made items of_subscription on_node → IsTable made (sampled_items items visits) of_subscription on_node
   table_sampled items [] h = h
-  table_sampled items (v ∷ vs) h = table_sampled (visited items v) vs (table_changed made items of_subscription on_node h v.number (seen v.value) (there_seen v.value))
+  table_sampled items (v ∷ vs) h = table_sampled (visited items v) vs (table_changed made items of_subscription on_node h v.number (seen v.value) (there_seen v.value) (empty_seen v.value))
 
   pub table_taken : (before : Taking) (numbers : List ℕ) → IsTable made before.items of_subscription on_node → IsTable made (fold with_taken before numbers).items of_subscription on_node
   table_taken before [] h = h
@@ -368,7 +374,7 @@ module _ (made : ℕ) (of_subscription : BTreeMap ℕ (BTreeSet ℕ)) (on_node :
     where
       one : (found : Option Item) → IsTable made (taken_from before n found).items of_subscription on_node
       one None = h
-      one (Some item) = table_changed made before.items of_subscription on_node h n (gave (nat_least before.left (waiting_in item))) (there_gave (nat_least before.left (waiting_in item)))
+      one (Some item) = table_changed made before.items of_subscription on_node h n (gave (nat_least before.left (waiting_in item))) (there_gave (nat_least before.left (waiting_in item))) (empty_gave (nat_least before.left (waiting_in item)))
 
 -- ---- the items of a subscription
 

@@ -1,5 +1,5 @@
 -- Items under their numbers.
-use Rattle.std.specs.Prelude.{◌≡◌, ◌≤◌, ◌<◌, ⊤, ℕ, ◌==◌, ◌&&◌, Bool, true, List, [], ◌∷◌, Option, Some, None, if◌then◌else◌}
+use Rattle.std.specs.Prelude.{◌≡◌, ◌≤◌, ◌<◌, ⊤, ℕ, ◌==◌, ◌&&◌, Bool, true, false, List, [], ◌∷◌, Option, Some, None, if◌then◌else◌}
 use Rattle.std.specs.BTreeMap as tree
 use Rattle.std.specs.BTreeMap.{BTreeMap, is_at}
 use Rattle.std.specs.BTreeSet.{BTreeSet, insert_key}
@@ -9,6 +9,7 @@ use Rattle.std.specs.Ordering.{nat_cmp}
 use Rattle.std.specs.declared.cmp.Ordering.{Ordering}
 use Rattle.ua_types.specs.NodeIdOrder.{id_cmp, same_id}
 use Rattle.ua_types.specs.declared.node_id.NodeId.{NodeId}
+use Rattle.ua_monitored_items.specs.Item.{is_enabled}
 use Rattle.ua_monitored_items.specs.declared.item.Item.{Item}
 
 -- items under their numbers, which rise
@@ -97,9 +98,18 @@ abbrev pub AreRising : NumberedItems → Type 0
 AreRising [] = ⊤
 AreRising (e ∷ es) = AreAbove e.0 es × AreRising es
 
--- each key leads to the numbers of its items
+-- where an item is disabled, no value waits in its queue
+abbrev pub DisabledIsEmpty : Item → Type 0
+DisabledIsEmpty item = is_enabled item.mode ≡ false → item.queue.entries ≡ []
+
+abbrev pub DisabledAreEmpty : NumberedItems → Type 0
+DisabledAreEmpty [] = ⊤
+DisabledAreEmpty (e ∷ es) = DisabledIsEmpty e.1 × DisabledAreEmpty es
+
+-- each key leads to the numbers of its items, and no disabled item has a value
 pub record IsTable (made : ℕ) (items : NumberedItems) (of_subscription : BTreeMap ℕ (BTreeSet ℕ)) (on_node : BTreeMap NodeId (BTreeSet ℕ)) : Type 0 where
   pub within : AreWithin made items
   pub rising : AreRising items
+  pub disabled : DisabledAreEmpty items
   pub subscriptions : (subscription : ℕ) → numbers_at nat_cmp of_subscription subscription ≡ numbers_of subscription items
   pub nodes : (id : NodeId) → numbers_at id_cmp on_node id ≡ numbers_on id items

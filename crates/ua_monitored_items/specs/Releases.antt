@@ -1,9 +1,12 @@
 -- What items that queue a value do to those that are linked to them (IEC 62541-4, "Triggering model").
 use Rattle.std.specs.Prelude.{◌≡◌, ℕ, ◌&&◌, not, List, [], ◌∷◌, ◌++◌, map, flat_map, fold, Option, Some, None, if◌then◌else◌}
+use Rattle.std.specs.BTreeSet.{insert_key}
+use Rattle.std.specs.declared.cmp.Ordering.{Ordering}
 use Rattle.ua_types.specs.declared.moment.Moment.{Moment}
 use Rattle.ua_types.specs.declared.status.Status.{Status}
 use Rattle.ua_space.specs.Nodes.{Nodes}
 use Rattle.ua_read_write.specs.declared.writing.Change.{Change}
+use Rattle.ua_monitored_items.specs.contracts.releases.ReleaseOrd.TheImpl as order
 use Rattle.ua_monitored_items.specs.Item.{is_enabled, takes, released_in}
 use Rattle.ua_monitored_items.specs.ItemTables.{NumberedItems, item_at, with_item}
 use Rattle.ua_monitored_items.specs.Items.{ItemsState, Served, all_served, own_item, mode_one, Visit, visits_of, visited, sampled_items, VisitedSome}
@@ -15,10 +18,17 @@ use Rattle.ua_monitored_items.specs.declared.releases.Release.{Release}
 abbrev pub releases_of : Item → List Release
 releases_of item = map (λ number. record { subscription = item.subscription; number = number }) item.links
 
+-- releases by the subscription, then by the number, each once, with more of them
+abbrev pub release_cmp : Release → Release → Ordering
+release_cmp = order.ghosts.cmp
+
+abbrev pub with_releases : List Release → List Release → List Release
+with_releases releases more = fold (insert_key release_cmp) releases more
+
 abbrev pub with_release : NumberedItems → Release → NumberedItems
 with_release items release = with_item release.number (released_in release.subscription) items
 
--- items are released; in which order makes no difference
+-- items are released; neither the order nor the number of times makes a difference
 abbrev pub all_released : NumberedItems → List Release → NumberedItems
 all_released items releases = fold with_release items releases
 

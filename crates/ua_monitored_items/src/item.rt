@@ -1,17 +1,18 @@
 //! A monitored item.
 
-ghost use Rattle.std.specs.Prelude.{◌≡◌, ◌≤◌, ◌++◌, [], true, take, OnOk, OnErr, IfOk, if◌then◌else◌};
+ghost use Rattle.std.specs.Prelude.{◌≡◌, ◌≤◌, [], true, take, OnOk, OnErr, IsOk, IfOk, if◌then◌else◌};
 ghost use Rattle.std.specs.Option.{option_copied};
 ghost use Rattle.ua_monitored_items.specs.Item.{is_change_since as is_change_since_spec, takes as takes_spec, queued, seen, reading, revised_size as revised_size_spec, takes_last as takes_last_spec, gave, notes_of, tells as tells_spec, waiting_in, released_in, with_links, time_if, marked_status, note_of};
+ghost use Rattle.ua_monitored_items.specs.ItemTables.{DisabledIsEmpty};
 ghost use Rattle.ua_monitored_items.specs.Modifying.{modified_with};
 ghost use Rattle.ua_monitored_items.specs.Preparing.{moded_from};
-ghost use Rattle.ua_monitored_items.specs.Releases.{releases_of};
+ghost use Rattle.ua_monitored_items.specs.Releases.{releases_of, with_releases};
 ghost use Rattle.ua_subscription_messages.specs.DataChangeMessages.{with_notes};
 
 use crate::kinds::{Mode, Trigger};
 use crate::links::Links;
 use crate::preparing::Modification;
-use crate::releases::Release;
+use crate::releases::{Release, Releases};
 use std::alloc::{AllocError, Global};
 use ua_binary::BorrowedDataValue;
 use ua_item_queue::{Entry, ItemQueue};
@@ -149,11 +150,13 @@ impl Item {
         self.mode.is_enabled() && is_change_since(self.trigger, self.queue.last(), value)
     }
 
-    // Queues a value. Takes no memory.
-    fn queue_value(&mut self, value: DataValue)
-        ensures { self.new ≡ queued value self.old }
+    // Queues a value. At an `Err`, which doesn't come where nothing waits, nothing changed.
+    fn queue_value(&mut self, value: DataValue) -> Result<(), AllocError>
+        ensures ok { OnOk result (self.new ≡ queued value self.old) }
+        ensures err { OnErr result (self.new ≡ self.old) }
+        ensures empty { self.old.queue.entries ≡ [] → IsOk result }
     {
-        self.queue.sample(value);
+        self.queue.sample(value)
     }
 
     // Queues what stands. At an `Err` nothing changed.
@@ -167,16 +170,15 @@ impl Item {
         ensures err { OnErr result (self.new ≡ self.old) }
     {
         let value = self.first_sample(alloc, space, clock)?;
-        self.queue_value(value);
-        Ok(())
+        self.queue_value(value)
     }
 
-    // What it releases where it queues a value, behind what is there. At an `Err` a part may be there.
-    pub(crate) fn add_releases(&self, releases: &mut Vec<Release>) -> Result<(), AllocError>
-        ensures { OnOk result (releases.new.items ≡ releases.old.items ++ releases_of self.now) }
+    // What it releases where it queues a value, beside what is there. At an `Err` a part may be there.
+    pub(crate) fn add_releases(&self, releases: &mut Releases) -> Result<(), AllocError>
+        ensures { OnOk result (releases.new ≡ with_releases releases.old (releases_of self.now)) }
     {
         for number in self.links.numbers() {
-            releases.push(Release {
+            releases.put(Release {
                 subscription: self.subscription,
                 number: *number,
             })?;
@@ -190,16 +192,16 @@ impl Item {
         &mut self,
         alloc: Global,
         value: &DataValue,
-        releases: &mut Vec<Release>,
+        releases: &mut Releases,
     ) -> Result<(), AllocError>
         ensures ok { OnOk result (self.new ≡ seen value.now self.old) }
-        ensures releases { OnOk result (releases.new.items ≡ releases.old.items ++ (if takes_spec self.old value.now then releases_of self.old else [])) }
+        ensures releases { OnOk result (releases.new ≡ with_releases releases.old (if takes_spec self.old value.now then releases_of self.old else [])) }
         ensures err { OnErr result (self.new ≡ self.old) }
         ensures takes { OnErr result (takes_spec self.old value.now ≡ true) }
     {
         if self.takes(value) {
             self.add_releases(releases)?;
-            self.queue_value(value.copy(alloc)?);
+            self.queue_value(value.copy(alloc)?)?;
         }
         Ok(())
     }
@@ -213,11 +215,11 @@ impl Item {
     )
         ensures { self.new ≡ modified_with timestamps modification parameters.now self.old }
     {
-        let Modification { trigger, room } = modification;
+        let Modification { trigger, size } = modification;
         self.client_handle = parameters.client_handle;
         self.timestamps = timestamps;
         self.trigger = trigger;
-        self.queue.resize(room, parameters.discard_oldest);
+        self.queue.resize(size, parameters.discard_oldest);
     }
 
     // What it queues if it is enabled now.
@@ -250,6 +252,7 @@ impl Item {
 
     // Gets a mode, and queues what was sampled for it where that enables it. Takes no memory.
     pub(crate) fn set_mode(&mut self, mode: Mode, first: Option<DataValue>)
+        requires { DisabledIsEmpty self.old }
         ensures { self.new ≡ moded_from mode first self.old }
     {
         self.released = false;
@@ -260,7 +263,7 @@ impl Item {
         }
         if let Some(first) = first {
             if !self.mode.is_enabled() {
-                self.queue_value(first);
+                let _ = self.queue_value(first);
             }
         }
         self.mode = mode;

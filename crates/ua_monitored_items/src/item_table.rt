@@ -7,7 +7,7 @@ ghost use Rattle.std.specs.Option.{option_copied};
 ghost use Rattle.std.specs.Ordering.{nat_cmp};
 ghost use Rattle.ua_types.specs.NodeIdOrder.{id_cmp};
 ghost use Rattle.ua_monitored_items.specs.Item.{with_links};
-ghost use Rattle.ua_monitored_items.specs.ItemTables.{TableState, item_at, numbers_of, is_of, is_on, with_item, IsPut, IsTakenOut, IsPutBack, IsKept, IsOwn};
+ghost use Rattle.ua_monitored_items.specs.ItemTables.{TableState, item_at, numbers_of, is_of, is_on, with_item, IsPut, IsTakenOut, IsPutBack, IsKept, IsOwn, DisabledIsEmpty};
 ghost use Rattle.ua_monitored_items.specs.Items.{without_all, any_waits, taken_of, first_number, visits_of, VisitedSome};
 ghost use Rattle.ua_monitored_items.specs.Modifying.{modified_with};
 ghost use Rattle.ua_monitored_items.specs.Preparing.{moded_from};
@@ -21,7 +21,7 @@ use crate::kinds::Mode;
 use crate::links::Links;
 use crate::numbered::Numbered;
 use crate::preparing::Modification;
-use crate::releases::Release;
+use crate::releases::Releases;
 use crate::sampling::{release_all, sample_all, show_node};
 use std::alloc::{AllocError, Global};
 use std::collections::BTreeMap;
@@ -159,9 +159,10 @@ impl ItemTable {
         numbers.first().copied()
     }
 
-    /// One more item, under the next number. At an `Err` nothing changed.
+    /// One more item, under the next number; a disabled one has no value yet. At an `Err` nothing changed.
     pub fn add(&mut self, alloc: Global, item: Item) -> Result<(), AllocError>
-        requires { self.old.made < 2 ^ 32 - 1 }
+        requires number { self.old.made < 2 ^ 32 - 1 }
+        requires disabled { DisabledIsEmpty item }
         ensures ok { OnOk result (self.new ≡ record { made = self.old.made + 1; items = insert_entry nat_cmp self.old.items (self.old.made + 1) item }) }
         ensures back { OnOk result (remove_entry (is_at (nat_cmp (self.old.made + 1))) self.new.items ≡ self.old.items) }
         ensures err { OnErr result (self.new ≡ self.old) }
@@ -265,7 +266,7 @@ impl ItemTable {
     }
 
     /// Items are released. Takes no memory.
-    pub fn release(&mut self, releases: &[Release])
+    pub fn release(&mut self, releases: &Releases)
         ensures { self.new ≡ record { made = self.old.made; items = all_released self.old.items releases.now } }
     {
         release_all(&mut self.items, releases);

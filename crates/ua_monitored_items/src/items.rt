@@ -1,15 +1,14 @@
 //! The monitored items of a server.
 
-ghost use Rattle.std.specs.Prelude.{◌≡◌, ◌++◌, ◌-◌, ◌^◌, ◌<◌, ◌≤◌, [], false, true, filter, fold, map, IsOk, OnOk, OnErr, IfOk, if◌then◌else◌};
+ghost use Rattle.std.specs.Prelude.{◌≡◌, ◌-◌, ◌^◌, ◌<◌, ◌≤◌, [], false, true, filter, fold, map, IsOk, OnOk, OnErr, IfOk, if◌then◌else◌};
 ghost use Rattle.std.specs.BTreeSet.{insert_key};
 ghost use Rattle.std.specs.Option.{option_copied};
 ghost use Rattle.std.specs.Ordering.{nat_cmp};
 ghost use Rattle.ua_monitored_items.specs.ItemTables.{numbers_of};
 ghost use Rattle.ua_monitored_items.specs.Items.{no_items, is_full as is_full_spec, null_object, create_judged, create_one, create_refused, new_item, own_item, modify_one, modify_refused, mode_one, delete_one, ended as ended_spec, all_served, is_available, taken_of, visits_of, VisitedSome};
 ghost use Rattle.ua_monitored_items.specs.Links.{link_status, unlinked, is_own as is_own_spec, may_link as may_link_spec, linked, in_order, link as link_spec, after_link, IsAnswer};
-ghost use Rattle.ua_monitored_items.specs.Modifying.{modification_of};
 ghost use Rattle.ua_monitored_items.specs.Preparing.{IsReady, AreReady, mode_status, moded_own};
-ghost use Rattle.ua_monitored_items.specs.Releases.{mode_releases, modes_release, modes_set, shown_one, shown, ShownSome};
+ghost use Rattle.ua_monitored_items.specs.Releases.{with_releases, mode_releases, modes_release, modes_set, shown_one, shown, ShownSome};
 ghost use Rattle.ua_monitored_items.specs.Taking.{TakenSome};
 ghost use Rattle.ua_monitored_items.specs.Undoing.{last_undone, undone, CanBeUndone};
 ghost use Rattle.ua_subscription_messages.specs.DataChangeMessages.{with_notes};
@@ -19,10 +18,10 @@ use crate::item_table::ItemTable;
 use crate::kinds::{Kind, Mode, trigger_of};
 use crate::links::{Linked, Links};
 use crate::preparing::{Modification, Prepared};
-use crate::releases::Release;
+use crate::releases::Releases;
 use std::alloc::{AllocError, Global};
 use std::marker::Model;
-use ua_item_queue::{ItemQueue, Room};
+use ua_item_queue::{ItemQueue, QueueSize};
 use ua_messages::ReadValueId;
 use ua_read_write::{Change, Timestamps, refusal};
 use ua_space::Space;
@@ -211,7 +210,7 @@ impl Items {
     }
 
     // Makes one item, if it isn't refused. At an `Err` nothing changed.
-    #[tactic(auto, unfolding(crate::specs::Items::create_one))]
+    #[tactic(auto, using(crate::proofs::MadeItems::enabled_may_hold, crate::proofs::MadeItems::none_is_empty), unfolding(crate::specs::Items::create_one))]
     fn create_one(
         &mut self,
         alloc: Global,
@@ -334,57 +333,15 @@ impl Items {
         }
     }
 
-    // What an entry of ModifyMonitoredItems gives its item. None where it is refused, for which nothing is made.
-    fn modification(
-        &self,
-        alloc: Global,
-        subscription: u32,
-        request: &MonitoredItemModifyRequest,
-    ) -> Result<Option<Modification>, AllocError>
-        ensures { IfOk result (λ modification. modification ≡ modification_of self.now subscription request.now) }
-    {
-        if self
-            .own_item(subscription, request.monitored_item_id)
-            .is_none()
-        {
-            return Ok(None);
-        }
-        let parameters = &request.requested_parameters;
-        let Some(trigger) = trigger_of(alloc, &parameters.filter) else {
-            return Ok(None);
-        };
-        let size = revised_size(self.longest, parameters.queue_size);
-        let room = Room::new(alloc, size as usize)?;
-        Ok(Some(Modification { trigger, room }))
-    }
-
-    // What each entry of ModifyMonitoredItems gives its item.
-    fn modifications(
-        &self,
-        alloc: Global,
-        subscription: u32,
-        requests: &[MonitoredItemModifyRequest],
-    ) -> Result<Vec<Option<Modification>>, AllocError>
-        ensures { IfOk result (λ modifications. modifications.items ≡ map (modification_of self.now subscription) requests.now) }
-    {
-        let mut modifications = Vec::with_capacity(alloc, requests.len())?;
-        for request in requests {
-            let modification = self.modification(alloc, subscription, request)?;
-            modifications.push(modification)?;
-        }
-        Ok(modifications)
-    }
-
     // Changes one item, if it isn't refused. Takes no memory.
     #[tactic(auto, unfolding(crate::specs::Items::modify_one))]
     fn modify_one(
         &mut self,
+        alloc: Global,
         subscription: u32,
         timestamps: Timestamps,
         request: &MonitoredItemModifyRequest,
-        modification: Option<Modification>,
     ) -> MonitoredItemModifyResult
-        requires { modification ≡ modification_of self.old subscription request.now }
         ensures result { result ≡ (modify_one subscription timestamps self.old request.now).result }
         ensures state { self.new ≡ (modify_one subscription timestamps self.old request.now).state }
     {
@@ -392,16 +349,21 @@ impl Items {
         if self.own_item(subscription, number).is_none() {
             return modify_refused(Status::BAD_MONITORED_ITEM_ID_INVALID);
         }
-        let Some(modification) = modification else {
+        let parameters = &request.requested_parameters;
+        let Some(trigger) = trigger_of(alloc, &parameters.filter) else {
             return modify_refused(Status::BAD_MONITORED_ITEM_FILTER_UNSUPPORTED);
         };
-        let parameters = &request.requested_parameters;
+        let size = revised_size(self.longest, parameters.queue_size);
+        let modification = Modification {
+            trigger,
+            size: QueueSize::new(size as usize),
+        };
         self.table
             .modify(number, timestamps, modification, parameters);
         MonitoredItemModifyResult {
             status_code: Status::GOOD,
             revised_sampling_interval: self.interval,
-            revised_queue_size: revised_size(self.longest, parameters.queue_size),
+            revised_queue_size: size,
             filter_result: null_object(),
         }
     }
@@ -423,13 +385,9 @@ impl Items {
         ensures ok { OnOk result (self.new ≡ (all_served (modify_one subscription timestamps) self.old requests.now).state) }
         ensures err { OnErr result (self.new ≡ self.old) }
     {
-        let mut modifications = self
-            .modifications(alloc, subscription, requests)?
-            .into_iter();
         let mut results = Vec::with_capacity(alloc, requests.len())?;
         for request in requests {
-            let modification = modifications.next().flatten();
-            results.push_reserved(self.modify_one(subscription, timestamps, request, modification));
+            results.push_reserved(self.modify_one(alloc, subscription, timestamps, request));
         }
         Ok(results)
     }
@@ -443,10 +401,10 @@ impl Items {
         subscription: u32,
         mode: Mode,
         number: u32,
-        releases: &mut Vec<Release>,
+        releases: &mut Releases,
     ) -> Result<Prepared, AllocError>
         ensures number { IfOk result (λ prepared. prepared.number ≡ number) }
-        ensures releases { OnOk result (releases.new.items ≡ releases.old.items ++ mode_releases mode (own_item self.now subscription number)) }
+        ensures releases { OnOk result (releases.new ≡ with_releases releases.old (mode_releases mode (own_item self.now subscription number))) }
         ensures ready { IfOk result (λ prepared. IsReady space.now.nodes clock mode (own_item self.now subscription number) prepared.first) }
     {
         let first = match self.own_item(subscription, number) {
@@ -472,10 +430,10 @@ impl Items {
         subscription: u32,
         mode: Mode,
         numbers: &[u32],
-        releases: &mut Vec<Release>,
+        releases: &mut Releases,
     ) -> Result<Vec<Prepared>, AllocError>
         ensures numbers { IfOk result (λ entries. map (λ e. e.number) entries.items ≡ numbers.now) }
-        ensures releases { OnOk result (releases.new.items ≡ releases.old.items ++ modes_release self.now subscription mode numbers.now) }
+        ensures releases { OnOk result (releases.new ≡ with_releases releases.old (modes_release self.now subscription mode numbers.now)) }
         ensures ready { IfOk result (λ entries. AreReady space.now.nodes clock subscription mode self.now entries.items) }
     {
         let mut entries = Vec::with_capacity(alloc, numbers.len())?;
@@ -517,11 +475,11 @@ impl Items {
         subscription: u32,
         mode: Mode,
         numbers: &[u32],
-        releases: &mut Vec<Release>,
+        releases: &mut Releases,
     ) -> Result<Vec<Status>, AllocError>
         ensures results { IfOk result (λ results. results.items ≡ (all_served (mode_one space.now.nodes clock subscription mode) self.old numbers.now).results) }
         ensures ok { OnOk result (self.new ≡ (all_served (mode_one space.now.nodes clock subscription mode) self.old numbers.now).state) }
-        ensures releases { OnOk result (releases.new.items ≡ releases.old.items ++ modes_release self.old subscription mode numbers.now) }
+        ensures releases { OnOk result (releases.new ≡ with_releases releases.old (modes_release self.old subscription mode numbers.now)) }
         ensures err { OnErr result (self.new ≡ self.old) }
     {
         let entries = self.prepare_all(alloc, space, clock, subscription, mode, numbers, releases)?;
@@ -538,6 +496,7 @@ impl Items {
     /// named ends; then those that queued release what is linked to them.
     ///
     /// `BAD_MONITORED_ITEM_ID_INVALID` where the subscription has no such item.
+    #[tactic(auto, using(crate::proofs::Once::once))]
     pub fn set_mode(
         &mut self,
         alloc: Global,
@@ -551,7 +510,7 @@ impl Items {
         ensures ok { OnOk result (self.new ≡ (modes_set space.now.nodes clock subscription mode self.old numbers.now).state) }
         ensures err { OnErr result (self.new ≡ self.old) }
     {
-        let mut releases = Vec::new(alloc);
+        let mut releases = Releases::new(alloc);
         let results = self.mode_all(
             alloc,
             space,

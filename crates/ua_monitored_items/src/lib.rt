@@ -20,8 +20,8 @@
 //! one definition over them, which also lists the moves by which queues changed; the code keeps no such
 //! record. Which items an item triggers, and when their values are told, is told by `specs/Links` and
 //! `specs/Releases`. How many of a subscription's items have a value to send it does keep (`specs/Counts`). How a call
-//! changes nothing at want of memory is told by `specs/Modifying`, `specs/Preparing` and `specs/Undoing`, and what a
-//! message that was stopped by it leaves by `specs/Taking`. `specs/Moves`, `Causes` and `Givings` have what [`laws`]
+//! changes nothing at want of memory is told by `specs/Preparing` and `specs/Undoing`, and what a message that was stopped by
+//! it leaves by `specs/Taking`. `specs/Moves`, `Causes` and `Givings` have what [`laws`]
 //! speak of: any calls, which of them gives a value which fate, and what items give to messages.
 //! docs/SUBSCRIPTIONS.md has the tables.
 #![tactic(auto)]

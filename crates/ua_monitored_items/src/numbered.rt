@@ -1,17 +1,17 @@
 //! Items under their numbers, and how many of each subscription's items have a value to send.
 
-ghost use Rattle.std.specs.Prelude.{◌≡◌, ◌++◌, [], None, true, OnOk, OnErr, IfOk, IfErr, IfNone};
+ghost use Rattle.std.specs.Prelude.{◌≡◌, [], None, true, OnOk, OnErr, IfOk, IfErr, IfSome, IfNone};
 ghost use Rattle.std.specs.BTreeMap.{is_at, insert_entry};
 ghost use Rattle.std.specs.Map.{remove_entry};
 ghost use Rattle.std.specs.Option.{option_copied};
 ghost use Rattle.std.specs.Ordering.{nat_cmp};
 ghost use Rattle.ua_monitored_items.specs.Counts.{recount_by};
 ghost use Rattle.ua_monitored_items.specs.Item.{seen, released_in, with_links};
-ghost use Rattle.ua_monitored_items.specs.ItemTables.{item_at, numbers_of, with_item, AreRising};
+ghost use Rattle.ua_monitored_items.specs.ItemTables.{item_at, numbers_of, with_item, AreRising, DisabledIsEmpty};
 ghost use Rattle.ua_monitored_items.specs.Items.{any_waits, taken_of, visit_takes};
 ghost use Rattle.ua_monitored_items.specs.Modifying.{modified_with};
 ghost use Rattle.ua_monitored_items.specs.Preparing.{moded_from};
-ghost use Rattle.ua_monitored_items.specs.Releases.{visit_releases, with_release};
+ghost use Rattle.ua_monitored_items.specs.Releases.{visit_releases, with_release, with_releases};
 ghost use Rattle.ua_monitored_items.specs.Taking.{TakenSome};
 ghost use Rattle.ua_subscription_messages.specs.DataChangeMessages.{with_notes};
 
@@ -19,7 +19,7 @@ use crate::item::Item;
 use crate::kinds::Mode;
 use crate::links::Links;
 use crate::preparing::Modification;
-use crate::releases::Release;
+use crate::releases::{Release, Releases};
 use crate::taking::give_all;
 use crate::tally::{Recount, Tally, count, hold};
 use number_slots::Slots;
@@ -78,6 +78,7 @@ fn set_mode_at(
     mode: Mode,
     first: Option<DataValue>,
 ) -> Option<Recount>
+    requires { IfSome (item_at number items.old) DisabledIsEmpty }
     ensures items { items.new ≡ with_item number (moded_from mode first) items.old }
     ensures recount { result ≡ recount_by (moded_from mode first) (item_at number items.old) }
 {
@@ -127,11 +128,11 @@ fn visit_at(
     items: &mut Slots<Item>,
     number: u32,
     value: &DataValue,
-    releases: &mut Vec<Release>,
+    releases: &mut Releases,
 ) -> Result<Option<Recount>, AllocError>
     ensures ok { OnOk result (items.new ≡ with_item number (seen value.now) items.old) }
     ensures recount { IfOk result (λ recount. recount ≡ recount_by (seen value.now) (item_at number items.old)) }
-    ensures releases { OnOk result (releases.new.items ≡ releases.old.items ++ visit_releases (record { number = number; value = value.now }) (item_at number items.old)) }
+    ensures releases { OnOk result (releases.new ≡ with_releases releases.old (visit_releases (record { number = number; value = value.now }) (item_at number items.old))) }
     ensures err { OnErr result (items.new ≡ items.old) }
     ensures takes { OnErr result (visit_takes (record { number = number; value = value.now }) (item_at number items.old) ≡ true) }
 {
@@ -236,6 +237,7 @@ impl Numbered {
     /// The item with this number gets a mode, and queues what was sampled for it where that enables it.
     /// Takes no memory.
     pub fn set_mode(&mut self, number: u32, mode: Mode, first: Option<DataValue>)
+        requires { IfSome (item_at number self.old) DisabledIsEmpty }
         ensures { self.new ≡ with_item number (moded_from mode first) self.old }
     {
         let most = self.items.len();
@@ -271,10 +273,10 @@ impl Numbered {
         alloc: Global,
         number: u32,
         value: &DataValue,
-        releases: &mut Vec<Release>,
+        releases: &mut Releases,
     ) -> Result<(), AllocError>
         ensures ok { OnOk result (self.new ≡ with_item number (seen value.now) self.old) }
-        ensures releases { OnOk result (releases.new.items ≡ releases.old.items ++ visit_releases (record { number = number; value = value.now }) (item_at number self.old)) }
+        ensures releases { OnOk result (releases.new ≡ with_releases releases.old (visit_releases (record { number = number; value = value.now }) (item_at number self.old))) }
         ensures err { OnErr result (self.new ≡ self.old) }
         ensures takes { OnErr result (visit_takes (record { number = number; value = value.now }) (item_at number self.old) ≡ true) }
     {

@@ -1,7 +1,7 @@
-//! What SetMonitoringMode and ModifyMonitoredItems make ready before they change an item.
+//! What SetMonitoringMode makes ready before it changes an item, and what ModifyMonitoredItems gives one.
 
 use crate::kinds::Trigger;
-use ua_item_queue::Room;
+use ua_item_queue::QueueSize;
 use ua_values::DataValue;
 
 /// An entry of SetMonitoringMode, with what it wants.
@@ -13,12 +13,12 @@ pub struct Prepared {
     pub first: Option<DataValue>,
 }
 
-/// What an entry of ModifyMonitoredItems gives its item, beside the parameters that are copied.
+/// What an entry of ModifyMonitoredItems gives its item, as it was judged, beside the parameters that are copied.
 #[derive(Drop)]
 pub struct Modification {
     /// Which changes its filter lets through.
     pub trigger: Trigger,
 
-    /// Room for the values of its queue, as many as the revised size says.
-    pub room: Room<DataValue>,
+    /// How many values its queue may hold: the revised size.
+    pub size: QueueSize,
 }

@@ -1,13 +1,13 @@
 //! Values that were written, as the items of their nodes see them.
 
-ghost use Rattle.std.specs.Prelude.{◌≡◌, fold, OnOk, OnErr, IfOk};
+ghost use Rattle.std.specs.Prelude.{◌≡◌, [], fold, OnOk, OnErr, IfOk};
 ghost use Rattle.ua_monitored_items.specs.Items.{sampled_items, VisitedSome};
-ghost use Rattle.ua_monitored_items.specs.Releases.{all_released, sample_releases, seen_by_all};
+ghost use Rattle.ua_monitored_items.specs.Releases.{all_released, with_releases, sample_releases, seen_by_all};
 ghost use Rattle.ua_monitored_items.specs.Sampling.{visits_by, index_visits, index_shown, IndexShownSome};
 
 use crate::index::Index;
 use crate::numbered::Numbered;
-use crate::releases::Release;
+use crate::releases::Releases;
 use std::alloc::{AllocError, Global};
 use std::collections::BTreeSet;
 use ua_read_write::Change;
@@ -20,12 +20,12 @@ fn visit_all(
     items: &mut Numbered,
     numbers: &BTreeSet<u32>,
     value: &DataValue,
-) -> Result<Vec<Release>, AllocError>
-    ensures releases { IfOk result (λ releases. releases.items ≡ sample_releases items.old (visits_by value.now numbers.now.keys)) }
+) -> Result<Releases, AllocError>
+    ensures releases { IfOk result (λ releases. releases ≡ with_releases [] (sample_releases items.old (visits_by value.now numbers.now.keys))) }
     ensures ok { OnOk result (items.new ≡ sampled_items items.old (visits_by value.now numbers.now.keys)) }
     ensures err { OnErr result (VisitedSome items.old items.new (visits_by value.now numbers.now.keys)) }
 {
-    let mut releases = Vec::new(alloc);
+    let mut releases = Releases::new(alloc);
     for number in numbers {
         items.visit(alloc, *number, value, &mut releases)?;
     }
@@ -33,16 +33,17 @@ fn visit_all(
 }
 
 /// Items are released, one after the other. Takes no memory.
-pub(crate) fn release_all(items: &mut Numbered, releases: &[Release])
+pub(crate) fn release_all(items: &mut Numbered, releases: &Releases)
     ensures { items.new ≡ all_released items.old releases.now }
 {
-    for release in releases {
+    for release in releases.all() {
         items.release(*release);
     }
 }
 
 // The items with these numbers see a value, and once all have, those that queued it release what is linked
-// to them.
+// to them: each linked item once, however many release it.
+#[tactic(auto, using(crate::proofs::Once::once))]
 fn show_value(
     alloc: Global,
     items: &mut Numbered,

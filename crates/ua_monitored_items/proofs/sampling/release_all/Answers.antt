@@ -1,18 +1,16 @@
-use Rattle.std.proofs.Common.{◌∷◌, [], take, slice_index_or, ap, sym, ◌∙◌}
-use Rattle.std.proofs.lemmas.List.{take_more}
+use Rattle.std.proofs.Common.{◌∷◌, [], ◌++◌, ap, sym, ◌∙◌, append_assoc}
 use Rattle.std.proofs.lemmas.List.Sums.{fold-append}
 use Rattle.ua_monitored_items.specs.ItemTables.{NumberedItems}
-use Rattle.ua_monitored_items.specs.Releases.{with_release, all_released}
-use Rattle.ua_monitored_items.specs.declared.releases.Release.{Release}
+use Rattle.ua_monitored_items.specs.Releases.{with_release}
 use Rattle.ua_monitored_items.proofs.sampling.release_all.Goals as goal
 
 pub loop-release-preserved : goal.loop-release-preserved
 loop-release-preserved c =
-    let items = c.args.items.now in
-    let rs = c.args.releases.now in
-    let i = c.loop-release.release-index in
-    let none : Release = record { subscription = 0; number = 0 } in
-    c.release.ensures
-    ∙ ap (λ (es : NumberedItems). with_release es (slice_index_or rs i none)) c.loop-release.invariant
-    ∙ sym (fold-append with_release items (take i rs) (slice_index_or rs i none ∷ []))
-    ∙ ap (all_released items) (sym (take_more rs i none c.loop-release-test.true))
+    let front = c.loop-release.invariant.2 in
+    let release = c.in-Some.release.now in (
+      tt,
+      tt,
+      front ++ release ∷ [],
+      append_assoc front (release ∷ []) c.next.new.self ∙ ap (λ xs. front ++ xs) (sym c.in-Some.ensures.steps) ∙ c.loop-release.invariant.3,
+      c.release.ensures ∙ ap (λ (es : NumberedItems). with_release es release) c.loop-release.invariant.4 ∙ sym (fold-append with_release c.args.items.now front (release ∷ [])),
+    )

@@ -1,7 +1,9 @@
 use Rattle.std.proofs.Common.{◌++◌, ◌∷◌, [], List, ap, sym, ◌∙◌, append_assoc}
+use Rattle.std.proofs.lemmas.List.Sums.{fold-append}
+use Rattle.std.specs.BTreeSet.{insert_key}
 use Rattle.ua_monitored_items.specs.Item.{seen}
 use Rattle.ua_monitored_items.specs.ItemTables.{NumberedItems, item_at, with_item}
-use Rattle.ua_monitored_items.specs.Releases.{visit_releases, sample_releases}
+use Rattle.ua_monitored_items.specs.Releases.{release_cmp, with_releases, visit_releases, sample_releases}
 use Rattle.ua_monitored_items.specs.Sampling.{visits_by}
 use Rattle.ua_monitored_items.specs.declared.releases.Release.{Release}
 use Rattle.ua_monitored_items.proofs.Serving.{on_any, visits_more, visits_before}
@@ -20,9 +22,10 @@ loop-number-preserved c =
       append_assoc front (number ∷ []) c.next.new.self ∙ ap (λ xs. front ++ xs) (sym c.in-Some.ensures.steps) ∙ c.loop-number.invariant.3,
       c.in_ok-visit.ensures.ok ∙ ap (with_item number (seen value)) c.loop-number.invariant.4 ∙ sym (visits_more c.args.items.now value front number),
       c.in_ok-visit.ensures.releases
-          ∙ ap (λ (rs : List Release). rs ++ visit_of c.loop-number.items) c.loop-number.invariant.5
-          ∙ ap (λ (es : NumberedItems). sample_releases c.args.items.now (visits_by value front) ++ visit_of es) c.loop-number.invariant.4
-          ∙ sym (number_releases_more c.args.items.now value front number),
+          ∙ ap (λ (rs : List Release). with_releases rs (visit_of c.loop-number.items)) c.loop-number.invariant.5
+          ∙ sym (fold-append (insert_key release_cmp) [] (sample_releases c.args.items.now (visits_by value front)) (visit_of c.loop-number.items))
+          ∙ ap (λ (es : NumberedItems). with_releases [] (sample_releases c.args.items.now (visits_by value front) ++ visit_of es)) c.loop-number.invariant.4
+          ∙ ap (with_releases []) (sym (number_releases_more c.args.items.now value front number)),
     )
 
 pub returns-in_err-visit-clause-err : goal.returns-in_err-visit-clause-err

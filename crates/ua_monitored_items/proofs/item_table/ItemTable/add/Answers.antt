@@ -23,7 +23,7 @@ invariant_of-self-in-Ok c =
     let t = c.self.inside in
     subst (λ (es : NumberedItems). IsTable (t.made + 1) es c.index_item.new.of_subscription c.index_item.new.on_node) (sym c.in-Ok.ensures.ok)
     (table_put t.made t.items t.of_subscription t.on_node c.self.invariant c.args.item c.index_item.new.of_subscription c.index_item.new.on_node
-    c.in_ok-index_item.ensures.subscriptions c.in_ok-index_item.ensures.nodes)
+    c.requires.disabled c.in_ok-index_item.ensures.subscriptions c.in_ok-index_item.ensures.nodes)
 
 pub invariant_of-self-in-Err : goal.invariant_of-self-in-Err
 invariant_of-self-in-Err c =

@@ -9,4 +9,4 @@ pub invariant_of-self : goal.invariant_of-self
 invariant_of-self c =
     let t = c.self.inside in
     subst (λ (es : NumberedItems). IsTable t.made es t.of_subscription t.on_node) (sym c.set_links.ensures)
-    (table_changed t.made t.items t.of_subscription t.on_node c.self.invariant c.args.number (with_links c.args.links) (there_linked c.args.links))
+    (table_changed t.made t.items t.of_subscription t.on_node c.self.invariant c.args.number (with_links c.args.links) (there_linked c.args.links) (λ item none. none))

@@ -1,8 +1,10 @@
 use Rattle.std.proofs.Common.{◌∷◌, [], ◌++◌, List, ℕ, map, take, slice_index_or, ap, sym, subst, ◌∙◌, append_assoc}
 use Rattle.std.proofs.lemmas.List.{map-append, take_more}
+use Rattle.std.proofs.lemmas.List.Sums.{fold-append}
+use Rattle.std.specs.BTreeSet.{insert_key}
 use Rattle.ua_monitored_items.specs.Items.{own_item}
 use Rattle.ua_monitored_items.specs.Preparing.{IsReady, AreReady}
-use Rattle.ua_monitored_items.specs.Releases.{mode_releases, modes_release}
+use Rattle.ua_monitored_items.specs.Releases.{release_cmp, with_releases, mode_releases, modes_release}
 use Rattle.ua_monitored_items.specs.declared.releases.Release.{Release}
 use Rattle.ua_monitored_items.specs.declared.preparing.Prepared.{Prepared}
 use Rattle.ua_monitored_items.proofs.Releasing.{modes_more}
@@ -25,14 +27,14 @@ loop-number-preserved c =
           ∙ ap (λ (n : ℕ). take i xs ++ n ∷ []) c.in_ok-prepared.ensures.number
           ∙ sym (take_more xs i 0 c.loop-number-test.true);
       releases =
-          let before = c.args.releases.now.items in
+          let before = c.args.releases.now in
           let n = slice_index_or xs i 0 in
           let one = mode_releases c.args.mode (own_item c.args.self.now c.args.subscription n) in
           c.in_ok-prepared.ensures.releases
-          ∙ ap (λ (rs : List Release). rs ++ one) c.loop-number.invariant.releases
-          ∙ append_assoc before (modes_release c.args.self.now c.args.subscription c.args.mode (take i xs)) one
-          ∙ ap (λ (rs : List Release). before ++ rs) (sym (modes_more c.args.self.now c.args.subscription c.args.mode (take i xs) n))
-          ∙ ap (λ (ns : List ℕ). before ++ modes_release c.args.self.now c.args.subscription c.args.mode ns) (sym (take_more xs i 0 c.loop-number-test.true));
+          ∙ ap (λ (rs : List Release). with_releases rs one) c.loop-number.invariant.releases
+          ∙ sym (fold-append (insert_key release_cmp) before (modes_release c.args.self.now c.args.subscription c.args.mode (take i xs)) one)
+          ∙ ap (with_releases before) (sym (modes_more c.args.self.now c.args.subscription c.args.mode (take i xs) n))
+          ∙ ap (λ (ns : List ℕ). with_releases before (modes_release c.args.self.now c.args.subscription c.args.mode ns)) (sym (take_more xs i 0 c.loop-number-test.true));
       ready =
           subst (AreReady nodes c.args.clock c.args.subscription c.args.mode c.args.self.now) (sym c.in_ok-push.ensures.items)
           (ready_more nodes c.args.clock c.args.mode c.args.subscription c.args.self.now es e c.loop-number.invariant.ready

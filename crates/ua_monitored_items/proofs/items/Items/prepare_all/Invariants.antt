@@ -1,6 +1,6 @@
-use Rattle.std.proofs.Common.{◌≡◌, ◌++◌, map, take}
+use Rattle.std.proofs.Common.{◌≡◌, map, take}
 use Rattle.ua_monitored_items.specs.Preparing.{AreReady}
-use Rattle.ua_monitored_items.specs.Releases.{modes_release}
+use Rattle.ua_monitored_items.specs.Releases.{with_releases, modes_release}
 use Rattle.ua_monitored_items.specs.declared.preparing.Prepared.{Prepared}
 use Rattle.ua_monitored_items.proofs.items.Items.prepare_all.Given as goal
 
@@ -8,6 +8,6 @@ use Rattle.ua_monitored_items.proofs.items.Items.prepare_all.Given as goal
 abbrev pub invariant-loop-number : goal.invariant-loop-number
 invariant-loop-number l = record {
   numbers : map (λ (e : Prepared). e.number) l.entries.items ≡ take l.number-index l.numbers;
-  releases : l.releases.items ≡ l.fn.releases.items ++ modes_release l.self l.subscription l.mode (take l.number-index l.numbers);
+  releases : l.releases ≡ with_releases l.fn.releases (modes_release l.self l.subscription l.mode (take l.number-index l.numbers));
   ready : AreReady l.space.nodes l.clock l.subscription l.mode l.self l.entries.items;
 }
