@@ -70,6 +70,12 @@ fn the_standard_configuration(rt: HostRuntime) -> Result<(), Fail> {
     );
     holds(&rt, "its frames", config.receive_size == 65536);
     holds(&rt, "its sessions", config.session_time == 600_000_000);
+    holds(
+        &rt,
+        "its subscriptions",
+        config.subscriptions_in_all == 100_000,
+    );
+    holds(&rt, "its items", config.items_in_all == 1_000_000);
     Ok(())
 }
 

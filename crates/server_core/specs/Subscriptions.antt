@@ -1,8 +1,11 @@
--- What a server shows of its subscriptions.
-use Rattle.std.specs.Prelude.{ℕ, List, [], Option, Some, None}
+-- What a server shows of its subscriptions, and how many there are.
+use Rattle.std.specs.Prelude.{ℕ, List, [], length, Option, Some, None, option_map}
+use Rattle.std.specs.FinMap.{len}
 use Rattle.ua_state_table.specs.declared.vars.Vars.{Vars}
 use Rattle.ua_subscriptions.specs.Making.{kept_at}
 use Rattle.ua_subscriptions.specs.Tables.{vars_found, kept_found}
+use Rattle.ua_session.specs.Sessions.{SessionsState}
+use Rattle.server_core.specs.declared.population.Population.{Population}
 use Rattle.server_core.specs.World.{World}
 
 -- the variables of the subscription of a number; a halted server shows none
@@ -19,3 +22,12 @@ kept_numbers_on (Some world) number = kept_found number world.core.services.subs
 abbrev pub kept_on : Option World → ℕ → ℕ → Option (List ℕ)
 kept_on None number wanted = None
 kept_on (Some world) number wanted = kept_at number wanted world.core.services.subs.table
+
+-- how many sessions, subscriptions and items there are
+abbrev pub population_of : World → Population
+population_of world =
+    let sessions : SessionsState = world.core.services.sessions in
+    record { sessions = len sessions.sessions; subscriptions = length world.core.services.subs.table.subscriptions; items = length world.core.services.items.items }
+
+abbrev pub population_on : Option World → Option Population
+population_on world = option_map population_of world

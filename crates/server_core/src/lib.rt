@@ -40,11 +40,13 @@ mod event;
 pub mod laws;
 mod out;
 mod parts;
+mod population;
 mod server;
 mod world;
 
 pub use event::Event;
 pub use out::{Ran, Step, StepFault};
+pub use population::Population;
 pub use server::Server;
 pub use server_messages::{Fired, Out};
 pub use ua_types::Listed;

@@ -4,13 +4,14 @@ ghost use Rattle.std.specs.Prelude.{◌≡◌, option_map, Some, None, Err, fals
 ghost use Rattle.ua_space.specs.Histories.{without_histories};
 ghost use Rattle.server_core.specs.World.{opening, world_of};
 ghost use Rattle.server_core.specs.Stepping.{step_on, StepsTo, IsUnspent, takes_no_memory_on};
-ghost use Rattle.server_core.specs.Subscriptions.{vars_on, kept_numbers_on, kept_on};
+ghost use Rattle.server_core.specs.Subscriptions.{vars_on, kept_numbers_on, kept_on, population_on};
 ghost use Rattle.server_core.specs.Running.{Runs};
 ghost use Rattle.server_core.specs.declared.out.StepFault.TheVariants as step_fault;
 
 use crate::event::Event;
 use crate::out::{Ran, Step, StepFault};
 use crate::parts::Core;
+use crate::population::Population;
 use crate::world::World;
 use number_slots::Numbered;
 use server_connections::Connections;
@@ -147,6 +148,23 @@ impl Server {
         match &self.world {
             None => None,
             Some(world) => world.core.services.subs.kept(number, wanted),
+        }
+    }
+
+    /// How many sessions, subscriptions and items there are, or None where the server is halted. Takes no memory.
+    pub fn population(&self) -> Option<Population>
+        ensures { result ≡ population_on (world_of self.now) }
+    {
+        match &self.world {
+            None => None,
+            Some(world) => {
+                let services = &world.core.services;
+                Some(Population {
+                    sessions: services.sessions.len(),
+                    subscriptions: services.subs.len(),
+                    items: services.items.len(),
+                })
+            }
         }
     }
 

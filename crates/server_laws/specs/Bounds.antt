@@ -11,7 +11,7 @@ use Rattle.ua_history.specs.Histories.{history_of}
 use Rattle.ua_monitored_items.specs.Items.{ItemsState}
 use Rattle.ua_session.specs.Sessions.{SessionsState, points_of}
 use Rattle.ua_subscriptions.specs.SubscriptionCalls.{SubscriptionsState}
-use Rattle.subscription_laws.specs.Bounds.{QueuesAreWithin, ItemsAreWithin, RequestsAreWithin, SubscriptionsAreWithin, KeptAreWithin}
+use Rattle.subscription_laws.specs.Bounds.{QueuesAreWithin, ItemsAreWithin, AllItemsAreWithin, RequestsAreWithin, SubscriptionsAreWithin, AllSubscriptionsAreWithin, KeptAreWithin}
 use Rattle.ua_services.specs.Services.{serving_of, ticking_of}
 use Rattle.ua_services.specs.declared.services.Services.{Services}
 use Rattle.server_core.specs.Handling.{setting_at}
@@ -24,8 +24,10 @@ use Rattle.server_core.specs.declared.world.World.{World}
 pub record KeepsFewSubscriptions (config : Configuration) (world : World) : Type 0 where
   pub queues : let items : ItemsState = world.core.services.items in QueuesAreWithin config items.items
   pub items : let items : ItemsState = world.core.services.items in ItemsAreWithin config items.items
+  pub all_items : let items : ItemsState = world.core.services.items in AllItemsAreWithin config items.items
   pub requests : let subs : SubscriptionsState = world.core.services.subs in RequestsAreWithin config subs.table
   pub subscriptions : let subs : SubscriptionsState = world.core.services.subs in SubscriptionsAreWithin config subs.table
+  pub all_subscriptions : let subs : SubscriptionsState = world.core.services.subs in AllSubscriptionsAreWithin config subs.table
   pub kept : let subs : SubscriptionsState = world.core.services.subs in KeptAreWithin config subs.table
 
 -- ---- sessions

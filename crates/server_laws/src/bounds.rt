@@ -9,7 +9,8 @@ ghost use Rattle.server_laws.specs.Bounds.{KeepsFewSubscriptions, SessionsAreFew
 
 /// Whatever happens, a server has no more of anything than its configuration says, which lies in its ranges: in an item no
 /// more values wait than its queue's size, which is at most `queue`; a subscription has at most `items` items, and keeps at
-/// most `kept` messages; and a session has at most `publish_queue` queued Publish requests and `subscriptions` subscriptions.
+/// most `kept` messages; and a session has at most `publish_queue` queued Publish requests and `subscriptions` subscriptions. Over
+/// all there are at most `items_in_all` items, and `subscriptions_in_all` subscriptions live, whether their sessions do or not.
 /// At most `sessions` sessions are there, each with at most `points` continuation points, and at most `history` values of a
 /// node are kept.
 pub fn bounds_hold()

@@ -1,3 +1,4 @@
+pub mod Room
 pub mod Owners
 pub mod RowLinks
 pub mod RowFairness

@@ -48,6 +48,7 @@ use Rattle.subscription_laws.specs.Numbering.{messages_of}
 use Rattle.subscription_laws.specs.Requests.{name_of}
 use Rattle.subscription_laws.specs.Runs.{Move, Ran, start, moved, run}
 use Rattle.subscription_laws.specs.Tellings.{Telling, told_at, too_many_told, queued_told, note_told, rest_told, notes_told, alive_told, row_told}
+use Rattle.subscription_laws.proofs.Room.{either_false}
 use Rattle.subscription_laws.proofs.AskedNumbers.{asked_are, listed_are}
 use Rattle.subscription_laws.proofs.ChosenRows.{timer_is_none}
 use Rattle.subscription_laws.proofs.Keeping.{IsKept, world_after, fired_stays}
@@ -259,10 +260,6 @@ done_left c Dequeue e = absurd (cc)
 done_left c SendNotifications e = notes_left c.part.requests (noting c.round c.subscription c.items)
 done_left c SendKeepAlive e = answered_left c.round.asked _ _ _ _ refl
 done_left c action e = inr refl
-
-either_false : (a b : Bool) → (a || b) ≡ false → (a ≡ false) × (b ≡ false)
-either_false true b e = absurd (cc)
-either_false false b e = (refl, e)
 
 all_left : (actions : List Action) (c : Scene) → list_any is_dequeueing actions ≡ false → IsLeft c.round.asked (all_done c actions).round.asked
 all_left [] c e = inr refl

@@ -1,8 +1,9 @@
 -- Items keep within the sizes of their queues, and subscriptions within the number of their items, whatever is called.
-use Rattle.std.proofs.Common.{◌≡◌, ◌≤◌, ℕ, ◌+◌, ◌-◌, arith, Bool, true, false, ◌||◌, cond, List, [], ◌∷◌, ◌++◌, length, take, drop, fold, Option, Some, None, Result, Ok, Err, refl, sym, ◌∙◌, subst, length-append, length-drop}
+use Rattle.std.proofs.Common.{◌≡◌, ◌≤◌, ℕ, ◌+◌, ◌-◌, arith, Bool, true, false, cond, List, [], ◌∷◌, ◌++◌, length, take, drop, fold, Option, Some, None, Result, Ok, Err, refl, sym, ◌∙◌, subst, length-append, length-drop}
 use Rattle.std.proofs.lemmas.Bool.{eqb-true, eq-eqb}
 use Rattle.std.proofs.lemmas.List.{length-take}
-use Rattle.std.specs.Prelude.{◌==◌, ◌^◌, ◌&&◌, filter, nat_lt, nat_le}
+use Rattle.std.proofs.lemmas.Map.{length-set_value}
+use Rattle.std.specs.Prelude.{◌==◌, ◌&&◌, filter, nat_lt, nat_le}
 use Rattle.std.specs.BTreeMap.{insert_entry, is_at}
 use Rattle.std.specs.List.{AllByRecursion}
 use Rattle.std.specs.Map.{remove_entry}
@@ -43,6 +44,7 @@ use Rattle.ua_read_write.specs.Reading.{readable}
 use Rattle.ua_subscriptions.proofs.Choosing.{either}
 use Rattle.ua_subscriptions.proofs.MapEntries.{entries_removed, entries_changed, entries_inserted}
 use Rattle.subscription_laws.specs.Bounds.{KeepsWithinSize}
+use Rattle.subscription_laws.proofs.Room.{either_false, room, length_inserted, length_removed, length_filtered}
 
 -- ---- one queue
 
@@ -190,22 +192,24 @@ abbrev EachKeeps : ℕ → ℕ × Item → Type 0
 EachKeeps longest e = KeepsWithinSize longest e.1
 
 -- what every call keeps
-pub record AreBounded (most longest : ℕ) (s : ItemsState) : Type 0 where
+pub record AreBounded (most in_all longest : ℕ) (s : ItemsState) : Type 0 where
   pub most_is : s.most ≡ most
+  pub most_in_all_is : s.most_in_all ≡ in_all
   pub longest_is : s.longest ≡ longest
   pub keep : AllByRecursion (EachKeeps longest) s.items
   pub few : (subscription : ℕ) → length (numbers_of subscription s.items) ≤ most
+  pub few_in_all : length s.items ≤ in_all
 
 filtered_keep : (longest : ℕ) (test : ℕ × Item → Bool) (es : NumberedItems) → AllByRecursion (EachKeeps longest) es → AllByRecursion (EachKeeps longest) (filter test es)
 filtered_keep longest test [] h = tt
 filtered_keep longest test (e ∷ es) h = either (AllByRecursion (EachKeeps longest)) (test e) (e ∷ filter test es) (filter test es) (h.0, filtered_keep longest test es h.1) (filtered_keep longest test es h.1)
 
 abbrev with_items : ItemsState → NumberedItems → ItemsState
-with_items s items = record { most = s.most; longest = s.longest; interval = s.interval; made = s.made; items = items }
+with_items s items = record { most = s.most; most_in_all = s.most_in_all; longest = s.longest; interval = s.interval; made = s.made; items = items }
 
-module _ (most longest : ℕ) (some : 1 ≤ longest) where
+module _ (most in_all longest : ℕ) (some : 1 ≤ longest) where
   abbrev Bounded : ItemsState → Type 0
-  Bounded s = AreBounded most longest s
+  Bounded s = AreBounded most in_all longest s
 
   -- something is done with one item
   changed_bounded : (number : ℕ) (f : Item → Item) → ((item : Item) → KeepsWithinSize longest item → KeepsWithinSize longest (f item)) → ((q : ℕ) (item : Item) → is_of q (f item) ≡ is_of q item) →
@@ -213,12 +217,14 @@ module _ (most longest : ℕ) (some : 1 ≤ longest) where
   changed_bounded number f keeps same s h = by (item_at number s.items) refl
     where
       by : (o : Option Item) → item_at number s.items ≡ o → Bounded (with_items s (with_found number f s.items o))
-      by None e = record { most_is = h.most_is; longest_is = h.longest_is; keep = h.keep; few = h.few }
+      by None e = record { most_is = h.most_is; most_in_all_is = h.most_in_all_is; longest_is = h.longest_is; keep = h.keep; few = h.few; few_in_all = h.few_in_all }
       by (Some v) e = record {
         most_is = h.most_is;
+        most_in_all_is = h.most_in_all_is;
         longest_is = h.longest_is;
         keep = entries_changed (EachKeeps longest) (is_at (nat_cmp number)) v (f v) (λ key k. keeps v k) s.items e h.keep;
         few = λ q. subst (λ (ns : List ℕ). length ns ≤ most) (sym (where_set (is_of q) number v (f v) (same q v) s.items e)) (h.few q);
+        few_in_all = let kept = length-set_value (is_at (nat_cmp number)) s.items (f v) in let before = h.few_in_all in omega (arith, kept, before);
       }
 
   -- ---- values that were written, and those that a message takes
@@ -227,7 +233,7 @@ module _ (most longest : ℕ) (some : 1 ≤ longest) where
   seen_same v q item = either (λ (x : Item). is_of q x ≡ is_of q item) (takes item v) (queued v item) item refl refl
 
   visits_bounded : (visits : List Visit) (s : ItemsState) → Bounded s → Bounded (with_items s (sampled_items s.items visits))
-  visits_bounded [] s h = record { most_is = h.most_is; longest_is = h.longest_is; keep = h.keep; few = h.few }
+  visits_bounded [] s h = record { most_is = h.most_is; most_in_all_is = h.most_in_all_is; longest_is = h.longest_is; keep = h.keep; few = h.few; few_in_all = h.few_in_all }
   visits_bounded (v ∷ vs) s h =
       visits_bounded vs (with_items s (visited s.items v)) (changed_bounded v.number (seen v.value) (seen_keeps longest v.value) (seen_same v.value) s h)
 
@@ -236,13 +242,13 @@ module _ (most longest : ℕ) (some : 1 ≤ longest) where
       either (λ (x : Item). is_of q x ≡ is_of q item) ((item.subscription == own && is_sampling item.mode) && nat_lt 0 (length item.queue.entries)) (record item { released = true }) item refl refl
 
   releases_bounded : (releases : List Release) (s : ItemsState) → Bounded s → Bounded (with_items s (all_released s.items releases))
-  releases_bounded [] s h = record { most_is = h.most_is; longest_is = h.longest_is; keep = h.keep; few = h.few }
+  releases_bounded [] s h = record { most_is = h.most_is; most_in_all_is = h.most_in_all_is; longest_is = h.longest_is; keep = h.keep; few = h.few; few_in_all = h.few_in_all }
   releases_bounded (r ∷ rs) s h =
       releases_bounded rs (with_items s (with_release s.items r))
       (changed_bounded r.number (released_in r.subscription) (released_keeps longest r.subscription) (released_same r.subscription) s h)
 
   shown_bounded : (changes : List Change) (s : ItemsState) → Bounded s → Bounded (with_items s (shown s.items changes))
-  shown_bounded [] s h = record { most_is = h.most_is; longest_is = h.longest_is; keep = h.keep; few = h.few }
+  shown_bounded [] s h = record { most_is = h.most_is; most_in_all_is = h.most_in_all_is; longest_is = h.longest_is; keep = h.keep; few = h.few; few_in_all = h.few_in_all }
   shown_bounded (c ∷ cs) s h =
       let visits = visits_of s.items c in
       shown_bounded cs (with_items s (shown_one s.items c))
@@ -297,18 +303,19 @@ module _ (most longest : ℕ) (some : 1 ≤ longest) where
       room_reading (is_full s subscription) (mode_numbered request.monitoring_mode) (trigger_of request.requested_parameters.filter) (readable nodes what.node_id what.attribute_id what.index_range) kind e
 
   below : (s : ItemsState) (subscription : ℕ) → is_full s subscription ≡ false → length (numbers_of subscription s.items) + 1 ≤ s.most
-  below s subscription e = by (nat_le s.most (length (numbers_of subscription s.items))) refl e
-    where
-      by : (b : Bool) → nat_le s.most (length (numbers_of subscription s.items)) ≡ b → (b || nat_le (2 ^ 32 - 1) s.made) ≡ false → length (numbers_of subscription s.items) + 1 ≤ s.most
-      by true is e = absurd (cc)
-      by false is e = grind (arith, is)
+  below s subscription e = room s.most (length (numbers_of subscription s.items)) (either_false _ _ e).0
 
-  new_bounded : (subscription : ℕ) (item : Item) (s : ItemsState) → KeepsWithinSize longest item → is_of subscription item ≡ true → length (numbers_of subscription s.items) + 1 ≤ most → Bounded s → Bounded (with_new_item s item)
-  new_bounded subscription item s k its room h = record {
+  below_in_all : (s : ItemsState) (subscription : ℕ) → is_full s subscription ≡ false → length s.items + 1 ≤ s.most_in_all
+  below_in_all s subscription e = room s.most_in_all (length s.items) (either_false _ _ (either_false _ _ e).1).0
+
+  new_bounded : (subscription : ℕ) (item : Item) (s : ItemsState) → KeepsWithinSize longest item → is_of subscription item ≡ true → length (numbers_of subscription s.items) + 1 ≤ most → length s.items + 1 ≤ in_all → Bounded s → Bounded (with_new_item s item)
+  new_bounded subscription item s k its left left_in_all h = record {
     most_is = h.most_is;
+    most_in_all_is = h.most_in_all_is;
     longest_is = h.longest_is;
     keep = entries_inserted (EachKeeps longest) (s.made + 1) item s.items k h.keep;
     few = λ q. few q (is_of q item) refl;
+    few_in_all = let one = length_inserted (s.made + 1) item s.items in omega (arith, one, left_in_all);
   }
     where
       few : (q : ℕ) (b : Bool) → is_of q item ≡ b → length (numbers_of q (insert_entry nat_cmp s.items (s.made + 1) item)) ≤ most
@@ -316,7 +323,7 @@ module _ (most longest : ℕ) (some : 1 ≤ longest) where
       few q true is =
           let one = put_count (is_of q) (s.made + 1) item s.items in
           let same : subscription ≡ q = sym (eqb-true item.subscription subscription its) ∙ eqb-true item.subscription q is in
-          let here : length (numbers_of q s.items) + 1 ≤ most = subst (λ (i : ℕ). length (numbers_of i s.items) + 1 ≤ most) same room in
+          let here : length (numbers_of q s.items) + 1 ≤ most = subst (λ (i : ℕ). length (numbers_of i s.items) + 1 ≤ most) same left in
           omega (arith, one, here)
 
   created_bounded : (nodes : Nodes) (clock : Moment) (subscription : ℕ) (timestamps : Timestamps) (s : ItemsState) (request : MonitoredItemCreateRequest) → Bounded s → OneBounded (create_one nodes clock subscription timestamps s request)
@@ -329,7 +336,8 @@ module _ (most longest : ℕ) (some : 1 ≤ longest) where
           let item = new_item s subscription timestamps request kind in
           new_bounded subscription (begun nodes clock item) s (begun_keeps nodes clock item (new_keeps s subscription timestamps request kind h.longest_is))
           (begun_same nodes clock subscription item ∙ eq-eqb subscription subscription refl)
-          (subst (λ (m : ℕ). length (numbers_of subscription s.items) + 1 ≤ m) h.most_is (below s subscription (room_judged s nodes subscription request kind e))) h
+          (subst (λ (m : ℕ). length (numbers_of subscription s.items) + 1 ≤ m) h.most_is (below s subscription (room_judged s nodes subscription request kind e)))
+          (subst (λ (m : ℕ). length s.items + 1 ≤ m) h.most_in_all_is (below_in_all s subscription (room_judged s nodes subscription request kind e))) h
 
   modified_bounded : (subscription : ℕ) (timestamps : Timestamps) (s : ItemsState) (request : MonitoredItemModifyRequest) → Bounded s → OneBounded (modify_one subscription timestamps s request)
   unfolding modify_one
@@ -375,9 +383,11 @@ module _ (most longest : ℕ) (some : 1 ≤ longest) where
       by None = h
       by (Some item) = record {
         most_is = h.most_is;
+        most_in_all_is = h.most_in_all_is;
         longest_is = h.longest_is;
         keep = entries_removed (EachKeeps longest) (is_at (nat_cmp number)) s.items h.keep;
         few = λ q. let less = gone_count (is_of q) (is_at (nat_cmp number)) s.items in let before = h.few q in omega (arith, less, before);
+        few_in_all = let less = length_removed (is_at (nat_cmp number)) s.items in let before = h.few_in_all in omega (arith, less, before);
       }
 
   served_bounded : {A R : Type 0} → (serve : ItemsState → A → One R) → ((s : ItemsState) (x : A) → Bounded s → Bounded (serve s x).state) → (xs : List A) (before : Served R) → Bounded before.state → Bounded (fold (with_one serve) before xs).state
@@ -397,19 +407,21 @@ module _ (most longest : ℕ) (some : 1 ≤ longest) where
   move_bounded s (Delete subscription numbers) h = served_bounded (delete_one subscription) (λ t x k. deleted_bounded subscription t x k) numbers (nothing_served s) h
   move_bounded s (End subscription) h = record {
     most_is = h.most_is;
+    most_in_all_is = h.most_in_all_is;
     longest_is = h.longest_is;
     keep = filtered_keep longest (is_of_other subscription) s.items h.keep;
     few = λ q. let less = filtered_count (is_of q) (is_of_other subscription) s.items in let before = h.few q in omega (arith, less, before);
+    few_in_all = let less = length_filtered (is_of_other subscription) s.items in let before = h.few_in_all in omega (arith, less, before);
   }
   move_bounded s (Show changes) h = shown_bounded changes s h
   move_bounded s (TakeNotes subscription n) h =
-      taken_bounded (numbers_of subscription s.items) (nothing_taken s.items n) s (record { most_is = h.most_is; longest_is = h.longest_is; keep = h.keep; few = h.few })
+      taken_bounded (numbers_of subscription s.items) (nothing_taken s.items n) s (record { most_is = h.most_is; most_in_all_is = h.most_in_all_is; longest_is = h.longest_is; keep = h.keep; few = h.few; few_in_all = h.few_in_all })
 
   pub moves_bounded : (moves : List Move) (before : item_moves.Moved) → Bounded before.state → Bounded (fold moved_on before moves).state
   moves_bounded [] before h = h
   moves_bounded (m ∷ ms) before h = moves_bounded ms (moved_on before m) (move_bounded before.state m h)
 
-pub items_bounded : (config : Configuration) → IsConfigured config → (moves : List Move) → AreBounded config.items config.queue (item_moves.run config moves).state
+pub items_bounded : (config : Configuration) → IsConfigured config → (moves : List Move) → AreBounded config.items config.items_in_all config.queue (item_moves.run config moves).state
 items_bounded config is moves =
-    moves_bounded config.items config.queue is.queue.0 moves (record { state = no_items config; queue_moves = [] })
-    (record { most_is = refl; longest_is = refl; keep = tt; few = λ q. omega arith })
+    moves_bounded config.items config.items_in_all config.queue is.queue.0 moves (record { state = no_items config; queue_moves = [] })
+    (record { most_is = refl; most_in_all_is = refl; longest_is = refl; keep = tt; few = λ q. omega arith; few_in_all = omega arith })

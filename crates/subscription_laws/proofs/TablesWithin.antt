@@ -1,7 +1,8 @@
 -- Queued requests, subscriptions of a session and kept messages stay within their bounds, whatever is called.
-use Rattle.std.proofs.Common.{◌≡◌, ◌≤◌, ℕ, suc, ◌+◌, ◌-◌, arith, Bool, true, false, ◌||◌, cond, List, [], ◌∷◌, ◌++◌, length, take, drop, fold, Option, Some, None, unwrap_or, refl, sym, ◌∙◌, subst, length-append, length-drop}
+use Rattle.std.proofs.Common.{◌≡◌, ◌≤◌, ℕ, suc, ◌+◌, ◌-◌, arith, Bool, true, false, cond, List, [], ◌∷◌, ◌++◌, length, take, drop, fold, Option, Some, None, unwrap_or, refl, sym, ◌∙◌, subst, length-append, length-drop}
 use Rattle.std.proofs.lemmas.List.{length-take}
-use Rattle.std.specs.Prelude.{◌^◌, filter, map, nat_lt, nat_le}
+use Rattle.std.proofs.lemmas.Map.{length-set_value}
+use Rattle.std.specs.Prelude.{map, nat_lt, nat_le}
 use Rattle.std.specs.BTreeMap.{is_at}
 use Rattle.std.specs.BTreeSet.{insert_key}
 use Rattle.std.specs.List.{AllByRecursion, position}
@@ -46,6 +47,7 @@ use Rattle.ua_subscriptions.proofs.MapEntries.{entries_removed, entries_if_remov
 use Rattle.subscription_laws.specs.Runs.{Move, Ran, start, moved, run}
 use Rattle.subscription_laws.specs.Encounters.{Beside, Acknowledges, Refuses, Leaves, LeavesAll, Loses, beside, Encounter, scene_at}
 use Rattle.subscription_laws.proofs.Keeping.{world_after}
+use Rattle.subscription_laws.proofs.Room.{either_false, room, length_inserted, length_removed, length_filtered}
 use Rattle.subscription_laws.proofs.Walks.{left_is, Follows, FollowsMaking, Any, any_begins, walked}
 
 -- ---- lengths
@@ -84,14 +86,6 @@ put_length k (n ∷ ns) = by (nat_cmp k n) (put_length k ns)
     by Less h = omega arith
     by Equal h = omega arith
     by Greater h = omega (arith, h)
-
-others_length : (conn : ℕ) (calls : List PublishCall) → length (filter (came_by_other conn) calls) ≤ length calls
-others_length conn [] = omega arith
-others_length conn (c ∷ cs) = by (came_by_other conn c) (others_length conn cs)
-  where
-    by : (b : Bool) → length (filter (came_by_other conn) cs) ≤ length cs → length (cond b (c ∷ filter (came_by_other conn) cs) (filter (came_by_other conn) cs)) ≤ length (c ∷ cs)
-    by true h = omega (arith, h)
-    by false h = omega (arith, h)
 
 -- ---- a row
 
@@ -223,6 +217,7 @@ module _ (b : Bounds) (some : 1 ≤ b.publish_queue) where
   pub record TableBounded (t : TableState) : Type 0 where
     pub sessions : AllByRecursion EachPart t.sessions
     pub subscriptions : AllByRecursion EachKept t.subscriptions
+    pub few : length t.subscriptions ≤ b.subscriptions_in_all
 
   pub record WorldBounded (w : World) : Type 0 where
     pub bounds : w.round.bounds ≡ b
@@ -253,9 +248,10 @@ module _ (b : Bounds) (some : 1 ≤ b.publish_queue) where
     bounds : m.round.bounds ≡ b
     sessions : AllByRecursion EachPart m.sessions
     subscriptions : AllByRecursion EachKept m.subscriptions
+    few : length m.subscriptions ≤ b.subscriptions_in_all
 
   found_bounded : (round : Round) (t : TableState) (items : ItemsState) (o : Option Subscription) → length (unwrap_or o (unborn 0)).kept ≤ b.kept → round.bounds ≡ b → TableBounded t → OneBounded (met_found round t.subscriptions t.sessions items o)
-  found_bounded round t items None k h g = record { bounds = h; sessions = g.sessions; subscriptions = g.subscriptions }
+  found_bounded round t items None k h g = record { bounds = h; sessions = g.sessions; subscriptions = g.subscriptions; few = g.few }
   found_bounded round t items (Some s) k h g =
       let c = scene round s (part_of s.session t.sessions) items in
       let p = part_of_bounded s.session t.sessions g.sessions in
@@ -264,6 +260,7 @@ module _ (b : Bounds) (some : 1 ≤ b.publish_queue) where
         bounds = after.bounds;
         sessions = set_part_bounded s.session (fired c).part t.sessions (record { requests = after.requests; numbers = after.numbers }) g.sessions;
         subscriptions = entries_set EachKept round.own (fired c).subscription t.subscriptions after.kept g.subscriptions;
+        few = let same = length-set_value (is_at (nat_cmp round.own)) t.subscriptions (fired c).subscription in let before = g.few in omega (arith, same, before);
       }
 
   -- ---- what a call does
@@ -277,6 +274,7 @@ module _ (b : Bounds) (some : 1 ≤ b.publish_queue) where
         table = record {
           sessions = set_bounded session (without_requests (part_at session w.table.sessions)) w.table.sessions (record { requests = omega arith; numbers = p.numbers }) h.table.sessions;
           subscriptions = h.table.subscriptions;
+          few = h.table.few;
         };
       }
 
@@ -287,10 +285,10 @@ module _ (b : Bounds) (some : 1 ≤ b.publish_queue) where
       let after = fired_bounded c (record { bounds = h.bounds; requests = omega arith; numbers = omega arith; kept = omega arith }) in
       record { bounds = after.bounds; table = h.table }
 
-  -- one more subscription, where the session has fewer than may be: the row lists none
-  added_bounded : (session number : ℕ) (asked : Settings) (enabled : Bool) (w : World) → let part : SessionSubscriptions = part_at session w.table.sessions in length part.numbers + 1 ≤ b.subscriptions → WorldBounded w → WorldBounded (added session number asked enabled w)
+  -- one more subscription, where the session and the server have fewer than may be: the row lists none
+  added_bounded : (session number : ℕ) (asked : Settings) (enabled : Bool) (w : World) → let part : SessionSubscriptions = part_at session w.table.sessions in length part.numbers + 1 ≤ b.subscriptions → length w.table.subscriptions + 1 ≤ b.subscriptions_in_all → WorldBounded w → WorldBounded (added session number asked enabled w)
   unfolding added fired row_done
-  added_bounded session number asked enabled w room h =
+  added_bounded session number asked enabled w room room_in_all h =
       let part : SessionSubscriptions = part_at session w.table.sessions in
       let c = scene (with_call w.round number (call.Create false asked enabled)) (unborn session) part w.items in
       let p = part_bounded session w.table.sessions h.table.sessions in
@@ -302,6 +300,7 @@ module _ (b : Bounds) (some : 1 ≤ b.publish_queue) where
           sessions = entries_inserted EachPart session (with_number number (fired c).part) (remove_entry (is_at (nat_cmp session)) w.table.sessions) (record { requests = after.requests; numbers = omega (arith, more, room) })
               (entries_removed EachPart (is_at (nat_cmp session)) w.table.sessions h.table.sessions);
           subscriptions = entries_inserted EachKept number (fired c).subscription w.table.subscriptions after.kept h.table.subscriptions;
+          few = let one = length_inserted number (fired c).subscription w.table.subscriptions in omega (arith, one, room_in_all);
         };
       }
 
@@ -327,10 +326,28 @@ module _ (b : Bounds) (some : 1 ≤ b.publish_queue) where
   all_acknowledged_bounded session [] before h = h
   all_acknowledged_bounded session (a ∷ acks) before h = all_acknowledged_bounded session acks (with_acknowledged session before a) (acknowledged_bounded session before.subscriptions a h)
 
+  acknowledged_few : (session : ℕ) (subscriptions : List (ℕ × Subscription)) (a : SubscriptionAcknowledgement) → length (acknowledged session subscriptions a).subscriptions ≡ length subscriptions
+  unfolding acknowledged
+  acknowledged_few session subscriptions a = by (subscription_at a.subscription_id subscriptions)
+    where
+      own : (mine : Bool) (s : Subscription) → length (cond {A = Acknowledged} mine
+          (record { status = acknowledgement_status a.sequence_number s.kept; subscriptions = set_value (is_at (nat_cmp a.subscription_id)) subscriptions (without_kept a.sequence_number s) })
+          (record { status = status.BAD_SUBSCRIPTION_ID_INVALID; subscriptions = subscriptions })).subscriptions ≡ length subscriptions
+      own true s = length-set_value (is_at (nat_cmp a.subscription_id)) subscriptions (without_kept a.sequence_number s)
+      own false s = refl
+
+      by : (o : Option Subscription) → length (acknowledged_by session subscriptions a o).subscriptions ≡ length subscriptions
+      by None = refl
+      by (Some s) = own (is_of s.session session) s
+
+  all_acknowledged_few : (session : ℕ) (acks : List SubscriptionAcknowledgement) (before : AllAcknowledged) → length (fold (with_acknowledged session) before acks).subscriptions ≡ length before.subscriptions
+  all_acknowledged_few session [] before = refl
+  all_acknowledged_few session (a ∷ acks) before = all_acknowledged_few session acks (with_acknowledged session before a) ∙ acknowledged_few session before.subscriptions a
+
   without_conn_bounded : (conn : ℕ) (sessions : List (ℕ × SessionSubscriptions)) → AllByRecursion EachPart sessions → AllByRecursion EachPart (map (entry_without_conn conn) sessions)
   without_conn_bounded conn [] h = tt
   without_conn_bounded conn (e ∷ es) h =
-      let less = others_length conn e.1.requests in
+      let less = length_filtered (came_by_other conn) e.1.requests in
       let before = h.0.requests in
       (record { requests = omega (arith, less, before); numbers = h.0.numbers }, without_conn_bounded conn es h.1)
 
@@ -341,11 +358,10 @@ module _ (b : Bounds) (some : 1 ≤ b.publish_queue) where
     pub table : TableBounded r.subs.table
 
   room_left : (s : SubscriptionsState) (session : ℕ) → is_full s session ≡ false → length (part_at session s.table.sessions).numbers + 1 ≤ s.bounds.subscriptions
-  room_left s session e = by (nat_le s.bounds.subscriptions (length (part_at session s.table.sessions).numbers)) refl e
-    where
-      by : (full : Bool) → nat_le s.bounds.subscriptions (length (part_at session s.table.sessions).numbers) ≡ full → (full || nat_le (2 ^ 32 - 1) s.made) ≡ false → length (part_at session s.table.sessions).numbers + 1 ≤ s.bounds.subscriptions
-      by true is e = absurd (cc)
-      by false is e = grind (arith, is)
+  room_left s session e = room s.bounds.subscriptions (length (part_at session s.table.sessions).numbers) (either_false _ _ e).0
+
+  room_in_all : (s : SubscriptionsState) (session : ℕ) → is_full s session ≡ false → length s.table.subscriptions + 1 ≤ s.bounds.subscriptions_in_all
+  room_in_all s session e = room s.bounds.subscriptions_in_all (length s.table.subscriptions) (either_false _ _ (either_false _ _ e).1).0
 
   abbrev StaysBounded : World → List Encounter → World → Type 0
   StaysBounded w es v = WorldBounded w → WorldBounded v
@@ -358,13 +374,18 @@ module _ (b : Bounds) (some : 1 ≤ b.publish_queue) where
         table = record {
           sessions = set_bounded session (part_without_note (part_at session w.table.sessions)) w.table.sessions (record { requests = p.requests; numbers = p.numbers }) h.table.sessions;
           subscriptions = all_acknowledged_bounded session acks (record { results = []; subscriptions = w.table.subscriptions }) h.table.subscriptions;
+          few = let same = all_acknowledged_few session acks (record { results = []; subscriptions = w.table.subscriptions }) in let before = h.table.few in omega (arith, same, before);
         };
       }
   bounded_beside w (Refuses session code) h = all_refused_bounded session code w h
-  bounded_beside w (Leaves session) h = record { bounds = h.bounds; table = record { sessions = entries_removed EachPart (is_at (nat_cmp session)) _ h.table.sessions; subscriptions = h.table.subscriptions } }
-  bounded_beside w (LeavesAll code) h = record { bounds = h.bounds; table = record { sessions = tt; subscriptions = h.table.subscriptions } }
-  bounded_beside w (Loses conn) h = record { bounds = h.bounds; table = record { sessions = without_conn_bounded conn w.table.sessions h.table.sessions; subscriptions = h.table.subscriptions } }
+  bounded_beside w (Leaves session) h = record { bounds = h.bounds; table = record { sessions = entries_removed EachPart (is_at (nat_cmp session)) _ h.table.sessions; subscriptions = h.table.subscriptions; few = h.table.few } }
+  bounded_beside w (LeavesAll code) h = record { bounds = h.bounds; table = record { sessions = tt; subscriptions = h.table.subscriptions; few = h.table.few } }
+  bounded_beside w (Loses conn) h = record { bounds = h.bounds; table = record { sessions = without_conn_bounded conn w.table.sessions h.table.sessions; subscriptions = h.table.subscriptions; few = h.table.few } }
   bounded_beside w b h = record { bounds = h.bounds; table = h.table }
+
+  fewer : (closed : Bool) (test : ℕ → Bool) (subscriptions : List (ℕ × Subscription)) → length subscriptions ≤ b.subscriptions_in_all → length (cond closed (remove_entry test subscriptions) subscriptions) ≤ b.subscriptions_in_all
+  fewer true test subscriptions h = let less = length_removed test subscriptions in omega (arith, less, h)
+  fewer false test subscriptions h = h
 
   one_met_bounded : (w : World) (n : ℕ) (asked : Call) (s : Subscription) → subscription_at n w.table.subscriptions ≡ Some s → WorldBounded w → WorldBounded (world_after n s (fired (scene_at w n asked s)) w.table)
   one_met_bounded w n asked s found h =
@@ -375,6 +396,7 @@ module _ (b : Bounds) (some : 1 ≤ b.publish_queue) where
         table = record {
           sessions = m.sessions;
           subscriptions = entries_if_removed EachKept (is_closed (fired (scene_at w n asked s)).subscription) (is_at (nat_cmp n)) _ m.subscriptions;
+          few = fewer (is_closed (fired (scene_at w n asked s)).subscription) (is_at (nat_cmp n)) _ m.few;
         };
       }
 
@@ -383,7 +405,7 @@ module _ (b : Bounds) (some : 1 ≤ b.publish_queue) where
     rest = λ whose asked w n ns given. tt;
     none = λ w h. h;
     next = λ w v u es fs p q h. q (p h);
-    passes = λ w n asked h. record { bounds = h.bounds; table = record { sessions = h.table.sessions; subscriptions = h.table.subscriptions } };
+    passes = λ w n asked h. record { bounds = h.bounds; table = record { sessions = h.table.sessions; subscriptions = h.table.subscriptions; few = h.table.few } };
     aside = λ w b fits h. bounded_beside w b h;
     one = λ whose asked w n ns s plain given meant found h. one_met_bounded w n asked s found h;
   }
@@ -393,7 +415,8 @@ module _ (b : Bounds) (some : 1 ≤ b.publish_queue) where
     refuses = λ session number settings enabled w h. refused_one_bounded session settings enabled w h;
     adds = λ r clock session settings enabled free h.
         added_bounded session (r.subs.made + 1) settings enabled (world_of r.subs r.items clock)
-        (subst (λ (x : Bounds). length (part_at session r.subs.table.sessions).numbers + 1 ≤ x.subscriptions) h.bounds (room_left r.subs session free)) h;
+        (subst (λ (x : Bounds). length (part_at session r.subs.table.sessions).numbers + 1 ≤ x.subscriptions) h.bounds (room_left r.subs session free))
+        (subst (λ (x : Bounds). length r.subs.table.subscriptions + 1 ≤ x.subscriptions_in_all) h.bounds (room_in_all r.subs session free)) h;
   }
 
   pub one_bounded : (r : Ran) (m : Move) → RunBounded r → RunBounded (moved r m)
@@ -408,4 +431,4 @@ module _ (b : Bounds) (some : 1 ≤ b.publish_queue) where
 
 pub subs_bounded : (config : Configuration) (is : IsConfigured config) (moves : List Move) → let r = run config moves in TableBounded (bounds_of config) is.publish_queue.0 r.subs.table
 subs_bounded config is moves =
-    (all_bounded (bounds_of config) is.publish_queue.0 moves (start config) (record { bounds = refl; table = record { sessions = tt; subscriptions = tt } })).table
+    (all_bounded (bounds_of config) is.publish_queue.0 moves (start config) (record { bounds = refl; table = record { sessions = tt; subscriptions = tt; few = omega arith } })).table

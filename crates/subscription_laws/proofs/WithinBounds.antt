@@ -9,7 +9,7 @@ use Rattle.ua_monitored_items.specs.declared.item.Item.{Item}
 use Rattle.ua_subscriptions.specs.Settings.{bounds_of}
 use Rattle.ua_subscriptions.specs.Subscriptions.{unborn}
 use Rattle.ua_subscriptions.specs.declared.subscription.Subscription.{Subscription}
-use Rattle.subscription_laws.specs.Bounds.{KeepsWithinSize, QueuesAreWithin, ItemsAreWithin, RequestsAreWithin, SubscriptionsAreWithin, KeptAreWithin}
+use Rattle.subscription_laws.specs.Bounds.{KeepsWithinSize, QueuesAreWithin, ItemsAreWithin, AllItemsAreWithin, RequestsAreWithin, SubscriptionsAreWithin, AllSubscriptionsAreWithin, KeptAreWithin}
 use Rattle.subscription_laws.specs.ItemCalls.{item_calls}
 use Rattle.subscription_laws.specs.Runs.{Move, run}
 use Rattle.subscription_laws.proofs.ItemsCalled.{items_come_by_their_calls}
@@ -24,8 +24,8 @@ found_keeps longest number item (e ∷ es) h found = by (is_at (nat_cmp number) 
     by true here more = let is : e.1 ≡ item = cc in subst (KeepsWithinSize longest) is h.0
     by false here more = more here
 
-items_within : (config : Configuration) → IsConfigured config → (moves : List Move) → AreBounded config.items config.queue (run config moves).items
-items_within config is moves = subst (AreBounded config.items config.queue) (sym (items_come_by_their_calls config moves)) (items_bounded config is (item_calls config moves))
+items_within : (config : Configuration) → IsConfigured config → (moves : List Move) → AreBounded config.items config.items_in_all config.queue (run config moves).items
+items_within config is moves = subst (AreBounded config.items config.items_in_all config.queue) (sym (items_come_by_their_calls config moves)) (items_bounded config is (item_calls config moves))
 
 pub queues_within : (config : Configuration) → IsConfigured config → (moves : List Move) → let r = run config moves in QueuesAreWithin config r.items.items
 queues_within config is moves number item found = found_keeps config.queue number item (run config moves).items.items (items_within config is moves).keep found
@@ -33,11 +33,17 @@ queues_within config is moves number item found = found_keeps config.queue numbe
 pub few_items : (config : Configuration) → IsConfigured config → (moves : List Move) → let r = run config moves in ItemsAreWithin config r.items.items
 few_items config is moves = (items_within config is moves).few
 
+pub few_items_in_all : (config : Configuration) → IsConfigured config → (moves : List Move) → let r = run config moves in AllItemsAreWithin config r.items.items
+few_items_in_all config is moves = (items_within config is moves).few_in_all
+
 pub few_requests : (config : Configuration) → IsConfigured config → (moves : List Move) → let r = run config moves in RequestsAreWithin config r.subs.table
 few_requests config is moves session = (part_bounded (bounds_of config) is.publish_queue.0 session (run config moves).subs.table.sessions (subs_bounded config is moves).sessions).requests
 
 pub few_subscriptions : (config : Configuration) → IsConfigured config → (moves : List Move) → let r = run config moves in SubscriptionsAreWithin config r.subs.table
 few_subscriptions config is moves session = (part_bounded (bounds_of config) is.publish_queue.0 session (run config moves).subs.table.sessions (subs_bounded config is moves).sessions).numbers
+
+pub few_subscriptions_in_all : (config : Configuration) → IsConfigured config → (moves : List Move) → let r = run config moves in AllSubscriptionsAreWithin config r.subs.table
+few_subscriptions_in_all config is moves = (subs_bounded config is moves).few
 
 pub few_kept : (config : Configuration) → IsConfigured config → (moves : List Move) → let r = run config moves in KeptAreWithin config r.subs.table
 few_kept config is moves number s found =

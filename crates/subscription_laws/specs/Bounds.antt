@@ -20,6 +20,10 @@ QueuesAreWithin config items = (number : ℕ) (item : Item) → item_at number i
 abbrev pub ItemsAreWithin : Configuration → NumberedItems → Type 0
 ItemsAreWithin config items = (subscription : ℕ) → length (numbers_of subscription items) ≤ config.items
 
+-- all subscriptions have at most `items_in_all` items
+abbrev pub AllItemsAreWithin : Configuration → NumberedItems → Type 0
+AllItemsAreWithin config items = length items ≤ config.items_in_all
+
 -- each session has at most `publish_queue` queued Publish requests
 abbrev pub RequestsAreWithin : Configuration → TableState → Type 0
 RequestsAreWithin config t = (session : ℕ) → length (part_at session t.sessions).requests ≤ config.publish_queue
@@ -27,6 +31,10 @@ RequestsAreWithin config t = (session : ℕ) → length (part_at session t.sessi
 -- each session has at most `subscriptions` subscriptions
 abbrev pub SubscriptionsAreWithin : Configuration → TableState → Type 0
 SubscriptionsAreWithin config t = (session : ℕ) → length (part_at session t.sessions).numbers ≤ config.subscriptions
+
+-- at most `subscriptions_in_all` subscriptions live, those whose sessions ended among them
+abbrev pub AllSubscriptionsAreWithin : Configuration → TableState → Type 0
+AllSubscriptionsAreWithin config t = length t.subscriptions ≤ config.subscriptions_in_all
 
 -- each subscription keeps at most `kept` messages
 abbrev pub KeptAreWithin : Configuration → TableState → Type 0

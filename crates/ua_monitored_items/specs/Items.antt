@@ -33,17 +33,18 @@ use Rattle.ua_monitored_items.specs.declared.kinds.Kind.{Kind}
 use Rattle.ua_monitored_items.specs.declared.kinds.Mode.{Mode}
 use Rattle.ua_monitored_items.specs.declared.kinds.Trigger.{Trigger}
 
--- how many items a subscription may have, how many values an item may keep, the sampling interval that clients are told,
--- the number of the last item that was made, and the items under their numbers, which rise
+-- how many items a subscription may have, and how many all may have; how many values an item may keep, the sampling interval
+-- that clients are told, the number of the last item that was made, and the items under their numbers, which rise
 pub record ItemsState : Type 0 where
   pub most : ℕ
+  pub most_in_all : ℕ
   pub longest : ℕ
   pub interval : Duration
   pub made : ℕ
   pub items : NumberedItems
 
 abbrev pub no_items : Configuration → ItemsState
-no_items config = record { most = config.items; longest = config.queue; interval = config.sampling_duration; made = 0; items = [] }
+no_items config = record { most = config.items; most_in_all = config.items_in_all; longest = config.queue; interval = config.sampling_duration; made = 0; items = [] }
 
 -- a move on the queue of the item with this number
 pub record ItemQueueMove : Type 0 where
@@ -80,9 +81,9 @@ all_served serve s xs = fold (with_one serve) (nothing_served s) xs
 
 -- ---- CreateMonitoredItems
 
--- as many items as a subscription may have are held, or no number is left
+-- as many items as a subscription may have are held, or as many as the server may have, or no number is left
 abbrev pub is_full : ItemsState → ℕ → Bool
-is_full s subscription = nat_le s.most (length (numbers_of subscription s.items)) || nat_le (2 ^ 32 - 1) s.made
+is_full s subscription = nat_le s.most (length (numbers_of subscription s.items)) || (nat_le s.most_in_all (length s.items) || nat_le (2 ^ 32 - 1) s.made)
 
 abbrev pub filter_judged : Bool → Mode → Option Trigger → Result Kind Status
 filter_judged full mode None = Err status.BAD_MONITORED_ITEM_FILTER_UNSUPPORTED

@@ -140,6 +140,13 @@ impl ItemTable {
         self.items.get(number)
     }
 
+    /// How many items there are.
+    pub fn len(&self) -> usize
+        ensures { result ≡ length self.now.items }
+    {
+        self.items.len()
+    }
+
     /// How many items a subscription has.
     pub fn count_of(&self, subscription: u32) -> usize
         ensures { result ≡ length (numbers_of subscription self.now.items) }

@@ -1,6 +1,6 @@
 //! The monitored items of a server.
 
-ghost use Rattle.std.specs.Prelude.{◌≡◌, ◌-◌, ◌^◌, ◌<◌, ◌≤◌, [], false, true, filter, fold, map, IsOk, OnOk, OnErr, IfOk, if◌then◌else◌};
+ghost use Rattle.std.specs.Prelude.{◌≡◌, ◌-◌, ◌^◌, ◌<◌, ◌≤◌, [], false, true, filter, fold, length, map, IsOk, OnOk, OnErr, IfOk, if◌then◌else◌};
 ghost use Rattle.std.specs.BTreeSet.{insert_key};
 ghost use Rattle.std.specs.Option.{option_copied};
 ghost use Rattle.std.specs.Ordering.{nat_cmp};
@@ -51,6 +51,8 @@ use ua_values::DataValue;
 pub struct Items {
     // How many items a subscription may have.
     most: u32,
+    // How many items all subscriptions may have.
+    most_in_all: u32,
     // How many values an item may keep.
     longest: u32,
     // The sampling interval that clients are told.
@@ -64,7 +66,7 @@ impl Model for Items {
 
     ghost Value = { ItemsState };
 
-    ghost view = { λ s. record { most = s.most; longest = s.longest; interval = s.interval; made = s.table.made; items = s.table.items } };
+    ghost view = { λ s. record { most = s.most; most_in_all = s.most_in_all; longest = s.longest; interval = s.interval; made = s.table.made; items = s.table.items } };
 
     ghost invariant = { λ s. 1 ≤ s.longest };
 }
@@ -130,18 +132,28 @@ impl Items {
     {
         Items {
             most: config.items,
+            most_in_all: config.items_in_all,
             longest: config.queue,
             interval: config.sampling_duration,
             table: ItemTable::new(alloc),
         }
     }
 
-    // As many items as a subscription may have are held, or no number is left.
+    /// How many items there are.
+    pub fn len(&self) -> usize
+        ensures { result ≡ length self.now.items }
+    {
+        self.table.len()
+    }
+
+    // As many items as a subscription may have are held, or as many as the server may have, or no number is left.
     fn is_full(&self, subscription: u32) -> bool
         ensures full { result ≡ is_full_spec self.now subscription }
         ensures room { result ≡ false → self.now.made < 2 ^ 32 - 1 }
     {
-        self.table.count_of(subscription) >= self.most as usize || self.table.made() == u32::MAX
+        self.table.count_of(subscription) >= self.most as usize
+            || self.len() >= self.most_in_all as usize
+            || self.table.made() == u32::MAX
     }
 
     // Whether an item may be made, or why not. Takes no memory.
@@ -291,8 +303,8 @@ impl Items {
     /// An entry is refused in this order: as Read refuses its attribute
     /// (`BAD_NODE_ID_UNKNOWN`, `BAD_ATTRIBUTE_ID_INVALID`, `BAD_INDEX_RANGE_INVALID`, `BAD_NOT_READABLE`);
     /// `BAD_MONITORING_MODE_INVALID`; a filter other than null and a DataChangeFilter with a trigger from 0
-    /// to 2 and no deadband, `BAD_MONITORED_ITEM_FILTER_UNSUPPORTED`; where the subscription has as many
-    /// items as the configuration allows, or the numbers are used up, `BAD_TOO_MANY_MONITORED_ITEMS`.
+    /// to 2 and no deadband, `BAD_MONITORED_ITEM_FILTER_UNSUPPORTED`; where the subscription or the server has as
+    /// many items as the configuration allows, or the numbers are used up, `BAD_TOO_MANY_MONITORED_ITEMS`.
     pub fn create(
         &mut self,
         alloc: Global,

@@ -112,6 +112,13 @@ impl Sessions {
         }
     }
 
+    /// How many sessions there are.
+    pub fn len(&self) -> usize
+        ensures { result ≡ map.len self.now.sessions }
+    {
+        self.table.len()
+    }
+
     // The session whose token this is, with its number.
     fn named(&self, token: &NodeIdView<'_>) -> Option<(u32, Session)>
         ensures { option_map (λ n. record { number = n.0; session = n.1 }) result ≡ named_spec self.now token.now }

@@ -7,6 +7,7 @@ use Rattle.ua_subscriptions.specs.declared.settings.Settings.{Settings}
 abbrev pub bounds_of : Configuration → Bounds
 bounds_of config = record {
   subscriptions = config.subscriptions;
+  subscriptions_in_all = config.subscriptions_in_all;
   publish_queue = config.publish_queue;
   kept = config.kept;
   notifications = config.notifications;

@@ -80,9 +80,9 @@ settled s round (Err halt) = record { result = Err halt; state = record s { halt
 
 -- ---- CreateSubscription
 
--- the session has as many as it may have, or no number is left
+-- the session has as many as it may have, or the server has, or no number is left
 abbrev pub is_full : SubscriptionsState → ℕ → Bool
-is_full s session = nat_le s.bounds.subscriptions (length (part_at session s.table.sessions).numbers) || nat_le (2 ^ 32 - 1) s.made
+is_full s session = nat_le s.bounds.subscriptions (length (part_at session s.table.sessions).numbers) || (nat_le s.bounds.subscriptions_in_all (length s.table.subscriptions) || nat_le (2 ^ 32 - 1) s.made)
 
 unfoldable pub refused : ℕ → Settings → Bool → SubscriptionsState → World → Said (Result Created Status)
 refused session asked enabled s w = said s (outcome (Err status.BAD_TOO_MANY_SUBSCRIPTIONS) (refused_one session asked enabled w))

@@ -45,6 +45,13 @@ impl Revised {
 }
 
 impl LiveSubscriptions {
+    /// How many subscriptions live.
+    pub(crate) fn len(&self) -> usize
+        ensures { result ≡ length self.now.subscriptions }
+    {
+        self.subscriptions.len()
+    }
+
     /// How many live subscriptions a session has.
     pub(crate) fn count(&self, session: u32) -> usize
         ensures { result ≡ length (part_at session self.now.sessions).numbers }
@@ -55,7 +62,7 @@ impl LiveSubscriptions {
         }
     }
 
-    /// A subscription is refused, since its session has as many as it may have: only the row is told. At an `Err` nothing
+    /// A subscription is refused, since its session or the server has as many as it may have: only the row is told. At an `Err` nothing
     /// is known of what is left.
     #[tactic(auto, unfolding(crate::specs::Making::refused_one))]
     pub(crate) fn refuse(

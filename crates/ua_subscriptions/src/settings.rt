@@ -34,6 +34,8 @@ impl Settings {
 pub struct Bounds {
     /// How many subscriptions a session may have.
     pub subscriptions: u32,
+    /// How many subscriptions the server may have, those whose sessions ended among them.
+    pub subscriptions_in_all: u32,
     /// How many Publish requests of a session wait at most.
     pub publish_queue: u32,
     /// How many messages of a subscription are kept at most.
@@ -51,6 +53,7 @@ impl Bounds {
     {
         Bounds {
             subscriptions: config.subscriptions,
+            subscriptions_in_all: config.subscriptions_in_all,
             publish_queue: config.publish_queue,
             kept: config.kept,
             notifications: config.notifications,

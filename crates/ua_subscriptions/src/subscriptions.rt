@@ -1,6 +1,6 @@
 //! The subscriptions of a server.
 
-ghost use Rattle.std.specs.Prelude.{◌≡◌, ◌<◌, ◌-◌, ◌^◌, false, [], option_map, IfOk, OnOk, IsOk, None};
+ghost use Rattle.std.specs.Prelude.{◌≡◌, ◌<◌, ◌-◌, ◌^◌, false, [], length, option_map, IfOk, OnOk, IsOk, None};
 ghost use Rattle.std.specs.Map.{values_of};
 ghost use Rattle.ua_subscriptions.specs.Ending.{session_ended, shut_down, all_requests, without_conn};
 ghost use Rattle.ua_subscriptions.specs.Making.{kept_at, modified, republished, timed};
@@ -121,12 +121,21 @@ impl Subscriptions {
         }
     }
 
+    /// How many subscriptions live, those whose sessions ended among them.
+    pub fn len(&self) -> usize
+        ensures { result ≡ length self.now.table.subscriptions }
+    {
+        self.table.len()
+    }
+
     // Whether no subscription can be made for a session.
     fn is_full(&self, session: u32) -> bool
         ensures full { result ≡ is_full_spec self.now session }
         ensures room { result ≡ false → self.now.made < 2 ^ 32 - 1 }
     {
-        self.table.count(session) >= self.bounds.subscriptions as usize || self.made == u32::MAX
+        self.table.count(session) >= self.bounds.subscriptions as usize
+            || self.len() >= self.bounds.subscriptions_in_all as usize
+            || self.made == u32::MAX
     }
 
     // Refuses a subscription.
@@ -181,7 +190,8 @@ impl Subscriptions {
 
     /// Makes a subscription of a session (CreateSubscription, IEC 62541-4, section 5, Subscription Service Set).
     ///
-    /// `BAD_TOO_MANY_SUBSCRIPTIONS` where the session has as many as the configuration allows, or the numbers are used up.
+    /// `BAD_TOO_MANY_SUBSCRIPTIONS` where the session or the server has as many as the configuration allows, or the numbers are
+    /// used up.
     #[tactic(auto, unfolding(crate::specs::SubscriptionCalls::created))]
     pub fn create(
         &mut self,

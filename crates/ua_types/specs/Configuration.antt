@@ -19,7 +19,9 @@ pub record Configuration : Type 0 where
   pub connections : ℕ
   pub sessions : ℕ
   pub subscriptions : ℕ
+  pub subscriptions_in_all : ℕ
   pub items : ℕ
+  pub items_in_all : ℕ
   pub queue : ℕ
   pub publish_queue : ℕ
   pub kept : ℕ
@@ -42,7 +44,7 @@ IsWithin low high n = (low ≤ n) × (n ≤ high)
 abbrev pub IsIn : NumberRange → ℕ → Type 0
 IsIn range n = IsWithin range.least range.most n
 
--- the server's names are given, there are at most 100 namespaces, and each number lies in its range
+-- the server's names are given, there are at most 100 namespaces, and each number that has a range lies in it
 pub record IsConfigured (c : Configuration) : Type 0 where
   pub uri : IsSome c.uri
   pub name : IsSome c.name
@@ -86,7 +88,9 @@ standard = record {
   connections = 100;
   sessions = 100;
   subscriptions = 100;
+  subscriptions_in_all = 100000;
   items = 1000;
+  items_in_all = 1000000;
   queue = 100;
   publish_queue = 10;
   kept = 100;

@@ -11,8 +11,8 @@ use crate::text::Text;
 use std::alloc::{AllocError, Global};
 use std::marker::Model;
 
-/// What the server is told about itself. Each number always lies in its range, the constant of
-/// [`NumberRange`](crate::NumberRange) with its name, and the server's URI, name and URL are given.
+/// What the server is told about itself. Each number lies in its range, the constant of [`NumberRange`](crate::NumberRange)
+/// with its name, where there is one; and the server's URI, name and URL are given.
 #[derive(Debug, Drop)]
 pub struct Config {
     /// The application's URI, which is also the URI of namespace 1.
@@ -41,8 +41,12 @@ pub struct Config {
     pub sessions: u32,
     /// The most subscriptions of a session.
     pub subscriptions: u32,
+    /// The most subscriptions of the whole server, those whose sessions ended among them.
+    pub subscriptions_in_all: u32,
     /// The most monitored items of a subscription.
     pub items: u32,
+    /// The most monitored items of the whole server.
+    pub items_in_all: u32,
     /// The most values that wait in a monitored item.
     pub queue: u32,
     /// The most Publish requests that wait in a session.
@@ -92,7 +96,9 @@ impl Model for Config {
       connections = c.connections;
       sessions = c.sessions;
       subscriptions = c.subscriptions;
+      subscriptions_in_all = c.subscriptions_in_all;
       items = c.items;
+      items_in_all = c.items_in_all;
       queue = c.queue;
       publish_queue = c.publish_queue;
       kept = c.kept;
@@ -132,7 +138,9 @@ impl Config {
             connections: 100,
             sessions: 100,
             subscriptions: 100,
+            subscriptions_in_all: 100_000,
             items: 1000,
+            items_in_all: 1_000_000,
             queue: 100,
             publish_queue: 10,
             kept: 100,
@@ -167,7 +175,9 @@ impl Copyable for Config {
             connections: self.connections,
             sessions: self.sessions,
             subscriptions: self.subscriptions,
+            subscriptions_in_all: self.subscriptions_in_all,
             items: self.items,
+            items_in_all: self.items_in_all,
             queue: self.queue,
             publish_queue: self.publish_queue,
             kept: self.kept,
