@@ -7,6 +7,7 @@ PROGRAM is the built program, NODES a node file with the standard's limits, as c
 of its own. Nothing but Python's own library is needed.
 """
 import os
+import re
 import resource
 import shlex
 import signal
@@ -22,7 +23,7 @@ from lib.serving import MOMENT, PATIENCE, Server, free_port
 from sockets_test import ANSWER, HELLO, chunk, connect, get_endpoints, header, opening, read_all, read_frame, served_once
 
 sys.path.insert(0, os.path.join(os.path.dirname(os.path.realpath(__file__)), '..', '..', 'clients'))
-from ua import Refused, Session  # noqa: E402
+from ua import NodeId, Refused, Session  # noqa: E402
 from ua.errors import CODES  # noqa: E402
 from ua.types import Extension, numbered  # noqa: E402
 
@@ -312,12 +313,38 @@ def by_a_unit(program, nodes, folder):
         server.end()
 
 
+def summary(program, nodes):
+    """Once a minute a line tells how much is served, though the server is quiet. What comes meanwhile is others' time."""
+    server = Server(program, nodes, '--quiet', '--summary')
+    try:
+        session = Session(f'opc.tcp://localhost:{server.port}')
+        count = NodeId.of_text('ns=1;i=11')
+        made = session.call('CreateSubscription', interval=1000.0, lifetime=6000, keep_alive=2000, enabled=True)
+        item = {'item': {'node': count, 'attribute': 13}, 'mode': 2, 'wanted': {'handle': 1, 'queue': 1}}
+        session.call('CreateMonitoredItems', subscription=made.subscription, times=2, entries=[item, item])
+        for _ in range(600):
+            session.read([count, count])
+        yield
+        line = re.compile(r'1 connections, 1 sessions, 1 subscriptions, 2 items; 10 requests and 20 values a second; 0 bytes owed; [1-9]\d* MB')
+        assert server.wait_for(lambda lines: any(line.fullmatch(told) for told in lines) or len(lines) > 2), server.lines
+        assert line.fullmatch(server.lines[2]), server.lines
+        assert len(server.lines) == 3, server.lines
+        yield
+    finally:
+        server.end()
+
+
 def main():
     program, nodes = sys.argv[1], sys.argv[2]
+    told = summary(program, nodes)
+    next(told)
     for test in (silent_sockets, silent_for_ever, deaf_and_half_closed, crowd, by_address, ends, sessions, moments, url, stop_file, by_a_script, by_a_unit):
         with tempfile.TemporaryDirectory() as folder:
             test(program, nodes, folder)
         print('ok', test.__doc__.split('.')[0], flush=True)
+    next(told)
+    print('ok', summary.__doc__.split('.')[0], flush=True)
+    told.close()
 
 
 if __name__ == '__main__':

@@ -309,7 +309,7 @@ def refused(program, nodes, address, port, why):
     ran = subprocess.run(words, capture_output=True, text=True, timeout=PATIENCE)
     assert (ran.returncode, ran.stdout) == (6, ''), ran
     lines = [MOMENT.sub('', line) for line in ran.stderr.splitlines()]
-    assert lines[0].startswith('29 nodes, 43 references; clients are told opc.tcp://localhost:4840'), ran
+    assert lines[0].startswith('29 nodes, 43 references, at most 514445 MB; clients are told opc.tcp://localhost:4840'), ran
     assert lines[1:] == [why, 'network'], ran
 
 

@@ -11,7 +11,7 @@ use Rattle.clap.specs.declared.parser.matches.ArgMatches.TheViews.{out-ArgMatche
 use Rattle.std.specs.Box.{box_value}
 use Rattle.clap.proofs.WalkLemmas.{first_value-rows}
 use Rattle.clap.proofs.OnLiterals.{clap_on_literals}
-use Rattle.command_line.specs.Words.{Answers, Asked, AsksFor, Found, HasOptions, IsAddressIn, IsNoCommand, IsPlainWord, IsRequest, IsServedWith, IsStopOf, StopsBy, asked, asked_of, bound_of, faults, idle_of, is_given, option_of, port_of, program, words_of}
+use Rattle.command_line.specs.Words.{Answers, Asked, AsksFor, Found, HasOptions, IsAddressIn, IsNoCommand, IsPlainWord, IsRequest, IsServedWith, IsStopOf, StopsBy, asked, asked_of, bound_of, faults, idle_of, is_given, option_of, port_of, program, total_of, words_of}
 use Rattle.command_line.proofs.PlainWord.{asked-check, asked-pipe_nodes, explain-check, faults-check, faults-pipe_nodes}
 use Rattle.command_line.specs.declared.command.Command.{Command}
 use Rattle.command_line.specs.declared.command.ServeOptions.{ServeOptions}
@@ -194,9 +194,12 @@ served_at f g o same has = record {
   trace = ap is_given (sym (same (codes "trace"))) ∙ has.trace;
   idle = ap idle_of (sym (same (codes "idle"))) ∙ has.idle;
   per_address = ap bound_of (sym (same (codes "per-address"))) ∙ has.per_address;
+  all_subscriptions = ap total_of (sym (same (codes "all-subscriptions"))) ∙ has.all_subscriptions;
+  all_items = ap total_of (sym (same (codes "all-items"))) ∙ has.all_items;
   stop_file = sym (same (codes "stop-file")) ∙ has.stop_file;
   url = sym (same (codes "url")) ∙ has.url;
   quiet = ap is_given (sym (same (codes "quiet"))) ∙ has.quiet;
+  summary = ap is_given (sym (same (codes "summary"))) ∙ has.summary;
 }
 
 -- neither want of memory nor a word that is no command is a request

@@ -47,7 +47,8 @@ run_app = with_rule (with_rule (new_app (codes "run")) (record nodes_rule { requ
 abbrev pub trace_app : App
 trace_app = with_rule (with_rule (new_app (codes "trace")) (record nodes_rule { required = true })) scenario_rule
 
--- `serve` with its NODES, its port and its address, then with what bounds it, then with its URL and its file, then whole
+-- `serve` with its NODES, its port and its address, then with what bounds its turns and sockets, then with what bounds the whole
+-- server, then with its URL and its file, then whole
 abbrev pub serve_place : App
 serve_place =
     with_rule (with_rule (with_rule (new_app (codes "serve")) (record nodes_rule { required = true })) (record (option_rule (codes "port")) { required = true }))
@@ -56,11 +57,14 @@ serve_place =
 abbrev pub serve_bounds : App
 serve_bounds = with_rule (with_rule (with_rule serve_place (option_rule (codes "turns"))) (option_rule (codes "idle"))) (option_rule (codes "per-address"))
 
+abbrev pub serve_totals : App
+serve_totals = with_rule (with_rule serve_bounds (option_rule (codes "all-subscriptions"))) (option_rule (codes "all-items"))
+
 abbrev pub serve_paths : App
-serve_paths = with_rule (with_rule serve_bounds (option_rule (codes "url"))) (option_rule (codes "stop-file"))
+serve_paths = with_rule (with_rule serve_totals (option_rule (codes "url"))) (option_rule (codes "stop-file"))
 
 abbrev pub serve_app : App
-serve_app = with_rule (with_rule serve_paths (flag_rule (codes "trace"))) (flag_rule (codes "quiet"))
+serve_app = with_rule (with_rule (with_rule serve_paths (flag_rule (codes "trace"))) (flag_rule (codes "quiet"))) (flag_rule (codes "summary"))
 
 abbrev pub bare_program : App
 bare_program = record (new_app (codes "uaserver")) {
@@ -132,6 +136,14 @@ abbrev pub idle_of : Option Text → Option (Option ℕ)
 idle_of None = Some None
 idle_of (Some digits) = option_map Some (option_and_then as_seconds (number_of digits))
 
+-- how many of a kind there may be over the whole server: from 1 to 2^32 - 1, where words say it
+abbrev pub as_total : ℕ → Option ℕ
+as_total n = if nat_lt 0 n && nat_lt n (2 ^ 32) then Some n else None
+
+abbrev pub total_of : Option Text → Option (Option ℕ)
+total_of None = Some None
+total_of (Some digits) = option_map Some (option_and_then as_total (number_of digits))
+
 -- an address in words, of either version; none is 127.0.0.1, which no other machine reaches
 abbrev pub IsAddressIn : Option Text → IpAddr → Type 0
 IsAddressIn text address = IsIpText (unwrap_or text (codes "127.0.0.1")) address
@@ -150,9 +162,12 @@ pub record IsServedWith (word : Text → Option Text) (o : ServeOptions) : Type 
   pub trace : is_given (word (codes "trace")) ≡ o.trace
   pub idle : idle_of (word (codes "idle")) ≡ Some o.idle
   pub per_address : bound_of (word (codes "per-address")) ≡ Some o.per_address
+  pub all_subscriptions : total_of (word (codes "all-subscriptions")) ≡ Some o.all_subscriptions
+  pub all_items : total_of (word (codes "all-items")) ≡ Some o.all_items
   pub stop_file : word (codes "stop-file") ≡ option_map (λ t. t.now) o.stop_file
   pub url : word (codes "url") ≡ option_map (λ t. t.now) o.url
   pub quiet : is_given (word (codes "quiet")) ≡ o.quiet
+  pub summary : is_given (word (codes "summary")) ≡ o.summary
 
 -- SCENARIO, whether to explain, and what `serve` is told
 abbrev pub HasOptions : Found → Command → Type 0

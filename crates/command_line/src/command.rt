@@ -55,6 +55,14 @@ pub struct ServeOptions<'a> {
     /// bound.
     pub per_address: u64,
 
+    /// `--all-subscriptions N`, from 1 to 2^32 - 1: how many subscriptions the whole server may have; `None` is as many as the
+    /// configuration says.
+    pub all_subscriptions: Option<u32>,
+
+    /// `--all-items N`, from 1 to 2^32 - 1: how many monitored items the whole server may have; `None` is as many as the
+    /// configuration says.
+    pub all_items: Option<u32>,
+
     /// `--stop-file PATH`: the server ends once this file is there.
     pub stop_file: Option<&'a str>,
 
@@ -63,4 +71,7 @@ pub struct ServeOptions<'a> {
 
     /// `--quiet`: leaves out who comes and goes.
     pub quiet: bool,
+
+    /// `--summary`: tells each minute how much is served.
+    pub summary: bool,
 }

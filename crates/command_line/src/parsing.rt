@@ -6,7 +6,7 @@ ghost use Rattle.command_line.specs.declared.command.ServeOptions.{ServeOptions}
 ghost use Rattle.std.specs.Char.{is_ascii_digit};
 ghost use Rattle.std.specs.List.{list_all};
 ghost use Rattle.clap.specs.Words.{first_value, found_of, kind_of, subcommand_rows_of};
-ghost use Rattle.command_line.specs.Words.{Answers, AsksFor, IsAddressIn, IsAskedBy, IsNoCommand, IsPlainWord, IsServedWith, IsStopOf, StopsBy, bound_of as bound_in, idle_of as idle_in, is_given as is_given_spec, number_of, port_of as port_in};
+ghost use Rattle.command_line.specs.Words.{Answers, AsksFor, IsAddressIn, IsAskedBy, IsNoCommand, IsPlainWord, IsServedWith, IsStopOf, StopsBy, bound_of as bound_in, idle_of as idle_in, is_given as is_given_spec, number_of, port_of as port_in, total_of as total_in};
 
 use crate::program::uaserver;
 use crate::{Command, ServeOptions, Stop};
@@ -103,9 +103,12 @@ fn serve_options<'a>(given: &ArgMatches<'a>) -> Option<ServeOptions<'a>>
         trace: is_given(given.get_str("trace")),
         idle: idle_of(given.get_str("idle"))?,
         per_address: bound_of(given.get_str("per-address"))?,
+        all_subscriptions: total_of(given.get_str("all-subscriptions"))?,
+        all_items: total_of(given.get_str("all-items"))?,
         stop_file: given.get_str("stop-file"),
         url: given.get_str("url"),
         quiet: is_given(given.get_str("quiet")),
+        summary: is_given(given.get_str("summary")),
     })
 }
 
@@ -135,11 +138,19 @@ fn wrong_word(alloc: Global, matches: &ArgMatches) -> Result<String, AllocError>
     if idle_of(idle).is_none() {
         return wanted(alloc, "idle", idle, "seconds, below 2^32");
     }
+    let per_address = given.get_str("per-address");
+    if bound_of(per_address).is_none() {
+        return wanted(alloc, "per-address", per_address, "a number below 2^64");
+    }
+    let subscriptions = given.get_str("all-subscriptions");
+    if total_of(subscriptions).is_none() {
+        return wanted(alloc, "all-subscriptions", subscriptions, "1 to 4294967295");
+    }
     wanted(
         alloc,
-        "per-address",
-        given.get_str("per-address"),
-        "a number below 2^64",
+        "all-items",
+        given.get_str("all-items"),
+        "1 to 4294967295",
     )
 }
 
@@ -205,6 +216,21 @@ fn idle_of(text: Option<&str>) -> Option<Option<u64>>
     let seconds = number(digits)?;
     if seconds < 4_294_967_296 {
         Some(Some(seconds))
+    } else {
+        None
+    }
+}
+
+// How many of a kind the whole server may have, where the words say it.
+fn total_of(text: Option<&str>) -> Option<Option<u32>>
+    ensures { result ≡ total_in (option_map (λ t. t.now) text.entry) }
+{
+    let Some(digits) = text else {
+        return Some(None);
+    };
+    let most = number(digits)?;
+    if 1 <= most && most < 4_294_967_296 {
+        Some(Some(most as u32))
     } else {
         None
     }

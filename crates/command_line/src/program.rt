@@ -3,7 +3,7 @@
 ghost use Rattle.std.specs.Prelude.{◌≡◌, IfOk, false};
 ghost use Rattle.clap.specs.Words.{app_of, rule_of};
 ghost use Rattle.clap.specs.declared.builder.command.Command.TheViews.{out-Command as fields_of};
-ghost use Rattle.command_line.specs.Words.{asm_app, check_app, flag_rule, nodes_rule, option_rule, pipe_app, program, run_app, scenario_rule, serve_app, serve_bounds, serve_paths, serve_place, trace_app, with_nodes, with_scenarios};
+ghost use Rattle.command_line.specs.Words.{asm_app, check_app, flag_rule, nodes_rule, option_rule, pipe_app, program, run_app, scenario_rule, serve_app, serve_bounds, serve_paths, serve_place, serve_totals, trace_app, with_nodes, with_scenarios};
 
 use clap::{Arg, ArgAction, Command};
 use std::alloc::{AllocError, Global};
@@ -113,14 +113,19 @@ fn serve<'a>(alloc: Global) -> Result<Command<'a>, AllocError>
             alloc,
             "quiet",
             "leaves out of standard error who comes and goes",
+        ))?
+        .arg(flag(
+            alloc,
+            "summary",
+            "tells on standard error each minute how much is served",
         ))
 }
 
-// `serve` with its place, what bounds it, its URL and its file.
+// `serve` with its place, what bounds its sockets and the whole server, its URL and its file.
 fn serve_paths<'a>(alloc: Global) -> Result<Command<'a>, AllocError>
     ensures { IfOk result (λ c. (app_of c ≡ serve_paths) × ((fields_of c).has_globals ≡ false)) }
 {
-    serve_bounds(alloc)?
+    serve_totals(alloc)?
         .arg(option(
             alloc,
             "url",
@@ -135,7 +140,26 @@ fn serve_paths<'a>(alloc: Global) -> Result<Command<'a>, AllocError>
         ))
 }
 
-// `serve` with its place and what bounds it.
+// `serve` with its place, what bounds its sockets and what bounds the whole server.
+fn serve_totals<'a>(alloc: Global) -> Result<Command<'a>, AllocError>
+    ensures { IfOk result (λ c. (app_of c ≡ serve_totals) × ((fields_of c).has_globals ≡ false)) }
+{
+    serve_bounds(alloc)?
+        .arg(option(
+            alloc,
+            "all-subscriptions",
+            "N",
+            "the most subscriptions of the whole server, those whose sessions ended among them; 100000 where left out",
+        ))?
+        .arg(option(
+            alloc,
+            "all-items",
+            "N",
+            "the most monitored items of the whole server; 1000000 where left out",
+        ))
+}
+
+// `serve` with its place and what bounds its turns and sockets.
 fn serve_bounds<'a>(alloc: Global) -> Result<Command<'a>, AllocError>
     ensures { IfOk result (λ c. (app_of c ≡ serve_bounds) × ((fields_of c).has_globals ≡ false)) }
 {

@@ -1,5 +1,5 @@
 -- What `serve` comes to, and what it puts out while it serves.
-use Rattle.std.specs.Prelude.{◌≡◌, ◌⊎◌, ℕ, ◌/◌, max, Bool, true, false, List, [], ◌++◌, codes, Option, Some, None, is_some, option_map, Result, Ok, Err}
+use Rattle.std.specs.Prelude.{◌≡◌, ◌⊎◌, ℕ, ◌/◌, max, Bool, true, false, List, [], ◌++◌, codes, Option, Some, None, is_some, option_map, unwrap_or, Result, Ok, Err}
 use Rattle.std.specs.Fmt.{decimal}
 use Rattle.ua_types.specs.Configuration.{Configuration}
 use Rattle.server_core.specs.World.{opening}
@@ -58,6 +58,12 @@ abbrev pub with_url : Configuration → Option (List ℕ) → Configuration
 with_url c None = c
 with_url c (Some url) = record c { url = Some url }
 
+-- and with as many subscriptions and items of the whole server as the words let there be
+unfoldable pub configured : Configuration → ServeOptions → Configuration
+configured c o =
+    let url = with_url c (option_map (λ u. u.now) o.url) in
+    record url { subscriptions_in_all = unwrap_or o.all_subscriptions url.subscriptions_in_all; items_in_all = unwrap_or o.all_items url.items_in_all }
+
 -- The program was asked to listen at this address and this port, within these limits, and nobody has connected yet; it is said that it
 -- listens; and then this server serves so, and what it puts out comes behind that line
 abbrev pub ListensAndServes : Place → Place → ℕ → ServeOptions → Option World → Result (Unit {0}) ServeFault → Type 0
@@ -73,10 +79,10 @@ ServesOn old new idle o server Stream = Says (listening_line o.port) old new Str
 ServesOn old new idle o server status =
     (f : ServeFault) × (status ≡ status_served (Err f)) × (ListensAndServes old new idle o server (Err f) ⊎ (IsOutside f × (new ≡ old)))
 
--- The server is the new one of what was made, but for the URL of the words; and sockets may be silent for as long as its configuration and the words say
+-- The server is the new one of what was made, as the words configure it; and sockets may be silent for as long as its configuration and the words say
 abbrev pub ServesBy : Place → Place → ServeOptions → Made → Status → Type 0
 ServesBy old new o made =
-    ServesOn old new (idle_of made.0.session_time o.idle) o (Some (opening (with_url made.0 (option_map (λ u. u.now) o.url)) made.1))
+    ServesOn old new (idle_of made.0.session_time o.idle) o (Some (opening (configured made.0 o) made.1))
 
 abbrev pub ServesMade : Place → Place → ServeOptions → Option Made → Status → Type 0
 ServesMade old new o made status = OfNodes (ServesBy old new o) (new ≡ old) made status

@@ -16,22 +16,27 @@
 mod arguments;
 mod checking;
 mod ends;
+mod footprint;
+mod frames;
 mod log;
+mod process;
 mod program;
 mod scenarios;
 mod serving;
 mod status;
 mod stop_file;
+mod summary;
 mod text_file;
 mod watching;
 
 pub use arguments::run_args;
 pub use checking::explain;
 pub use log::Log;
+pub use process::Process;
 pub use program::{Ended, check, no_memory, pipe, run};
 pub use scenarios::asm;
 pub use serving::serve;
 pub use status::Status;
 pub use stop_file::StopFile;
 pub use text_file::{FileFault, TextFile};
-pub use watching::{Tracing, Visitors};
+pub use watching::{Tracing, Visitors, Visits};

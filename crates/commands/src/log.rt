@@ -28,6 +28,13 @@ impl<'a, 'b, R, E> Log<'a, 'b, R, E> {
     }
 }
 
+impl<R, E> Log<'_, '_, R, E> {
+    // Whose clock it is.
+    pub(crate) fn machine(&self) -> &R {
+        self.clock
+    }
+}
+
 // Begins a line. A clock that can't be read has no moment.
 fn put_moment<R: Clock>(clock: &R, line: &mut Vec<u8>) -> io::Result<()> {
     match Timestamp::now(clock) {

@@ -8,19 +8,20 @@ ghost use Rattle.scenario_lines.specs.Held.{place};
 ghost use Rattle.commands.specs.NodeFiles.{Made};
 ghost use Rattle.commands.specs.Said.{MadeBy};
 ghost use Rattle.commands.specs.Serving.{ServesWith, ServesOn, ServesBy, ServesMade, ServesFile, status_served};
-ghost use Rattle.commands.specs.Serving.{idle_of as idle_of_spec, listening_line as listening_line_spec, with_url as with_url_spec};
+ghost use Rattle.commands.specs.Serving.{idle_of as idle_of_spec, listening_line as listening_line_spec, with_url as with_url_spec, configured as configured_spec};
 
+use crate::footprint::most_bytes;
 use crate::log::Log;
+use crate::process::Process;
 use crate::program::{Ended, no_memory, nodes_in, read_file, say, step_fault, stream};
 use crate::status::Status;
 use crate::stop_file::StopFile;
-use crate::watching::{Tracing, Visitors};
+use crate::watching::{Tracing, Visitors, Visits};
 use command_line::ServeOptions;
-use number_slots::Numbered;
 use server_core::Server;
 use socket_server::{Limits, Observer, Serve, ServeFault, Turns};
 use std::alloc::{AllocError, Global};
-use std::io::{Write, sink};
+use std::io::Write;
 use std::net::{IpAddr, Net, SocketAddr};
 use std::random::RandomSource;
 use std::rt::Files;
@@ -78,6 +79,25 @@ fn with_url(alloc: Global, mut config: Config, url: Option<&str>) -> Result<Conf
     Ok(config)
 }
 
+// The configuration as the words have it: with their URL, and with as many subscriptions and items of the whole server.
+#[tactic(auto, unfolding(crate::specs::Serving::configured))]
+fn configured(
+    alloc: Global,
+    config: Config,
+    options: &ServeOptions<'_>,
+) -> Result<Config, AllocError>
+    ensures { IfOk result (λ c. c ≡ configured_spec config options.now) }
+{
+    let mut config = with_url(alloc, config, options.url)?;
+    if let Some(most) = options.all_subscriptions {
+        config.subscriptions_in_all = most;
+    }
+    if let Some(most) = options.all_items {
+        config.items_in_all = most;
+    }
+    Ok(config)
+}
+
 // The host and the port that a URL names. Where it names no port, that is 4840, the one of `opc.tcp`. An IPv6 address has no brackets here.
 fn host_and_port(url: &str) -> (&str, Option<u16>) {
     let rest = match url.split_once("://") {
@@ -128,7 +148,7 @@ fn doubt_of(host: &str, address: IpAddr) -> Option<&'static str> {
     }
 }
 
-// Says what will be served, and whether clients are told where it isn't.
+// Says what will be served, how much memory clients may take, and whether they are told where it isn't.
 fn tell_served<E: Write>(
     config: &Config,
     space: &Space,
@@ -138,9 +158,10 @@ fn tell_served<E: Write>(
     let nodes = space.node_count();
     let references = space.triple_count();
     let url = config.url.as_str().unwrap_or("");
+    let megabytes = most_bytes(config, nodes) / 1_000_000;
     let _ = write!(
         errors,
-        "{nodes} nodes, {references} references; clients are told {url}"
+        "{nodes} nodes, {references} references, at most {megabytes} MB; clients are told {url}"
     );
     let (host, port) = host_and_port(url);
     if port != Some(options.port) {
@@ -198,7 +219,7 @@ fn run_until<R: Files + Clock + Wait, W: Observer>(
 }
 
 // Serves by this server, and tells what happens.
-fn serve_and_tell<R: Files + Clock + Wait, O: Write, E: Write>(
+fn serve_and_tell<R: Files + Clock + Wait, O: Write, E: Write + Process>(
     rt: &R,
     alloc: Global,
     serve: &mut Serve,
@@ -209,26 +230,26 @@ fn serve_and_tell<R: Files + Clock + Wait, O: Write, E: Write>(
 ) -> Result<(), ServeFault>
     ensures { ServesWith options.now serve.old (world_of server.old) (place O.contents output.old) (place O.contents output.new) result }
 {
-    let mut addresses = Numbered::new(alloc);
+    let mut visits = Visits::new(alloc, options.quiet, options.summary);
     if options.trace {
         let mut text = String::new(alloc);
         let mut tracing = Tracing {
             output,
             errors,
-            addresses: &mut addresses,
+            visits: &mut visits,
             text: &mut text,
         };
         run_until(rt, alloc, serve, server, &mut tracing, options)
     } else {
         let mut visitors = Visitors {
             errors,
-            addresses: &mut addresses,
+            visits: &mut visits,
         };
         run_until(rt, alloc, serve, server, &mut visitors, options)
     }
 }
 
-// The same, into a log, or where it is to be quiet without telling who comes and goes.
+// The same, into a log.
 fn serve_and_log<R: Files + Clock + Wait, O: Write, E: Write>(
     rt: &R,
     alloc: Global,
@@ -240,12 +261,8 @@ fn serve_and_log<R: Files + Clock + Wait, O: Write, E: Write>(
 ) -> Result<(), ServeFault>
     ensures { ServesWith options.now serve.old (world_of server.old) (place O.contents output.old) (place O.contents output.new) result }
 {
-    if options.quiet {
-        serve_and_tell(rt, alloc, serve, server, options, output, &mut sink())
-    } else {
-        let mut log = Log::new(alloc, rt, errors);
-        serve_and_tell(rt, alloc, serve, server, options, output, &mut log)
-    }
+    let mut log = Log::new(alloc, rt, errors);
+    serve_and_tell(rt, alloc, serve, server, options, output, &mut log)
 }
 
 // Serves by this server, which knows no connection.
@@ -287,7 +304,8 @@ fn serve_on<R: Files + Net + RandomSource + Clock + Wait, O: Write, E: Write>(
 
 /// Serves connections to a port of an address by a server of this configuration and address space, for so
 /// many turns, or without end for 0, or until the file to stop at is there. Says `listening` and the port once clients can connect, and before
-/// that, on standard error, what is served. There it tells too which connections come and how they end.
+/// that, on standard error, what is served. There it tells too which connections come and how they end, and each minute how much is
+/// served, as it is asked to.
 ///
 /// With a trace the rows of the subscriptions' state table that fire follow, a line for each, in the form of
 /// [`scenario_lines`]. The events that the server is handed count from 1 on.
@@ -307,10 +325,10 @@ pub fn serve<R: Files + Net + RandomSource + Clock + Wait, O: Write, E: Write>(
 ) -> Status
     ensures { ServesBy (place O.contents output.old) (place O.contents output.new) options.now (config, space) result }
 {
-    let Ok(config) = with_url(alloc, config, options.url) else {
+    let idle = idle_of(config.session_time, options.idle);
+    let Ok(config) = configured(alloc, config, options) else {
         return no_memory(errors);
     };
-    let idle = idle_of(config.session_time, options.idle);
     tell_served(&config, &space, options, &mut Log::new(alloc, rt, errors));
     match Server::new(alloc, config, space) {
         Ok(mut server) => serve_on(rt, alloc, &mut server, idle, options, output, errors),

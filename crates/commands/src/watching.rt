@@ -1,5 +1,5 @@
-//! What is told while the program serves: the connections on standard error, and with a trace the rows of the
-//! subscriptions' state table that fire on standard output.
+//! What is told while the program serves: the connections and how much is served on standard error, and with a trace the rows of
+//! the subscriptions' state table that fire on standard output.
 
 ghost use Rattle.std.specs.Prelude.{ℕ, []};
 ghost use Rattle.scenario_lines.specs.TraceText.{rows_text};
@@ -8,76 +8,109 @@ ghost use Rattle.socket_server.specs.Output.{PutsOrFails, no_output};
 ghost use Rattle.commands.specs.Serving.{output_at};
 
 use crate::ends::{tell_end, tell_status};
+use crate::frames::{Refusal, refusal_among};
+use crate::process::Process;
+use crate::summary::Summary;
 use number_slots::Numbered;
 use scenario_lines::{PrintFault, put_rows};
-use server_core::Fired;
-use socket_server::{End, Observer, ServeFault};
+use server_core::{Fired, Out, Server};
+use socket_server::{End, Observer, Serve, ServeFault};
+use std::alloc::Global;
 use std::io::Write;
 use std::net::SocketAddr;
 use stream_taps::Tap;
-use ua_types::Status;
 
-// Where there is no memory for the address, the end of the connection won't be told.
-fn tell_connected<E: Write>(
-    errors: &mut E,
-    addresses: &mut Numbered<SocketAddr>,
-    number: u64,
-    address: SocketAddr,
-) {
-    let _ = writeln!(errors, "connection {number} from {address}");
-    let _ = addresses.insert(number, address);
+/// What is known of connections, and what is told of them.
+#[derive(Drop)]
+pub struct Visits {
+    // Of the connections that are open.
+    addresses: Numbered<SocketAddr>,
+    // Nothing is told of who comes and goes.
+    is_quiet: bool,
+    summary: Option<Summary>,
 }
 
-fn tell_refused<E: Write>(errors: &mut E, number: u64, address: SocketAddr) {
-    let _ = writeln!(
-        errors,
-        "connection {number} from {address} refused: as many as may be are open"
-    );
-}
+impl Visits {
+    /// Nobody came yet. `is_quiet`: nothing is told of who comes and goes; `sums_up`: how much is served is told once a minute.
+    pub fn new(alloc: Global, is_quiet: bool, sums_up: bool) -> Visits {
+        let summary = if sums_up { Some(Summary::new()) } else { None };
+        Visits {
+            addresses: Numbered::new(alloc),
+            is_quiet,
+            summary,
+        }
+    }
 
-fn tell_crowded<E: Write>(errors: &mut E, address: SocketAddr) {
-    let _ = writeln!(
-        errors,
-        "a connection from {address} turned away: as many as may be of its address are open"
-    );
-}
+    // Where there is no memory for the address, the end of the connection won't be told.
+    fn connected<E: Write>(&mut self, errors: &mut E, number: u64, address: SocketAddr) {
+        if !self.is_quiet {
+            let _ = writeln!(errors, "connection {number} from {address}");
+            let _ = self.addresses.insert(number, address);
+        }
+    }
 
-fn tell_session_refused<E: Write>(
-    errors: &mut E,
-    addresses: &Numbered<SocketAddr>,
-    number: u64,
-    status: Status,
-) {
-    if let Some(address) = addresses.get(number) {
-        let _ = write!(
-            errors,
-            "connection {number} from {address} is refused a session: "
-        );
-        tell_status(errors, status);
+    fn refused<E: Write>(&self, errors: &mut E, number: u64, address: SocketAddr) {
+        if !self.is_quiet {
+            let _ = writeln!(
+                errors,
+                "connection {number} from {address} refused: as many as may be are open"
+            );
+        }
+    }
+
+    fn crowded<E: Write>(&self, errors: &mut E, address: SocketAddr) {
+        if !self.is_quiet {
+            let _ = writeln!(
+                errors,
+                "a connection from {address} turned away: as many as may be of its address are open"
+            );
+        }
+    }
+
+    // Tells the first refusal of a session among them.
+    fn sent<E: Write>(&mut self, errors: &mut E, outs: &[Out]) {
+        if let Some(Refusal { number, status }) = refusal_among(outs)
+            && let Some(address) = self.addresses.get(number)
+        {
+            let _ = write!(
+                errors,
+                "connection {number} from {address} is refused a session: "
+            );
+            tell_status(errors, status);
+        }
+        if let Some(summary) = &mut self.summary {
+            summary.count(outs);
+        }
+    }
+
+    fn turned<E: Write + Process>(
+        &mut self,
+        errors: &mut E,
+        alloc: Global,
+        serve: &Serve,
+        server: &Server,
+    ) {
+        if let Some(summary) = &mut self.summary {
+            summary.tell(alloc, serve, server, errors);
+        }
+    }
+
+    fn closed<E: Write>(&mut self, errors: &mut E, number: u64, end: End) {
+        if let Some(address) = self.addresses.remove(number) {
+            let _ = write!(errors, "connection {number} from {address} ");
+            tell_end(errors, end);
+        }
     }
 }
 
-fn tell_closed<E: Write>(
-    errors: &mut E,
-    addresses: &mut Numbered<SocketAddr>,
-    number: u64,
-    end: End,
-) {
-    if let Some(address) = addresses.remove(number) {
-        let _ = write!(errors, "connection {number} from {address} ");
-        tell_end(errors, end);
-    }
-}
-
-/// Tells on standard error which connections come and go. All of it is lent.
+/// Tells on standard error which connections come and go, and how much is served. All of it is lent.
 #[derive(Drop)]
 pub struct Visitors<'a, 'b, E> {
     pub errors: &'a mut E,
-    /// Of the connections that are open.
-    pub addresses: &'b mut Numbered<SocketAddr>,
+    pub visits: &'b mut Visits,
 }
 
-impl<E: Write> Observer for Visitors<'_, '_, E> {
+impl<E: Write + Process> Observer for Visitors<'_, '_, E> {
     ghost output = { λ _. no_output };
 
     ghost text = { λ _ _. [] };
@@ -87,23 +120,27 @@ impl<E: Write> Observer for Visitors<'_, '_, E> {
     }
 
     fn connected(&mut self, number: u64, address: SocketAddr) {
-        tell_connected(self.errors, self.addresses, number, address);
+        self.visits.connected(self.errors, number, address);
     }
 
     fn refused(&mut self, number: u64, address: SocketAddr) {
-        tell_refused(self.errors, number, address);
+        self.visits.refused(self.errors, number, address);
     }
 
     fn crowded(&mut self, address: SocketAddr) {
-        tell_crowded(self.errors, address);
+        self.visits.crowded(self.errors, address);
     }
 
-    fn session_refused(&mut self, number: u64, status: Status) {
-        tell_session_refused(self.errors, self.addresses, number, status);
+    fn sent(&mut self, outs: &[Out]) {
+        self.visits.sent(self.errors, outs);
+    }
+
+    fn turned(&mut self, alloc: Global, serve: &Serve, server: &Server) {
+        self.visits.turned(self.errors, alloc, serve, server);
     }
 
     fn closed(&mut self, number: u64, end: End) {
-        tell_closed(self.errors, self.addresses, number, end);
+        self.visits.closed(self.errors, number, end);
     }
 }
 
@@ -124,19 +161,18 @@ fn put_out<O: Write>(
     }
 }
 
-/// Tells on standard error which connections come and go, and on standard output which rows fire: a line
-/// for each, in the form of a trace. All of it is lent.
+/// Tells on standard error what [`Visitors`] tells, and on standard output which rows fire: a line for each, in the form of a trace.
+/// All of it is lent.
 #[derive(Drop)]
 pub struct Tracing<'a, 'b, 'c, 'd, O, E> {
     pub output: &'a mut Tap<O>,
     pub errors: &'b mut E,
-    /// Of the connections that are open.
-    pub addresses: &'c mut Numbered<SocketAddr>,
+    pub visits: &'c mut Visits,
     /// Room for the lines of an event.
     pub text: &'d mut String,
 }
 
-impl<O: Write, E: Write> Observer for Tracing<'_, '_, '_, '_, O, E> {
+impl<O: Write, E: Write + Process> Observer for Tracing<'_, '_, '_, '_, O, E> {
     ghost output = { λ t. output_at t.output.ghost_name (place O.contents t.output.now) };
 
     ghost text = { rows_text };
@@ -149,22 +185,26 @@ impl<O: Write, E: Write> Observer for Tracing<'_, '_, '_, '_, O, E> {
     }
 
     fn connected(&mut self, number: u64, address: SocketAddr) {
-        tell_connected(self.errors, self.addresses, number, address);
+        self.visits.connected(self.errors, number, address);
     }
 
     fn refused(&mut self, number: u64, address: SocketAddr) {
-        tell_refused(self.errors, number, address);
+        self.visits.refused(self.errors, number, address);
     }
 
     fn crowded(&mut self, address: SocketAddr) {
-        tell_crowded(self.errors, address);
+        self.visits.crowded(self.errors, address);
     }
 
-    fn session_refused(&mut self, number: u64, status: Status) {
-        tell_session_refused(self.errors, self.addresses, number, status);
+    fn sent(&mut self, outs: &[Out]) {
+        self.visits.sent(self.errors, outs);
+    }
+
+    fn turned(&mut self, alloc: Global, serve: &Serve, server: &Server) {
+        self.visits.turned(self.errors, alloc, serve, server);
     }
 
     fn closed(&mut self, number: u64, end: End) {
-        tell_closed(self.errors, self.addresses, number, end);
+        self.visits.closed(self.errors, number, end);
     }
 }

@@ -31,13 +31,13 @@ pub enum RunFault {
     /// A write or a flush failed. A part of the lines may be out, from their beginning on.
     #[error("a write failed")]
     Write,
+    /// The server didn't answer an event. The lines of the events before it are out.
+    #[error("the server did not answer")]
+    Step(StepFault),
     /// There was no room for the lines of the event that the server answered last. The lines before are
     /// out.
     #[error("out of memory")]
     Memory,
-    /// The server didn't answer an event. The lines of the events before it are out.
-    #[error("the server did not answer")]
-    Step(StepFault),
 }
 
 impl From<PrintFault> for RunFault {

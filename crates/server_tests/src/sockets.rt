@@ -9,7 +9,7 @@ use crate::events::base_server;
 use crate::holding::holds;
 use node_loader::{Loaded, load};
 use scenario_events::assemble;
-use server_core::{Event, Fired, Server};
+use server_core::{Event, Fired, Out, Server};
 use socket_server::{End, Limits, Observer, Serve, ServeFault, Turns, Unobserved, Until};
 use std::alloc::Global;
 use std::io::{ErrorKind, Read, Write};
@@ -18,7 +18,6 @@ use std::sync::Wait;
 use std::test::*;
 use std::time::Clock;
 use ua_space::Space;
-use ua_types::Status;
 
 // What a client says behind its Hello: an opening, GetEndpoints, and the end of the channel.
 const ASKED: &[u8] =
@@ -333,7 +332,9 @@ impl Observer for Noting {
         self.crowded = self.crowded.wrapping_add(1);
     }
 
-    fn session_refused(&mut self, _number: u64, _status: Status) {}
+    fn sent(&mut self, _outs: &[Out]) {}
+
+    fn turned(&mut self, _alloc: Global, _serve: &Serve, _server: &Server) {}
 
     fn closed(&mut self, _number: u64, end: End) {
         self.end = Some(end);

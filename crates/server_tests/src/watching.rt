@@ -2,8 +2,7 @@
 
 use crate::events::base_server;
 use crate::holding::holds;
-use commands::{Tracing, Visitors};
-use number_slots::Numbered;
+use commands::{Tracing, Visitors, Visits};
 use scenario_events::assemble;
 use server_core::Server;
 use socket_server::{End, Observer};
@@ -52,12 +51,12 @@ fn rows_are_told(rt: HostRuntime) -> Result<(), Fail> {
     let mut server = base_server(alloc)?;
     let mut output = Tap::new(Vec::new(alloc));
     let mut errors = Vec::new(alloc);
-    let mut addresses = Numbered::new(alloc);
+    let mut visits = Visits::new(alloc, false, true);
     let mut text = String::new(alloc);
     let mut tracing = Tracing {
         output: &mut output,
         errors: &mut errors,
-        addresses: &mut addresses,
+        visits: &mut visits,
         text: &mut text,
     };
     tells(alloc, &mut server, &mut tracing)?;
@@ -72,8 +71,6 @@ fn come_and_go<W: Observer>(observer: &mut W) {
     observer.connected(3, one);
     observer.refused(4, two);
     observer.crowded(two);
-    observer.session_refused(3, Status::BAD_TOO_MANY_SESSIONS);
-    observer.session_refused(4, Status::BAD_TOO_MANY_SESSIONS);
     observer.closed(4, End::Client);
     observer.closed(3, End::Client);
     observer.closed(3, End::Client);
@@ -95,7 +92,6 @@ const ENDS: [End; 9] = [
 const TOLD_OF_ENDS: &[u8] = b"connection 3 from 192.168.0.7:51344
 connection 4 from 192.168.0.9:40022 refused: as many as may be are open
 a connection from 192.168.0.9:40022 turned away: as many as may be of its address are open
-connection 3 from 192.168.0.7:51344 is refused a session: Bad_TooManySessions
 connection 3 from 192.168.0.7:51344 closed by the client
 connection 5 from [::1]:4840
 connection 5 from [::1]:4840 closed by the client
@@ -121,10 +117,10 @@ connection 5 from [::1]:4840 failed
 fn connections_are_told(rt: HostRuntime) {
     let alloc = rt.alloc();
     let mut errors = Vec::new(alloc);
-    let mut addresses = Numbered::new(alloc);
+    let mut visits = Visits::new(alloc, false, false);
     let mut visitors = Visitors {
         errors: &mut errors,
-        addresses: &mut addresses,
+        visits: &mut visits,
     };
     come_and_go(&mut visitors);
     for end in ENDS {

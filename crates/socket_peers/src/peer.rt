@@ -194,6 +194,13 @@ impl<S> Peer<S> {
         stream
     }
 
+    /// How many bytes it is owed.
+    pub fn owed(&self) -> usize
+        ensures { result ≡ length self.now.owed }
+    {
+        self.owed.len()
+    }
+
     /// Whether nothing more is read and nothing more is written.
     pub fn is_over(&self) -> bool
         ensures { result ≡ is_over_spec self.now }

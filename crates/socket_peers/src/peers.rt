@@ -104,6 +104,24 @@ impl<S> Peers<S> {
         self.last.checked_add(1)
     }
 
+    /// How many bytes all of them are owed. Takes memory for their numbers.
+    pub fn owed(&self, alloc: Global) -> Result<u64, AllocError> {
+        let mut owed = 0u64;
+        for number in self.connected.numbers(alloc)? {
+            if let Some(peer) = self.connected.get(number) {
+                owed = owed.saturating_add(peer.owed() as u64);
+            }
+        }
+        Ok(owed)
+    }
+
+    /// The moment that was told last; 0 before the first.
+    pub fn moment(&self) -> Moment
+        ensures { result ≡ self.now.clock }
+    {
+        self.clock
+    }
+
     /// It is so late now.
     pub fn tell_time(&mut self, now: Moment)
         ensures { self.new ≡ at_time now self.old }

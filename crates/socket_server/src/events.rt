@@ -9,7 +9,6 @@ ghost use Rattle.socket_peers.specs.Peers.{departs_at, is_crowded, is_sweep_due}
 ghost use Rattle.socket_server.specs.Serving.{scene, IsNextKey, Connects, Does, Takes, Fails, GoesOn, ReadsOn, Attends, AttendsEach, AttendsAll, TakesIn, AreNoneSilent, MayExpire, ExpiresAmong, SweepsIfDue, Serves, Stops};
 
 use crate::observer::Observer;
-use crate::refusals::{refusal_among, tell_refusal};
 use crate::serve_fault::ServeFault;
 use bytes::Bytes;
 use server_core::{Event, Out, Server, Step};
@@ -55,8 +54,8 @@ fn closes(outs: &[Out]) -> bool {
     false
 }
 
-/// Hands an event to the server, owes the sockets what it sends, and tells which rows fired. Says whether a connection is to be
-/// closed.
+/// Hands an event to the server, owes the sockets what it sends, and tells that and which rows fired. Says whether a connection is
+/// to be closed.
 pub(crate) fn hand_in<S: Socket + Drop, W: Observer>(
     alloc: Global,
     peers: &mut Peers<S>,
@@ -77,16 +76,13 @@ pub(crate) fn hand_in<S: Socket + Drop, W: Observer>(
         Err(fault) => return Err(ServeFault::Step(fault)),
     };
     let is_close = closes(outs.as_slice());
-    let refusal = refusal_among(outs.as_slice());
+    observer.sent(outs.as_slice());
     if peers.owe_all(outs).is_err() {
         return Err(ServeFault::Memory);
     }
     *events = number;
     match observer.saw(number, rows.as_slice()) {
-        Ok(()) => {
-            tell_refusal(observer, refusal);
-            Ok(is_close)
-        }
+        Ok(()) => Ok(is_close),
         Err(fault) => Err(fault),
     }
 }

@@ -3,8 +3,8 @@
 //! [`Serve::listen`] listens, and [`Serve::run`] takes turns: it waits until a socket is ready or 100 ms are
 //! over, takes in who connects, hands each piece that is read to the [`server_core::Server`] as an event,
 //! puts what the server sends into the queues of the sockets, and writes what they take. An [`Observer`] is
-//! told which rows of the subscriptions' state table fire at each event, and which connections come and go. An [`Until`]
-//! says when to stop, and [`Limits`] what is asked of each socket.
+//! told what is sent and which rows of the subscriptions' state table fire at each event, which connections come and go, and when
+//! a turn is over. An [`Until`] says when to stop, and [`Limits`] what is asked of each socket.
 //!
 //! Only `src/serve.rt` knows of `mio`. What a turn is made of stands in `src/events.rt`, over any stream
 //! whose reads and writes don't wait, so that contracts can name the bytes. `docs/USING.md` has the loop as
@@ -16,7 +16,6 @@
 
 mod events;
 mod observer;
-mod refusals;
 mod serve;
 mod serve_fault;
 mod until;

@@ -4,16 +4,17 @@ ghost use Rattle.std.specs.Prelude.{◌≡◌, ℕ, List, []};
 ghost use Rattle.server_messages.specs.declared.fired.Fired.{Fired};
 ghost use Rattle.socket_server.specs.Output.{Output, PutsOrFails, no_output};
 
+use crate::serve::Serve;
 use crate::serve_fault::ServeFault;
-use server_core::Fired;
+use server_core::{Fired, Out, Server};
 use socket_peers::End;
+use std::alloc::Global;
 use std::net::SocketAddr;
-use ua_types::Status;
 
-/// Who is told what happens while the server serves: which rows of the subscriptions' state table fire, and
-/// which connections come and go.
+/// Who is told what happens while the server serves: what is sent and which rows of the subscriptions' state table fire at each
+/// event, which connections come and go, and when a turn is over.
 ///
-/// Contracts see what is put out of the rows. Nothing is promised of what is done about connections.
+/// Contracts see what is put out of the rows. Nothing is promised of what is done about the rest.
 pub trait Observer {
     /// Where it puts its text.
     ghost output: { Self → Output };
@@ -40,9 +41,12 @@ pub trait Observer {
     fn crowded(&mut self, address: SocketAddr)
         ensures { output self.new ≡ output self.old };
 
-    /// The server refused a session to the connection of this number, or its user, with this status: `Bad_TooManySessions` or
-    /// `Bad_IdentityTokenRejected`. Of several refusals at one event the first is told.
-    fn session_refused(&mut self, number: u64, status: Status)
+    /// The server has answered an event by these frames and closings, which no socket has yet. The rows that fired at it come next.
+    fn sent(&mut self, outs: &[Out])
+        ensures { output self.new ≡ output self.old };
+
+    /// A turn is over.
+    fn turned(&mut self, alloc: Global, serve: &Serve, server: &Server)
         ensures { output self.new ≡ output self.old };
 
     /// The connection of this number is over, and this is how it ended.
@@ -69,7 +73,9 @@ impl Observer for Unobserved {
 
     fn crowded(&mut self, _address: SocketAddr) {}
 
-    fn session_refused(&mut self, _number: u64, _status: Status) {}
+    fn sent(&mut self, _outs: &[Out]) {}
+
+    fn turned(&mut self, _alloc: Global, _serve: &Serve, _server: &Server) {}
 
     fn closed(&mut self, _number: u64, _end: End) {}
 }

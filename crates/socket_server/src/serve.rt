@@ -250,11 +250,23 @@ impl Serve {
         self.peers.len()
     }
 
+    /// How many bytes its sockets are owed. Takes memory for their numbers.
+    pub fn owed(&self, alloc: Global) -> Result<u64, AllocError> {
+        self.peers.owed(alloc)
+    }
+
+    /// The moment of the last turn; 0 before the first.
+    pub fn moment(&self) -> Moment
+        ensures { result ≡ self.now.peers.clock }
+    {
+        self.peers.moment()
+    }
+
     /// Serves until it is to end: for so many turns, without end for 0, or until it is asked to stop. A turn waits until a socket is
     /// ready, at most for 100 ms; then it tells the server the time, takes in who has connected, lets go of silent sockets, once a
     /// second, and looks at each socket that is ready. After the last turn the server is told to end: what waits is answered, each
     /// connection is told that the server shuts down, and what is owed then is written as far as the sockets take it at once. The
-    /// observer is told which rows fire at each event, and which connections come and go.
+    /// observer is told what is sent and which rows fire at each event, which connections come and go, and when a turn is over.
     ///
     /// Each event that is handed to the server counts, from 1 on; a later run counts on. Without end it ends with a fault alone, or as
     /// it is asked to.
@@ -311,7 +323,8 @@ impl Serve {
         unreachable!()
     }
 
-    // A turn. Where it fails, what the events before made the server send is still written, as far as the sockets take it.
+    // A turn, of whose end the observer is told. Where it fails, what the events before made the server send is still written, as
+    // far as the sockets take it.
     fn turn<R: Clock, W: Observer>(
         &mut self,
         rt: &R,
@@ -324,7 +337,10 @@ impl Serve {
             MatchResult result (λ _. TakesTurn unknown unknown uncounted W.text old new) (Stops unknown unknown uncounted W.text old new) }
     {
         match self.take_turn(rt, alloc, server, observer) {
-            Ok(()) => Ok(()),
+            Ok(()) => {
+                observer.turned(alloc, self, server);
+                Ok(())
+            }
             Err(fault) => {
                 let _ = self.peers.flush_touched();
                 Err(fault)

@@ -10,25 +10,25 @@ use thiserror::Error;
 /// Why serving ended. No socket that fails ends it, and no client.
 #[derive(Clone, Copy, Debug, PartialEq, Eq, Error)]
 pub enum ServeFault {
-    /// The port can't be had: another program has it, or only an administrator may.
-    #[error("the port can't be had")]
-    Port,
-    /// The address is none of this machine's.
-    #[error("the address can't be had")]
-    Address,
     /// The system refused to listen for another reason, or the wait, the clock or random bytes.
     #[error("the network")]
     Network,
     /// The server didn't answer an event.
     #[error("the server did not answer")]
     Step(StepFault),
-    /// What fired at an event, which the server answered, couldn't be told: a write failed.
-    #[error("a write of the trace failed")]
-    Trace,
     /// A growth of the loop's own was refused, or events have no further number of 64 bits. The server is as
     /// its last step left it.
     #[error("out of memory")]
     Memory,
+    /// The port can't be had: another program has it, or only an administrator may.
+    #[error("the port can't be had")]
+    Port,
+    /// The address is none of this machine's.
+    #[error("the address can't be had")]
+    Address,
+    /// What fired at an event, which the server answered, couldn't be told: a write failed.
+    #[error("a write of the trace failed")]
+    Trace,
 }
 
 impl From<AllocError> for ServeFault {

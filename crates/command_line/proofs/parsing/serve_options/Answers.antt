@@ -1,6 +1,6 @@
 use Rattle.std.proofs.Common.{◌∙◌, IfSome, ap, refl, subst, sym, option_map}
 use Rattle.std.proofs.lemmas.Option.{none-some}
-use Rattle.command_line.specs.Words.{IsAddressIn, bound_of, idle_of, is_given, port_of}
+use Rattle.command_line.specs.Words.{IsAddressIn, bound_of, idle_of, is_given, port_of, total_of}
 use Rattle.command_line.proofs.parsing.serve_options.Goals as goal
 
 pub returns-in_err-get_str-clause-none : goal.returns-in_err-get_str-clause-none
@@ -27,6 +27,14 @@ pub returns-in_err-bound_of-2-clause-none : goal.returns-in_err-bound_of-2-claus
 returns-in_err-bound_of-2-clause-none c = λ is_none options has.
     none-some options.per_address (sym c.in_err-bound_of-2.was ∙ c.bound_of-2.ensures ∙ ap bound_of c.get_str-7.ensures ∙ has.per_address)
 
+pub returns-in_err-total_of-clause-none : goal.returns-in_err-total_of-clause-none
+returns-in_err-total_of-clause-none c = λ is_none options has.
+    none-some options.all_subscriptions (sym c.in_err-total_of.was ∙ c.total_of.ensures ∙ ap total_of c.get_str-8.ensures ∙ has.all_subscriptions)
+
+pub returns-in_err-total_of-2-clause-none : goal.returns-in_err-total_of-2-clause-none
+returns-in_err-total_of-2-clause-none c = λ is_none options has.
+    none-some options.all_items (sym c.in_err-total_of-2.was ∙ c.total_of-2.ensures ∙ ap total_of c.get_str-9.ensures ∙ has.all_items)
+
 pub returns-clause-some : goal.returns-clause-some
 returns-clause-some c = record {
   nodes = sym c.get_str.ensures ∙ ap (option_map (λ t. t.now)) c.in_ok-get_str.was;
@@ -37,7 +45,10 @@ returns-clause-some c = record {
   trace = ap is_given (sym c.get_str-5.ensures) ∙ sym c.is_given.ensures;
   idle = ap idle_of (sym c.get_str-6.ensures) ∙ sym c.idle_of.ensures ∙ c.in_ok-idle_of.was;
   per_address = ap bound_of (sym c.get_str-7.ensures) ∙ sym c.bound_of-2.ensures ∙ c.in_ok-bound_of-2.was;
-  stop_file = sym c.get_str-8.ensures;
-  url = sym c.get_str-9.ensures;
-  quiet = ap is_given (sym c.get_str-10.ensures) ∙ sym c.is_given-2.ensures;
+  all_subscriptions = ap total_of (sym c.get_str-8.ensures) ∙ sym c.total_of.ensures ∙ c.in_ok-total_of.was;
+  all_items = ap total_of (sym c.get_str-9.ensures) ∙ sym c.total_of-2.ensures ∙ c.in_ok-total_of-2.was;
+  stop_file = sym c.get_str-10.ensures;
+  url = sym c.get_str-11.ensures;
+  quiet = ap is_given (sym c.get_str-12.ensures) ∙ sym c.is_given-2.ensures;
+  summary = ap is_given (sym c.get_str-13.ensures) ∙ sym c.is_given-3.ensures;
 }

@@ -1,4 +1,4 @@
-use Rattle.std.proofs.Common.{rules, ◌≡◌, ◌+◌, ℕ, List, refl, subst, sym}
+use Rattle.std.proofs.Common.{rules, ◌≡◌, ◌+◌, ℕ, List, refl, subst}
 use Rattle.server_messages.specs.declared.fired.Fired.{Fired}
 use Rattle.socket_peers.specs.Peers.{owed_all}
 use Rattle.socket_server.specs.Output.{Output, Puts, PutsOrFails}
@@ -9,11 +9,11 @@ returns-in-Ok-saw g c keys =
     let owed : c.owe_all.new.self ≡ owed_all c.args.peers.now c.in-Ok.step.outs = search rules in
     let number : c.in-Some.number ≡ c.args.events.now + 1 = search rules in
     let rows : c.as_slice-3.result.now ≡ c.in-Ok.step.rows = search rules in
-    let old = g.W.Observer.output c.args.observer.now in
+    let old = g.W.Observer.output c.sent.new.self in
     let new = g.W.Observer.output c.saw.new.self in
     let told : Puts old new (g.W.Observer.text c.in-Some.number c.as_slice-3.result.now) =
     subst (PutsOrFails (g.W.Observer.text c.in-Some.number c.as_slice-3.result.now) old new) c.in-Ok-saw.is c.saw.ensures
     in
     let of_rows = subst (λ (l : List Fired). Puts old new (g.W.Observer.text c.in-Some.number l)) rows told in
     let of_number = subst (λ (n : ℕ). Puts old new (g.W.Observer.text n c.in-Ok.step.rows)) number of_rows in
-    (c.in-Ok.step, c.in-Ok.ensures.step, owed, number, subst (λ (o : Output). Puts old o (g.W.Observer.text (c.args.events.now + 1) c.in-Ok.step.rows)) (sym c.tell_refusal.ensures) of_number, refl)
+    (c.in-Ok.step, c.in-Ok.ensures.step, owed, number, subst (λ (o : Output). Puts o new (g.W.Observer.text (c.args.events.now + 1) c.in-Ok.step.rows)) c.sent.ensures of_number, refl)

@@ -2,9 +2,17 @@ use Rattle.std.proofs.Common.{subst, sym}
 use Rattle.mio.specs.declared.net.stream.TcpStream.{TcpStream}
 use Rattle.server_core.specs.World.{world_of}
 use Rattle.socket_server.specs.Sockets.{Sockets, key_stream}
-use Rattle.socket_server.specs.Serving.{scene, unknown, uncounted, Stops}
+use Rattle.socket_server.specs.Output.{Output}
+use Rattle.socket_server.specs.Serving.{scene, unknown, uncounted, TakesTurn, Stops}
 use Rattle.socket_server.proofs.ServingLemmas.{stops_alike}
 use Rattle.socket_server.proofs.serve.Serve.turn.Goals as goal
+
+pub returns-in-Ok : goal.returns-in-Ok
+returns-in-Ok g c =
+    let at = (scene (key_stream c.args.self.now.keys) (world_of c.args.server.now) c.args.self.now.peers c.args.self.now.events (g.W.Observer.output c.args.observer.now)) in
+    let sockets = c.take_turn.new.self in
+    subst (λ (o : Output). TakesTurn unknown unknown uncounted g.W.Observer.text at (scene (key_stream sockets.keys) (world_of c.take_turn.new.server) sockets.peers sockets.events o))
+    (sym c.turned.ensures) c.in-Ok.ensures
 
 pub returns-in-Err : goal.returns-in-Err
 returns-in-Err g c =
