@@ -1,0 +1,173 @@
+-- What DELETE under a key does.
+use Rattle.std.proofs.Common.{◌≡◌, inl, inr, ℕ, ℤ, List, [], ◌∷◌, ◌++◌, map, Bool, true, false, cond, ◌&&◌, Option, Some, Ok, refl, sym, ap, subst, ◌∙◌, true≢false}
+use Rattle.std.specs.Prelude.{flat_map, IsPermutation}
+use Rattle.std.specs.Ordering.{is_eq}
+use Rattle.std.proofs.lemmas.List.Sorted.{IsPermutation-map, IsPermutation-sym, Contains-permutation}
+use Rattle.sqlite.specs.declared.types.Value.{Value}
+use Rattle.sqlite.specs.declared.types.Value.TheVariants.{Null, Int, Real, Text, Blob}
+use Rattle.sqlite.specs.Order.{Row, column, value_cmp}
+use Rattle.sqlite_value.proofs.OrderLemmas.{value_cmp-Null}
+use Rattle.sqlite.specs.Ops.{binary, is_true, from_truth}
+use Rattle.sqlite.specs.Collation.TheVariants.{Binary}
+use Rattle.sqlite_sql.specs.declared.ops.BinaryOp.TheVariants.{Compare}
+use Rattle.sqlite_sql.specs.declared.ops.CompareOp.TheVariants.{Eq}
+use Rattle.sqlite.specs.Query.{IsAnswer, output, Output, Query}
+use Rattle.sqlite.specs.Program.{overlay}
+use Rattle.sqlite.specs.Edit.{edit_of, without_all}
+use Rattle.sqlite.specs.Rowids.TheVariants.{Given}
+use Rattle.sqlite.specs.Rows.{Written, Deletes, Task}
+use Rattle.sqlite.specs.Table.{Table}
+use Rattle.sqlite.specs.Tree.{Trees, rowid}
+use Rattle.sqlite_schema.specs.declared.schema.Keys.{Keys}
+use Rattle.sqlite_rules.specs.Lists.{Has}
+use Rattle.sqlite_rules.specs.Calls.{ids_of}
+use Rattle.sqlite_rules.proofs.ListLemmas.{has_contained, contains_had}
+use Rattle.sqlite.proofs.Callers.{one_step}
+use Rattle.value_store.specs.Tables.{value_table, history_table, store_schema}
+use Rattle.value_store.specs.Laws.{numbers_where, is_given}
+use Rattle.value_store.specs.Model.{is_of_node, is_at}
+use Rattle.value_store.proofs.Settling.{went, same_value}
+use Rattle.value_store.proofs.Taking.{AreOf}
+
+-- the numbers of the rows that pass
+numbers : (Row → Bool) → List Row → List Row
+numbers p [] = []
+numbers p (r ∷ rows) = cond (p r) ((rowid r ∷ []) ∷ numbers p rows) (numbers p rows)
+
+numbers_sound : (p : Row → Bool) (rows : List Row) (x : Row) → Has (numbers p rows) x → (r : Row) × Has rows r × (p r ≡ true) × (x ≡ rowid r ∷ [])
+unfolding numbers
+numbers_sound p [] x h = absurd h
+numbers_sound p (r ∷ rows) x h = go (p r) refl h (numbers_sound p rows x)
+  where
+    go : (b : Bool) → p r ≡ b → Has (cond b ((rowid r ∷ []) ∷ numbers p rows) (numbers p rows)) x
+        → (Has (numbers p rows) x → (s : Row) × Has rows s × (p s ≡ true) × (x ≡ rowid s ∷ [])) → (s : Row) × Has (r ∷ rows) s × (p s ≡ true) × (x ≡ rowid s ∷ [])
+    go true is (inl same) later = (r, inl refl, is, same)
+    go true is (inr h) later = let s = later h in (s.0, inr s.1, s.2, s.3)
+    go false is h later = let s = later h in (s.0, inr s.1, s.2, s.3)
+
+numbers_complete : (p : Row → Bool) (rows : List Row) (r : Row) → Has rows r → p r ≡ true → Has (numbers p rows) (rowid r ∷ [])
+unfolding numbers
+numbers_complete p [] r h passes = absurd h
+numbers_complete p (x ∷ rows) r (inl same) passes = subst (λ b. Has (cond b ((rowid x ∷ []) ∷ numbers p rows) (numbers p rows)) (rowid r ∷ [])) (sym (sym (ap p same) ∙ passes)) (inl (ap (λ z. rowid z ∷ []) same))
+numbers_complete p (x ∷ rows) r (inr h) passes = go (p x) (numbers_complete p rows r h passes)
+  where
+    go : (b : Bool) → Has (numbers p rows) (rowid r ∷ []) → Has (cond b ((rowid x ∷ []) ∷ numbers p rows) (numbers p rows)) (rowid r ∷ [])
+    go true there = inr there
+    go false there = there
+
+pub moved : (xs ys : List Row) (x : Row) → IsPermutation xs ys → Has xs x → Has ys x
+moved xs ys x same h = has_contained ys x (Contains-permutation xs ys x same (contains_had xs x h))
+
+are_of : (p : Row → Bool) (rows found : List Row) → IsPermutation (numbers p rows) found → AreOf p rows found
+are_of p rows found same = record {
+  sound = λ x h. numbers_sound p rows x (moved found (numbers p rows) x (IsPermutation-sym (numbers p rows) found same) h);
+  complete = λ r h passes. moved (numbers p rows) found (rowid r ∷ []) same (numbers_complete p rows r h passes);
+}
+
+told_true : (b : Bool) → is_true (from_truth (Some b)) ≡ b
+told_true true = refl
+told_true false = refl
+
+-- SQL's = beside a text or a number
+tested_text : (v : Value) (n : List ℕ) → is_true (binary (Compare Eq Binary) v (Text n)) ≡ is_eq (value_cmp v (Text n))
+unfolding binary
+tested_text Null n = sym (ap is_eq (value_cmp-Null (Text n)))
+tested_text (Int m) n = told_true (is_eq (value_cmp (Int m) (Text n)))
+tested_text (Real x) n = told_true (is_eq (value_cmp (Real x) (Text n)))
+tested_text (Text t) n = told_true (is_eq (value_cmp (Text t) (Text n)))
+tested_text (Blob b) n = told_true (is_eq (value_cmp (Blob b) (Text n)))
+
+tested_int : (v : Value) (n : ℤ) → is_true (binary (Compare Eq Binary) v (Int n)) ≡ is_eq (value_cmp v (Int n))
+unfolding binary
+tested_int Null n = sym (ap is_eq (value_cmp-Null (Int n)))
+tested_int (Int m) n = told_true (is_eq (value_cmp (Int m) (Int n)))
+tested_int (Real x) n = told_true (is_eq (value_cmp (Real x) (Int n)))
+tested_int (Text t) n = told_true (is_eq (value_cmp (Text t) (Int n)))
+tested_int (Blob b) n = told_true (is_eq (value_cmp (Blob b) (Int n)))
+
+-- what a query shows of the rows that pass its tests
+abbrev shown_of : Query → (Row → Bool) → Row → List Row → List Row
+shown_of q test params rows = map (λ (o : Output). o.1) (map (output q) (flat_map (λ (r : Row). cond (test r) ((params ∷ r ∷ []) ∷ []) []) rows))
+
+shown_are : (q : Query) (test p : Row → Bool) (params : Row) → ((r : Row) → (output q (params ∷ r ∷ [])).1 ≡ rowid r ∷ []) → ((r : Row) → test r ≡ p r) → (rows : List Row) → shown_of q test params rows ≡ numbers p rows
+unfolding numbers
+shown_are q test p params shows alike [] = refl
+shown_are q test p params shows alike (r ∷ rows) = go (test r) (p r) (alike r) (shown_are q test p params shows alike rows)
+  where
+    go : (a b : Bool) → a ≡ b → shown_of q test params rows ≡ numbers p rows
+        → map (λ (o : Output). o.1) (map (output q) (cond a ((params ∷ r ∷ []) ∷ []) [] ++ flat_map (λ (r : Row). cond (test r) ((params ∷ r ∷ []) ∷ []) []) rows))
+        ≡ cond b ((rowid r ∷ []) ∷ numbers p rows) (numbers p rows)
+    go true true same later = ap (λ more. (output q (params ∷ r ∷ [])).1 ∷ more) later ∙ ap (λ x. x ∷ numbers p rows) (shows r)
+    go false false same later = later
+    go true false same later = absurd (true≢false same)
+    go false true same later = absurd (true≢false (sym same))
+
+-- what is left of one table, and the other
+pub record Drops (table other : ℕ) (p : Row → Bool) (db next : Trees) : Type 0 where
+  pub found : List Row
+  pub are : AreOf p (db table) found
+  pub rows : next table ≡ without_all (db table) (ids_of found)
+  pub rest : next other ≡ db other
+
+abbrev pub task_of : Option ℕ → Keys → Table → Row → Task
+task_of limit keys table params = record { limit = limit; keys = keys; schema = store_schema; table = table; params = params }
+
+abbrev value_tests : Row → List ℕ → Bool
+value_tests r node = is_true (binary (Compare Eq Binary) (column r 1) (Text node)) && true
+
+value_alike : (node : List ℕ) (r : Row) → value_tests r node ≡ is_of_node node r
+value_alike node r = rw (tested_text (column r 1) node) (plain (is_of_node node r))
+  where
+    plain : (b : Bool) → (b && true) ≡ b
+    plain true = refl
+    plain false = refl
+
+past_alike : (node : List ℕ) (time : ℤ) (r : Row)
+    → (is_true (binary (Compare Eq Binary) (column r 1) (Text node)) && (is_true (binary (Compare Eq Binary) (column r 2) (Int time)) && true)) ≡ is_at node time r
+past_alike node time r = rw (tested_text (column r 1) node, tested_int (column r 2) time) (plain (is_of_node node r) (is_eq (value_cmp (column r 2) (Int time))))
+  where
+    plain : (a b : Bool) → (a && (b && true)) ≡ (a && b)
+    plain true true = refl
+    plain true false = refl
+    plain false b = refl
+
+pub drops_value : (limit : Option ℕ) (keys : Keys) (node : List ℕ) (db : Trees) (w : Written)
+    → Deletes (task_of limit keys value_table (Text node ∷ [])) (record { lets = []; body = numbers_where 0 (is_given 1 0 ∷ []) }) db (Ok w) → Drops 0 2 (is_of_node node) db w.trees
+drops_value limit keys node db w h =
+    let q = numbers_where 0 (is_given 1 0 ∷ []) in
+    let given = went h in
+    let made = went given.2 in
+    let a : IsAnswer q (overlay db []) (Text node ∷ []) given.0 = given.1.answer Null in
+    let kept = a.distinct ∙ ap (map (output q)) a.grouped in
+    let same = IsPermutation-map (λ (o : Output). o.1) a.kept a.ordered a.same in
+    let shown : IsPermutation (map (λ (o : Output). o.1) a.kept) given.0 = subst (IsPermutation (map (λ (o : Output). o.1) a.kept)) (sym a.shown) same in
+    let all : map (λ (o : Output). o.1) a.kept ≡ numbers (is_of_node node) (db 0) = ap (map (λ (o : Output). o.1)) kept ∙ shown_are q (λ r. value_tests r node) (is_of_node node) (Text node ∷ []) (λ r. refl) (value_alike node) (db 0) in
+    let step = one_step store_schema keys db made.0 (edit_of db value_table (ids_of given.0) Given 0 []) refl made.1 in
+    let trees : w.trees ≡ made.0 = ap (λ (it : Written). it.trees) (same_value made.2) in
+    record {
+      found = given.0;
+      are = are_of (is_of_node node) (db 0) given.0 (subst (λ xs. IsPermutation xs given.0) all shown);
+      rows = ap (λ (t : Trees). t 0) trees ∙ step.rows;
+      rest = ap (λ (t : Trees). t 2) trees ∙ step.tables.1.0 (λ e. cc);
+    }
+
+pub drops_past : (limit : Option ℕ) (keys : Keys) (node : List ℕ) (time : ℤ) (db : Trees) (w : Written)
+    → Deletes (task_of limit keys history_table (Text node ∷ Int time ∷ [])) (record { lets = []; body = numbers_where 2 (is_given 1 0 ∷ is_given 2 1 ∷ []) }) db (Ok w) → Drops 2 0 (is_at node time) db w.trees
+drops_past limit keys node time db w h =
+    let q = numbers_where 2 (is_given 1 0 ∷ is_given 2 1 ∷ []) in
+    let params = Text node ∷ Int time ∷ [] in
+    let given = went h in
+    let made = went given.2 in
+    let a : IsAnswer q (overlay db []) params given.0 = given.1.answer Null in
+    let kept = a.distinct ∙ ap (map (output q)) a.grouped in
+    let same = IsPermutation-map (λ (o : Output). o.1) a.kept a.ordered a.same in
+    let shown : IsPermutation (map (λ (o : Output). o.1) a.kept) given.0 = subst (IsPermutation (map (λ (o : Output). o.1) a.kept)) (sym a.shown) same in
+    let all : map (λ (o : Output). o.1) a.kept ≡ numbers (is_at node time) (db 2) = ap (map (λ (o : Output). o.1)) kept ∙ shown_are q _ (is_at node time) params (λ r. refl) (past_alike node time) (db 2) in
+    let step = one_step store_schema keys db made.0 (edit_of db history_table (ids_of given.0) Given 0 []) refl made.1 in
+    let trees : w.trees ≡ made.0 = ap (λ (it : Written). it.trees) (same_value made.2) in
+    record {
+      found = given.0;
+      are = are_of (is_at node time) (db 2) given.0 (subst (λ xs. IsPermutation xs given.0) all shown);
+      rows = ap (λ (t : Trees). t 2) trees ∙ step.rows;
+      rest = ap (λ (t : Trees). t 0) trees ∙ step.tables.0 (λ e. cc);
+    }

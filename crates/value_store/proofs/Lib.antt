@@ -1,0 +1,12 @@
+pub mod Texts
+pub mod Finds
+pub mod Numbers
+pub mod Taking
+pub mod Dropping
+pub mod Settling
+pub mod Adding
+pub mod Changing
+pub mod Closing
+pub mod Columns
+pub mod Showing
+pub mod Rising

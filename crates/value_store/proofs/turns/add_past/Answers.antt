@@ -1,0 +1,17 @@
+use Rattle.sqlite.specs.Held.{state}
+use Rattle.value_store.specs.Laws.{add_past_text}
+use Rattle.value_store.proofs.Changing.{adds_old}
+use Rattle.value_store.proofs.Settling.{keeps_commit}
+use Rattle.value_store.proofs.turns.add_past.Goals as goal
+
+pub returns-clause-made : goal.returns-clause-made
+returns-clause-made g c clean inside =
+    let old = state g.S.Store c.args.turn.now.conn.now in
+    let new = state g.S.Store c.execute.new.self.conn.now in
+    adds_old old new c.args.past.now c.execute.result (rw c.past_columns.ensures at (c.execute.ensures.runs clean inside))
+
+pub returns-clause-kept : goal.returns-clause-kept
+returns-clause-kept g c clean inside =
+    let old = state g.S.Store c.args.turn.now.conn.now in
+    let new = state g.S.Store c.execute.new.self.conn.now in
+    keeps_commit add_past_text _ old new c.execute.result (c.execute.ensures.runs clean inside)

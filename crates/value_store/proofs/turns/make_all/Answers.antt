@@ -1,0 +1,158 @@
+use Rattle.std.proofs.Common.{rules, ◌⊎◌, List, ℕ, sym, ap, subst, ◌∙◌, ◌≡◌, [], ◌∷◌, ◌++◌, ◌≤◌, length, take, arith, inl, inr, IsTrue, OnOk, OnErr}
+use Rattle.std.proofs.lemmas.List.{take_more, take_all}
+use Rattle.sqlite.specs.Tree.{Trees}
+use Rattle.sqlite.specs.Effect.{Database}
+use Rattle.sqlite.specs.State.{HasCleanDisk, Survives, State}
+use Rattle.sqlite.specs.Held.{state}
+use Rattle.sqlite.proofs.StateLemmas.{survives_then}
+use Rattle.value_store.specs.Model.{IsStore, IsAfter}
+use Rattle.value_store.specs.declared.rows.Change.{Change}
+use Rattle.value_store.proofs.Settling.{keeps_then, undone_then, rolled_at_commit}
+use Rattle.value_store.proofs.Closing.{after_more, after_none, on_ok, whatever, if_err, either_way}
+use Rattle.value_store.proofs.turns.make_all.Goals as goal
+
+pub each-preserved : goal.each-preserved
+each-preserved g c =
+    let old = state g.S.Store c.args.conn.now in
+    let mid = state g.S.Store c.each.transaction.conn.now in
+    let new = state g.S.Store c.make.new.turn.conn.now in
+    let it = c.change-item.result in (
+      c.make.ensures.same_reference ∙ c.each.invariant.0,
+      survives_then old mid new _ _ _ (λ _ db none. none) (λ _ db none. none) c.each.invariant.1 c.make.ensures.survives,
+      λ clean.
+          let was = c.each.invariant.2 (omega (arith, c.make.ensures.survives.clean)) in
+          let made = c.in_ok-make.ensures.made clean was.0 in (
+            made.1,
+            keeps_then old mid new was.1 (c.make.ensures.kept clean was.0),
+            (λ store.
+                let before = was.2 store in
+                let after = made.2 before.0 in
+                let item = c.change-item.is in
+                let more = take_more c.args.turn.now c.each.change-index it (omega (arith, c.each-test.true)) in
+                let many = after_more (take c.each.change-index c.args.turn.now) it old.now.trees mid.now.trees new.now.trees before.1 after.1 in
+                (after.0, subst (λ turn. IsAfter turn old.now.trees new.now.trees) (sym (more ∙ ap (λ x. take c.each.change-index c.args.turn.now ++ x ∷ []) (sym item))) many)),
+            inr (was.1 made.0).0,
+          ),
+    )
+
+-- what the loop has made of the file, where the file could be used or the turn is empty
+made_all : (old mid : State) (turn : List Change) (k : ℕ) → length turn ≤ k → (IsStore old.now → IsStore mid.now × IsAfter (take k turn) old.now.trees mid.now.trees)
+    → ((take k turn ≡ []) × (mid.now.trees ≡ old.now.trees)) ⊎ IsTrue old.is_open → (IsTrue old.is_open → IsStore old.now) → IsAfter turn old.now.trees mid.now.trees
+made_all old mid turn k all made (inl none) ready = subst (λ t. IsAfter t old.now.trees mid.now.trees) (sym none.0 ∙ take_all k turn all) (after_none old.now.trees mid.now.trees none.1)
+made_all old mid turn k all made (inr is_open) ready = subst (λ t. IsAfter t old.now.trees mid.now.trees) (take_all k turn all) (made (ready is_open)).1
+
+pub returns-clause-crash : goal.returns-clause-crash
+returns-clause-crash g c =
+    let old = state g.S.Store c.args.conn.now in
+    let mid = state g.S.Store c.each.transaction.conn.now in
+    let P = λ (trees : Trees). IsAfter c.args.turn.now old.now.trees trees in
+    let whole = survives_then old mid (state g.S.Store c.commit.new.self.0) _ _ P (λ _ db none. absurd none)
+    (λ clean db is.
+    let was = c.each.invariant.2 (omega (arith, c.commit.ensures.survives.clean)) in
+    subst P (sym is) (made_all old mid c.args.turn.now c.each.change-index (omega (arith, c.each-test.false)) was.2 was.3 (c.requires.ready (omega (arith, c.each.invariant.1.clean, c.commit.ensures.survives.clean))))) c.each.invariant.1 c.commit.ensures.survives in
+    let same : c.commit.new.self.0 ≡ c.conn-2-1.given.0 = search rules in
+    subst (λ h. Survives old (state g.S.Store h) P) same whole
+
+pub returns-clause-lasting : goal.returns-clause-lasting
+returns-clause-lasting g c clean =
+    let old = state g.S.Store c.args.conn.now in
+    let mid = state g.S.Store c.each.transaction.conn.now in
+    let end = state g.S.Store c.commit.new.self.0 in
+    let same : c.commit.new.self.0 ≡ c.conn-2-1.given.0 = search rules in
+    let late : HasCleanDisk end = subst (λ h. HasCleanDisk (state g.S.Store h)) (sym same) clean in
+    let was = c.each.invariant.2 (omega (arith, c.commit.ensures.survives.clean)) in
+    let P = λ (trees : Trees). IsAfter c.args.turn.now old.now.trees trees in
+    let kept : P mid.now.trees = made_all old mid c.args.turn.now c.each.change-index (omega (arith, c.each-test.false)) was.2 was.3 (c.requires.ready (omega (arith, c.each.invariant.1.clean, c.commit.ensures.survives.clean))) in
+    let rest = on_ok c.commit.result (c.commit.ensures.ok late) (λ done trees may.
+    let alone = g.met.S.Store.settled c.commit.new.self.0.store trees done.1.is_open may in
+    subst P (sym (alone ∙ ap (λ (d : Database). d.trees) done.1.committed_is)) kept) in
+    subst (λ h. OnOk c.commit.result ((trees : Trees) → (state g.S.Store h).may_leave trees → P trees)) same rest
+
+pub returns-clause-kept : goal.returns-clause-kept
+returns-clause-kept g c clean =
+    let old = state g.S.Store c.args.conn.now in
+    let mid = state g.S.Store c.each.transaction.conn.now in
+    let end = state g.S.Store c.commit.new.self.0 in
+    let same : c.commit.new.self.0 ≡ c.conn-2-1.given.0 = search rules in
+    let late : HasCleanDisk end = subst (λ h. HasCleanDisk (state g.S.Store h)) (sym same) clean in
+    let was = c.each.invariant.2 (omega (arith, c.commit.ensures.survives.clean)) in
+    let P = λ (trees : Trees). IsAfter c.args.turn.now old.now.trees trees in
+    let kept : P mid.now.trees = made_all old mid c.args.turn.now c.each.change-index (omega (arith, c.each-test.false)) was.2 was.3 (c.requires.ready (omega (arith, c.each.invariant.1.clean, c.commit.ensures.survives.clean))) in
+    let rest = on_ok c.commit.result (c.commit.ensures.ok late) (λ done. subst P (sym (ap (λ (d : Database). d.trees) done.1.now_is)) kept) in
+    subst (λ h. OnOk c.commit.result (P (state g.S.Store h).now.trees)) same rest
+
+pub returns-clause-committed : goal.returns-clause-committed
+returns-clause-committed g c clean =
+    let end = state g.S.Store c.commit.new.self.0 in
+    let same : c.commit.new.self.0 ≡ c.conn-2-1.given.0 = search rules in
+    let late : HasCleanDisk end = subst (λ h. HasCleanDisk (state g.S.Store h)) (sym same) clean in
+    let rest = on_ok c.commit.result (c.commit.ensures.ok late) (λ done. done.1.committed_is ∙ sym done.1.now_is) in
+    subst (λ h. OnOk c.commit.result ((state g.S.Store h).committed ≡ (state g.S.Store h).now)) same rest
+
+pub returns-clause-refused : goal.returns-clause-refused
+returns-clause-refused g c clean is_open =
+    let old = state g.S.Store c.args.conn.now in
+    let mid = state g.S.Store c.each.transaction.conn.now in
+    let end = state g.S.Store c.commit.new.self.0 in
+    let same : c.commit.new.self.0 ≡ c.conn-2-1.given.0 = search rules in
+    let late : HasCleanDisk end = subst (λ h. HasCleanDisk (state g.S.Store h)) (sym same) clean in
+    let still : IsTrue end.is_open = subst (λ h. IsTrue (state g.S.Store h).is_open) (sym same) is_open in
+    let was = c.each.invariant.2 (omega (arith, c.commit.ensures.survives.clean)) in
+    let rest = if_err c.commit.result _ (λ e h. let back = undone_then old mid end was.1 (rolled_at_commit mid end e was.0 h) still in
+    let settled : old.now ≡ old.committed = c.is_autocommit.ensures.settled (search rules) back.2 in
+    let both : (end.now ≡ old.now) × (end.committed ≡ old.committed) = (back.0 ∙ sym settled, back.1) in both) (c.commit.ensures.err late) in
+    subst (λ h. OnErr c.commit.result (((state g.S.Store h).now ≡ old.now) × ((state g.S.Store h).committed ≡ old.committed))) same rest
+
+pub returns-clause-ready : goal.returns-clause-ready
+returns-clause-ready g c clean is_open =
+    let old = state g.S.Store c.args.conn.now in
+    let mid = state g.S.Store c.each.transaction.conn.now in
+    let end = state g.S.Store c.commit.new.self.0 in
+    let same : c.commit.new.self.0 ≡ c.conn-2-1.given.0 = search rules in
+    let late : HasCleanDisk end = subst (λ h. HasCleanDisk (state g.S.Store h)) (sym same) clean in
+    let still : IsTrue end.is_open = subst (λ h. IsTrue (state g.S.Store h).is_open) (sym same) is_open in
+    let was = c.each.invariant.2 (omega (arith, c.commit.ensures.survives.clean)) in
+    let store = c.requires.ready (omega (arith, c.each.invariant.1.clean, c.commit.ensures.survives.clean)) in
+    let rest : IsStore end.now = either_way _ c.commit.result (c.commit.ensures.ok late) (c.commit.ensures.err late)
+    (λ done. subst IsStore (sym done.1.now_is) (was.2 (store (was.1 done.1.was_open).0)).0)
+    (λ e h. let back = undone_then old mid end was.1 (rolled_at_commit mid end e was.0 h) still in
+    let settled : old.now ≡ old.committed = c.is_autocommit.ensures.settled (search rules) back.2 in
+    subst IsStore (settled ∙ sym back.0) (store back.2)) in
+    subst (λ h. IsStore (state g.S.Store h).now) same rest
+
+pub returns-in_err-make-clause-refused : goal.returns-in_err-make-clause-refused
+returns-in_err-make-clause-refused g c clean is_open =
+    let old = state g.S.Store c.args.conn.now in
+    let mid = state g.S.Store c.each.transaction.conn.now in
+    let new = state g.S.Store c.make.new.turn.conn.now in
+    let end = state g.S.Store c.drop-transaction.new.self.0 in
+    let same : c.drop-transaction.new.self.0 ≡ c.conn-1.given.0 = search rules in
+    let late : HasCleanDisk end = subst (λ h. HasCleanDisk (state g.S.Store h)) (sym same) clean in
+    let still : IsTrue end.is_open = subst (λ h. IsTrue (state g.S.Store h).is_open) (sym same) is_open in
+    let undone = c.drop-transaction.ensures.undone late in
+    let early : HasCleanDisk new = omega (arith, c.drop-transaction.ensures.survives.clean) in
+    let was = c.each.invariant.2 (omega (arith, c.make.ensures.survives.clean)) in
+    let kept = keeps_then old mid new was.1 (c.make.ensures.kept early was.0) in
+    let back = undone_then old new end kept undone still in
+    let settled : old.now ≡ old.committed = c.is_autocommit.ensures.settled (search rules) back.2 in
+    let both : (end.now ≡ old.now) × (end.committed ≡ old.committed) = (back.0 ∙ sym settled, back.1) in
+    subst (λ h. OnErr c.from_residual.result (((state g.S.Store h).now ≡ old.now) × ((state g.S.Store h).committed ≡ old.committed))) same (whatever c.from_residual.result both)
+
+pub returns-in_err-make-clause-ready : goal.returns-in_err-make-clause-ready
+returns-in_err-make-clause-ready g c clean is_open =
+    let old = state g.S.Store c.args.conn.now in
+    let mid = state g.S.Store c.each.transaction.conn.now in
+    let new = state g.S.Store c.make.new.turn.conn.now in
+    let end = state g.S.Store c.drop-transaction.new.self.0 in
+    let same : c.drop-transaction.new.self.0 ≡ c.conn-1.given.0 = search rules in
+    let late : HasCleanDisk end = subst (λ h. HasCleanDisk (state g.S.Store h)) (sym same) clean in
+    let still : IsTrue end.is_open = subst (λ h. IsTrue (state g.S.Store h).is_open) (sym same) is_open in
+    let undone = c.drop-transaction.ensures.undone late in
+    let early : HasCleanDisk new = omega (arith, c.drop-transaction.ensures.survives.clean) in
+    let was = c.each.invariant.2 (omega (arith, c.make.ensures.survives.clean)) in
+    let kept = keeps_then old mid new was.1 (c.make.ensures.kept early was.0) in
+    let back = undone_then old new end kept undone still in
+    let settled : old.now ≡ old.committed = c.is_autocommit.ensures.settled (search rules) back.2 in
+    let store = c.requires.ready (omega (arith, c.each.invariant.1.clean, c.make.ensures.survives.clean, early)) in
+    let rest : IsStore end.now = subst IsStore (settled ∙ sym back.0) (store back.2) in
+    subst (λ h. IsStore (state g.S.Store h).now) same rest
