@@ -2,8 +2,9 @@
 
 use ua_types::Config;
 
-// What each thing takes at most, in bytes, measured and rounded up (docs/PERFORMANCE.md). A value of fixed size is one that is
-// neither a text nor a list.
+// What each thing takes, in bytes. Those of a subscription, an item and a queued value are measured and rounded up
+// (docs/PERFORMANCE.md); the others are counted from what a message and a value are made of. No proof speaks of them. A value of
+// fixed size is one that is neither a text nor a list.
 const SUBSCRIPTION: u64 = 400;
 
 const KEPT_MESSAGE: u64 = 150;

@@ -1,7 +1,7 @@
 //! A durable store: the value of each node, and its values of the past, in a SQLite file.
 //!
-//! The file has two tables that a person can read, `value` with one row a node and `history` with one
-//! row a node and time. What a server's turn changes goes into one transaction, and once a turn is
+//! The file has two tables, `value` with one row a node and `history` with one row a node and time; the values
+//! themselves stand as bytes. What a server's turn changes goes into one transaction, and once a turn is
 //! answered with `Ok` no crash takes any of it back; a turn that fails leaves nothing.
 //!
 //! It is no cache and no server: it holds nothing in memory, and a turn's changes are rows of its own. `forms`
