@@ -197,6 +197,7 @@ served_at f g o same has = record {
   all_subscriptions = ap total_of (sym (same (codes "all-subscriptions"))) ∙ has.all_subscriptions;
   all_items = ap total_of (sym (same (codes "all-items"))) ∙ has.all_items;
   stop_file = sym (same (codes "stop-file")) ∙ has.stop_file;
+  store = sym (same (codes "store")) ∙ has.store;
   url = sym (same (codes "url")) ∙ has.url;
   quiet = ap is_given (sym (same (codes "quiet"))) ∙ has.quiet;
   summary = ap is_given (sym (same (codes "summary"))) ∙ has.summary;

@@ -48,7 +48,7 @@ abbrev pub trace_app : App
 trace_app = with_rule (with_rule (new_app (codes "trace")) (record nodes_rule { required = true })) scenario_rule
 
 -- `serve` with its NODES, its port and its address, then with what bounds its turns and sockets, then with what bounds the whole
--- server, then with its URL and its file, then whole
+-- server, then with its URL and its files, then whole
 abbrev pub serve_place : App
 serve_place =
     with_rule (with_rule (with_rule (new_app (codes "serve")) (record nodes_rule { required = true })) (record (option_rule (codes "port")) { required = true }))
@@ -61,7 +61,7 @@ abbrev pub serve_totals : App
 serve_totals = with_rule (with_rule serve_bounds (option_rule (codes "all-subscriptions"))) (option_rule (codes "all-items"))
 
 abbrev pub serve_paths : App
-serve_paths = with_rule (with_rule serve_totals (option_rule (codes "url"))) (option_rule (codes "stop-file"))
+serve_paths = with_rule (with_rule (with_rule serve_totals (option_rule (codes "url"))) (option_rule (codes "stop-file"))) (option_rule (codes "store"))
 
 abbrev pub serve_app : App
 serve_app = with_rule (with_rule (with_rule serve_paths (flag_rule (codes "trace"))) (flag_rule (codes "quiet"))) (flag_rule (codes "summary"))
@@ -165,6 +165,7 @@ pub record IsServedWith (word : Text → Option Text) (o : ServeOptions) : Type 
   pub all_subscriptions : total_of (word (codes "all-subscriptions")) ≡ Some o.all_subscriptions
   pub all_items : total_of (word (codes "all-items")) ≡ Some o.all_items
   pub stop_file : word (codes "stop-file") ≡ option_map (λ t. t.now) o.stop_file
+  pub store : word (codes "store") ≡ option_map (λ t. t.now) o.store
   pub url : word (codes "url") ≡ option_map (λ t. t.now) o.url
   pub quiet : is_given (word (codes "quiet")) ≡ o.quiet
   pub summary : is_given (word (codes "summary")) ≡ o.summary

@@ -66,6 +66,9 @@ pub struct ServeOptions<'a> {
     /// `--stop-file PATH`: the server ends once this file is there.
     pub stop_file: Option<&'a str>,
 
+    /// `--store FILE`: what is written, and the histories of it, are kept in this file, and put back at the next start.
+    pub store: Option<&'a str>,
+
     /// `--url URL`: the endpoint URL that clients are told in place of the node file's.
     pub url: Option<&'a str>,
 

@@ -106,6 +106,7 @@ fn serve_options<'a>(given: &ArgMatches<'a>) -> Option<ServeOptions<'a>>
         all_subscriptions: total_of(given.get_str("all-subscriptions"))?,
         all_items: total_of(given.get_str("all-items"))?,
         stop_file: given.get_str("stop-file"),
+        store: given.get_str("store"),
         url: given.get_str("url"),
         quiet: is_given(given.get_str("quiet")),
         summary: is_given(given.get_str("summary")),

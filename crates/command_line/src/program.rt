@@ -121,7 +121,7 @@ fn serve<'a>(alloc: Global) -> Result<Command<'a>, AllocError>
         ))
 }
 
-// `serve` with its place, what bounds its sockets and the whole server, its URL and its file.
+// `serve` with its place, what bounds its sockets and the whole server, its URL and its files.
 fn serve_paths<'a>(alloc: Global) -> Result<Command<'a>, AllocError>
     ensures { IfOk result (λ c. (app_of c ≡ serve_paths) × ((fields_of c).has_globals ≡ false)) }
 {
@@ -137,6 +137,12 @@ fn serve_paths<'a>(alloc: Global) -> Result<Command<'a>, AllocError>
             "stop-file",
             "PATH",
             "ends once this file is there, as after the last turn",
+        ))?
+        .arg(option(
+            alloc,
+            "store",
+            "FILE",
+            "keeps what is written, with its history, in this SQLite file, and begins with what is kept there",
         ))
 }
 

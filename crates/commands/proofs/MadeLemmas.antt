@@ -4,7 +4,7 @@ use Rattle.std.proofs.lemmas.Option.{none-some}
 use Rattle.commands.specs.Said.{MadeBy, OfNodes}
 use Rattle.commands.specs.NodeFiles.{Made}
 use Rattle.commands.specs.declared.status.Status.{Status}
-use Rattle.commands.specs.declared.status.Status.TheVariants.{Done, Usage, File, Nodes, Scenario, Halted, Network, Stream}
+use Rattle.commands.specs.declared.status.Status.TheVariants.{Done, Usage, File, Nodes, Scenario, Halted, Network, Stream, Store}
 
 -- nothing was made
 pub unmade : (Comes : Made → Status → Type 0) (Stays : Type 0) (said : Option Made) (status : Status) → MadeBy (Err status) said → Stays → ((made : Made) → Comes made Halted)
@@ -19,3 +19,4 @@ unmade Comes Stays said File by stays halted = absurd by
 unmade Comes Stays said Scenario by stays halted = absurd by
 unmade Comes Stays said Network by stays halted = absurd by
 unmade Comes Stays said Stream by stays halted = absurd by
+unmade Comes Stays said Store by stays halted = absurd by

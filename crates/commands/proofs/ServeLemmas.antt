@@ -1,7 +1,13 @@
 -- What `serve` comes to.
-use Rattle.std.proofs.Common.{◌≡◌, ℕ, Bool, true, false, is_some, List, [], Result, Ok, Err, MatchResult, refl, sym, subst, ◌∙◌, inl, inr, append-nil}
+use Rattle.std.proofs.Common.{◌≡◌, ℕ, Bool, true, false, is_some, List, [], Some, None, Result, Ok, Err, MatchResult, refl, sym, ap, subst, ◌∙◌, inl, inr, append-nil}
+use Rattle.std.specs.Borrow.{Bor}
 use Rattle.std.specs.Io.KnownBytes.{Appends}
-use Rattle.stream_server.specs.Pumped.{State}
+use Rattle.ua_types.specs.Configuration.{Configuration}
+use Rattle.ua_space.specs.Nodes.{SpaceState}
+use Rattle.server_core.specs.World.{opening}
+use Rattle.server_messages.specs.declared.store_fault.StoreFault.{StoreFault}
+use Rattle.server_messages.specs.declared.store_fault.StoreFault.TheVariants as store_fault
+use Rattle.socket_server.specs.Keeping.{Keeping, keeping_all}
 use Rattle.scenario_lines.specs.TraceText.{rows_text}
 use Rattle.socket_server.specs.Sockets.{ServeState}
 use Rattle.socket_server.specs.Serving.{IsServed, IsStopped, IsOutside}
@@ -9,22 +15,37 @@ use Rattle.socket_server.specs.Output.{Puts, PutsPart, no_output}
 use Rattle.socket_server.specs.declared.serve_fault.ServeFault.{ServeFault}
 use Rattle.socket_server.specs.declared.serve_fault.ServeFault.TheVariants as serve_fault
 use Rattle.scenario_lines.specs.Held.{Place, Printed, CutShort}
-use Rattle.commands.specs.Serving.{Between, ServesWith, text_of, output_at, ListensAndServes, ServesOn, status_served}
+use Rattle.commands.specs.Serving.{Between, ServesWith, text_of, output_at, ListensAndServes, ServesOn, ServesStored, ServesBy, BeginsWithStore, idle_of, configured, status_served, status_stored}
+use Rattle.commands.specs.NodeFiles.{Made}
+use Rattle.commands.specs.declared.status.Status.{Status}
+use Rattle.commands.specs.declared.status.Status.TheVariants.{Halted, Store}
 use Rattle.command_line.specs.declared.command.ServeOptions.{ServeOptions}
 
-module _ (old new : Place) (idle : ℕ) (o : ServeOptions) (server : State) where
+module _ (old new : Place) (idle : ℕ) (o : ServeOptions) (server : Keeping) where
   -- nothing was said
   pub refused : (f : ServeFault) → IsOutside f → new ≡ old → ServesOn old new idle o server (status_served (Err f))
   refused (serve_fault.Step f) h e = absurd h
   refused serve_fault.Trace h e = absurd h
+  refused (serve_fault.Store f) h e = absurd h
   refused serve_fault.Memory h e = (serve_fault.Memory, refl, inr (h, e))
   refused serve_fault.Network h e = (serve_fault.Network, refl, inr (h, e))
   refused serve_fault.Port h e = (serve_fault.Port, refl, inr (h, e))
   refused serve_fault.Address h e = (serve_fault.Address, refl, inr (h, e))
 
+  stopped_by_store : (f : StoreFault) → ListensAndServes old new idle o server (Err (serve_fault.Store f)) → ServesOn old new idle o server (status_served (Err (serve_fault.Store f)))
+  stopped_by_store store_fault.CannotOpen h = (serve_fault.Store store_fault.CannotOpen, refl, inl h)
+  stopped_by_store store_fault.Locked h = (serve_fault.Store store_fault.Locked, refl, inl h)
+  stopped_by_store store_fault.NotADatabase h = (serve_fault.Store store_fault.NotADatabase, refl, inl h)
+  stopped_by_store store_fault.OtherTables h = (serve_fault.Store store_fault.OtherTables, refl, inl h)
+  stopped_by_store store_fault.Unreadable h = (serve_fault.Store store_fault.Unreadable, refl, inl h)
+  stopped_by_store store_fault.Full h = (serve_fault.Store store_fault.Full, refl, inl h)
+  stopped_by_store store_fault.Failed h = (serve_fault.Store store_fault.Failed, refl, inl h)
+  stopped_by_store store_fault.Memory h = (serve_fault.Store store_fault.Memory, refl, inl h)
+
   stopped : (f : ServeFault) → ListensAndServes old new idle o server (Err f) → ServesOn old new idle o server (status_served (Err f))
   stopped (serve_fault.Step f) h = (serve_fault.Step f, refl, inl h)
   stopped serve_fault.Trace h = inr h
+  stopped (serve_fault.Store f) h = stopped_by_store f h
   stopped serve_fault.Memory h = (serve_fault.Memory, refl, inl h)
   stopped serve_fault.Network h = (serve_fault.Network, refl, inl h)
   stopped serve_fault.Port h = (serve_fault.Port, refl, inl h)
@@ -34,7 +55,46 @@ module _ (old new : Place) (idle : ℕ) (o : ServeOptions) (server : State) wher
   ended (Ok x) h = h
   ended (Err f) h = stopped f h
 
-module _ (o : ServeOptions) (sockets : ServeState) (server : State) (old new : Place) where
+-- a store's fault that isn't want of memory
+pub not_for_memory : (f : StoreFault) → (f ≡ store_fault.Memory → ⊥) → Store ≡ status_stored f
+not_for_memory store_fault.CannotOpen other = refl
+not_for_memory store_fault.Locked other = refl
+not_for_memory store_fault.NotADatabase other = refl
+not_for_memory store_fault.OtherTables other = refl
+not_for_memory store_fault.Unreadable other = refl
+not_for_memory store_fault.Full other = refl
+not_for_memory store_fault.Failed other = refl
+not_for_memory store_fault.Memory other = absurd (other refl)
+
+-- there is no memory, and nothing was said
+memory_wanting : (at : Place) (idle : ℕ) (o : ServeOptions) (config : Configuration) (space : SpaceState) (stores : Bool) → ServesStored at at idle o config space stores Halted
+memory_wanting at idle o config space false = refused at at idle o (keeping_all (Some (opening config space)) None) serve_fault.Memory tt refl
+memory_wanting at idle o config space true = inr (inr refl, refl)
+
+pub no_memory_by : (at : Place) (o : ServeOptions) (made : Made) → ServesBy at at o made Halted
+no_memory_by at o made = memory_wanting at (idle_of made.0.session_time o.idle) o (configured made.0 o) made.1 (is_some o.store)
+
+module _ (old new : Place) (idle : ℕ) (o : ServeOptions) (config : Configuration) (space : SpaceState) (status : Status) where
+  -- with a store
+  pub served_from_store : (path : Bor (List ℕ)) → o.store ≡ Some path → (server : Keeping) → BeginsWithStore config space server → ServesOn old new idle o server status
+      → ServesStored old new idle o config space (is_some o.store) status
+  served_from_store path some server begins h =
+      subst (λ (b : Bool). ServesStored old new idle o config space b status) (sym (ap is_some some)) (inl (server, begins, h))
+
+  -- and without one
+  pub served_without_store : o.store ≡ None → (server : Keeping) → server ≡ keeping_all (Some (opening config space)) None → ServesOn old new idle o server status
+      → ServesStored old new idle o config space (is_some o.store) status
+  served_without_store none server begins h =
+      subst (λ (b : Bool). ServesStored old new idle o config space b status) (sym (ap is_some none)) (subst (λ (s : Keeping). ServesOn old new idle o s status) begins h)
+
+-- as the words say
+pub by_words : (old new : Place) (o : ServeOptions) (made : Made) (status : Status) (idle : ℕ) (config : Configuration) → idle ≡ idle_of made.0.session_time o.idle
+    → config ≡ configured made.0 o → ServesStored old new idle o config made.1 (is_some o.store) status → ServesBy old new o made status
+by_words old new o made status idle config e f h =
+    subst (λ (n : ℕ). ServesStored old new n o (configured made.0 o) made.1 (is_some o.store) status) e
+    (subst (λ (k : Configuration). ServesStored old new idle o k made.1 (is_some o.store) status) f h)
+
+module _ (o : ServeOptions) (sockets : ServeState) (server : Keeping) (old new : Place) where
   -- with a trace, which is put into the writer that was lent
   pub served_with : o.trace ≡ true → (w w' : ℕ) (r : Result (Unit {0}) ServeFault) → w' ≡ w
       → MatchResult r (λ _. IsServed rows_text sockets server (is_some o.stop_file) o.turns (output_at w old) (output_at w' new))

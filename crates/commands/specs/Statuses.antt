@@ -1,7 +1,7 @@
 -- The exit statuses.
 use Rattle.std.specs.Prelude.{ℕ}
 use Rattle.commands.specs.declared.status.Status.{Status}
-use Rattle.commands.specs.declared.status.Status.TheVariants.{Done, Usage, File, Nodes, Scenario, Halted, Network, Stream}
+use Rattle.commands.specs.declared.status.Status.TheVariants.{Done, Usage, File, Nodes, Scenario, Halted, Network, Stream, Store}
 
 abbrev pub code_of : Status → ℕ
 code_of Done = 0
@@ -12,3 +12,4 @@ code_of Scenario = 4
 code_of Halted = 5
 code_of Network = 6
 code_of Stream = 7
+code_of Store = 8

@@ -11,6 +11,7 @@ use std::random::RandomSource;
 use std::rt::Files;
 use std::sync::Wait;
 use std::time::Clock;
+use store_restoring::OpensStores;
 use stream_taps::Tap;
 
 // The texts of these words.
@@ -38,15 +39,23 @@ fn words_after_name(alloc: Global, args: &[String]) -> Result<Vec<&str>, AllocEr
 /// others. Where there is no memory for them, that is said.
 pub fn run_args<
     R: Files + AllocGlobal + Net + RandomSource + Clock + Wait,
+    P: OpensStores,
     I: Read,
     O: Write,
     E: Write,
->(rt: &R, args: &[String], input: &mut Tap<I>, output: &mut Tap<O>, errors: &mut E) -> Ended
+>(
+    rt: &R,
+    stores: &P,
+    args: &[String],
+    input: &mut Tap<I>,
+    output: &mut Tap<O>,
+    errors: &mut E,
+) -> Ended
     ensures { RunsArguments I.remaining O.contents input.old input.new output.old output.new
         (map string_bytes (drop 1 args.now)) result }
 {
     match words_after_name(rt.alloc(), args) {
-        Ok(words) => run(rt, words.as_slice(), input, output, errors),
+        Ok(words) => run(rt, stores, words.as_slice(), input, output, errors),
         Err(_) => Ended::by(no_memory(errors)),
     }
 }

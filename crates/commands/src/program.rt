@@ -25,6 +25,7 @@ use std::random::RandomSource;
 use std::rt::Files;
 use std::sync::Wait;
 use std::time::Clock;
+use store_restoring::OpensStores;
 use stream_server::{Pump, PumpFault};
 use stream_taps::{Tap, put_bytes};
 use ua_space::{Node, Space, SpaceFault, Triple};
@@ -306,9 +307,16 @@ fn pipe_with<R: Files + AllocGlobal, I: Read, O: Write, E: Write>(
 }
 
 /// Does what these words ask for: the words after the program's name. What is asked for goes to
-/// `output`, what went wrong to `errors`, each as a line.
-pub fn run<R: Files + AllocGlobal + Net + RandomSource + Clock + Wait, I: Read, O: Write, E: Write>(
+/// `output`, what went wrong to `errors`, each as a line. A store that they name is opened by `stores`.
+pub fn run<
+    R: Files + AllocGlobal + Net + RandomSource + Clock + Wait,
+    P: OpensStores,
+    I: Read,
+    O: Write,
+    E: Write,
+>(
     rt: &R,
+    stores: &P,
     words: &[&str],
     input: &mut Tap<I>,
     output: &mut Tap<O>,
@@ -326,7 +334,7 @@ pub fn run<R: Files + AllocGlobal + Net + RandomSource + Clock + Wait, I: Read, 
         Ok(Command::Trace { nodes, scenario }) => {
             run_at(rt, Lines::Rows, nodes, scenario, output, errors)
         }
-        Ok(Command::Serve(options)) => serve_at(rt, &options, output, errors),
+        Ok(Command::Serve(options)) => serve_at(rt, stores, &options, output, errors),
         Err(Stop::Help(text)) => Ended::by(say(text.as_str(), output, errors)),
         Err(Stop::Usage(text)) => {
             let _ = write!(errors, "{text}");

@@ -1,14 +1,15 @@
 //! What `serve` does.
 
-ghost use Rattle.std.specs.Prelude.{◌≡◌, Option, IfOk, MatchResult, is_some, option_map, string_bytes};
-ghost use Rattle.server_core.specs.World.{world_of};
+ghost use Rattle.std.specs.Prelude.{◌≡◌, Option, Some, IfOk, MatchResult, is_some, option_map, string_bytes};
+ghost use Rattle.server_core.specs.World.{opening};
+ghost use Rattle.socket_server.specs.Keeping.{keeping, keeping_all};
 ghost use Rattle.socket_server.specs.Sockets.{key_stream};
-ghost use Rattle.socket_server.specs.Serving.{scene, unknown, uncounted, ServesUntil, Stops};
+ghost use Rattle.socket_server.specs.Serving.{scene, unknown, uncounted, ServesUntil, GivesUp};
 ghost use Rattle.scenario_lines.specs.Held.{place};
 ghost use Rattle.commands.specs.NodeFiles.{Made};
 ghost use Rattle.commands.specs.Said.{MadeBy};
-ghost use Rattle.commands.specs.Serving.{ServesWith, ServesOn, ServesBy, ServesMade, ServesFile, status_served};
-ghost use Rattle.commands.specs.Serving.{idle_of as idle_of_spec, listening_line as listening_line_spec, with_url as with_url_spec, configured as configured_spec};
+ghost use Rattle.commands.specs.Serving.{BeginsWithStore, Restores, IsUnopened, ServesWith, ServesOn, ServesBy, ServesMade, ServesFile, status_served, status_stored};
+ghost use Rattle.commands.specs.Serving.{idle_of as idle_of_spec, listening_line as listening_line_spec, with_url as with_url_spec, configured as configured_spec, with_store as with_store_spec};
 
 use crate::footprint::most_bytes;
 use crate::log::Log;
@@ -19,7 +20,8 @@ use crate::stop_file::StopFile;
 use crate::watching::{Tracing, Visitors, Visits};
 use command_line::ServeOptions;
 use server_core::Server;
-use socket_server::{Limits, Observer, Serve, ServeFault, Turns};
+use server_messages::{Keeper, KeptValues, NoKeeper, StoreFault};
+use socket_server::{KeptServer, Limits, Observer, Serve, ServeFault, Turns};
 use std::alloc::{AllocError, Global};
 use std::io::Write;
 use std::net::{IpAddr, Net, SocketAddr};
@@ -27,9 +29,38 @@ use std::random::RandomSource;
 use std::rt::Files;
 use std::sync::Wait;
 use std::time::Clock;
+use store_restoring::{OpensStores, Restoring, latest_time, restore};
 use stream_taps::Tap;
 use ua_space::Space;
-use ua_types::{Config, Text};
+use ua_types::{Config, Text, write_id};
+
+// The word for why a store can't keep what is to be kept, or can't be opened.
+fn cause_of(fault: StoreFault) -> &'static str {
+    match fault {
+        StoreFault::CannotOpen => "CannotOpen",
+        StoreFault::Locked => "Locked",
+        StoreFault::NotADatabase => "NotADatabase",
+        StoreFault::OtherTables => "OtherTables",
+        StoreFault::Unreadable => "Unreadable",
+        StoreFault::Full => "Full",
+        StoreFault::Failed => "Failed",
+        StoreFault::Memory => "Memory",
+    }
+}
+
+// Says why a store can't keep what is to be kept, or can't be opened.
+fn store_fault<E: Write>(fault: StoreFault, errors: &mut E) -> Status
+    ensures { result ≡ status_stored fault }
+{
+    match fault {
+        StoreFault::Memory => no_memory(errors),
+        _ => {
+            let cause = cause_of(fault);
+            let _ = writeln!(errors, "store {cause}");
+            Status::Store
+        }
+    }
+}
 
 // How the end of serving ends the program.
 fn served<E: Write>(ran: Result<(), ServeFault>, errors: &mut E) -> Status
@@ -40,6 +71,7 @@ fn served<E: Write>(ran: Result<(), ServeFault>, errors: &mut E) -> Status
         Err(ServeFault::Step(fault)) => step_fault(fault, errors),
         Err(ServeFault::Memory) => no_memory(errors),
         Err(ServeFault::Trace) => stream(errors),
+        Err(ServeFault::Store(fault)) => store_fault(fault, errors),
         Err(ServeFault::Network | ServeFault::Port | ServeFault::Address) => {
             let _ = writeln!(errors, "network");
             Status::Network
@@ -196,18 +228,18 @@ fn tell_not_had<E: Write>(fault: ServeFault, address: IpAddr, port: u16, errors:
 }
 
 // Serves until the turns are over, or the file to stop at is there.
-fn run_until<R: Files + Clock + Wait, W: Observer>(
+fn run_until<R: Files + Clock + Wait, K: Keeper, W: Observer>(
     rt: &R,
     alloc: Global,
     serve: &mut Serve,
-    server: &mut Server,
+    server: &mut KeptServer<K>,
     observer: &mut W,
     options: &ServeOptions<'_>,
 ) -> Result<(), ServeFault>
-    ensures { let old = scene (key_stream serve.old.keys) (world_of server.old) serve.old.peers serve.old.events (W.output observer.old) in
-        let new = scene (key_stream serve.new.keys) (world_of server.new) serve.new.peers serve.new.events (W.output observer.new) in
+    ensures { let old = scene (key_stream serve.old.keys) (keeping K.kept server.old) serve.old.peers serve.old.events (W.output observer.old) in
+        let new = scene (key_stream serve.new.keys) (keeping K.kept server.new) serve.new.peers serve.new.events (W.output observer.new) in
         MatchResult result (λ _. ServesUntil unknown unknown uncounted W.text (is_some options.now.stop_file) options.now.turns old new)
-        (Stops unknown unknown uncounted W.text old new) }
+        (GivesUp unknown unknown uncounted W.text old new) }
 {
     match options.stop_file {
         Some(path) => {
@@ -219,16 +251,16 @@ fn run_until<R: Files + Clock + Wait, W: Observer>(
 }
 
 // Serves by this server, and tells what happens.
-fn serve_and_tell<R: Files + Clock + Wait, O: Write, E: Write + Process>(
+fn serve_and_tell<R: Files + Clock + Wait, K: Keeper, O: Write, E: Write + Process>(
     rt: &R,
     alloc: Global,
     serve: &mut Serve,
-    server: &mut Server,
+    server: &mut KeptServer<K>,
     options: &ServeOptions<'_>,
     output: &mut Tap<O>,
     errors: &mut E,
 ) -> Result<(), ServeFault>
-    ensures { ServesWith options.now serve.old (world_of server.old) (place O.contents output.old) (place O.contents output.new) result }
+    ensures { ServesWith options.now serve.old (keeping K.kept server.old) (place O.contents output.old) (place O.contents output.new) result }
 {
     let mut visits = Visits::new(alloc, options.quiet, options.summary);
     if options.trace {
@@ -250,32 +282,32 @@ fn serve_and_tell<R: Files + Clock + Wait, O: Write, E: Write + Process>(
 }
 
 // The same, into a log.
-fn serve_and_log<R: Files + Clock + Wait, O: Write, E: Write>(
+fn serve_and_log<R: Files + Clock + Wait, K: Keeper, O: Write, E: Write>(
     rt: &R,
     alloc: Global,
     serve: &mut Serve,
-    server: &mut Server,
+    server: &mut KeptServer<K>,
     options: &ServeOptions<'_>,
     output: &mut Tap<O>,
     errors: &mut E,
 ) -> Result<(), ServeFault>
-    ensures { ServesWith options.now serve.old (world_of server.old) (place O.contents output.old) (place O.contents output.new) result }
+    ensures { ServesWith options.now serve.old (keeping K.kept server.old) (place O.contents output.old) (place O.contents output.new) result }
 {
     let mut log = Log::new(alloc, rt, errors);
     serve_and_tell(rt, alloc, serve, server, options, output, &mut log)
 }
 
 // Serves by this server, which knows no connection.
-fn serve_on<R: Files + Net + RandomSource + Clock + Wait, O: Write, E: Write>(
+fn serve_on<R: Files + Net + RandomSource + Clock + Wait, K: Keeper, O: Write, E: Write>(
     rt: &R,
     alloc: Global,
-    server: &mut Server,
+    server: &mut KeptServer<K>,
     idle: u64,
     options: &ServeOptions<'_>,
     output: &mut Tap<O>,
     errors: &mut E,
 ) -> Status
-    ensures { ServesOn (place O.contents output.old) (place O.contents output.new) idle options.now (world_of server.old) result }
+    ensures { ServesOn (place O.contents output.old) (place O.contents output.new) idle options.now (keeping K.kept server.old) result }
 {
     let address = options.address;
     let port = options.port;
@@ -302,10 +334,98 @@ fn serve_on<R: Files + Net + RandomSource + Clock + Wait, O: Write, E: Write>(
     }
 }
 
+// Says of each value that was kept and isn't put back why, where there is memory for its node's id.
+fn tell_left_out<E: Write>(alloc: Global, restoring: &Restoring, errors: &mut E) {
+    for one in restoring.left_out.as_slice() {
+        if let Ok(id) = write_id(alloc, &one.kept.node_id) {
+            let what = if one.is_historical {
+                "a value of the history"
+            } else {
+                "the value"
+            };
+            let why = one.why;
+            let _ = writeln!(errors, "store: {what} of {id} isn't put back: {why}");
+        }
+    }
+}
+
+// The configuration of a server whose store has kept these values: its clock starts at the latest of their times, where that is
+// later.
+fn with_store(mut config: Config, kept: &KeptValues) -> Config
+    ensures { result ≡ with_store_spec config kept.now }
+{
+    config.has_store = true;
+    if let Some(time) = latest_time(kept) {
+        config.start = config.start.later(time);
+    }
+    config
+}
+
+// A server of this configuration and address space, and who keeps what it stores.
+fn kept_server<K: Keeper + Drop>(
+    alloc: Global,
+    config: Config,
+    space: Space,
+    keeper: K,
+) -> Result<KeptServer<K>, AllocError>
+    ensures { IfOk result (λ server. keeping K.kept server ≡ keeping_all (Some (opening config space)) (K.kept keeper)) }
+{
+    match Server::new(alloc, config, space) {
+        Ok(server) => Ok(KeptServer::new(alloc, server, keeper)),
+        Err(fault) => Err(fault),
+    }
+}
+
+// The address space with what was kept. Says what isn't put back.
+fn restored<E: Write>(
+    alloc: Global,
+    mut space: Space,
+    kept: KeptValues,
+    errors: &mut E,
+) -> Result<Space, AllocError>
+    ensures { IfOk result (Restores kept space) }
+{
+    match restore(alloc, &mut space, kept) {
+        Ok(restoring) => {
+            tell_left_out(alloc, &restoring, errors);
+            Ok(space)
+        }
+        Err(fault) => Err(fault),
+    }
+}
+
+// A server of this configuration and address space that begins with what is kept in the store at this path.
+fn stored_server<P: OpensStores, E: Write>(
+    stores: &P,
+    alloc: Global,
+    path: &str,
+    config: Config,
+    space: Space,
+    errors: &mut E,
+) -> Result<KeptServer<P::Store>, Status>
+    ensures { MatchResult result (λ server. BeginsWithStore config space (keeping P.Store.kept server)) IsUnopened }
+{
+    let (store, kept) = match stores.open(alloc, path) {
+        Ok(opened) => opened,
+        Err(fault) => return Err(store_fault(fault, errors)),
+    };
+    let config = with_store(config, &kept);
+    let Ok(space) = restored(alloc, space, kept, errors) else {
+        return Err(no_memory(errors));
+    };
+    match kept_server(alloc, config, space, store) {
+        Ok(server) => Ok(server),
+        Err(_) => Err(no_memory(errors)),
+    }
+}
+
 /// Serves connections to a port of an address by a server of this configuration and address space, for so
 /// many turns, or without end for 0, or until the file to stop at is there. Says `listening` and the port once clients can connect, and before
 /// that, on standard error, what is served. There it tells too which connections come and how they end, and each minute how much is
 /// served, as it is asked to.
+///
+/// With a store the server begins with what is kept there, and each write that it accepts is kept before it is answered. What was
+/// kept and isn't put back is told on standard error, a line for each value.
 ///
 /// With a trace the rows of the subscriptions' state table that fire follow, a line for each, in the form of
 /// [`scenario_lines`]. The events that the server is handed count from 1 on.
@@ -313,32 +433,40 @@ fn serve_on<R: Files + Net + RandomSource + Clock + Wait, O: Write, E: Write>(
 /// `Done` comes after the turns, or where it was asked to stop, `Network` where the port or the address can't be had, or where the system
 /// refuses the wait, the clock or random bytes, and `Halted` where memory ran out or the server halted. `Stream`
 /// comes where a call of the output failed: nobody is served where it isn't known that the program listens,
-/// and nobody any more where the trace can't be written.
-pub fn serve<R: Files + Net + RandomSource + Clock + Wait, O: Write, E: Write>(
+/// and nobody any more where the trace can't be written. `Store` comes where the store can't be opened, or can't keep what was written.
+pub fn serve<R: Files + Net + RandomSource + Clock + Wait, P: OpensStores, O: Write, E: Write>(
     rt: &R,
+    stores: &P,
     alloc: Global,
-    config: Config,
-    space: Space,
+    made: (Config, Space),
     options: &ServeOptions<'_>,
     output: &mut Tap<O>,
     errors: &mut E,
 ) -> Status
-    ensures { ServesBy (place O.contents output.old) (place O.contents output.new) options.now (config, space) result }
+    ensures { ServesBy (place O.contents output.old) (place O.contents output.new) options.now made result }
 {
+    let (config, space) = made;
     let idle = idle_of(config.session_time, options.idle);
     let Ok(config) = configured(alloc, config, options) else {
         return no_memory(errors);
     };
     tell_served(&config, &space, options, &mut Log::new(alloc, rt, errors));
-    match Server::new(alloc, config, space) {
-        Ok(mut server) => serve_on(rt, alloc, &mut server, idle, options, output, errors),
-        Err(_) => no_memory(errors),
+    match options.store {
+        None => match kept_server(alloc, config, space, NoKeeper) {
+            Ok(mut server) => serve_on(rt, alloc, &mut server, idle, options, output, errors),
+            Err(_) => no_memory(errors),
+        },
+        Some(path) => match stored_server(stores, alloc, path, config, space, errors) {
+            Ok(mut server) => serve_on(rt, alloc, &mut server, idle, options, output, errors),
+            Err(status) => status,
+        },
     }
 }
 
 // `serve` of what was made.
-fn serve_made<R: Files + Net + RandomSource + Clock + Wait, O: Write, E: Write>(
+fn serve_made<R: Files + Net + RandomSource + Clock + Wait, P: OpensStores, O: Write, E: Write>(
     rt: &R,
+    stores: &P,
     alloc: Global,
     made: Result<(Config, Space), Status>,
     options: &ServeOptions<'_>,
@@ -349,7 +477,7 @@ fn serve_made<R: Files + Net + RandomSource + Clock + Wait, O: Write, E: Write>(
         ServesMade (place O.contents output.old) (place O.contents output.new) options.now said result }
 {
     match made {
-        Ok((config, space)) => serve(rt, alloc, config, space, options, output, errors),
+        Ok(made) => serve(rt, stores, alloc, made, options, output, errors),
         Err(status) => status,
     }
 }
@@ -357,16 +485,17 @@ fn serve_made<R: Files + Net + RandomSource + Clock + Wait, O: Write, E: Write>(
 // `serve` of the node file that the words name.
 pub(crate) fn serve_at<
     R: Files + AllocGlobal + Net + RandomSource + Clock + Wait,
+    P: OpensStores,
     O: Write,
     E: Write,
->(rt: &R, options: &ServeOptions<'_>, output: &mut Tap<O>, errors: &mut E) -> Ended
+>(rt: &R, stores: &P, options: &ServeOptions<'_>, output: &mut Tap<O>, errors: &mut E) -> Ended
     ensures { ServesFile (place O.contents output.old) (place O.contents output.new) options.now result.status result.file }
 {
     let alloc = rt.alloc();
     match read_file(rt, options.nodes, errors) {
         Ok(file) => {
             let made = nodes_in(alloc, file.text(), errors);
-            let status = serve_made(rt, alloc, made, options, output, errors);
+            let status = serve_made(rt, stores, alloc, made, options, output, errors);
             Ended::with_nodes(status, file)
         }
         Err(status) => Ended::by(status),

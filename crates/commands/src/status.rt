@@ -22,6 +22,8 @@ pub enum Status {
     Network,
     /// Standard input or output failed, or the input had no end.
     Stream,
+    /// The file of a store can't be had, or what was written can't be kept there.
+    Store,
 }
 
 impl Status {
@@ -38,6 +40,7 @@ impl Status {
             Status::Halted => 5,
             Status::Network => 6,
             Status::Stream => 7,
+            Status::Store => 8,
         }
     }
 }

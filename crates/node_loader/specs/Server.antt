@@ -1,5 +1,5 @@
 -- The table `server`: for each key its name, its default and its range.
-use Rattle.std.specs.Prelude.{ℕ, pos, ◌≤◌, List, [], ◌∷◌, codes, length, nat_le, Option, Some, None, is_some, IsSome, IfSome, Result, Ok, Err, if◌then◌else◌}
+use Rattle.std.specs.Prelude.{ℕ, false, pos, ◌≤◌, List, [], ◌∷◌, codes, length, nat_le, Option, Some, None, is_some, IsSome, IfSome, Result, Ok, Err, if◌then◌else◌}
 use Rattle.toml.specs.Data.{Items, Members, get_member, as_str, as_array}
 use Rattle.hex.specs.Hex.{decode_sized}
 use Rattle.hex.specs.declared.error.FromHexError.{FromHexError}
@@ -153,6 +153,7 @@ configured names start sizes tables messages pages times durations = record {
   operations = pages.operations;
   history_page = pages.history_page;
   history = pages.history;
+  has_store = false;
   session_time = times.session_time;
   publish_time = times.publish_time;
   session_duration = durations.session_duration;

@@ -349,6 +349,7 @@ pub(crate) fn server(alloc: Global, version: Version, table: &Table) -> Result<C
         operations: pages.operations,
         history_page: pages.history_page,
         history: pages.history,
+        has_store: false,
         session_time: times.session_time,
         publish_time: times.publish_time,
         session_duration: durations.session_duration,

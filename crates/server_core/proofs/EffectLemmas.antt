@@ -6,11 +6,13 @@ use Rattle.std.specs.List.{list_any}
 use Rattle.server_messages.specs.declared.fired.Fired.{Fired}
 use Rattle.server_messages.specs.declared.reply.Reply.{Reply}
 use Rattle.server_messages.specs.declared.out.Out.{Out}
+use Rattle.server_messages.specs.declared.stored.Stored.{Stored}
 use Rattle.server_connections.specs.Delivering.{Delivery}
-use Rattle.ua_services.specs.Serving.{Occurrence, Fire, Spent, rows_of, is_spent}
+use Rattle.ua_services.specs.Serving as serving
+use Rattle.ua_services.specs.Serving.{Occurrence, Fire, Store, Spent, rows_of, is_spent}
 use Rattle.ua_tcp.specs.Pieces.{Done, after_outs, and_then}
 use Rattle.server_core.specs.declared.out.Step.{Step}
-use Rattle.server_core.specs.Effects.{Effect, Do, Occurred, Lost, doing, occurring, losing, effects_of, outs_of, fired_of, is_spending, are_spent, step, shown, after_step}
+use Rattle.server_core.specs.Effects.{Effect, Do, Occurred, Lost, doing, occurring, losing, effects_of, outs_of, fired_of, stored_of, is_spending, are_spent, step, no_step, shown, after_step}
 use Rattle.server_messages.specs.declared.halt.Halt.{Halt}
 use Rattle.server_messages.specs.declared.halt.Halt.TheVariants.{Memory, Exhausted}
 use Rattle.server_core.specs.Handling.{Doing, doing_so, doing_after, Shows, Handles}
@@ -51,6 +53,7 @@ pub fired_of-append : (xs ys : List Effect) → fired_of (xs ++ ys) ≡ fired_of
 fired_of-append [] ys = refl
 fired_of-append (Do out ∷ xs) ys = fired_of-append xs ys
 fired_of-append (Occurred (Fire fired) ∷ xs) ys = ap (λ (fs : List Fired). fired ∷ fs) (fired_of-append xs ys)
+fired_of-append (Occurred (Store stored) ∷ xs) ys = fired_of-append xs ys
 fired_of-append (Occurred Spent ∷ xs) ys = fired_of-append xs ys
 fired_of-append (Lost reply ∷ xs) ys = fired_of-append xs ys
 
@@ -61,6 +64,7 @@ fired_of_doing (out ∷ outs) = fired_of_doing outs
 fired_of_acting : (occurrences : List Occurrence) → fired_of (occurring occurrences) ≡ rows_of occurrences
 fired_of_acting [] = refl
 fired_of_acting (Fire fired ∷ occurrences) = ap (λ (fs : List Fired). fired ∷ fs) (fired_of_acting occurrences)
+fired_of_acting (Store stored ∷ occurrences) = fired_of_acting occurrences
 fired_of_acting (Spent ∷ occurrences) = fired_of_acting occurrences
 
 fired_of_losing : (replies : List Reply) → fired_of (losing replies) ≡ []
@@ -76,40 +80,76 @@ fired_of_effects occurrences d =
     ∙ ap (λ (fs : List Fired). fs ++ fired_of (losing d.lost)) (fired_of_doing d.outs) ∙ fired_of_losing d.lost)
     ∙ append-nil (rows_of occurrences)
 
--- ---- both
+-- ---- what a store has to keep
 
-two : {os ps : List Out} {rs qs : List Fired} → os ≡ ps → rs ≡ qs → step os rs ≡ step ps qs
-two {os} {ps} {rs} {qs} e f = ap (λ (x : List Out). step x rs) e ∙ ap (λ (x : List Fired). step ps x) f
+pub stored_of-append : (xs ys : List Effect) → stored_of (xs ++ ys) ≡ stored_of xs ++ stored_of ys
+stored_of-append [] ys = refl
+stored_of-append (Do out ∷ xs) ys = stored_of-append xs ys
+stored_of-append (Occurred (Fire fired) ∷ xs) ys = stored_of-append xs ys
+stored_of-append (Occurred (Store stored) ∷ xs) ys = ap (λ (ss : List Stored). stored ∷ ss) (stored_of-append xs ys)
+stored_of-append (Occurred Spent ∷ xs) ys = stored_of-append xs ys
+stored_of-append (Lost reply ∷ xs) ys = stored_of-append xs ys
 
-pub shown_doing : (outs : List Out) → shown (doing outs) ≡ step outs []
-shown_doing outs = two (outs_of_doing outs) (fired_of_doing outs)
+pub stored_of_doing : (outs : List Out) → stored_of (doing outs) ≡ []
+stored_of_doing [] = refl
+stored_of_doing (out ∷ outs) = stored_of_doing outs
 
-pub shown_effects : (occurrences : List Occurrence) (d : Delivery) → shown (effects_of occurrences d) ≡ step d.outs (rows_of occurrences)
-shown_effects occurrences d = two (outs_of_effects occurrences d) (fired_of_effects occurrences d)
+stored_of_acting : (occurrences : List Occurrence) → stored_of (occurring occurrences) ≡ serving.stored_of occurrences
+stored_of_acting [] = refl
+stored_of_acting (Fire fired ∷ occurrences) = stored_of_acting occurrences
+stored_of_acting (Store stored ∷ occurrences) = ap (λ (ss : List Stored). stored ∷ ss) (stored_of_acting occurrences)
+stored_of_acting (Spent ∷ occurrences) = stored_of_acting occurrences
 
-pub after_doing : (before : Step) (outs : List Out) → after_step before (doing outs) ≡ step (before.outs ++ outs) before.rows
+stored_of_losing : (replies : List Reply) → stored_of (losing replies) ≡ []
+stored_of_losing [] = refl
+stored_of_losing (reply ∷ replies) = stored_of_losing replies
+
+pub stored_of_effects : (occurrences : List Occurrence) (d : Delivery) → stored_of (effects_of occurrences d) ≡ serving.stored_of occurrences
+stored_of_effects occurrences d =
+    stored_of-append (occurring occurrences) (doing d.outs ++ losing d.lost)
+    ∙ ap (λ (ss : List Stored). ss ++ stored_of (doing d.outs ++ losing d.lost)) (stored_of_acting occurrences)
+    ∙ ap (λ (ss : List Stored). serving.stored_of occurrences ++ ss)
+    (stored_of-append (doing d.outs) (losing d.lost)
+    ∙ ap (λ (ss : List Stored). ss ++ stored_of (losing d.lost)) (stored_of_doing d.outs) ∙ stored_of_losing d.lost)
+    ∙ append-nil (serving.stored_of occurrences)
+
+-- ---- all of it
+
+three : {os ps : List Out} {rs qs : List Fired} {ss ts : List Stored} → os ≡ ps → rs ≡ qs → ss ≡ ts → step os rs ss ≡ step ps qs ts
+three {os} {ps} {rs} {qs} {ss} {ts} e f g = ap (λ (x : List Out). step x rs ss) e ∙ ap (λ (x : List Fired). step ps x ss) f ∙ ap (step ps qs) g
+
+pub shown_doing : (outs : List Out) → shown (doing outs) ≡ step outs [] []
+shown_doing outs = three (outs_of_doing outs) (fired_of_doing outs) (stored_of_doing outs)
+
+pub shown_effects : (occurrences : List Occurrence) (d : Delivery) → shown (effects_of occurrences d) ≡ step d.outs (rows_of occurrences) (serving.stored_of occurrences)
+shown_effects occurrences d = three (outs_of_effects occurrences d) (fired_of_effects occurrences d) (stored_of_effects occurrences d)
+
+pub after_doing : (before : Step) (outs : List Out) → after_step before (doing outs) ≡ step (before.outs ++ outs) before.rows before.stored
 after_doing before outs =
-    two (ap (λ (os : List Out). before.outs ++ os) (outs_of_doing outs)) (ap (λ (fs : List Fired). before.rows ++ fs) (fired_of_doing outs) ∙ append-nil before.rows)
+    three (ap (λ (os : List Out). before.outs ++ os) (outs_of_doing outs)) (ap (λ (fs : List Fired). before.rows ++ fs) (fired_of_doing outs) ∙ append-nil before.rows)
+    (ap (λ (ss : List Stored). before.stored ++ ss) (stored_of_doing outs) ∙ append-nil before.stored)
 
 pub after_both : (before : Step) (xs ys : List Effect) → after_step before (xs ++ ys) ≡ after_step (after_step before xs) ys
 after_both before xs ys =
-    two (ap (λ (os : List Out). before.outs ++ os) (outs_of-append xs ys) ∙ sym (append_assoc before.outs (outs_of xs) (outs_of ys)))
+    three (ap (λ (os : List Out). before.outs ++ os) (outs_of-append xs ys) ∙ sym (append_assoc before.outs (outs_of xs) (outs_of ys)))
     (ap (λ (fs : List Fired). before.rows ++ fs) (fired_of-append xs ys) ∙ sym (append_assoc before.rows (fired_of xs) (fired_of ys)))
+    (ap (λ (ss : List Stored). before.stored ++ ss) (stored_of-append xs ys) ∙ sym (append_assoc before.stored (stored_of xs) (stored_of ys)))
 
 -- what was served, and sent after these outs
 pub after_answered : (before : Step) (outs : List Out) (occurrences : List Occurrence) (d : Delivery) →
-    after_step before (doing outs ++ effects_of occurrences d) ≡ step (before.outs ++ outs ++ d.outs) (before.rows ++ rows_of occurrences)
+    after_step before (doing outs ++ effects_of occurrences d) ≡ step (before.outs ++ outs ++ d.outs) (before.rows ++ rows_of occurrences) (before.stored ++ serving.stored_of occurrences)
 after_answered before outs occurrences d =
     after_both before (doing outs) (effects_of occurrences d)
     ∙ ap (λ (s : Step). after_step s (effects_of occurrences d)) (after_doing before outs)
-    ∙ two (ap (λ (os : List Out). before.outs ++ outs ++ os) (outs_of_effects occurrences d)) (ap (λ (fs : List Fired). before.rows ++ fs) (fired_of_effects occurrences d))
+    ∙ three (ap (λ (os : List Out). before.outs ++ outs ++ os) (outs_of_effects occurrences d)) (ap (λ (fs : List Fired). before.rows ++ fs) (fired_of_effects occurrences d))
+    (ap (λ (ss : List Stored). before.stored ++ ss) (stored_of_effects occurrences d))
 
 -- what was served and sent, and then the connections that are closed
-pub shown_ending : (occurrences : List Occurrence) (d : Delivery) (outs : List Out) → shown (effects_of occurrences d ++ doing outs) ≡ step (d.outs ++ outs) (rows_of occurrences)
+pub shown_ending : (occurrences : List Occurrence) (d : Delivery) (outs : List Out) → shown (effects_of occurrences d ++ doing outs) ≡ step (d.outs ++ outs) (rows_of occurrences) (serving.stored_of occurrences)
 shown_ending occurrences d outs =
-    after_both (step [] []) (effects_of occurrences d) (doing outs)
+    after_both no_step (effects_of occurrences d) (doing outs)
     ∙ after_doing (shown (effects_of occurrences d)) outs
-    ∙ ap (λ (s : Step). step (s.outs ++ outs) s.rows) (shown_effects occurrences d)
+    ∙ ap (λ (s : Step). step (s.outs ++ outs) s.rows s.stored) (shown_effects occurrences d)
 
 -- ---- spent serials
 

@@ -1,5 +1,5 @@
 -- What the code does about a frame and a piece is what is said of it.
-use Rattle.std.proofs.Common.{◌≡◌, ℕ, Bool, true, false, cond, if◌then◌else◌, List, [], ◌++◌, Option, Some, None, refl, sym, subst, ◌∙◌, ap}
+use Rattle.std.proofs.Common.{◌≡◌, ℕ, Bool, true, false, cond, if◌then◌else◌, List, ◌++◌, Option, Some, None, refl, sym, subst, ◌∙◌, ap}
 use Rattle.std.proofs.lemmas.Bool.{false≢true}
 use Rattle.std.specs.Ordering.{nat_cmp}
 use Rattle.std.specs.FinMap.{FinMap, get, insert, remove}
@@ -12,7 +12,6 @@ use Rattle.ua_tcp.specs.declared.frame.FrameFault.{FrameFault}
 use Rattle.ua_tcp.specs.declared.framer.Fed.{Fed}
 use Rattle.ua_tcp.proofs.PiecesLemmas.{at_end_by_fault}
 use Rattle.server_messages.specs.declared.reply.Reply.{Reply}
-use Rattle.server_messages.specs.declared.fired.Fired.{Fired}
 use Rattle.server_messages.specs.declared.request.Request.{Request}
 use Rattle.server_messages.specs.declared.served.Served.{Served}
 use Rattle.server_connections.specs.Connecting.{Taking, taking, taking_after, taking_of}
@@ -25,7 +24,7 @@ use Rattle.ua_services.specs.declared.services.Services.{Services}
 use Rattle.ua_services.specs.Serving.{Serving, Given, given, given_of}
 use Rattle.ua_services.specs.Services.{serving_of}
 use Rattle.server_core.specs.declared.out.Step.{Step}
-use Rattle.server_core.specs.Effects.{Effect, are_spent, step, shown}
+use Rattle.server_core.specs.Effects.{Effect, are_spent, step, no_step, shown}
 use Rattle.server_core.specs.Handling.{Doing, doing_so, doing_after, Shows, asked_for, answered, handled, broken}
 use Rattle.server_core.specs.Stepping.{with_held, fed_to, fed}
 use Rattle.server_core.specs.World.{Core, World}
@@ -37,37 +36,37 @@ shape : Core → Connections → Services → Step → Doing
 shape core connections state given = doing_so (record core { connections = connections; services = state }) given true
 
 -- replies that were sent after these outs
-pub sent_shows : (core : Core) (before : Step) (between : List Out) (s : Serving) (state : Services) (served : Served) (replies : List Reply) (connections : Connections) (outs : List Out) (rows : List Fired) →
+pub sent_shows : (core : Core) (before : Step) (between : List Out) (s : Serving) (state : Services) (served : Served) (replies : List Reply) (connections : Connections) (outs : List Out) (done : Step) →
     given state served ≡ given_of s → replies ≡ served.replies →
     sending connections outs ≡ sending_after (before.outs ++ between) (delivery_of core.setting core.connections replies) →
-    rows ≡ before.rows ++ served.rows →
-    Shows (record core { connections = connections; services = state }) before (step outs rows) true (answered core between s)
+    done ≡ step outs (before.rows ++ served.rows) (before.stored ++ served.stored) →
+    Shows (record core { connections = connections; services = state }) before done true (answered core between s)
 unfolding shape
-sent_shows core before between s state served replies connections outs rows e g f h =
+sent_shows core before between s state served replies connections outs done e g f h =
     let replies_are : replies ≡ s.replies = g ∙ ap (λ (x : Given). x.served.replies) e in
     let d = delivery_of core.setting core.connections s.replies in
     let f' : sending connections outs ≡ sending_after (before.outs ++ between) d = f ∙ ap (λ (rs : List Reply). sending_after (before.outs ++ between) (delivery_of core.setting core.connections rs)) replies_are in
-    ap (λ (x : Sending). shape core x.connections state (step x.outs rows)) f'
-    ∙ ap (λ (fs : List Fired). shape core d.connections state (step (before.outs ++ between ++ d.outs) fs)) h
-    ∙ ap (λ (x : Given). shape core d.connections x.state (step (before.outs ++ between ++ d.outs) (before.rows ++ x.served.rows))) e
+    ap (shape core connections state) h
+    ∙ ap (λ (x : Sending). shape core x.connections state (step x.outs (before.rows ++ served.rows) (before.stored ++ served.stored))) f'
+    ∙ ap (λ (x : Given). shape core d.connections x.state (step (before.outs ++ between ++ d.outs) (before.rows ++ x.served.rows) (before.stored ++ x.served.stored))) e
     ∙ ap (shape core d.connections s.state) (sym (after_answered before between s.occurrences d))
     ∙ ap (λ (b : Bool). let x : Doing = record (doing_after before (answered core between s)) { spends = b } in x)
     (sym (answered_spends_none between s.occurrences d (sym (ap (λ (x : Given). x.spends) e))))
 
-pub request_shows : (conn : ℕ) (core : Core) (frame : Frame) (before : Step) (after outs : List Out) (rows : List Fired) (found : FrameOutcome) (request : Request) (connections connections' : Connections) (state : Services) (served : Served) (replies : List Reply) →
+pub request_shows : (conn : ℕ) (core : Core) (frame : Frame) (before : Step) (after outs : List Out) (done : Step) (found : FrameOutcome) (request : Request) (connections connections' : Connections) (state : Services) (served : Served) (replies : List Reply) →
     taking connections after found ≡ taking_after before.outs (taking_of core.setting conn core.connections frame) → found ≡ outcome.Request request →
     given state served ≡ given_of (serving_of core.setting request core.services) → replies ≡ served.replies →
     sending connections' outs ≡ sending_after after (delivery_of core.setting connections replies) →
-    rows ≡ before.rows ++ served.rows →
-    Shows (record core { connections = connections'; services = state }) before (step outs rows) true (handled conn core frame)
+    done ≡ step outs (before.rows ++ served.rows) (before.stored ++ served.stored) →
+    Shows (record core { connections = connections'; services = state }) before done true (handled conn core frame)
 unfolding handled
-request_shows conn core frame before after outs rows found request connections connections' state served replies e r s g f h =
+request_shows conn core frame before after outs done found request connections connections' state served replies e r s g f h =
     let t = taking_of core.setting conn core.connections frame in
     let c : Connections → Core = λ cs. record core { connections = cs } in
     let after_is : after ≡ before.outs ++ t.outs = ap (λ (x : Taking). x.outs) e in
     let f' : sending connections' outs ≡ sending_after (before.outs ++ t.outs) (delivery_of core.setting connections replies) =
     f ∙ ap (λ (os : List Out). sending_after os (delivery_of core.setting connections replies)) after_is in
-    sent_shows (c connections) before t.outs (serving_of core.setting request core.services) state served replies connections' outs rows s g f' h
+    sent_shows (c connections) before t.outs (serving_of core.setting request core.services) state served replies connections' outs done s g f' h
     ∙ ap (λ (a : FrameOutcome). doing_after before (asked_for conn (c connections) t.outs a)) (sym r ∙ ap (λ (x : Taking). x.asked) e)
     ∙ ap (λ (x : Taking). doing_after before (asked_for conn (c x.connections) t.outs t.asked)) e
 
@@ -101,7 +100,7 @@ kept_in_place false conn framing framers lent left back is = sym (remove_given f
 
 pub piece_shows : (world : World) (conn : ℕ) (piece : List ℕ) (framing : Framing) (core : Core) (done : Step) (b : Bool) → get world.framers conn ≡ Some framing →
     (let framed = framed_of framing.limit framing.held piece in
-    Shows core (step [] []) done b (and_then (all_handled (handled conn) world.core framed.frames) (refused_if (broken conn) (fault_at framed.end))) →
+    Shows core no_step done b (and_then (all_handled (handled conn) world.core framed.frames) (refused_if (broken conn) (fault_at framed.end))) →
     ((fed world conn piece).world ≡ record { framers = framers_kept b conn (record { limit = framing.limit; held = held_at framed.end }) (remove world.framers conn); core = core })
     × (shown (fed world conn piece).effects ≡ done) × (are_spent (fed world conn piece).effects ≡ false))
 unfolding fed
@@ -127,14 +126,14 @@ piece_shows world conn piece framing core done b found e =
 
 -- a framer that took a piece in its place, and is dropped there where the connection doesn't go on
 pub piece_in_place : (world : World) (conn : ℕ) (piece : List ℕ) (before after : Framing) (given : Fed) (core : Core) (begun done : Step) (b : Bool) (lent left : FinMap nat_cmp Framing) → get world.framers conn ≡ Some before →
-    begun.outs ≡ [] → begun.rows ≡ [] → feeding given after ≡ feeding_of before piece → Shows core begun done b (and_then (all_handled (handled conn) world.core given.frames) (refused_if (broken conn) given.fault)) →
+    begun ≡ no_step → feeding given after ≡ feeding_of before piece → Shows core begun done b (and_then (all_handled (handled conn) world.core given.frames) (refused_if (broken conn) given.fault)) →
     lent ≡ insert world.framers conn after → left ≡ (if b then lent else remove lent conn) →
     ((fed world conn piece).world ≡ record { framers = left; core = core }) × (shown (fed world conn piece).effects ≡ done) × (are_spent (fed world conn piece).effects ≡ false)
-piece_in_place world conn piece before after given core begun done b lent left there outs rows fed_is shows back is =
+piece_in_place world conn piece before after given core begun done b lent left there none fed_is shows back is =
     let said : Fed → Done Core Effect = λ f. and_then (all_handled (handled conn) world.core f.frames) (refused_if (broken conn) f.fault) in
-    let from_nothing = subst (λ (s : Step). Shows core s done b (said given)) (ap (λ (os : List Out). step os begun.rows) outs ∙ ap (λ (fs : List Fired). step [] fs) rows) shows in
+    let from_nothing = subst (λ (s : Step). Shows core s done b (said given)) none shows in
     let shown_so = piece_shows world conn piece before core done b there
-    (subst (λ (f : Fed). Shows core (step [] []) done b (said f)) (ap (λ (x : Feeding). x.fed) fed_is) from_nothing) in
+    (subst (λ (f : Fed). Shows core no_step done b (said f)) (ap (λ (x : Feeding). x.fed) fed_is) from_nothing) in
     let at : Framing → World = λ framing. record { framers = framers_kept b conn framing (remove world.framers conn); core = core } in (
       shown_so.0
           ∙ ap (λ (x : Feeding). at x.framing) (sym fed_is)

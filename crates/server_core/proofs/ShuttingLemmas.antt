@@ -5,7 +5,7 @@ use Rattle.std.specs.FinMap.{FinMap, empty}
 use Rattle.ua_tcp.specs.Feeding.{Framing}
 use Rattle.server_messages.specs.declared.halt.Halt.{Halt}
 use Rattle.server_messages.specs.declared.halt.Halt.TheVariants.{Memory, Exhausted}
-use Rattle.server_core.specs.Effects.{step}
+use Rattle.server_core.specs.Effects.{no_step}
 use Rattle.server_core.specs.Handling.{Doing, Ends, shut_core}
 use Rattle.server_core.specs.Stepping.{Served, Feeds, served, ended, shut_down}
 use Rattle.server_core.specs.World.{World, Core}
@@ -17,7 +17,7 @@ module _ (world : World) where
   so_far b is = ap (λ (b : Bool). if b then served world [] else ended world) (sym is)
 
   -- a second time does nothing
-  pub nothing_more : world.core.is_shut ≡ true → (given : Step) → step [] [] ≡ given → Feeds (Ok given) world (shut_down world)
+  pub nothing_more : world.core.is_shut ≡ true → (given : Step) → no_step ≡ given → Feeds (Ok given) world (shut_down world)
   nothing_more is given none = subst (λ (s : Served). Feeds (Ok given) world s) (so_far true is) (refl, none, refl)
 
   ends_by : (result : Result Step Halt) (core : Core) (framers : FinMap nat_cmp Framing) → Ends result core (shut_core world.core) → empty ≡ framers →

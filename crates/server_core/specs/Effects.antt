@@ -4,8 +4,9 @@ use Rattle.std.specs.List.{list_any}
 use Rattle.server_messages.specs.declared.fired.Fired.{Fired}
 use Rattle.server_messages.specs.declared.reply.Reply.{Reply}
 use Rattle.server_messages.specs.declared.out.Out.{Out}
+use Rattle.server_messages.specs.declared.stored.Stored.{Stored}
 use Rattle.server_connections.specs.Delivering.{Delivery}
-use Rattle.ua_services.specs.Serving.{Occurrence, Fire, Spent, is_spent}
+use Rattle.ua_services.specs.Serving.{Occurrence, Fire, Store, Spent, is_spent}
 use Rattle.server_core.specs.declared.out.Step.{Step}
 
 -- An out is to be done. The others are said of the server beside: what a service did beside its replies, and a reply whose
@@ -41,8 +42,18 @@ abbrev pub fired_of : List Effect → List Fired
 fired_of [] = []
 fired_of (Do out ∷ effects) = fired_of effects
 fired_of (Occurred (Fire fired) ∷ effects) = fired ∷ fired_of effects
+fired_of (Occurred (Store stored) ∷ effects) = fired_of effects
 fired_of (Occurred Spent ∷ effects) = fired_of effects
 fired_of (Lost reply ∷ effects) = fired_of effects
+
+-- what a store has to keep
+abbrev pub stored_of : List Effect → List Stored
+stored_of [] = []
+stored_of (Do out ∷ effects) = stored_of effects
+stored_of (Occurred (Fire fired) ∷ effects) = stored_of effects
+stored_of (Occurred (Store stored) ∷ effects) = stored ∷ stored_of effects
+stored_of (Occurred Spent ∷ effects) = stored_of effects
+stored_of (Lost reply ∷ effects) = stored_of effects
 
 abbrev pub is_spending : Effect → Bool
 is_spending (Occurred occurrence) = is_spent occurrence
@@ -54,12 +65,16 @@ are_spent effects = list_any is_spending effects
 
 -- ---- what the code gives of them
 
-abbrev pub step : List Out → List Fired → Step
-step outs rows = record { outs = outs; rows = rows }
+abbrev pub step : List Out → List Fired → List Stored → Step
+step outs rows stored = record { outs = outs; rows = rows; stored = stored }
+
+-- nothing is to be done
+abbrev pub no_step : Step
+no_step = step [] [] []
 
 abbrev pub shown : List Effect → Step
-shown effects = step (outs_of effects) (fired_of effects)
+shown effects = step (outs_of effects) (fired_of effects) (stored_of effects)
 
 -- behind what was given before
 abbrev pub after_step : Step → List Effect → Step
-after_step before effects = step (before.outs ++ outs_of effects) (before.rows ++ fired_of effects)
+after_step before effects = step (before.outs ++ outs_of effects) (before.rows ++ fired_of effects) (before.stored ++ stored_of effects)

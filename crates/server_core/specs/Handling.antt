@@ -16,7 +16,7 @@ use Rattle.server_messages.specs.declared.out.Out.{Out}
 use Rattle.ua_services.specs.Serving.{Serving}
 use Rattle.ua_services.specs.Services.{serving_of, ticking_of, shutting_of, forgotten}
 use Rattle.server_core.specs.declared.out.Step.{Step}
-use Rattle.server_core.specs.Effects.{Effect, doing, effects_of, are_spent, step, after_step}
+use Rattle.server_core.specs.Effects.{Effect, doing, effects_of, are_spent, no_step, after_step}
 use Rattle.server_core.specs.World.{Core}
 
 abbrev pub done : Core → List Effect → Bool → Done Core Effect
@@ -100,11 +100,11 @@ Handles (Err Memory) new before after said = ⊤
 Handles (Err Exhausted) new before after said = are_spent said.outs ≡ true
 
 abbrev pub Ends : Result Step Halt → Core → Done Core Effect → Type 0
-Ends (Ok given) new said = Shows new (step [] []) given false said
+Ends (Ok given) new said = Shows new no_step given false said
 Ends (Err Memory) new said = ⊤
 Ends (Err Exhausted) new said = are_spent said.outs ≡ true
 
 abbrev pub TicksTo : Result Step Halt → Core → Done Core Effect → Type 0
-TicksTo (Ok given) new said = Shows new (step [] []) given true said
+TicksTo (Ok given) new said = Shows new no_step given true said
 TicksTo (Err Memory) new said = ⊤
 TicksTo (Err Exhausted) new said = are_spent said.outs ≡ true

@@ -48,5 +48,5 @@ pub use event::Event;
 pub use out::{Ran, Step, StepFault};
 pub use population::Population;
 pub use server::Server;
-pub use server_messages::{Fired, Out};
+pub use server_messages::{Fired, Out, Stored};
 pub use ua_types::Listed;

@@ -1,10 +1,11 @@
 //! What goes out.
 
-ghost use Rattle.std.specs.Prelude.{◌≡◌, []};
+ghost use Rattle.std.specs.Prelude.{◌≡◌, ◌++◌, OnOk};
 ghost use Rattle.server_core.specs.declared.out.StepFault.TheVariants.{Memory};
+ghost use Rattle.server_core.specs.Effects.{step, no_step};
 ghost use Rattle.server_core.specs.Faults.{fault_of};
 
-use server_messages::{Fired, Halt, Out};
+use server_messages::{Fired, Halt, Out, Stored};
 use short_lists::ShortList;
 use std::alloc::{AllocError, AllocFailed, Global};
 use thiserror::Error;
@@ -18,18 +19,33 @@ pub struct Step {
 
     /// The rows of the subscriptions' state table that fired, in order.
     pub rows: Listed<Fired>,
+
+    /// What a store has to keep before any of the outs is done, in order; nothing where the configuration has no store.
+    pub stored: Listed<Stored>,
 }
 
 impl Step {
     /// Nothing is to be done. Takes no memory.
     pub fn new(alloc: Global) -> Step
-        ensures outs { result.outs ≡ [] }
-        ensures rows { result.rows ≡ [] }
+        ensures { result ≡ no_step }
     {
         Step {
             outs: ShortList::new(alloc),
             rows: Listed::new(alloc),
+            stored: Listed::new(alloc),
         }
+    }
+
+    // Rows that fired, and what a store has to keep, behind those before.
+    pub(crate) fn add(
+        &mut self,
+        rows: Listed<Fired>,
+        stored: Listed<Stored>,
+    ) -> Result<(), AllocError>
+        ensures { OnOk result (self.new ≡ step self.old.outs (self.old.rows ++ rows) (self.old.stored ++ stored)) }
+    {
+        self.rows.append(rows)?;
+        self.stored.append(stored)
     }
 }
 

@@ -49,10 +49,14 @@ impl Core {
             }
             FrameOutcome::Request(request) => {
                 let served = self.services.serve(alloc, &self.setting, &request)?;
-                let Served { replies, rows } = served;
+                let Served {
+                    replies,
+                    rows,
+                    stored,
+                } = served;
                 self.connections
                     .deliver(alloc, &self.setting, replies, &mut step.outs)?;
-                step.rows.append(rows)?;
+                step.add(rows, stored)?;
                 Ok(true)
             }
         }
@@ -133,10 +137,15 @@ impl Core {
         self.setting.clock = clock;
         let served = self.services.tick(alloc, &self.setting)?;
         let mut step = Step::new(alloc);
-        let Served { replies, rows } = served;
+        let Served {
+            replies,
+            rows,
+            stored,
+        } = served;
         self.connections
             .deliver(alloc, &self.setting, replies, &mut step.outs)?;
         step.rows = rows;
+        step.stored = stored;
         Ok(step)
     }
 
@@ -148,11 +157,16 @@ impl Core {
         self.is_shut = true;
         let served = self.services.shut_down(alloc, &self.setting)?;
         let mut step = Step::new(alloc);
-        let Served { replies, rows } = served;
+        let Served {
+            replies,
+            rows,
+            stored,
+        } = served;
         self.connections
             .deliver(alloc, &self.setting, replies, &mut step.outs)?;
         self.connections.shut(alloc, &mut step.outs)?;
         step.rows = rows;
+        step.stored = stored;
         Ok(step)
     }
 }

@@ -16,3 +16,6 @@ pub mod FewLemmas
 pub mod NotingLemmas
 pub mod PostingLemmas
 pub mod ReachingLemmas
+pub mod StoredLemmas
+pub mod ServicesStored
+pub mod ServersStored

@@ -13,7 +13,7 @@ use Rattle.ua_messages.specs.Bodies.{message_id_of}
 use Rattle.ua_messages.specs.GetEndpoints.{get_endpoints_request_reading}
 use Rattle.ua_messages.specs.Requests.{Headed, headed_of, fields_of}
 use Rattle.ua_messages.specs.declared.read_value_ids.ReadValueId.{ReadValueId}
-use Rattle.ua_messages.specs.declared.type_ids.TheConstants.{BROWSE_RESPONSE, BROWSE_NEXT_RESPONSE, HISTORY_READ_RESPONSE, SET_PUBLISHING_MODE_RESPONSE, DELETE_SUBSCRIPTIONS_RESPONSE}
+use Rattle.ua_messages.specs.declared.type_ids.TheConstants.{BROWSE_RESPONSE, BROWSE_NEXT_RESPONSE, HISTORY_READ_RESPONSE, WRITE_RESPONSE, SET_PUBLISHING_MODE_RESPONSE, DELETE_SUBSCRIPTIONS_RESPONSE}
 use Rattle.server_messages.specs.declared.fired.Fired.{Fired}
 use Rattle.server_messages.specs.declared.reply.Reply.{Reply}
 use Rattle.server_messages.specs.declared.request.Request.{Request}
@@ -98,16 +98,17 @@ use Rattle.ua_services.specs.Read.{read_listed, read_timed, read_meaning}
 use Rattle.ua_services.specs.Republish.{republish_answer, republish_meaning}
 use Rattle.ua_services.specs.Services.{call_of, picked_of_subscriptions, picked_of_items, picked, serving_by, serving_of, ticking_of, shutting_of, forgotten}
 use Rattle.ua_services.specs.declared.services.Services.{Services}
-use Rattle.ua_services.specs.Serving.{Occurrence, Serving, rows_of, reply_of, answered, faulted, served_by}
+use Rattle.ua_services.specs.Serving.{Occurrence, Serving, Given, rows_of, reply_of, answered, faulted, served_by}
 use Rattle.ua_services.specs.SessionServing.{spent_by, taken, with_sessions}
 use Rattle.ua_services.specs.SetTriggering.{listed, links_asked, linked_by, linked_counted, items_linked, set_triggering_meaning}
 use Rattle.ua_services.specs.SetMonitoringMode.{moded_all, moded_listed, items_moded, set_monitoring_mode_meaning}
 use Rattle.ua_services.specs.SetPublishingMode.{set_publishing_listed, set_publishing_mode_meaning}
 use Rattle.ua_services.specs.StatusResults.{statuses_body}
 use Rattle.ua_services.specs.SubServing.{world_at, called, no_reply, told_alone, nothing_done, and_then, session_over, timed_out, all_timed_out, timers_met}
-use Rattle.ua_services.specs.Write.{with_written, write_listed, write_meaning}
+use Rattle.ua_services.specs.Write.{stored_written, with_written, write_listed, write_meaning}
 use Rattle.ua_services.specs.declared.caller.Caller.{Caller}
 use Rattle.ua_services.specs.declared.history_read.Wanted.{Wanted}
+use Rattle.ua_services.proofs.WriteLemmas.{stores_given}
 use Rattle.ua_services.proofs.SubLemmas.{rows_joined, no_rows, rows_of_round}
 
 -- ---- no call, one call, and calls behind others
@@ -315,7 +316,11 @@ shown_on state writing so_far replies = record {
 }
 
 write_listed_on : (setting : Setting) (caller : Caller) (state : Services) (r : Result (List WriteValue) Status) → ComesOnBy state (if_listed (λ (values : List WriteValue). Move.Show (write_of setting.clock state.space.nodes values).changed ∷ []) r) (write_listed setting caller state r)
-write_listed_on setting caller state (Ok values) = shown_on state (write_of setting.clock state.space.nodes values)
+write_listed_on setting caller state (Ok values) =
+    let writing = write_of setting.clock state.space.nodes values in
+    let reply = reply_of caller (statuses_body WRITE_RESPONSE setting caller writing.statuses) in
+    subst (λ (rows : List Fired). ComesOnWith state (Move.Show writing.changed ∷ []) (with_written state writing) rows (reply ∷ []))
+    (ap (λ (g : Given). g.served.rows) (stores_given state reply (stored_written setting.config.has_store state writing))) (shown_on state writing)
 write_listed_on setting caller state (Err code) = still state
 
 write_on : (setting : Setting) (caller : Caller) (session : ℕ) (request : WriteRequest) (state : Services) → ComesOnBy state (write_moves setting session request state) (write_meaning setting caller session request state)

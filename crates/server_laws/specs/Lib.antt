@@ -12,3 +12,4 @@ pub mod Tellings
 pub mod Postings
 pub mod Reaching
 pub mod Stories
+pub mod Storing

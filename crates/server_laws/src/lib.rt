@@ -16,6 +16,7 @@
 pub mod bounds;
 pub mod reaching;
 pub mod stories;
+pub mod storing;
 pub mod tellings;
 
 ghost use Rattle.std.specs.Prelude.{ℕ, List, []};

@@ -2,6 +2,7 @@
 
 use crate::fired::Fired;
 use crate::reply::Reply;
+use crate::stored::Stored;
 use short_lists::ShortList;
 use ua_types::Listed;
 
@@ -14,4 +15,7 @@ pub struct Served {
 
     /// The rows of the subscriptions' state table that fired, in order.
     pub rows: Listed<Fired>,
+
+    /// What a store has to keep of it, in order; nothing where the configuration has no store.
+    pub stored: Listed<Stored>,
 }

@@ -10,6 +10,7 @@ use std::rt::Files;
 use std::sync::Wait;
 use std::test::*;
 use std::time::Clock;
+use store_restoring::NoStores;
 use stream_taps::Tap;
 
 // Whether these words are done, and answer this input so.
@@ -22,7 +23,7 @@ fn answers<R: Files + AllocGlobal + Net + RandomSource + Clock + Wait>(
     let mut input = Tap::new(input);
     let mut output = Tap::new(Vec::new(rt.alloc()));
     let mut errors = Vec::new(rt.alloc());
-    let ended = commands::run(rt, words, &mut input, &mut output, &mut errors);
+    let ended = commands::run(rt, &NoStores, words, &mut input, &mut output, &mut errors);
     matches!(ended.status, Status::Done)
         && errors.is_empty()
         && output.into_inner().as_slice() == due

@@ -10,7 +10,10 @@ use crate::holding::holds;
 use node_loader::{Loaded, load};
 use scenario_events::assemble;
 use server_core::{Event, Fired, Out, Server};
-use socket_server::{End, Limits, Observer, Serve, ServeFault, Turns, Unobserved, Until};
+use server_messages::NoKeeper;
+use socket_server::{
+    End, KeptServer, Limits, Observer, Serve, ServeFault, Turns, Unobserved, Until,
+};
 use std::alloc::Global;
 use std::io::{ErrorKind, Read, Write};
 use std::net::{IpAddr, Ipv4Addr, Shutdown, SocketAddr, TcpStream};
@@ -37,6 +40,11 @@ fn is_answered(read: &[u8]) -> bool {
         && read.get(119..147) == ANSWERED.get(119..147)
         && read.get(155..191) == ANSWERED.get(155..191)
         && read.get(199..) == ANSWERED.get(199..)
+}
+
+// A server whose values nobody keeps.
+fn unkept_server(alloc: Global) -> Result<KeptServer<NoKeeper>, Fail> {
+    Ok(KeptServer::new(alloc, base_server(alloc)?, NoKeeper))
 }
 
 // A client that has said this.
@@ -70,7 +78,7 @@ fn is_told_the_end(read: &[u8]) -> bool {
 
 // The loop takes turns until one of two connections is closed; then the server ends.
 fn takes_turns<R: Clock + Wait>(rt: &R, alloc: Global, serve: &mut Serve) -> Result<bool, Fail> {
-    let mut server = base_server(alloc)?;
+    let mut server = unkept_server(alloc)?;
     let is_done = serve
         .run(rt, alloc, &mut server, &mut Unobserved, &mut Turns(8))
         .is_ok();
@@ -120,7 +128,7 @@ fn is_gone_behind_its_hello<R: Clock + Wait>(
     let address = serve.address()?;
     let one = client(host, address, &[HELLO])?;
     one.shutdown(Shutdown::Write)?;
-    let mut server = base_server(alloc)?;
+    let mut server = unkept_server(alloc)?;
     let is_done = serve
         .run(rt, alloc, &mut server, &mut Unobserved, &mut Turns(3))
         .is_ok();
@@ -229,23 +237,33 @@ fn say(
     Ok(())
 }
 
-// Whether the first of two clients, which never reads, has lost its socket after a turn, and the second one has its own and
-// the session.
-fn is_one_dropped<R: Clock + Wait>(
+// Two clients of a server that was told what happened before they connect.
+fn two_clients(
     host: &HostRuntime,
-    rt: &R,
     alloc: Global,
-    serve: &mut Serve,
+    serve: &Serve,
     server: &mut Server,
-) -> Result<bool, Fail> {
+) -> Result<(TcpStream, TcpStream), Fail> {
     let address = serve.address()?;
     let mut one = client(host, address, &[])?;
     let mut two = client(host, address, &[])?;
     say(alloc, server, &mut one, &mut two)?;
+    Ok((one, two))
+}
+
+// Whether the first of two clients, which never reads, has lost its socket after a turn, and the second one has its own and
+// the session.
+fn is_one_dropped<R: Clock + Wait>(
+    rt: &R,
+    alloc: Global,
+    serve: &mut Serve,
+    server: &mut KeptServer<NoKeeper>,
+    two: &TcpStream,
+) -> Result<bool, Fail> {
     let is_done = serve
         .run(rt, alloc, server, &mut Unobserved, &mut Turns(1))
         .is_ok();
-    let told = waiting(alloc, &two)?;
+    let told = waiting(alloc, two)?;
     Ok(is_done && serve.len() == 1 && told.as_slice().ends_with(WAITED))
 }
 
@@ -254,10 +272,12 @@ fn a_client_that_never_reads(rt: HostRuntime) -> Result<(), Fail> {
     let alloc = rt.alloc();
     let mut serve = Serve::bind(&rt, alloc, 0)?;
     let mut server = labelled_server(alloc)?;
+    let (_one, two) = two_clients(&rt, alloc, &serve, &mut server)?;
+    let mut server = KeptServer::new(alloc, server, NoKeeper);
     holds(
         &rt,
         "dropped",
-        is_one_dropped(&rt, &rt, alloc, &mut serve, &mut server)?,
+        is_one_dropped(&rt, alloc, &mut serve, &mut server, &two)?,
     );
     Ok(())
 }
@@ -291,7 +311,7 @@ fn ends_when_asked<R: Clock + Wait>(
     serve: &mut Serve,
 ) -> Result<bool, Fail> {
     let one = client(host, serve.address()?, &[HELLO])?;
-    let mut server = base_server(alloc)?;
+    let mut server = unkept_server(alloc)?;
     let mut until = ThreeTurns { asked: 0 };
     let is_done = serve
         .run(rt, alloc, &mut server, &mut Unobserved, &mut until)
@@ -348,7 +368,7 @@ fn noted<R: Clock + Wait>(
     serve: &mut Serve,
     turns: u64,
 ) -> Result<Noting, Fail> {
-    let mut server = base_server(alloc)?;
+    let mut server = unkept_server(alloc)?;
     let mut noting = Noting {
         crowded: 0,
         end: None,

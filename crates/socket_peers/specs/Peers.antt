@@ -1,5 +1,5 @@
 -- All sockets, under the numbers of their connections.
-use Rattle.std.specs.Prelude.{◌≡◌, ℕ, ℤ, ◌+◌, ◌^◌, ◌||◌, ◌&&◌, not, nat_lt, int_lt, int_le, ◌+ℤ◌, pos, Bool, true, false, List, [], ◌∷◌, ◌++◌, Option, Some, None, if◌then◌else◌, fold, refl}
+use Rattle.std.specs.Prelude.{◌≡◌, ℕ, ℤ, ◌+◌, ◌^◌, ◌||◌, ◌&&◌, not, nat_lt, int_lt, int_le, ◌+ℤ◌, pos, Bool, true, false, List, [], ◌∷◌, ◌++◌, length, Option, Some, None, if◌then◌else◌, fold, refl}
 use Rattle.std.specs.Coded.{Coded, code_by, coded×, coded_ℕ, coded_ℤ, coded_list}
 use Rattle.std.specs.FinMap.{FinMap, get, insert, remove, empty, entries, code}
 use Rattle.std.specs.Map.{keys_of}
@@ -78,6 +78,10 @@ module _ {S : Type 0} where
   -- the server was told, and nothing is left to be written
   abbrev pub is_done_at : PeersState S → ℕ → Bool
   is_done_at p number = is_true_of is_done (at p number)
+
+  -- the socket under this number is owed something
+  abbrev pub is_owed_at : PeersState S → ℕ → Bool
+  is_owed_at p number = is_true_of (λ peer. nat_lt 0 (length peer.owed)) (at p number)
 
   abbrev pub with_peer : PeersState S → ℕ → PeerState S → PeersState S
   with_peer p number peer = record p { connected = insert p.connected number peer }

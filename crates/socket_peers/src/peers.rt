@@ -2,7 +2,7 @@
 
 ghost use Rattle.std.specs.Prelude.{◌≡◌, ◌+◌, ◌<◌, ◌==◌, not, true, [], IfOk, OnOk, OnErr, length, Some};
 ghost use Rattle.std.specs.FinMap as map;
-ghost use Rattle.socket_peers.specs.Peers.{nobody, number_after, with_joined, without, at_time, is_crowded as is_crowded_spec, is_sweep_due as is_sweep_due_spec, swept_now, numbers_of, listed_if, woken_if, reported, owed_out, owed_all, Departs, LetsGo, Expires, ReadsAt, LosesAt, FlushesAt, LooksAt, FlushesAll};
+ghost use Rattle.socket_peers.specs.Peers.{nobody, number_after, with_joined, without, at_time, is_crowded as is_crowded_spec, is_sweep_due as is_sweep_due_spec, swept_now, is_owed_at, numbers_of, listed_if, woken_if, reported, owed_out, owed_all, Departs, LetsGo, Expires, ReadsAt, LosesAt, FlushesAt, LooksAt, FlushesAll};
 
 use crate::end::End;
 use crate::limits::Limits;
@@ -160,6 +160,16 @@ impl<S> Peers<S> {
         match self.connected.get(number) {
             Some(peer) => peer.end(),
             None => End::Silent(self.limits.idle),
+        }
+    }
+
+    /// Whether the socket under this number is owed something.
+    pub fn is_owed(&self, number: u64) -> bool
+        ensures { result ≡ is_owed_at self.now number }
+    {
+        match self.connected.get(number) {
+            Some(peer) => peer.owed() > 0,
+            None => false,
         }
     }
 

@@ -1,11 +1,15 @@
 -- Acts, one after the other.
-use Rattle.std.proofs.Common.{◌≡◌, ℕ, suc, zero, ◌+◌, ◌-◌, ◌<◌, ◌≤◌, ◌≢◌, Bool, true, false, cond, List, [], ◌∷◌, ◌++◌, Option, Some, None, Result, Ok, Err, MatchResult, refl, sym, ap, ◌∙◌, subst, inl, inr, arith}
+use Rattle.std.proofs.Common.{◌≡◌, ℕ, suc, zero, ◌+◌, ◌-◌, ◌<◌, ◌≤◌, ◌≢◌, Bool, true, false, cond, List, [], ◌∷◌, ◌++◌, Option, Some, None, Result, Ok, Err, MatchResult, ◌⊎◌, refl, sym, ap, ◌∙◌, subst, inl, inr, arith}
 use Rattle.std.specs.List.{concat}
 use Rattle.std.proofs.lemmas.Bool.{true≢false}
 use Rattle.mio.specs.declared.event.event.Event as ready
 use Rattle.mio.specs.Event.{event_token}
 use Rattle.ua_types.specs.declared.moment.Moment.{Moment}
-use Rattle.server_core.specs.Stepping.{step_on, StepsTo}
+use Rattle.server_messages.specs.Kept as store
+use Rattle.server_messages.specs.Kept.{Kept}
+use Rattle.server_messages.specs.declared.stored.Stored.{Stored}
+use Rattle.server_messages.specs.declared.store_fault.StoreFault.{StoreFault}
+use Rattle.server_messages.proofs.KeptLemmas.{alike_refl}
 use Rattle.server_core.specs.declared.event.Event.{Event}
 use Rattle.server_core.specs.declared.event.Event.TheVariants.{Opened, Bytes, Gone, Tick, Shutdown}
 use Rattle.socket_peers.specs.declared.peer.Heard.{Heard}
@@ -14,13 +18,14 @@ use Rattle.socket_peers.specs.declared.peer.Readiness.{Readiness}
 use Rattle.socket_peers.specs.Peer.{PeerState, is_piece, may_be_more}
 use Rattle.mio.specs.declared.net.stream.TcpStream.{TcpStream}
 use Rattle.socket_peers.specs.Socket.{Calls}
-use Rattle.socket_peers.specs.Peers.{PeersState, at, with_joined, with_departed, without, departs_at, is_crowded, at_time, is_silent_at, is_gone_at, is_sweep_due, swept_now, numbers_of, LetsGo, reported, ReadsBy, ReadsAt}
+use Rattle.socket_peers.specs.Peers.{PeersState, at, with_joined, with_departed, without, departs_at, is_crowded, is_owed_at, at_time, is_silent_at, is_gone_at, is_sweep_due, swept_now, numbers_of, LetsGo, reported, ReadsBy, ReadsAt, LooksAt}
 use Rattle.socket_server.specs.Sockets.{Sockets}
-use Rattle.socket_server.specs.Output.{Output, EventText, Puts}
+use Rattle.socket_server.specs.Keeping.{Keeping, SettlesBy, Settles, StaysUnkept, IsOfStore}
+use Rattle.socket_server.specs.Output.{Output, EventText}
 use Rattle.socket_server.specs.declared.serve_fault.ServeFault.TheVariants as serve_fault
 use Rattle.socket_server.specs.declared.serve_fault.ServeFault.{ServeFault}
 use Rattle.rand_core.specs.Stream.{Stream}
-use Rattle.socket_server.specs.Serving.{State, Scene, scene, IsNextKey, IsQuiet, Happening, Connects, Reports, Gathers, Looks, Hears, Waits, Writes, Leaves, Drops, Passes, Sweeps, Expires, LetsExpire, AreNoneSilent, readable, Does, Runs, ticks, Takes, Fails, IsOutside, HandsIn, Goes, Stops, Serves, Heeds, GoesOn, ReadsOn, Attends, AttendsEach, AttendsGroups, AttendsAll, ReportsEach, TakesIn, MayTakeIn, TakesInMany, TakesInSome, ExpiresMany, MayExpire, ExpiresAmong, SweepsIfDue, TakesTurn, Turns, IsTurns, ServesUntil, unknown, uncounted, readiness_of, is_of_listener, reported_events, begun, IsServed, IsStopped}
+use Rattle.socket_server.specs.Serving.{Scene, scene, IsNextKey, IsQuiet, Happening, Connects, Reports, Gathers, Looks, Hears, Waits, Keeps, Writes, Leaves, Drops, Passes, Sweeps, Expires, LetsExpire, AreNoneSilent, readable, Does, Runs, ticks, Takes, Fails, IsOutside, SendsOut, HandsIn, IsKept, IsUnkept, IsUnsent, WindsUp, Goes, Stops, GivesUp, Serves, Heeds, GoesOn, ReadsOn, KeepsIf, LooksOn, Attends, AttendsEach, AttendsGroups, AttendsAll, ReportsEach, TakesIn, MayTakeIn, TakesInMany, TakesInSome, ExpiresMany, MayExpire, ExpiresAmong, SweepsIfDue, TakesTurn, Turns, IsTurns, ServesUntil, unknown, uncounted, readiness_of, is_of_listener, reported_events, begun, IsServed, IsStopped}
 
 ticks_append : (xs ys : List Happening) → ticks (xs ++ ys) ≡ ticks xs + ticks ys
 ticks_append [] ys = omega arith
@@ -33,9 +38,26 @@ ticks_append (Gathers conns ∷ xs) ys = ticks_append xs ys
 ticks_append (Looks conn ∷ xs) ys = ticks_append xs ys
 ticks_append (Hears conn piece ∷ xs) ys = ticks_append xs ys
 ticks_append (Waits conn ∷ xs) ys = ticks_append xs ys
+ticks_append (Keeps ∷ xs) ys = ticks_append xs ys
 ticks_append (Writes ∷ xs) ys = ticks_append xs ys
 ticks_append (Leaves conn ∷ xs) ys = ticks_append xs ys
 ticks_append (Drops conn ∷ xs) ys = ticks_append xs ys
+
+settled_by : (waiting : List Stored) (old new : Keeping) → old.waiting ≡ waiting → SettlesBy waiting old new → new.waiting ≡ []
+settled_by [] old new none e = ap (λ (k : Keeping). k.waiting) e ∙ none
+settled_by (s ∷ ss) old new some (keeps, e) = ap (λ (k : Keeping). k.waiting) e
+
+-- nothing waits once all is kept
+pub settled_none : (old new : Keeping) → Settles old new → new.waiting ≡ []
+settled_none old new settles = settled_by old.waiting old new refl settles
+
+-- where nothing is done, nothing more is kept
+kept_so : (kept : Option Kept) → store.Keeps [] kept kept
+kept_so None = tt
+kept_so (Some kept) = alike_refl kept
+
+stays_so : (k : Keeping) → StaysUnkept k k
+stays_so k = (kept_so k.kept, refl)
 
 -- how many turns are left behind so many, of a bound, or none where there is none
 abbrev pub IsLeft : ℕ → ℕ → ℕ → Type 0
@@ -45,7 +67,7 @@ module _ {S : Type 0} where
   scene_path : (a b : Scene S) → a.keys ≡ b.keys → a.server ≡ b.server → a.peers ≡ b.peers → a.events ≡ b.events → a.output ≡ b.output → a ≡ b
   scene_path a b keys server peers events output =
       ap (λ (k : Stream). scene k a.server a.peers a.events a.output) keys
-      ∙ ap (λ (s : State). scene b.keys s a.peers a.events a.output) server
+      ∙ ap (λ (s : Keeping). scene b.keys s a.peers a.events a.output) server
       ∙ ap (λ (p : PeersState S). scene b.keys b.server p a.events a.output) peers
       ∙ ap (λ (n : ℕ). scene b.keys b.server b.peers n a.output) events
       ∙ ap (λ (o : Output). scene b.keys b.server b.peers b.events o) output
@@ -71,24 +93,15 @@ module _ {S : Type 0} (remaining contents : S → Option (List ℕ)) (calls : S 
 
   -- at an event
   pub stops_at : (event : Event) (a new : Scene S) (fault : ServeFault) → Fails text event a new fault → Stops remaining contents calls text a new fault
-  stops_at event a new fault h = (0, a, goes_none a, inr (event, h))
+  stops_at event a new fault h = (0, a, goes_none a, inr (inr (event, h)))
 
   -- between events
   pub stops_here : (a new : Scene S) (fault : ServeFault) → IsOutside fault → new.server ≡ a.server → new.output ≡ a.output → Stops remaining contents calls text a new fault
   stops_here a new fault h server told = (0, a, goes_none a, inl (h, server, told))
 
-  -- where it stopped the sockets have no part in it
-  fails_alike : (event : Event) (a c : Scene S) (p : PeersState S) (fault : ServeFault) → Fails text event a c fault → Fails text event a (record c { peers = p }) fault
-  fails_alike event a c p serve_fault.Port h = absurd h
-  fails_alike event a c p serve_fault.Address h = absurd h
-  fails_alike event a c p serve_fault.Network h = absurd h
-  fails_alike event a c p (serve_fault.Step f) h = h
-  fails_alike event a c p serve_fault.Trace h = h
-  fails_alike event a c p serve_fault.Memory h = h
-
-  pub stops_alike : (a c : Scene S) (p : PeersState S) (fault : ServeFault) → Stops remaining contents calls text a c fault → Stops remaining contents calls text a (record c { peers = p }) fault
-  stops_alike a c p fault (n, mid, goes, inl (outside, server, output)) = (n, mid, goes, inl (outside, server, output))
-  stops_alike a c p fault (n, mid, goes, inr (event, h)) = (n, mid, goes, inr (event, fails_alike event mid c p fault h))
+  -- where what waits can't be kept
+  pub stops_unkept : (a new : Scene S) (fault : ServeFault) → IsOfStore fault → IsUnkept a new → Stops remaining contents calls text a new fault
+  stops_unkept a new fault h unkept = (0, a, goes_none a, inr (inl (h, unkept)))
 
   -- ---- one act
 
@@ -118,10 +131,13 @@ module _ {S : Type 0} (remaining contents : S → Option (List ℕ)) (calls : S 
   pub passes : (now : Moment) (a c : Scene S) → Does remaining contents calls text (Passes now) a c → Goes remaining contents calls text 1 a c
   passes now a c does = (Passes now ∷ [], refl, (c, does, refl))
 
-  pub looks : (conn : ℕ) (a c : Scene S) → Does remaining contents calls text (Looks conn) a c → Goes remaining contents calls text 0 a c
+  pub keeps : (a c : Scene S) → Does remaining contents calls text Keeps a c → Goes remaining contents calls text 0 a c
+  keeps a c does = quiet Keeps a c refl does
+
+  looks : (conn : ℕ) (a c : Scene S) → Does remaining contents calls text (Looks conn) a c → Goes remaining contents calls text 0 a c
   looks conn a c does = quiet (Looks conn) a c refl does
 
-  pub writes : (a c : Scene S) → Does remaining contents calls text Writes a c → Goes remaining contents calls text 0 a c
+  writes : (a c : Scene S) → Does remaining contents calls text Writes a c → Goes remaining contents calls text 0 a c
   writes a c does = quiet Writes a c refl does
 
   pub reports : (conn : ℕ) (readiness : Readiness) (a c : Scene S) → Does remaining contents calls text (Reports conn readiness) a c → Goes remaining contents calls text 0 a c
@@ -144,14 +160,20 @@ module _ {S : Type 0} (remaining contents : S → Option (List ℕ)) (calls : S 
 
   -- ---- what calls come to
 
+  abbrev is_shutdown : Event → Bool
+  is_shutdown Shutdown = true
+  is_shutdown event = false
+
   -- the sockets and the keys have no part in it
-  fails_from : (event : Event) (a c : Scene S) (p : PeersState S) (k : Stream) (fault : ServeFault) → Fails text event (record a { keys = k; peers = p }) c fault → Fails text event a c fault
-  fails_from event a c p k serve_fault.Port h = absurd h
-  fails_from event a c p k serve_fault.Address h = absurd h
-  fails_from event a c p k serve_fault.Network h = absurd h
-  fails_from event a c p k (serve_fault.Step f) h = h
-  fails_from event a c p k serve_fault.Trace h = h
-  fails_from event a c p k serve_fault.Memory h = h
+  fails_from : (event : Event) (a c : Scene S) (p : PeersState S) (k : Stream) (fault : ServeFault) → is_shutdown event ≡ false
+      → Fails text event (record a { keys = k; peers = p }) c fault → Fails text event a c fault
+  fails_from event a c p k serve_fault.Port open_still h = absurd h
+  fails_from event a c p k serve_fault.Address open_still h = absurd h
+  fails_from event a c p k serve_fault.Network open_still h = absurd h
+  fails_from event a c p k (serve_fault.Step f) open_still h = h
+  fails_from event a c p k serve_fault.Trace open_still h = h
+  fails_from event a c p k (serve_fault.Store f) open_still (last, told, takes, unkept) = absurd (true≢false (sym (ap is_shutdown last) ∙ open_still))
+  fails_from event a c p k serve_fault.Memory open_still h = h
 
   abbrev Handed : Event → Scene S → Scene S → {X : Type 0} → Result X ServeFault → Type 0
   Handed event a c r = MatchResult r (λ _. Takes text event a c) (Fails text event a c)
@@ -167,13 +189,13 @@ module _ {S : Type 0} (remaining contents : S → Option (List ℕ)) (calls : S 
     subst (λ k. Takes text (Opened k key) (record a { keys = left; peers = with_joined a.peers origin stream }) c) n
         (subst (λ q. Takes text (Opened number key) (record a { keys = left; peers = q }) c) j h),
   )
-  connect_does number origin key left stream a p c (Err fault) n room j drawn h = stops_at (Opened number key) a c fault (fails_from (Opened number key) a c p left fault h)
+  connect_does number origin key left stream a p c (Err fault) n room j drawn h = stops_at (Opened number key) a c fault (fails_from (Opened number key) a c p left fault refl h)
 
   -- the sockets and the server are told the time
   pub time_told : {X : Type 0} (now : Moment) (a : Scene S) (p : PeersState S) (c : Scene S) (r : Result X ServeFault) → p ≡ at_time now a.peers
       → Handed (Tick now) (record a { peers = p }) c r → MatchResult r (λ _. Does remaining contents calls text (Passes now) a c) (Fails text (Tick now) a c)
   time_told now a p c (Ok x) e h = subst (λ (q : PeersState S). Takes text (Tick now) (record a { peers = q }) c) e h
-  time_told now a p c (Err fault) e h = fails_from (Tick now) a c p a.keys fault h
+  time_told now a p c (Err fault) e h = fails_from (Tick now) a c p a.keys fault refl h
 
   -- ---- one read
 
@@ -190,12 +212,12 @@ module _ {S : Type 0} (remaining contents : S → Option (List ℕ)) (calls : S 
 
   pub piece_stops : (conn : ℕ) (piece : List ℕ) (p : PeersState S) (a c : Scene S) (fault : ServeFault) → Fails text (Bytes conn piece) (record a { peers = p }) c fault
       → Stops remaining contents calls text a c fault
-  piece_stops conn piece p a c fault h = stops_at (Bytes conn piece) a c fault (fails_from (Bytes conn piece) a c p a.keys fault h)
+  piece_stops conn piece p a c fault h = stops_at (Bytes conn piece) a c fault (fails_from (Bytes conn piece) a c p a.keys fault refl h)
 
   pub gone_serves : {X : Type 0} (conn : ℕ) (a : Scene S) (p : PeersState S) (c : Scene S) (r : Result X ServeFault) → (departs_at a.peers conn ≡ true) × (p ≡ with_departed a.peers conn)
       → Handed (Gone conn) (record a { peers = p }) c r → Serves remaining contents calls text 0 a c r
   gone_serves conn a p c (Ok x) (over, j) h = leaves conn a c over (subst (λ q. Takes text (Gone conn) (record a { peers = q }) c) j h)
-  gone_serves conn a p c (Err fault) (over, j) h = stops_at (Gone conn) a c fault (fails_from (Gone conn) a c p a.keys fault h)
+  gone_serves conn a p c (Err fault) (over, j) h = stops_at (Gone conn) a c fault (fails_from (Gone conn) a c p a.keys fault refl h)
 
   pub serves_after : {X : Type 0} (m n : ℕ) (a b c : Scene S) (r : Result X ServeFault) → Goes remaining contents calls text m a b → Serves remaining contents calls text n b c r → Serves remaining contents calls text (m + n) a c r
   serves_after m n a b c (Ok x) p h = goes_trans m n a b c p h
@@ -207,7 +229,7 @@ module _ {S : Type 0} (remaining contents : S → Option (List ℕ)) (calls : S 
   released_after conn a b c is_gone p lets same = goes_on a b c p (drops conn b c is_gone lets same)
 
   -- an observer that was told of a connection put nothing out
-  pub takes_same : (event : Event) (a : Scene S) (keys : Stream) (server : State) (p : PeersState S) (events : ℕ) (output again : Output) → again ≡ output
+  pub takes_same : (event : Event) (a : Scene S) (keys : Stream) (server : Keeping) (p : PeersState S) (events : ℕ) (output again : Output) → again ≡ output
       → Takes text event a (scene keys server p events output) → Takes text event a (scene keys server p events again)
   takes_same event a keys server p events output again e h = subst (λ (o : Output). Takes text event a (scene keys server p events o)) (sym e) h
 
@@ -220,8 +242,78 @@ module _ {S : Type 0} (remaining contents : S → Option (List ℕ)) (calls : S 
   reads_go conn a c (inl none) = one_read_goes conn a c false none
   reads_go conn a c (inr (mid, more, does)) = goes_on a mid c (one_read_goes conn a mid true more) (reports conn readable mid c does)
 
+  none_waits : (is_owed : Bool) (a c : Scene S) → KeepsIf remaining contents calls text is_owed a c → is_owed ≡ true → c.server.waiting ≡ []
+  none_waits true a c (settles, e) h = settled_none a.server c.server settles
+  none_waits false a c e h = absurd (true≢false (sym h))
+
+  pub kept_if_owed : (is_owed : Bool) (a : Scene S) (mid server : Keeping) → is_owed ≡ true → mid ≡ server → Settles a.server server
+      → KeepsIf remaining contents calls text is_owed a (record a { server = mid })
+  kept_if_owed true a mid server h e settles = (subst (λ (k : Keeping). Settles a.server k) (sym e) settles, refl)
+  kept_if_owed false a mid server h e settles = absurd (true≢false (sym h))
+
+  pub unkept_if_not_owed : (is_owed : Bool) (a : Scene S) (mid : Keeping) → is_owed ≡ false → mid ≡ a.server
+      → KeepsIf remaining contents calls text is_owed a (record a { server = mid })
+  unkept_if_not_owed true a mid h e = absurd (true≢false h)
+  unkept_if_not_owed false a mid h e = ap (λ (k : Keeping). scene a.keys k a.peers a.events a.output) e
+
+  -- where what waits was kept, if the socket is owed something, it is looked at
+  pub looked_on : (conn : ℕ) (a : Scene S) (mid : Keeping) (p : PeersState S) → KeepsIf remaining contents calls text (is_owed_at a.peers conn) a (record a { server = mid })
+      → LooksAt remaining contents calls conn a.peers p → LooksOn remaining contents calls text conn a (record a { server = mid; peers = p })
+  looked_on conn a mid p may looked =
+      let kept = record a { server = mid } in
+      (kept, may, (none_waits (is_owed_at a.peers conn) a kept may, looked, (refl, refl, refl, refl)))
+
+  pub kept_if_goes : (is_owed : Bool) (a c : Scene S) → KeepsIf remaining contents calls text is_owed a c → Goes remaining contents calls text 0 a c
+  kept_if_goes true a c does = keeps a c does
+  kept_if_goes false a c e = goes_same a c e
+
+  pub looks_go : (conn : ℕ) (a c : Scene S) → LooksOn remaining contents calls text conn a c → Goes remaining contents calls text 0 a c
+  looks_go conn a c (kept, may, does) = goes_on a kept c (kept_if_goes (is_owed_at a.peers conn) a kept may) (looks conn kept c does)
+
   pub attends_go : (conn : ℕ) (a c : Scene S) → Attends remaining contents calls text conn a c → Goes remaining contents calls text 0 a c
-  attends_go conn a c (looked, read, does, reads, goes) = goes_on a looked c (looks conn a looked does) (goes_on looked read c (reads_go conn looked read reads) goes)
+  attends_go conn a c (looked, read, looking, reads, goes) = goes_on a looked c (looks_go conn a looked looking) (goes_on looked read c (reads_go conn looked read reads) goes)
+
+  pub sends_go : (a c : Scene S) → SendsOut remaining contents calls text a c → Goes remaining contents calls text 0 a c
+  sends_go a c (kept, does, sends) = goes_on a kept c (keeps a kept does) (writes kept c sends)
+
+  -- what is owed isn't written
+  pub unsent_stops : (a c : Scene S) (fault : ServeFault) → IsUnsent a c fault → Stops remaining contents calls text a c fault
+  unsent_stops a c serve_fault.Port h = absurd h
+  unsent_stops a c serve_fault.Address h = absurd h
+  unsent_stops a c serve_fault.Network h = absurd h
+  unsent_stops a c (serve_fault.Step f) h = absurd h
+  unsent_stops a c serve_fault.Trace h = absurd h
+  unsent_stops a c (serve_fault.Store f) unkept = stops_unkept a c (serve_fault.Store f) tt unkept
+  unsent_stops a c serve_fault.Memory (settles, e) =
+      let kept = record a { server = c.server } in
+      stops_after 0 a kept c serve_fault.Memory (keeps a kept (settles, refl)) (stops_here kept c serve_fault.Memory tt refl (ap (λ (s : Scene S). s.output) e))
+
+  -- what waits is kept, and then sockets take what they are owed
+  sent_or_not : {X : Type 0} (a c : Scene S) (r : Result X ServeFault) → MatchResult r (λ _. SendsOut remaining contents calls text a c) (IsUnsent a c) → IsKept a c ⊎ IsUnkept a c
+  sent_or_not a c (Ok x) (kept, (settles, e), (none, flushes, (server, events, output, keys))) =
+      inl (
+        subst (λ (k : Keeping). Settles a.server k) (sym server) settles,
+        scene_path c (record a { server = c.server; peers = c.peers }) (keys ∙ ap (λ (s : Scene S). s.keys) e) refl refl (events ∙ ap (λ (s : Scene S). s.events) e)
+            (output ∙ ap (λ (s : Scene S). s.output) e),
+      )
+  sent_or_not a c (Err serve_fault.Port) h = absurd h
+  sent_or_not a c (Err serve_fault.Address) h = absurd h
+  sent_or_not a c (Err serve_fault.Network) h = absurd h
+  sent_or_not a c (Err (serve_fault.Step f)) h = absurd h
+  sent_or_not a c (Err serve_fault.Trace) h = absurd h
+  sent_or_not a c (Err (serve_fault.Store f)) unkept = inr unkept
+  sent_or_not a c (Err serve_fault.Memory) kept = inl kept
+
+  -- after a fault that isn't the store's
+  pub wound_up : {X : Type 0} (a c : Scene S) (fault : ServeFault) (r : Result X ServeFault) → ((f : StoreFault) → fault ≡ serve_fault.Store f → ⊥)
+      → MatchResult r (λ _. SendsOut remaining contents calls text a c) (IsUnsent a c) → WindsUp fault a c
+  wound_up a c serve_fault.Port r other h = sent_or_not a c r h
+  wound_up a c serve_fault.Address r other h = sent_or_not a c r h
+  wound_up a c serve_fault.Network r other h = sent_or_not a c r h
+  wound_up a c (serve_fault.Step f) r other h = sent_or_not a c r h
+  wound_up a c serve_fault.Trace r other h = sent_or_not a c r h
+  wound_up a c (serve_fault.Store f) r other h = absurd (other f refl)
+  wound_up a c serve_fault.Memory r other h = sent_or_not a c r h
 
   pub each_go : (conns : List ℕ) (a c : Scene S) → AttendsEach remaining contents calls text conns a c → Goes remaining contents calls text 0 a c
   each_go [] a c e = goes_same a c e
@@ -230,11 +322,11 @@ module _ {S : Type 0} (remaining contents : S → Option (List ℕ)) (calls : S 
   groups_go : (groups : List (List ℕ)) (a c : Scene S) → AttendsGroups remaining contents calls text groups a c → Goes remaining contents calls text 0 a c
   groups_go [] a c e = goes_same a c e
   groups_go (conns ∷ groups) a c (attended, written, few, each, does, rest) =
-      goes_on a attended c (each_go conns a attended each) (goes_on attended written c (writes attended written does) (groups_go groups written c rest))
+      goes_on a attended c (each_go conns a attended each) (goes_on attended written c (sends_go attended written does) (groups_go groups written c rest))
 
   all_go : (a c : Scene S) → AttendsAll remaining contents calls text a c → Goes remaining contents calls text 0 a c
   all_go a c (written, gathered, groups, does, taken, rest) =
-      goes_on a written c (writes a written does) (goes_on written gathered c (gathers (concat groups) written gathered taken) (groups_go groups gathered c rest))
+      goes_on a written c (sends_go a written does) (goes_on written gathered c (gathers (concat groups) written gathered taken) (groups_go groups gathered c rest))
 
   -- ---- reports
 
@@ -334,7 +426,7 @@ module _ {S : Type 0} (remaining contents : S → Option (List ℕ)) (calls : S 
       → MatchResult r (λ _. MayExpire remaining contents calls text conn a c) (Stops remaining contents calls text a c)
   expires_untold conn a p c (Ok x) silent open_still e h =
       inr (silent, subst (λ (b : Bool). LetsExpire remaining contents calls text b conn a c) (sym open_still) (subst (λ (q : PeersState S). Takes text (Gone conn) (record a { peers = q }) c) e h))
-  expires_untold conn a p c (Err fault) silent open_still e h = stops_at (Gone conn) a c fault (fails_from (Gone conn) a c p a.keys fault h)
+  expires_untold conn a p c (Err fault) silent open_still e h = stops_at (Gone conn) a c fault (fails_from (Gone conn) a c p a.keys fault refl h)
 
   pub sweeps : (a c : Scene S) → Does remaining contents calls text Sweeps a c → Goes remaining contents calls text 0 a c
   sweeps a c does = quiet Sweeps a c refl does
@@ -395,12 +487,12 @@ module _ {S : Type 0} (remaining contents : S → Option (List ℕ)) (calls : S 
       subst (λ m. Turns remaining contents calls text m a c) next (b, turns, turn)
 
   -- after the look and the reads the server is told
-  pub attends_then : {X : Type 0} (conn : ℕ) (a looked read c : Scene S) (r : Result X ServeFault) → Does remaining contents calls text (Looks conn) a looked
+  pub attends_then : {X : Type 0} (conn : ℕ) (a looked read c : Scene S) (r : Result X ServeFault) → LooksOn remaining contents calls text conn a looked
       → ReadsOn remaining contents calls text conn looked read → Serves remaining contents calls text 0 read c r
       → MatchResult r (λ _. Attends remaining contents calls text conn a c) (Stops remaining contents calls text a c)
-  attends_then conn a looked read c (Ok x) does reads goes = (looked, read, does, reads, goes)
-  attends_then conn a looked read c (Err fault) does reads stops =
-      stops_after 0 a read c fault (goes_on a looked read (looks conn a looked does) (reads_go conn looked read reads)) stops
+  attends_then conn a looked read c (Ok x) looking reads goes = (looked, read, looking, reads, goes)
+  attends_then conn a looked read c (Err fault) looking reads stops =
+      stops_after 0 a read c fault (goes_on a looked read (looks_go conn a looked looking) (reads_go conn looked read reads)) stops
 
   -- up to the time, up to those who connected, and up to the silent ones
   pub told_time : (a b c : Scene S) (now : Moment) → ((list : List (ℕ × Readiness)) × ReportsEach remaining contents calls text list a b) → Does remaining contents calls text (Passes now) b c
@@ -435,24 +527,49 @@ module _ {S : Type 0} (remaining contents : S → Option (List ℕ)) (calls : S 
       stops_after 1 a swept c fault
       (goes_trans 1 0 a joined swept (goes_trans 1 0 a told joined (told_time a reported told now each does) (taken_in_go 256 told joined joining)) (sweeping_goes (is_sweep_due joined.peers) joined swept sweeping)) stops
 
+  -- ---- after a fault
+
+  -- nothing is done
+  left_so : (a : Scene S) (fault : ServeFault) → WindsUp fault a a
+  left_so a serve_fault.Port = inr (stays_so a.server, refl)
+  left_so a serve_fault.Address = inr (stays_so a.server, refl)
+  left_so a serve_fault.Network = inr (stays_so a.server, refl)
+  left_so a (serve_fault.Step f) = inr (stays_so a.server, refl)
+  left_so a serve_fault.Trace = inr (stays_so a.server, refl)
+  left_so a (serve_fault.Store f) = refl
+  left_so a serve_fault.Memory = inr (stays_so a.server, refl)
+
+  pub gives_up_so : (a c : Scene S) (fault : ServeFault) → Stops remaining contents calls text a c fault → GivesUp remaining contents calls text a c fault
+  gives_up_so a c fault stops = (c, stops, left_so c fault)
+
+  pub gives_up_after : (m : ℕ) (a b c : Scene S) (fault : ServeFault) → Goes remaining contents calls text m a b → GivesUp remaining contents calls text b c fault
+      → GivesUp remaining contents calls text a c fault
+  gives_up_after m a b c fault p (stopped, stops, winds) = (stopped, stops_after m a b stopped fault p stops, winds)
+
   -- some turns, and then the server is told to end
   pub to_the_end : {X : Type 0} (may_ask : Bool) (most : ℕ) (a b c : Scene S) (r : Result X ServeFault) → ((n : ℕ) × IsTurns may_ask most n × Turns remaining contents calls text n a b)
-      → MatchResult r (λ _. HandsIn remaining contents calls text Shutdown b c) (Stops remaining contents calls text b c)
-      → MatchResult r (λ _. ServesUntil remaining contents calls text may_ask most a c) (Stops remaining contents calls text a c)
+      → MatchResult r (λ _. HandsIn remaining contents calls text Shutdown b c) (GivesUp remaining contents calls text b c)
+      → MatchResult r (λ _. ServesUntil remaining contents calls text may_ask most a c) (GivesUp remaining contents calls text a c)
   to_the_end may_ask most a b c (Ok x) (n, are, turns) hands = (n, are, (b, turns, hands))
-  to_the_end may_ask most a b c (Err fault) (n, are, turns) stops = stops_after n a b c fault (turns_go n a b turns) stops
+  to_the_end may_ask most a b c (Err fault) (n, are, turns) gives = gives_up_after n a b c fault (turns_go n a b turns) gives
 
-  -- the server was told to end, and there is no memory to write what it sends then
-  pub unwritten : (a b c : Scene S) → Takes text Shutdown a b → c.server ≡ b.server → c.output ≡ b.output → Stops remaining contents calls text a c serve_fault.Memory
-  unwritten a b c (x, steps, owed, events, puts, keys) server output =
-      stops_at Shutdown a c serve_fault.Memory
-      (inr (refl, x, subst (λ (s : State). StepsTo (Ok x) a.server s (step_on a.server Shutdown)) (sym server) steps, subst (λ (o : Output). Puts a.output o (text (a.events + 1) x.rows)) (sym output) puts))
+  -- the server was told to end, and what it sends then isn't written
+  pub unwritten : (a b c : Scene S) (fault : ServeFault) → Takes text Shutdown a b → IsUnsent b c fault → GivesUp remaining contents calls text a c fault
+  unwritten a b c serve_fault.Port takes h = absurd h
+  unwritten a b c serve_fault.Address takes h = absurd h
+  unwritten a b c serve_fault.Network takes h = absurd h
+  unwritten a b c (serve_fault.Step f) takes h = absurd h
+  unwritten a b c serve_fault.Trace takes h = absurd h
+  unwritten a b c (serve_fault.Store f) takes unkept = (c, stops_at Shutdown a c (serve_fault.Store f) (refl, b, takes, unkept), refl)
+  unwritten a b c serve_fault.Memory (x, steps, owed, events, puts, keys) kept =
+      (b, stops_at Shutdown a b serve_fault.Memory (inr (refl, x, steps, puts)), inl kept)
 
   -- the server is told to end, and what it sends then is written
-  pub ended : (event : Event) (a b c : Scene S) → Takes text event a b → Does remaining contents calls text Writes b c → HandsIn remaining contents calls text event a c
-  ended event a b c takes (flushes, (server, events, output, keys)) =
-      let same : scene c.keys c.server b.peers c.events c.output ≡ b = scene_path (scene c.keys c.server b.peers c.events c.output) b keys server refl events output in
-      (b.peers, subst (Takes text event a) (sym same) takes, flushes)
+  pub ended : {X : Type 0} (a b c : Scene S) (r : Result X ServeFault) → Takes text Shutdown a b
+      → MatchResult r (λ _. SendsOut remaining contents calls text b c) (IsUnsent b c)
+      → MatchResult r (λ _. HandsIn remaining contents calls text Shutdown a c) (GivesUp remaining contents calls text a c)
+  ended a b c (Ok x) takes sends = (b, takes, sends)
+  ended a b c (Err fault) takes unsent = unwritten a b c fault takes unsent
 
   -- ---- an observer puts all into the writer that was lent to it
 
@@ -464,10 +581,11 @@ module _ {S : Type 0} (remaining contents : S → Option (List ℕ)) (calls : S 
   does_writer (Connects origin key) a b (stream, left, drawn, room, (x, steps, owed, events, puts, keys)) = puts.writer
   does_writer (Reports conn readiness) a b (e, (server, events, output, keys)) = ap (λ (t : Output). t.writer) output
   does_writer (Gathers conns) a b (taken, e, (server, events, output, keys)) = ap (λ (t : Output). t.writer) output
-  does_writer (Looks conn) a b (looked, (server, events, output, keys)) = ap (λ (t : Output). t.writer) output
+  does_writer (Looks conn) a b (none, looked, (server, events, output, keys)) = ap (λ (t : Output). t.writer) output
   does_writer (Hears conn piece) a b (h, some, p, reads, (x, steps, owed, events, puts, keys)) = puts.writer
   does_writer (Waits conn) a b (h, other, reads, (server, events, output, keys)) = ap (λ (t : Output). t.writer) output
-  does_writer Writes a b (wrote, (server, events, output, keys)) = ap (λ (t : Output). t.writer) output
+  does_writer Keeps a b (settles, e) = ap (λ (s : Scene S). s.output.writer) e
+  does_writer Writes a b (none, wrote, (server, events, output, keys)) = ap (λ (t : Output). t.writer) output
   does_writer (Leaves conn) a b (over, (x, steps, owed, events, puts, keys)) = puts.writer
   does_writer (Drops conn) a b (done, e, (server, events, output, keys)) = ap (λ (t : Output). t.writer) output
   does_writer (Passes now) a b (x, steps, owed, events, puts, keys) = puts.writer
@@ -484,27 +602,46 @@ module _ {S : Type 0} (remaining contents : S → Option (List ℕ)) (calls : S 
   fails_writer event a b serve_fault.Network h = absurd h
   fails_writer event a b (serve_fault.Step f) (steps, output) = ap (λ (t : Output). t.writer) output
   fails_writer event a b serve_fault.Trace (x, steps, part) = part.puts.writer
+  fails_writer event a b (serve_fault.Store f) (last, told, (x, steps, owed, events, puts, keys), unkept) = ap (λ (s : Scene S). s.output.writer) unkept.1 ∙ puts.writer
   fails_writer event a b serve_fault.Memory (inl (either, output)) = ap (λ (t : Output). t.writer) output
   fails_writer event a b serve_fault.Memory (inr (last, x, steps, puts)) = puts.writer
 
   stops_writer : (a b : Scene S) (fault : ServeFault) → Stops remaining contents calls text a b fault → b.output.writer ≡ a.output.writer
   stops_writer a b fault (n, mid, (acts, t, p), inl (h, server, output)) = ap (λ (t : Output). t.writer) output ∙ runs_writer acts a mid p
-  stops_writer a b fault (n, mid, (acts, t, p), inr (event, h)) = fails_writer event mid b fault h ∙ runs_writer acts a mid p
+  stops_writer a b fault (n, mid, (acts, t, p), inr (inr (event, h))) = fails_writer event mid b fault h ∙ runs_writer acts a mid p
+  stops_writer a b fault (n, mid, (acts, t, p), inr (inl (h, unkept))) = ap (λ (s : Scene S). s.output.writer) unkept.1 ∙ runs_writer acts a mid p
+
+  kept_writer : (a b : Scene S) → IsKept a b ⊎ IsUnkept a b → b.output.writer ≡ a.output.writer
+  kept_writer a b (inl (settles, e)) = ap (λ (s : Scene S). s.output.writer) e
+  kept_writer a b (inr (stays, e)) = ap (λ (s : Scene S). s.output.writer) e
+
+  wound_up_writer : (a b : Scene S) (fault : ServeFault) → WindsUp fault a b → b.output.writer ≡ a.output.writer
+  wound_up_writer a b serve_fault.Port h = kept_writer a b h
+  wound_up_writer a b serve_fault.Address h = kept_writer a b h
+  wound_up_writer a b serve_fault.Network h = kept_writer a b h
+  wound_up_writer a b (serve_fault.Step f) h = kept_writer a b h
+  wound_up_writer a b serve_fault.Trace h = kept_writer a b h
+  wound_up_writer a b (serve_fault.Store f) e = ap (λ (s : Scene S). s.output.writer) e
+  wound_up_writer a b serve_fault.Memory h = kept_writer a b h
+
+  gives_up_writer : (a b : Scene S) (fault : ServeFault) → GivesUp remaining contents calls text a b fault → b.output.writer ≡ a.output.writer
+  gives_up_writer a b fault (stopped, stops, winds) = wound_up_writer stopped b fault winds ∙ stops_writer a stopped fault stops
 
   goes_writer : (turns : ℕ) (a b : Scene S) → Goes remaining contents calls text turns a b → b.output.writer ≡ a.output.writer
   goes_writer turns a b (acts, t, p) = runs_writer acts a b p
 
   pub run_writer : {X : Type 0} (may_ask : Bool) (most : ℕ) (a b : Scene S) (r : Result X ServeFault)
-      → MatchResult r (λ _. ServesUntil remaining contents calls text may_ask most a b) (Stops remaining contents calls text a b) → b.output.writer ≡ a.output.writer
-  run_writer may_ask most a b (Ok x) (turns, are, (mid, h, (peers, (given, steps, owed, events, puts, keys), flushed))) = puts.writer ∙ goes_writer turns a mid (turns_go turns a mid h)
-  run_writer may_ask most a b (Err fault) h = stops_writer a b fault h
+      → MatchResult r (λ _. ServesUntil remaining contents calls text may_ask most a b) (GivesUp remaining contents calls text a b) → b.output.writer ≡ a.output.writer
+  run_writer may_ask most a b (Ok x) (turns, are, (mid, h, (told, (given, steps, owed, events, puts, keys), (kept, does, sends)))) =
+      does_writer Writes kept b sends ∙ does_writer Keeps told kept does ∙ puts.writer ∙ goes_writer turns a mid (turns_go turns a mid h)
+  run_writer may_ask most a b (Err fault) h = gives_up_writer a b fault h
 
 -- a run, from a server that is known
-pub ran : {X : Type 0} (text : EventText) (first server server' : State) (old new : Sockets TcpStream) (output output' : Output) (may_ask : Bool) (most : ℕ) (r : Result X ServeFault) → server ≡ first
+pub ran : {X : Type 0} (text : EventText) (first server server' : Keeping) (old new : Sockets TcpStream) (output output' : Output) (may_ask : Bool) (most : ℕ) (r : Result X ServeFault) → server ≡ first
     → MatchResult r (λ _. ServesUntil unknown unknown uncounted text may_ask most (begun old server output) (begun new server' output'))
-    (Stops unknown unknown uncounted text (begun old server output) (begun new server' output'))
+    (GivesUp unknown unknown uncounted text (begun old server output) (begun new server' output'))
     → MatchResult r (λ _. IsServed text old first may_ask most output output') (λ fault. IsStopped text old first fault output output')
 ran text first server server' old new output output' may_ask most (Ok x) e h =
-    (begun new server' output', refl, subst (λ (s : State). ServesUntil unknown unknown uncounted text may_ask most (begun old s output) (begun new server' output')) e h)
+    (begun new server' output', refl, subst (λ (s : Keeping). ServesUntil unknown unknown uncounted text may_ask most (begun old s output) (begun new server' output')) e h)
 ran text first server server' old new output output' may_ask most (Err fault) e h =
-    (begun new server' output', refl, subst (λ (s : State). Stops unknown unknown uncounted text (begun old s output) (begun new server' output') fault) e h)
+    (begun new server' output', refl, subst (λ (s : Keeping). GivesUp unknown unknown uncounted text (begun old s output) (begun new server' output') fault) e h)

@@ -1,13 +1,11 @@
 -- What the loop hands to the server, what it keeps for each socket, and what it puts out.
-use Rattle.std.specs.Prelude.{◌≡◌, ◌⊎◌, ⊤, ℕ, ◌+◌, ◌<◌, ◌≤◌, ◌==◌, ◌||◌, zero, suc, Bool, true, false, List, [], ◌∷◌, length, Option, None, Result, Ok, Err, MatchResult, if◌then◌else◌, fold}
+use Rattle.std.specs.Prelude.{◌≡◌, ◌⊎◌, ⊤, ℕ, ◌+◌, ◌<◌, ◌≤◌, ◌==◌, ◌||◌, zero, suc, Bool, true, false, List, [], ◌∷◌, length, Option, None, Result, MatchResult, if◌then◌else◌, fold}
 use Rattle.std.specs.List.{concat}
 use Rattle.mio.specs.declared.net.stream.TcpStream.{TcpStream}
 use Rattle.mio.specs.declared.event.event.Event as ready
 use Rattle.mio.specs.Event.{event_token, is_writable, is_write_closed, is_read_closed, is_error}
 use Rattle.rand_core.specs.Stream.{Stream, fill_bytes}
 use Rattle.ua_types.specs.declared.moment.Moment.{Moment}
-use Rattle.server_core.specs.declared.world.World.{World}
-use Rattle.server_core.specs.Stepping.{step_on, StepsTo}
 use Rattle.server_core.specs.declared.event.Event.{Event}
 use Rattle.server_core.specs.declared.event.Event.TheVariants.{Opened, Bytes, Gone, Tick, Shutdown}
 use Rattle.server_core.specs.declared.out.Step.{Step}
@@ -15,20 +13,18 @@ use Rattle.socket_peers.specs.declared.peer.Heard.{Heard}
 use Rattle.socket_peers.specs.declared.peer.Readiness.{Readiness}
 use Rattle.socket_peers.specs.Peer.{is_piece, may_be_more}
 use Rattle.socket_peers.specs.Socket.{Calls}
-use Rattle.socket_peers.specs.Peers.{PeersState, with_joined, with_departed, without, departs_at, is_done_at, is_crowded, at_time, is_silent_at, is_gone_at, is_sweep_due, swept_now, reported, owed_all, ReadsAt, LooksAt, FlushesAll}
+use Rattle.socket_peers.specs.Peers.{PeersState, with_joined, with_departed, without, departs_at, is_done_at, is_crowded, is_owed_at, at_time, is_silent_at, is_gone_at, is_sweep_due, swept_now, reported, owed_all, ReadsAt, LooksAt, FlushesAll}
 use Rattle.socket_server.specs.Sockets.{Sockets, key_stream}
+use Rattle.socket_server.specs.Keeping.{Keeping, Answers, LosesAnswer, Refuses, Settles, StaysUnkept, IsOfStore}
 use Rattle.socket_server.specs.Output.{Output, EventText, Puts, PutsPart}
 use Rattle.socket_server.specs.declared.serve_fault.ServeFault.{ServeFault}
 use Rattle.socket_server.specs.declared.serve_fault.ServeFault.TheVariants as serve_fault
 
--- what a server knows, or none once it is halted
-abbrev pub State : Type 0
-State = Option World
-
--- the keys that connections will get, the server, the sockets, how many events the server was handed, and what was put out
+-- The keys that connections will get; the server, with what waits to be kept and what is kept; the sockets; how many events the server
+-- was handed; and what was put out
 pub record Scene (S : Type 0) : Type 0 where
   pub keys : Stream
-  pub server : State
+  pub server : Keeping
   pub peers : PeersState S
   pub events : ℕ
   pub output : Output
@@ -42,8 +38,9 @@ Drawn stream old new key = IsNextKey (stream old) (stream new) key
 
 -- One thing that happens: a socket of this address connects and gets this key; a socket is reported as ready, maybe to take bytes, maybe
 -- as ending; the list of those to be looked at is taken; a socket on it is looked at, and written what it is owed; a piece comes from a
--- socket; a read from one gives nothing; sockets take some of what they are owed, and fail where too much is left; a connection is no
--- more; its socket is let go of; time passes; silent sockets begin to be looked for; a silent one is let go of
+-- socket; a read from one gives nothing; what was stored and waits is kept; sockets take some of what they are owed, and fail where too
+-- much is left; a connection is no more; its socket is let go of; time passes; silent sockets begin to be looked for; a silent one is
+-- let go of
 pub data Happening : Type 0 where
   Connects : ℕ → List ℕ → Happening
   Reports : ℕ → Readiness → Happening
@@ -51,6 +48,7 @@ pub data Happening : Type 0 where
   Looks : ℕ → Happening
   Hears : ℕ → List ℕ → Happening
   Waits : ℕ → Happening
+  Keeps : Happening
   Writes : Happening
   Leaves : ℕ → Happening
   Drops : ℕ → Happening
@@ -59,18 +57,18 @@ pub data Happening : Type 0 where
   Expires : ℕ → Happening
 
 module _ {S : Type 0} where
-  abbrev pub scene : Stream → State → PeersState S → ℕ → Output → Scene S
+  abbrev pub scene : Stream → Keeping → PeersState S → ℕ → Output → Scene S
   scene keys server peers events output = record { keys = keys; server = server; peers = peers; events = events; output = output }
 
-  -- the server was handed nothing, no key was drawn, and nothing was put out
+  -- the server was handed nothing, nothing more is kept, no key was drawn, and nothing was put out
   abbrev pub IsQuiet : Scene S → Scene S → Type 0
   IsQuiet old new = (new.server ≡ old.server) × (new.events ≡ old.events) × (new.output ≡ old.output) × (new.keys ≡ old.keys)
 
-  -- The server takes this event, which has the next number; each socket is owed what the server sends on its connection; and what is
-  -- put out is of the rows that fired
+  -- The server takes this event, which has the next number; what it stored waits to be kept; each socket is owed what the server sends on
+  -- its connection; and what is put out is of the rows that fired
   abbrev pub Takes : EventText → Event → Scene S → Scene S → Type 0
   Takes text event old new =
-      (x : Step) × StepsTo (Ok x) old.server new.server (step_on old.server event) × (new.peers ≡ owed_all old.peers x.outs)
+      (x : Step) × Answers event x old.server new.server × (new.peers ≡ owed_all old.peers x.outs)
       × (new.events ≡ old.events + 1) × Puts old.output new.output (text (old.events + 1) x.rows) × (new.keys ≡ old.keys)
 
 module _ {S : Type 0} (remaining contents : S → Option (List ℕ)) (calls : S → Option Calls) (text : EventText) where
@@ -83,20 +81,23 @@ module _ {S : Type 0} (remaining contents : S → Option (List ℕ)) (calls : S 
   -- the next number, and the next key of the generator, and comes from an address of which there are fewer than may be; a connection is
   -- gone once the input of its socket is at its end, whatever the socket is still owed, or the socket is over; and the socket is let go
   -- of after that, once it is over. One to which nothing was sent for as long as a socket may stay so is let go of whatever it is owed.
-  -- What is put out is of events alone
+  -- What is put out is of events alone. Nothing goes out before what was stored is kept: sockets take what they are owed only while
+  -- nothing waits to be kept
   abbrev pub Does : Happening → Scene S → Scene S → Type 0
   Does (Connects origin key) old new =
       (stream : S) × (left : Stream) × IsNextKey old.keys left key × (is_crowded old.peers origin ≡ false)
       × Takes text (Opened (old.peers.last + 1) key) (record old { keys = left; peers = with_joined old.peers origin stream }) new
   Does (Reports conn readiness) old new = (new.peers ≡ reported old.peers conn readiness) × IsQuiet old new
   Does (Gathers conns) old new = (conns ≡ old.peers.awake) × (new.peers ≡ record old.peers { awake = [] }) × IsQuiet old new
-  Does (Looks conn) old new = LooksAt remaining contents calls conn old.peers new.peers × IsQuiet old new
+  Does (Looks conn) old new =
+      (is_owed_at old.peers conn ≡ true → old.server.waiting ≡ []) × LooksAt remaining contents calls conn old.peers new.peers × IsQuiet old new
   Does (Hears conn piece) old new =
       (h : Heard) × (is_piece h ≡ true) × (peers : PeersState S) × ReadsAt remaining contents calls conn old.peers peers 4096 piece h
       × Takes text (Bytes conn piece) (record old { peers = peers }) new
   Does (Waits conn) old new =
       (h : Heard) × (is_piece h ≡ false) × ReadsAt remaining contents calls conn old.peers new.peers 4096 [] h × IsQuiet old new
-  Does Writes old new = FlushesAll remaining contents calls old.peers new.peers × IsQuiet old new
+  Does Keeps old new = Settles old.server new.server × (new ≡ record old { server = new.server })
+  Does Writes old new = (old.server.waiting ≡ []) × FlushesAll remaining contents calls old.peers new.peers × IsQuiet old new
   Does (Leaves conn) old new = (departs_at old.peers conn ≡ true) × Takes text (Gone conn) (record old { peers = with_departed old.peers conn }) new
   Does (Drops conn) old new = (is_done_at old.peers conn ≡ true) × (new.peers ≡ without old.peers conn) × IsQuiet old new
   Does (Passes now) old new = Takes text (Tick now) (record old { peers = at_time now old.peers }) new
@@ -130,6 +131,7 @@ ticks (act ∷ acts) = ticks acts
 -- a fault of the loop's own
 abbrev pub IsOutside : ServeFault → Type 0
 IsOutside (serve_fault.Step fault) = ⊥
+IsOutside (serve_fault.Store fault) = ⊥
 IsOutside serve_fault.Trace = ⊥
 IsOutside fault = ⊤
 
@@ -137,36 +139,66 @@ IsOutside fault = ⊤
 abbrev pub IsTurns : Bool → ℕ → ℕ → Type 0
 IsTurns may_ask most turns = (0 < turns) × (0 < most → turns ≤ most) × (may_ask ≡ false → turns ≡ most)
 
+module _ {S : Type 0} where
+  -- what waits is kept, and then the sockets may take some of what they are owed
+  abbrev pub IsKept : Scene S → Scene S → Type 0
+  IsKept old new = Settles old.server new.server × (new ≡ record old { server = new.server; peers = new.peers })
+
+  -- what waits can't be kept: nothing more is kept, and all is as it was, the sockets too
+  abbrev pub IsUnkept : Scene S → Scene S → Type 0
+  IsUnkept old new = StaysUnkept old.server new.server × (new ≡ record old { server = new.server })
+
+  -- Why what is owed isn't written: what waits can't be kept; or it is kept, and there is no memory to write
+  abbrev pub IsUnsent : Scene S → Scene S → ServeFault → Type 0
+  IsUnsent old new (serve_fault.Store fault) = IsUnkept old new
+  IsUnsent old new serve_fault.Memory = IsKept old new
+  IsUnsent old new fault = ⊥
+
+  -- What is left after a fault: of the store, nothing more is done. After another one what waits is kept, and then the sockets may take
+  -- some of what they are owed; or it can't be kept, and they take nothing
+  abbrev pub WindsUp : ServeFault → Scene S → Scene S → Type 0
+  WindsUp (serve_fault.Store fault) old new = new ≡ old
+  WindsUp fault old new = IsKept old new ⊎ IsUnkept old new
+
 module _ {S : Type 0} (text : EventText) where
   -- Why an event was not handed in whole: the server didn't answer it; or of the text of its rows a part was put out, from the beginning
-  -- on, and a write failed; or there was no memory, its answer may be lost, and nothing is put out of it, or, of the event that ends the
-  -- server, the text of its rows
+  -- on, and a write failed; or there was no memory, its answer may be lost, with what it stored, and nothing is put out of it, or, of the
+  -- event that ends the server, the text of its rows; or what was stored at that event and before can't be kept
   abbrev pub Fails : Event → Scene S → Scene S → ServeFault → Type 0
-  Fails event old new (serve_fault.Step fault) = StepsTo (Err fault) old.server new.server (step_on old.server event) × (new.output ≡ old.output)
+  Fails event old new (serve_fault.Step fault) = Refuses event old.server new.server fault × (new.output ≡ old.output)
   Fails event old new serve_fault.Trace =
-      (x : Step) × StepsTo (Ok x) old.server new.server (step_on old.server event) × PutsPart old.output new.output (text (old.events + 1) x.rows)
+      (x : Step) × Answers event x old.server new.server × PutsPart old.output new.output (text (old.events + 1) x.rows)
   Fails event old new serve_fault.Memory =
-      (((new.server ≡ old.server) ⊎ ((x : Step) × StepsTo (Ok x) old.server new.server (step_on old.server event))) × (new.output ≡ old.output))
-      ⊎ ((event ≡ Shutdown) × (x : Step) × StepsTo (Ok x) old.server new.server (step_on old.server event)
-      × Puts old.output new.output (text (old.events + 1) x.rows))
+      (((new.server ≡ old.server) ⊎ (LosesAnswer event old.server new.server ⊎ ((x : Step) × Answers event x old.server new.server))) × (new.output ≡ old.output))
+      ⊎ ((event ≡ Shutdown) × (x : Step) × Answers event x old.server new.server × Puts old.output new.output (text (old.events + 1) x.rows))
+  Fails event old new (serve_fault.Store fault) =
+      (event ≡ Shutdown) × (told : Scene S) × Takes text event old told × IsUnkept told new
   Fails event old new fault = ⊥
 
 module _ {S : Type 0} (remaining contents : S → Option (List ℕ)) (calls : S → Option Calls) (text : EventText) where
-  -- the server takes this event, and the sockets take some of what they are owed then
+  -- what waits is kept, and then the sockets take some of what they are owed
+  abbrev pub SendsOut : Scene S → Scene S → Type 0
+  SendsOut old new = (kept : Scene S) × Does remaining contents calls text Keeps old kept × Does remaining contents calls text Writes kept new
+
+  -- the server takes this event, what waits is kept, and the sockets take some of what they are owed then
   abbrev pub HandsIn : Event → Scene S → Scene S → Type 0
-  HandsIn event old new =
-      (mid : PeersState S) × Takes text event old (scene new.keys new.server mid new.events new.output) × FlushesAll remaining contents calls mid new.peers
+  HandsIn event old new = (told : Scene S) × Takes text event old told × SendsOut told new
 
   -- some acts, and time passed so often
   abbrev pub Goes : ℕ → Scene S → Scene S → Type 0
   Goes turns old new = (acts : List Happening) × (ticks acts ≡ turns) × Runs remaining contents calls text acts old new
 
-  -- Some acts, and then the server is as they left it, and what they put out is put out; or it stopped at an event. The network fails
-  -- between events alone
+  -- Some acts, and then the server is as they left it, and what they put out is put out; or what they left to be kept can't be kept; or it
+  -- stopped at an event. The network fails between events alone
   abbrev pub Stops : Scene S → Scene S → ServeFault → Type 0
   Stops old new fault =
       (turns : ℕ) × (mid : Scene S) × Goes turns old mid
-      × ((IsOutside fault × (new.server ≡ mid.server) × (new.output ≡ mid.output)) ⊎ ((event : Event) × Fails text event mid new fault))
+      × ((IsOutside fault × (new.server ≡ mid.server) × (new.output ≡ mid.output))
+      ⊎ ((IsOfStore fault × IsUnkept mid new) ⊎ ((event : Event) × Fails text event mid new fault)))
+
+  -- it stopped, and is wound up
+  abbrev pub GivesUp : Scene S → Scene S → ServeFault → Type 0
+  GivesUp old new fault = (stopped : Scene S) × Stops old stopped fault × WindsUp fault stopped new
 
   -- acts in which time passed so often, or where it stopped
   abbrev pub Serves : {X : Type 0} → ℕ → Scene S → Scene S → Result X ServeFault → Type 0
@@ -190,26 +222,35 @@ module _ {S : Type 0} (remaining contents : S → Option (List ℕ)) (calls : S 
   ReadsOn conn old new =
       GoesOn conn old new false ⊎ ((mid : Scene S) × GoesOn conn old mid true × Does remaining contents calls text (Reports conn readable) mid new)
 
+  -- what waits is kept now, or still waits
+  abbrev pub KeepsIf : Bool → Scene S → Scene S → Type 0
+  KeepsIf true old new = Does remaining contents calls text Keeps old new
+  KeepsIf false old new = new ≡ old
+
+  -- a socket is looked at, and where it is owed something what waits is kept before
+  abbrev pub LooksOn : ℕ → Scene S → Scene S → Type 0
+  LooksOn conn old new =
+      (kept : Scene S) × KeepsIf (is_owed_at old.peers conn) old kept × Does remaining contents calls text (Looks conn) kept new
+
   -- a socket is looked at, then read from, and then the server is told if its connection is no more
   abbrev pub Attends : ℕ → Scene S → Scene S → Type 0
-  Attends conn old new =
-      (looked : Scene S) × (read : Scene S) × Does remaining contents calls text (Looks conn) old looked × ReadsOn conn looked read × Goes 0 read new
+  Attends conn old new = (looked : Scene S) × (read : Scene S) × LooksOn conn old looked × ReadsOn conn looked read × Goes 0 read new
 
   abbrev pub AttendsEach : List ℕ → Scene S → Scene S → Type 0
   AttendsEach [] old new = new ≡ old
   AttendsEach (conn ∷ conns) old new = (mid : Scene S) × Attends conn old mid × AttendsEach conns mid new
 
-  -- sockets are attended to in groups of at most 16, and behind each group what is owed is written
+  -- Sockets are attended to in groups of at most 16. Behind each group what was stored is kept, and then what is owed is written
   abbrev pub AttendsGroups : List (List ℕ) → Scene S → Scene S → Type 0
   AttendsGroups [] old new = new ≡ old
   AttendsGroups (conns ∷ groups) old new =
       (attended : Scene S) × (written : Scene S) × (length conns ≤ 16) × AttendsEach conns old attended
-      × Does remaining contents calls text Writes attended written × AttendsGroups groups written new
+      × SendsOut attended written × AttendsGroups groups written new
 
-  -- what is owed is written, and then each socket that is to be looked at is attended to, once
+  -- what was stored is kept, what is owed is written, and then each socket that is to be looked at is attended to, once
   abbrev pub AttendsAll : Scene S → Scene S → Type 0
   AttendsAll old new =
-      (written : Scene S) × (gathered : Scene S) × (groups : List (List ℕ)) × Does remaining contents calls text Writes old written
+      (written : Scene S) × (gathered : Scene S) × (groups : List (List ℕ)) × SendsOut old written
       × Does remaining contents calls text (Gathers (concat groups)) written gathered × AttendsGroups groups gathered new
 
   -- sockets are reported as ready
@@ -262,7 +303,7 @@ module _ {S : Type 0} (remaining contents : S → Option (List ℕ)) (calls : S 
   SweepsIfDue false old new = new ≡ old
 
   -- Sockets are reported, the server is told the time, once, who has connected is taken in, and silent sockets are let go of where it is
-  -- time to. And then what is owed is written, and each socket that is to be looked at is attended to
+  -- time to. And then what was stored is kept, what is owed is written, and each socket that is to be looked at is attended to
   pub record TakesTurn (old new : Scene S) : Type 0 where
     pub reports : List (ℕ × Readiness)
     pub now : Moment
@@ -281,7 +322,7 @@ module _ {S : Type 0} (remaining contents : S → Option (List ℕ)) (calls : S 
   Turns zero old new = new ≡ old
   Turns (suc turns) old new = (mid : Scene S) × Turns turns old mid × TakesTurn mid new
 
-  -- so many turns, and then the server is told to end, and the sockets take some of what they are owed then
+  -- so many turns, and then the server is told to end, what waits is kept, and the sockets take some of what they are owed then
   abbrev pub ServesToTheEnd : ℕ → Scene S → Scene S → Type 0
   ServesToTheEnd turns old new = (mid : Scene S) × Turns turns old mid × HandsIn Shutdown mid new
 
@@ -319,15 +360,15 @@ abbrev pub reported_events : {S : Type 0} → PeersState S → List ready.Event 
 reported_events p events = fold reported_event p events
 
 -- a server, and sockets as they are kept
-abbrev pub begun : Sockets TcpStream → State → Output → Scene TcpStream
+abbrev pub begun : Sockets TcpStream → Keeping → Output → Scene TcpStream
 begun sockets server output = scene (key_stream sockets.keys) server sockets.peers sockets.events output
 
 -- From there on some turns are well done, at most so many where there is such a bound, and as many where nothing may ask to stop: without
 -- a bound they end with a fault then. And then the server has ended; or it stopped in one. And this is what was put out before and after
-abbrev pub IsServed : EventText → Sockets TcpStream → State → Bool → ℕ → Output → Output → Type 0
+abbrev pub IsServed : EventText → Sockets TcpStream → Keeping → Bool → ℕ → Output → Output → Type 0
 IsServed text sockets server may_ask most old new =
     (after : Scene TcpStream) × (after.output ≡ new) × ServesUntil unknown unknown uncounted text may_ask most (begun sockets server old) after
 
-abbrev pub IsStopped : EventText → Sockets TcpStream → State → ServeFault → Output → Output → Type 0
+abbrev pub IsStopped : EventText → Sockets TcpStream → Keeping → ServeFault → Output → Output → Type 0
 IsStopped text sockets server fault old new =
-    (after : Scene TcpStream) × (after.output ≡ new) × Stops unknown unknown uncounted text (begun sockets server old) after fault
+    (after : Scene TcpStream) × (after.output ≡ new) × GivesUp unknown unknown uncounted text (begun sockets server old) after fault

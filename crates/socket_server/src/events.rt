@@ -1,17 +1,20 @@
 //! The server and the sockets: what happens at a socket is an event of the server, and what the server
 //! sends is owed to the sockets.
 
-ghost use Rattle.std.specs.Prelude.{◌≡◌, ◌+◌, [], ◌∷◌, true, false, OnOk, MatchResult};
+ghost use Rattle.std.specs.Prelude.{◌≡◌, ℕ, ◌+◌, [], ◌∷◌, true, false, OnOk, MatchResult};
 ghost use Rattle.rand_core.specs.Stream.{Stream};
 ghost use Rattle.server_core.specs.declared.event.Event.TheVariants as happening;
-ghost use Rattle.server_core.specs.World.{world_of};
+ghost use Rattle.socket_server.specs.Keeping.{keeping};
 ghost use Rattle.socket_peers.specs.Peers.{departs_at, is_crowded, is_sweep_due};
-ghost use Rattle.socket_server.specs.Serving.{scene, IsNextKey, Connects, Does, Takes, Fails, GoesOn, ReadsOn, Attends, AttendsEach, AttendsAll, TakesIn, AreNoneSilent, MayExpire, ExpiresAmong, SweepsIfDue, Serves, Stops};
+ghost use Rattle.socket_server.specs.Output.{Output, EventText};
+ghost use Rattle.socket_server.specs.Serving.{scene, IsNextKey, Connects, Does, Takes, Fails, SendsOut, IsUnsent, WindsUp, LooksOn, GoesOn, ReadsOn, Attends, AttendsEach, AttendsAll, TakesIn, AreNoneSilent, MayExpire, ExpiresAmong, SweepsIfDue, Serves, Stops};
 
+use crate::kept_server::{Answer, KeptServer};
 use crate::observer::Observer;
 use crate::serve_fault::ServeFault;
 use bytes::Bytes;
-use server_core::{Event, Out, Server, Step};
+use server_core::{Event, Out};
+use server_messages::Keeper;
 use socket_peers::{End, Peers, Readiness, Socket};
 use std::alloc::Global;
 use std::net::SocketAddr;
@@ -56,24 +59,24 @@ fn closes(outs: &[Out]) -> bool {
 
 /// Hands an event to the server, owes the sockets what it sends, and tells that and which rows fired. Says whether a connection is
 /// to be closed.
-pub(crate) fn hand_in<S: Socket + Drop, W: Observer>(
+pub(crate) fn hand_in<S: Socket + Drop, K: Keeper, W: Observer>(
     alloc: Global,
     peers: &mut Peers<S>,
     events: &mut u64,
-    server: &mut Server,
+    server: &mut KeptServer<K>,
     observer: &mut W,
     event: &Event,
 ) -> Result<bool, ServeFault>
-    ensures { (keys : Stream) → let old = scene keys (world_of server.old) peers.old events.old (W.output observer.old) in
-        let new = scene keys (world_of server.new) peers.new events.new (W.output observer.new) in
+    ensures { (keys : Stream) → let old = scene keys (keeping K.kept server.old) peers.old events.old (W.output observer.old) in
+        let new = scene keys (keeping K.kept server.new) peers.new events.new (W.output observer.new) in
         MatchResult result (λ _. Takes W.text event.now old new) (Fails W.text event.now old new) }
 {
     let Some(number) = events.checked_add(1) else {
         return Err(ServeFault::Memory);
     };
-    let Step { outs, rows } = match server.step(alloc, event) {
-        Ok(step) => step,
-        Err(fault) => return Err(ServeFault::Step(fault)),
+    let Answer { outs, rows } = match server.step(alloc, event) {
+        Ok(answer) => answer,
+        Err(fault) => return Err(fault),
     };
     let is_close = closes(outs.as_slice());
     observer.sent(outs.as_slice());
@@ -88,17 +91,17 @@ pub(crate) fn hand_in<S: Socket + Drop, W: Observer>(
 }
 
 // Tells the server, and the observer, of a new connection.
-fn hand_in_opening<S: Socket + Drop, W: Observer>(
+fn hand_in_opening<S: Socket + Drop, K: Keeper, W: Observer>(
     alloc: Global,
     peers: &mut Peers<S>,
     events: &mut u64,
-    server: &mut Server,
+    server: &mut KeptServer<K>,
     observer: &mut W,
     arrival: Arrival,
 ) -> Result<(), ServeFault>
     ensures { (keys : Stream) → let opened = happening.Opened arrival.number arrival.key in
-        let old = scene keys (world_of server.old) peers.old events.old (W.output observer.old) in
-        let new = scene keys (world_of server.new) peers.new events.new (W.output observer.new) in
+        let old = scene keys (keeping K.kept server.old) peers.old events.old (W.output observer.old) in
+        let new = scene keys (keeping K.kept server.new) peers.new events.new (W.output observer.new) in
         MatchResult result (λ _. Takes W.text opened old new) (Fails W.text opened old new) }
 {
     let key = arrival.key;
@@ -120,11 +123,11 @@ fn hand_in_opening<S: Socket + Drop, W: Observer>(
 }
 
 // Takes in a socket that has connected: it gets the next number, and the server is told.
-fn admit<S: Socket + Drop, W: Observer>(
+fn admit<S: Socket + Drop, K: Keeper, W: Observer>(
     alloc: Global,
     peers: &mut Peers<S>,
     events: &mut u64,
-    server: &mut Server,
+    server: &mut KeptServer<K>,
     observer: &mut W,
     arrival: Arrival,
     stream: S,
@@ -132,8 +135,8 @@ fn admit<S: Socket + Drop, W: Observer>(
     requires number { arrival.number ≡ peers.old.last + 1 }
     requires room { is_crowded peers.old arrival.origin ≡ false }
     ensures { (keys : Stream) → (left : Stream) → IsNextKey keys left arrival.key →
-        let old = scene keys (world_of server.old) peers.old events.old (W.output observer.old) in
-        let new = scene left (world_of server.new) peers.new events.new (W.output observer.new) in
+        let old = scene keys (keeping K.kept server.old) peers.old events.old (W.output observer.old) in
+        let new = scene left (keeping K.kept server.new) peers.new events.new (W.output observer.new) in
         MatchResult result (λ _. Does S.remaining S.contents S.calls W.text (Connects arrival.origin arrival.key) old new) (Stops S.remaining S.contents S.calls W.text old new) }
 {
     if peers
@@ -146,17 +149,17 @@ fn admit<S: Socket + Drop, W: Observer>(
 }
 
 // Hands in a piece that was read from a socket.
-fn hand_in_piece<S: Socket + Drop, W: Observer>(
+fn hand_in_piece<S: Socket + Drop, K: Keeper, W: Observer>(
     alloc: Global,
     peers: &mut Peers<S>,
     events: &mut u64,
-    server: &mut Server,
+    server: &mut KeptServer<K>,
     observer: &mut W,
     number: u64,
     piece: Vec<u8>,
 ) -> Result<(), ServeFault>
-    ensures { (keys : Stream) → let old = scene keys (world_of server.old) peers.old events.old (W.output observer.old) in
-        let new = scene keys (world_of server.new) peers.new events.new (W.output observer.new) in
+    ensures { (keys : Stream) → let old = scene keys (keeping K.kept server.old) peers.old events.old (W.output observer.old) in
+        let new = scene keys (keeping K.kept server.new) peers.new events.new (W.output observer.new) in
         MatchResult result (λ _. Takes W.text (happening.Bytes number piece.items) old new)
         (Fails W.text (happening.Bytes number piece.items) old new) }
 {
@@ -174,17 +177,17 @@ fn hand_in_piece<S: Socket + Drop, W: Observer>(
 }
 
 // Reads once from a socket, and hands a piece that came to the server. Says whether there may be more to read.
-fn hear<S: Socket + Drop, W: Observer>(
+fn hear<S: Socket + Drop, K: Keeper, W: Observer>(
     alloc: Global,
     peers: &mut Peers<S>,
     events: &mut u64,
-    server: &mut Server,
+    server: &mut KeptServer<K>,
     observer: &mut W,
     number: u64,
 ) -> Result<bool, ServeFault>
     ensures { (keys : Stream) →
-        let old = scene keys (world_of server.old) peers.old events.old (W.output observer.old) in
-        let new = scene keys (world_of server.new) peers.new events.new (W.output observer.new) in
+        let old = scene keys (keeping K.kept server.old) peers.old events.old (W.output observer.old) in
+        let new = scene keys (keeping K.kept server.new) peers.new events.new (W.output observer.new) in
         MatchResult result (λ more. GoesOn S.remaining S.contents S.calls W.text number old new more) (Stops S.remaining S.contents S.calls W.text old new) }
 {
     let mut piece = Vec::new(alloc);
@@ -202,16 +205,16 @@ fn hear<S: Socket + Drop, W: Observer>(
 }
 
 // Tells the server, and the observer, that a connection is no more.
-fn hand_in_end<S: Socket + Drop, W: Observer>(
+fn hand_in_end<S: Socket + Drop, K: Keeper, W: Observer>(
     alloc: Global,
     peers: &mut Peers<S>,
     events: &mut u64,
-    server: &mut Server,
+    server: &mut KeptServer<K>,
     observer: &mut W,
     departure: Departure,
 ) -> Result<(), ServeFault>
-    ensures { (keys : Stream) → let old = scene keys (world_of server.old) peers.old events.old (W.output observer.old) in
-        let new = scene keys (world_of server.new) peers.new events.new (W.output observer.new) in
+    ensures { (keys : Stream) → let old = scene keys (keeping K.kept server.old) peers.old events.old (W.output observer.old) in
+        let new = scene keys (keeping K.kept server.new) peers.new events.new (W.output observer.new) in
         MatchResult result (λ _. Takes W.text (happening.Gone departure.number) old new)
         (Fails W.text (happening.Gone departure.number) old new) }
 {
@@ -228,16 +231,16 @@ fn hand_in_end<S: Socket + Drop, W: Observer>(
 }
 
 // Tells the server, and the observer, where a connection is no more and they weren't told yet.
-fn depart<S: Socket + Drop, W: Observer>(
+fn depart<S: Socket + Drop, K: Keeper, W: Observer>(
     alloc: Global,
     peers: &mut Peers<S>,
     events: &mut u64,
-    server: &mut Server,
+    server: &mut KeptServer<K>,
     observer: &mut W,
     number: u64,
 ) -> Result<(), ServeFault>
-    ensures serves { (keys : Stream) → Serves S.remaining S.contents S.calls W.text 0 (scene keys (world_of server.old) peers.old events.old (W.output observer.old))
-        (scene keys (world_of server.new) peers.new events.new (W.output observer.new)) result }
+    ensures serves { (keys : Stream) → Serves S.remaining S.contents S.calls W.text 0 (scene keys (keeping K.kept server.old) peers.old events.old (W.output observer.old))
+        (scene keys (keeping K.kept server.new) peers.new events.new (W.output observer.new)) result }
     ensures told { OnOk result (departs_at peers.new number ≡ false) }
 {
     if peers.depart(number) {
@@ -251,16 +254,16 @@ fn depart<S: Socket + Drop, W: Observer>(
 }
 
 // Tells the server where a connection is no more, and lets go of its socket once all that it is owed was written.
-fn finish<S: Socket + Drop, W: Observer>(
+fn finish<S: Socket + Drop, K: Keeper, W: Observer>(
     alloc: Global,
     peers: &mut Peers<S>,
     events: &mut u64,
-    server: &mut Server,
+    server: &mut KeptServer<K>,
     observer: &mut W,
     number: u64,
 ) -> Result<(), ServeFault>
-    ensures serves { (keys : Stream) → Serves S.remaining S.contents S.calls W.text 0 (scene keys (world_of server.old) peers.old events.old (W.output observer.old))
-        (scene keys (world_of server.new) peers.new events.new (W.output observer.new)) result }
+    ensures serves { (keys : Stream) → Serves S.remaining S.contents S.calls W.text 0 (scene keys (keeping K.kept server.old) peers.old events.old (W.output observer.old))
+        (scene keys (keeping K.kept server.new) peers.new events.new (W.output observer.new)) result }
     ensures told { OnOk result (departs_at peers.new number ≡ false) }
 {
     match depart(alloc, peers, events, server, observer, number) {
@@ -273,17 +276,17 @@ fn finish<S: Socket + Drop, W: Observer>(
 }
 
 // Hands in a piece that a socket has sent. One that may have more then is to be looked at again, behind all others.
-fn read_piece<S: Socket + Drop, W: Observer>(
+fn read_piece<S: Socket + Drop, K: Keeper, W: Observer>(
     alloc: Global,
     peers: &mut Peers<S>,
     events: &mut u64,
-    server: &mut Server,
+    server: &mut KeptServer<K>,
     observer: &mut W,
     number: u64,
 ) -> Result<(), ServeFault>
     ensures { (keys : Stream) →
-        let old = scene keys (world_of server.old) peers.old events.old (W.output observer.old) in
-        let new = scene keys (world_of server.new) peers.new events.new (W.output observer.new) in
+        let old = scene keys (keeping K.kept server.old) peers.old events.old (W.output observer.old) in
+        let new = scene keys (keeping K.kept server.new) peers.new events.new (W.output observer.new) in
         MatchResult result (λ _. ReadsOn S.remaining S.contents S.calls W.text number old new) (Stops S.remaining S.contents S.calls W.text old new) }
 {
     match hear(alloc, peers, events, server, observer, number) {
@@ -296,25 +299,88 @@ fn read_piece<S: Socket + Drop, W: Observer>(
     }
 }
 
+/// Has all that waits be kept, and then writes what was owed to sockets since this was done last.
+pub(crate) fn send_out<S: Socket + Drop, K: Keeper>(
+    peers: &mut Peers<S>,
+    server: &mut KeptServer<K>,
+) -> Result<(), ServeFault>
+    ensures { (text : EventText) → (keys : Stream) → (events : ℕ) → (output : Output) →
+        let old = scene keys (keeping K.kept server.old) peers.old events output in
+        let new = scene keys (keeping K.kept server.new) peers.new events output in
+        MatchResult result (λ _. SendsOut S.remaining S.contents S.calls text old new) (IsUnsent old new) }
+{
+    match server.settle() {
+        Ok(()) => {}
+        Err(fault) => return Err(fault),
+    }
+    match peers.flush_touched() {
+        Ok(()) => Ok(()),
+        Err(_) => Err(ServeFault::Memory),
+    }
+}
+
+/// What is left to be done after a fault. Where who keeps what is stored failed, that is nothing: nothing may go out. After another
+/// fault what the events before made the server store is kept, and then what they made it send is written, as far as the sockets take it.
+pub(crate) fn wind_up<S: Socket + Drop, K: Keeper>(
+    peers: &mut Peers<S>,
+    server: &mut KeptServer<K>,
+    fault: ServeFault,
+)
+    ensures { (keys : Stream) → (events : ℕ) → (output : Output) →
+        let old = scene keys (keeping K.kept server.old) peers.old events output in
+        let new = scene keys (keeping K.kept server.new) peers.new events output in
+        WindsUp fault old new }
+{
+    match fault {
+        ServeFault::Store(_) => {}
+        _ => {
+            let _ = send_out(peers, server);
+        }
+    }
+}
+
+// Looks at a socket, which writes what it is owed. Where that is something, all that waits is kept before.
+fn look_on<S: Socket + Drop, K: Keeper>(
+    peers: &mut Peers<S>,
+    server: &mut KeptServer<K>,
+    number: u64,
+) -> Result<(), ServeFault>
+    ensures { (text : EventText) → (keys : Stream) → (events : ℕ) → (output : Output) →
+        let old = scene keys (keeping K.kept server.old) peers.old events output in
+        let new = scene keys (keeping K.kept server.new) peers.new events output in
+        MatchResult result (λ _. LooksOn S.remaining S.contents S.calls text number old new) (Stops S.remaining S.contents S.calls text old new) }
+{
+    if peers.is_owed(number) {
+        match server.settle() {
+            Ok(()) => {}
+            Err(fault) => return Err(fault),
+        }
+    }
+    match peers.look_at(number) {
+        Ok(()) => Ok(()),
+        Err(_) => Err(ServeFault::Memory),
+    }
+}
+
 // Looks at a socket: writes what it is owed, hands in what it has sent, tells the server where its connection is no more, and
 // lets go of it where it is done with.
-fn attend<S: Socket + Drop, W: Observer>(
+fn attend<S: Socket + Drop, K: Keeper, W: Observer>(
     alloc: Global,
     peers: &mut Peers<S>,
     events: &mut u64,
-    server: &mut Server,
+    server: &mut KeptServer<K>,
     observer: &mut W,
     number: u64,
 ) -> Result<(), ServeFault>
     ensures serves { (keys : Stream) →
-        let old = scene keys (world_of server.old) peers.old events.old (W.output observer.old) in
-        let new = scene keys (world_of server.new) peers.new events.new (W.output observer.new) in
+        let old = scene keys (keeping K.kept server.old) peers.old events.old (W.output observer.old) in
+        let new = scene keys (keeping K.kept server.new) peers.new events.new (W.output observer.new) in
         MatchResult result (λ _. Attends S.remaining S.contents S.calls W.text number old new) (Stops S.remaining S.contents S.calls W.text old new) }
     ensures told { OnOk result (departs_at peers.new number ≡ false) }
 {
-    match peers.look_at(number) {
+    match look_on(peers, server, number) {
         Ok(()) => {}
-        Err(_) => return Err(ServeFault::Memory),
+        Err(fault) => return Err(fault),
     }
     match read_piece(alloc, peers, events, server, observer, number) {
         Ok(()) => finish(alloc, peers, events, server, observer, number),
@@ -323,17 +389,17 @@ fn attend<S: Socket + Drop, W: Observer>(
 }
 
 // Looks at these sockets, one after the other.
-fn attend_each<S: Socket + Drop, W: Observer>(
+fn attend_each<S: Socket + Drop, K: Keeper, W: Observer>(
     alloc: Global,
     peers: &mut Peers<S>,
     events: &mut u64,
-    server: &mut Server,
+    server: &mut KeptServer<K>,
     observer: &mut W,
     numbers: &[u64],
 ) -> Result<(), ServeFault>
     ensures { (keys : Stream) →
-        let old = scene keys (world_of server.old) peers.old events.old (W.output observer.old) in
-        let new = scene keys (world_of server.new) peers.new events.new (W.output observer.new) in
+        let old = scene keys (keeping K.kept server.old) peers.old events.old (W.output observer.old) in
+        let new = scene keys (keeping K.kept server.new) peers.new events.new (W.output observer.new) in
         MatchResult result (λ _. AttendsEach S.remaining S.contents S.calls W.text numbers.now old new) (Stops S.remaining S.contents S.calls W.text old new) }
 {
     for number in numbers {
@@ -346,22 +412,23 @@ fn attend_each<S: Socket + Drop, W: Observer>(
 }
 
 /// Writes what the sockets are owed, and looks at each that is to be looked at. What the server sends to several of them is written
-/// together, behind the last of at most 16 that are read from: so writes come in a row, while their code is at hand.
-pub(crate) fn attend_all<S: Socket + Drop, W: Observer>(
+/// together, behind the last of at most 16 that are read from: so writes come in a row, while their code is at hand. And what it
+/// stores of several of them is kept together, right before that.
+pub(crate) fn attend_all<S: Socket + Drop, K: Keeper, W: Observer>(
     alloc: Global,
     peers: &mut Peers<S>,
     events: &mut u64,
-    server: &mut Server,
+    server: &mut KeptServer<K>,
     observer: &mut W,
 ) -> Result<(), ServeFault>
     ensures { (keys : Stream) →
-        let old = scene keys (world_of server.old) peers.old events.old (W.output observer.old) in
-        let new = scene keys (world_of server.new) peers.new events.new (W.output observer.new) in
+        let old = scene keys (keeping K.kept server.old) peers.old events.old (W.output observer.old) in
+        let new = scene keys (keeping K.kept server.new) peers.new events.new (W.output observer.new) in
         MatchResult result (λ _. AttendsAll S.remaining S.contents S.calls W.text old new) (Stops S.remaining S.contents S.calls W.text old new) }
 {
-    match peers.flush_touched() {
+    match send_out(peers, server) {
         Ok(()) => {}
-        Err(_) => return Err(ServeFault::Memory),
+        Err(fault) => return Err(fault),
     }
     let awake = peers.take_awake(alloc);
     for group in awake.chunks(GROUP) {
@@ -369,9 +436,9 @@ pub(crate) fn attend_all<S: Socket + Drop, W: Observer>(
             Ok(()) => {}
             Err(fault) => return Err(fault),
         }
-        match peers.flush_touched() {
+        match send_out(peers, server) {
             Ok(()) => {}
-            Err(_) => return Err(ServeFault::Memory),
+            Err(fault) => return Err(fault),
         }
     }
     Ok(())
@@ -379,11 +446,11 @@ pub(crate) fn attend_all<S: Socket + Drop, W: Observer>(
 
 /// Takes in a socket that has connected, and looks at it at once: it may have sent its first frame, or be
 /// gone again.
-pub(crate) fn join_socket<S: Socket + Drop, W: Observer>(
+pub(crate) fn join_socket<S: Socket + Drop, K: Keeper, W: Observer>(
     alloc: Global,
     peers: &mut Peers<S>,
     events: &mut u64,
-    server: &mut Server,
+    server: &mut KeptServer<K>,
     observer: &mut W,
     arrival: Arrival,
     stream: S,
@@ -391,8 +458,8 @@ pub(crate) fn join_socket<S: Socket + Drop, W: Observer>(
     requires number { arrival.number ≡ peers.old.last + 1 }
     requires room { is_crowded peers.old arrival.origin ≡ false }
     ensures { (keys : Stream) → (left : Stream) → IsNextKey keys left arrival.key →
-        let old = scene keys (world_of server.old) peers.old events.old (W.output observer.old) in
-        let new = scene left (world_of server.new) peers.new events.new (W.output observer.new) in
+        let old = scene keys (keeping K.kept server.old) peers.old events.old (W.output observer.old) in
+        let new = scene left (keeping K.kept server.new) peers.new events.new (W.output observer.new) in
         MatchResult result (λ _. TakesIn S.remaining S.contents S.calls W.text arrival.origin old new) (Stops S.remaining S.contents S.calls W.text old new) }
 {
     let number = arrival.number;
@@ -404,17 +471,17 @@ pub(crate) fn join_socket<S: Socket + Drop, W: Observer>(
 
 // Lets go of a socket to which nothing was sent for as long as one may stay so, and of no other. The server and the observer are told
 // that its connection is no more, unless they were told before.
-fn expire<S: Socket + Drop, W: Observer>(
+fn expire<S: Socket + Drop, K: Keeper, W: Observer>(
     alloc: Global,
     peers: &mut Peers<S>,
     events: &mut u64,
-    server: &mut Server,
+    server: &mut KeptServer<K>,
     observer: &mut W,
     number: u64,
 ) -> Result<(), ServeFault>
     ensures expires { (keys : Stream) →
-        let old = scene keys (world_of server.old) peers.old events.old (W.output observer.old) in
-        let new = scene keys (world_of server.new) peers.new events.new (W.output observer.new) in
+        let old = scene keys (keeping K.kept server.old) peers.old events.old (W.output observer.old) in
+        let new = scene keys (keeping K.kept server.new) peers.new events.new (W.output observer.new) in
         MatchResult result (λ _. MayExpire S.remaining S.contents S.calls W.text number old new) (Stops S.remaining S.contents S.calls W.text old new) }
     ensures silent { OnOk result (AreNoneSilent (number ∷ []) peers.old peers.new) }
 {
@@ -432,17 +499,17 @@ fn expire<S: Socket + Drop, W: Observer>(
 }
 
 // Lets go of the silent ones among these sockets.
-fn expire_each<S: Socket + Drop, W: Observer>(
+fn expire_each<S: Socket + Drop, K: Keeper, W: Observer>(
     alloc: Global,
     peers: &mut Peers<S>,
     events: &mut u64,
-    server: &mut Server,
+    server: &mut KeptServer<K>,
     observer: &mut W,
     numbers: &[u64],
 ) -> Result<(), ServeFault>
     ensures { (keys : Stream) →
-        let old = scene keys (world_of server.old) peers.old events.old (W.output observer.old) in
-        let new = scene keys (world_of server.new) peers.new events.new (W.output observer.new) in
+        let old = scene keys (keeping K.kept server.old) peers.old events.old (W.output observer.old) in
+        let new = scene keys (keeping K.kept server.new) peers.new events.new (W.output observer.new) in
         MatchResult result (λ _. ExpiresAmong S.remaining S.contents S.calls W.text numbers.now old new) (Stops S.remaining S.contents S.calls W.text old new) }
 {
     for number in numbers {
@@ -456,16 +523,16 @@ fn expire_each<S: Socket + Drop, W: Observer>(
 
 /// Lets go of the sockets to which nothing was sent for as long as one may stay so, where they were last looked for a second ago or
 /// more.
-pub(crate) fn sweep<S: Socket + Drop, W: Observer>(
+pub(crate) fn sweep<S: Socket + Drop, K: Keeper, W: Observer>(
     alloc: Global,
     peers: &mut Peers<S>,
     events: &mut u64,
-    server: &mut Server,
+    server: &mut KeptServer<K>,
     observer: &mut W,
 ) -> Result<(), ServeFault>
     ensures { (keys : Stream) →
-        let old = scene keys (world_of server.old) peers.old events.old (W.output observer.old) in
-        let new = scene keys (world_of server.new) peers.new events.new (W.output observer.new) in
+        let old = scene keys (keeping K.kept server.old) peers.old events.old (W.output observer.old) in
+        let new = scene keys (keeping K.kept server.new) peers.new events.new (W.output observer.new) in
         MatchResult result (λ _. SweepsIfDue S.remaining S.contents S.calls W.text (is_sweep_due peers.old) old new) (Stops S.remaining S.contents S.calls W.text old new) }
 {
     if !peers.is_sweep_due() {

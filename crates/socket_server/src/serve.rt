@@ -6,14 +6,15 @@ ghost use Rattle.std.specs.Duration.{as_nanos};
 ghost use Rattle.std.specs.Net.Socket.{socket_ip};
 ghost use Rattle.mio.specs.declared.event.event.Event as ready;
 ghost use Rattle.mio.specs.Events.{items};
-ghost use Rattle.server_core.specs.World.{world_of};
+ghost use Rattle.socket_server.specs.Keeping.{keeping};
 ghost use Rattle.server_core.specs.declared.event.Event.TheVariants as ending;
 ghost use Rattle.socket_server.specs.Moments.{moment_since_1970};
 ghost use Rattle.socket_server.specs.Sockets.{IsUnserved, IsLocal, unlimited, origin_of as origin_of_spec, key_stream};
-ghost use Rattle.socket_server.specs.Serving.{scene, unknown, uncounted, is_of_listener, readiness_of as readiness_of_spec, reported_event, reported_events, Passes, Does, IsOutside, Takes, HandsIn, Fails, Stops, MayTakeIn, TakesInSome, SweepsIfDue, TakesTurn, Turns, IsTurns, ServesUntil, Drawn};
+ghost use Rattle.socket_server.specs.Serving.{scene, unknown, uncounted, is_of_listener, readiness_of as readiness_of_spec, reported_event, reported_events, Passes, Does, IsOutside, Takes, HandsIn, Fails, Stops, GivesUp, MayTakeIn, TakesInSome, SweepsIfDue, TakesTurn, Turns, IsTurns, ServesUntil, Drawn};
 ghost use Rattle.socket_peers.specs.Peers.{is_sweep_due};
 
-use crate::events::{Arrival, attend_all, hand_in, join_socket, sweep};
+use crate::events::{Arrival, attend_all, hand_in, join_socket, send_out, sweep, wind_up};
+use crate::kept_server::KeptServer;
 use crate::observer::Observer;
 use crate::serve_fault::ServeFault;
 use crate::until::Until;
@@ -23,7 +24,8 @@ use mio::{Events, Interest, Poll, Token};
 use rand::make_rng;
 use rand::rngs::StdRng;
 use rand_core::Rng;
-use server_core::{Event as ServerEvent, Server};
+use server_core::Event as ServerEvent;
+use server_messages::Keeper;
 use socket_peers::{Limits, Peers, Readiness};
 use std::alloc::{AllocError, Global};
 use std::io;
@@ -274,17 +276,21 @@ impl Serve {
     /// The server should know no connection of another's, since numbers count up from 1. At `Step`,
     /// `Trace` and `Memory` it is as its last step left it. What the events before sent is still written then, as far as the sockets
     /// take it, but where memory is wanting for that, too; what the last one sent may be lost, at `Memory` also what was read last.
-    pub fn run<R: Clock + Wait, W: Observer, U: Until<R>>(
+    ///
+    /// What the server stores is kept before anything is written that it sent then or later: what at most 16 sockets made it store is
+    /// kept by one call, and none is made where nothing was stored. At `Store` what was stored last isn't kept, and nothing is written
+    /// from then on.
+    pub fn run<R: Clock + Wait, K: Keeper, W: Observer, U: Until<R>>(
         &mut self,
         rt: &R,
         alloc: Global,
-        server: &mut Server,
+        server: &mut KeptServer<K>,
         observer: &mut W,
         until: &mut U,
     ) -> Result<(), ServeFault>
-        ensures { let old = scene (key_stream self.old.keys) (world_of server.old) self.old.peers self.old.events (W.output observer.old) in
-            let new = scene (key_stream self.new.keys) (world_of server.new) self.new.peers self.new.events (W.output observer.new) in
-            MatchResult result (λ _. ServesUntil unknown unknown uncounted W.text U.may_ask (U.most until.old) old new) (Stops unknown unknown uncounted W.text old new) }
+        ensures { let old = scene (key_stream self.old.keys) (keeping K.kept server.old) self.old.peers self.old.events (W.output observer.old) in
+            let new = scene (key_stream self.new.keys) (keeping K.kept server.new) self.new.peers self.new.events (W.output observer.new) in
+            MatchResult result (λ _. ServesUntil unknown unknown uncounted W.text U.may_ask (U.most until.old) old new) (GivesUp unknown unknown uncounted W.text old new) }
     {
         match self.run_on(rt, alloc, server, observer, until) {
             Ok(()) => self.tell_the_end(alloc, server, observer),
@@ -293,17 +299,17 @@ impl Serve {
     }
 
     // Turns, up to the bound or until it is asked to stop.
-    fn run_on<R: Clock + Wait, W: Observer, U: Until<R>>(
+    fn run_on<R: Clock + Wait, K: Keeper, W: Observer, U: Until<R>>(
         &mut self,
         rt: &R,
         alloc: Global,
-        server: &mut Server,
+        server: &mut KeptServer<K>,
         observer: &mut W,
         until: &mut U,
     ) -> Result<(), ServeFault>
-        ensures { let old = scene (key_stream self.old.keys) (world_of server.old) self.old.peers self.old.events (W.output observer.old) in
-            let new = scene (key_stream self.new.keys) (world_of server.new) self.new.peers self.new.events (W.output observer.new) in
-            MatchResult result (λ _. (turns : ℕ) × IsTurns U.may_ask (U.most until.old) turns × Turns unknown unknown uncounted W.text turns old new) (Stops unknown unknown uncounted W.text old new) }
+        ensures { let old = scene (key_stream self.old.keys) (keeping K.kept server.old) self.old.peers self.old.events (W.output observer.old) in
+            let new = scene (key_stream self.new.keys) (keeping K.kept server.new) self.new.peers self.new.events (W.output observer.new) in
+            MatchResult result (λ _. (turns : ℕ) × IsTurns U.may_ask (U.most until.old) turns × Turns unknown unknown uncounted W.text turns old new) (GivesUp unknown unknown uncounted W.text old new) }
     {
         // 0 where there is no bound.
         let mut left = until.turns();
@@ -323,40 +329,40 @@ impl Serve {
         unreachable!()
     }
 
-    // A turn, of whose end the observer is told. Where it fails, what the events before made the server send is still written, as
-    // far as the sockets take it.
-    fn turn<R: Clock, W: Observer>(
+    // A turn, of whose end the observer is told. Where it fails, what the events before made the server store is still kept, and then
+    // what they made it send is written, as far as the sockets take it; but not where the keeper failed.
+    fn turn<R: Clock, K: Keeper, W: Observer>(
         &mut self,
         rt: &R,
         alloc: Global,
-        server: &mut Server,
+        server: &mut KeptServer<K>,
         observer: &mut W,
     ) -> Result<(), ServeFault>
-        ensures { let old = scene (key_stream self.old.keys) (world_of server.old) self.old.peers self.old.events (W.output observer.old) in
-            let new = scene (key_stream self.new.keys) (world_of server.new) self.new.peers self.new.events (W.output observer.new) in
-            MatchResult result (λ _. TakesTurn unknown unknown uncounted W.text old new) (Stops unknown unknown uncounted W.text old new) }
+        ensures { let old = scene (key_stream self.old.keys) (keeping K.kept server.old) self.old.peers self.old.events (W.output observer.old) in
+            let new = scene (key_stream self.new.keys) (keeping K.kept server.new) self.new.peers self.new.events (W.output observer.new) in
+            MatchResult result (λ _. TakesTurn unknown unknown uncounted W.text old new) (GivesUp unknown unknown uncounted W.text old new) }
     {
         match self.take_turn(rt, alloc, server, observer) {
             Ok(()) => {
-                observer.turned(alloc, self, server);
+                observer.turned(alloc, self, server.server());
                 Ok(())
             }
             Err(fault) => {
-                let _ = self.peers.flush_touched();
+                wind_up(&mut self.peers, server, fault);
                 Err(fault)
             }
         }
     }
 
-    fn take_turn<R: Clock, W: Observer>(
+    fn take_turn<R: Clock, K: Keeper, W: Observer>(
         &mut self,
         rt: &R,
         alloc: Global,
-        server: &mut Server,
+        server: &mut KeptServer<K>,
         observer: &mut W,
     ) -> Result<(), ServeFault>
-        ensures { let old = scene (key_stream self.old.keys) (world_of server.old) self.old.peers self.old.events (W.output observer.old) in
-            let new = scene (key_stream self.new.keys) (world_of server.new) self.new.peers self.new.events (W.output observer.new) in
+        ensures { let old = scene (key_stream self.old.keys) (keeping K.kept server.old) self.old.peers self.old.events (W.output observer.old) in
+            let new = scene (key_stream self.new.keys) (keeping K.kept server.new) self.new.peers self.new.events (W.output observer.new) in
             MatchResult result (λ _. TakesTurn unknown unknown uncounted W.text old new) (Stops unknown unknown uncounted W.text old new) }
     {
         match self.wait() {
@@ -387,15 +393,15 @@ impl Serve {
     }
 
     // Tells the sockets and the server the time.
-    fn tick<W: Observer>(
+    fn tick<K: Keeper, W: Observer>(
         &mut self,
         alloc: Global,
-        server: &mut Server,
+        server: &mut KeptServer<K>,
         observer: &mut W,
         now: Moment,
     ) -> Result<(), ServeFault>
-        ensures { let old = scene (key_stream self.old.keys) (world_of server.old) self.old.peers self.old.events (W.output observer.old) in
-            let new = scene (key_stream self.new.keys) (world_of server.new) self.new.peers self.new.events (W.output observer.new) in
+        ensures { let old = scene (key_stream self.old.keys) (keeping K.kept server.old) self.old.peers self.old.events (W.output observer.old) in
+            let new = scene (key_stream self.new.keys) (keeping K.kept server.new) self.new.peers self.new.events (W.output observer.new) in
             MatchResult result (λ _. Does unknown unknown uncounted W.text (Passes now) old new) (Fails W.text (ending.Tick now) old new) }
     {
         self.peers.tell_time(now);
@@ -403,14 +409,14 @@ impl Serve {
     }
 
     // Lets go of silent sockets, once a second.
-    fn expire_silent<W: Observer>(
+    fn expire_silent<K: Keeper, W: Observer>(
         &mut self,
         alloc: Global,
-        server: &mut Server,
+        server: &mut KeptServer<K>,
         observer: &mut W,
     ) -> Result<(), ServeFault>
-        ensures { let old = scene (key_stream self.old.keys) (world_of server.old) self.old.peers self.old.events (W.output observer.old) in
-            let new = scene (key_stream self.new.keys) (world_of server.new) self.new.peers self.new.events (W.output observer.new) in
+        ensures { let old = scene (key_stream self.old.keys) (keeping K.kept server.old) self.old.peers self.old.events (W.output observer.old) in
+            let new = scene (key_stream self.new.keys) (keeping K.kept server.new) self.new.peers self.new.events (W.output observer.new) in
             MatchResult result (λ _. SweepsIfDue unknown unknown uncounted W.text (is_sweep_due self.old.peers) old new) (Stops unknown unknown uncounted W.text old new) }
     {
         sweep(
@@ -423,15 +429,15 @@ impl Serve {
     }
 
     // Tells the server what happened.
-    fn tell<W: Observer>(
+    fn tell<K: Keeper, W: Observer>(
         &mut self,
         alloc: Global,
-        server: &mut Server,
+        server: &mut KeptServer<K>,
         observer: &mut W,
         event: &ServerEvent,
     ) -> Result<(), ServeFault>
-        ensures { let old = scene (key_stream self.old.keys) (world_of server.old) self.old.peers self.old.events (W.output observer.old) in
-            let new = scene (key_stream self.new.keys) (world_of server.new) self.new.peers self.new.events (W.output observer.new) in
+        ensures { let old = scene (key_stream self.old.keys) (keeping K.kept server.old) self.old.peers self.old.events (W.output observer.old) in
+            let new = scene (key_stream self.new.keys) (keeping K.kept server.new) self.new.peers self.new.events (W.output observer.new) in
             MatchResult result (λ _. Takes W.text event.now old new) (Fails W.text event.now old new) }
     {
         match hand_in(
@@ -447,25 +453,22 @@ impl Serve {
         }
     }
 
-    // Tells the server to end, and writes what the sockets take of what it sends then.
-    fn tell_the_end<W: Observer>(
+    // Tells the server to end, has what waits be kept, and writes what the sockets take of what it sends then.
+    fn tell_the_end<K: Keeper, W: Observer>(
         &mut self,
         alloc: Global,
-        server: &mut Server,
+        server: &mut KeptServer<K>,
         observer: &mut W,
     ) -> Result<(), ServeFault>
-        ensures { let old = scene (key_stream self.old.keys) (world_of server.old) self.old.peers self.old.events (W.output observer.old) in
-            let new = scene (key_stream self.new.keys) (world_of server.new) self.new.peers self.new.events (W.output observer.new) in
-            MatchResult result (λ _. HandsIn unknown unknown uncounted W.text ending.Shutdown old new) (Stops unknown unknown uncounted W.text old new) }
+        ensures { let old = scene (key_stream self.old.keys) (keeping K.kept server.old) self.old.peers self.old.events (W.output observer.old) in
+            let new = scene (key_stream self.new.keys) (keeping K.kept server.new) self.new.peers self.new.events (W.output observer.new) in
+            MatchResult result (λ _. HandsIn unknown unknown uncounted W.text ending.Shutdown old new) (GivesUp unknown unknown uncounted W.text old new) }
     {
         match self.tell(alloc, server, observer, &ServerEvent::Shutdown) {
             Ok(()) => {}
             Err(fault) => return Err(fault),
         }
-        match self.peers.flush_touched() {
-            Ok(()) => Ok(()),
-            Err(_) => Err(ServeFault::Memory),
-        }
+        send_out(&mut self.peers, server)
     }
 
     // Waits until a socket is ready, and wakes those that are.
@@ -491,14 +494,14 @@ impl Serve {
     }
 
     // Takes in those who have connected. Where there may be more than a turn takes in, the next one doesn't wait.
-    fn accept_all<W: Observer>(
+    fn accept_all<K: Keeper, W: Observer>(
         &mut self,
         alloc: Global,
-        server: &mut Server,
+        server: &mut KeptServer<K>,
         observer: &mut W,
     ) -> Result<(), ServeFault>
-        ensures { let old = scene (key_stream self.old.keys) (world_of server.old) self.old.peers self.old.events (W.output observer.old) in
-            let new = scene (key_stream self.new.keys) (world_of server.new) self.new.peers self.new.events (W.output observer.new) in
+        ensures { let old = scene (key_stream self.old.keys) (keeping K.kept server.old) self.old.peers self.old.events (W.output observer.old) in
+            let new = scene (key_stream self.new.keys) (keeping K.kept server.new) self.new.peers self.new.events (W.output observer.new) in
             MatchResult result (λ _. TakesInSome unknown unknown uncounted W.text old new) (Stops unknown unknown uncounted W.text old new) }
     {
         match self.accept_some(alloc, server, observer) {
@@ -511,14 +514,14 @@ impl Serve {
     }
 
     // Takes in as many of those who have connected as a turn may. Says whether they were as many.
-    fn accept_some<W: Observer>(
+    fn accept_some<K: Keeper, W: Observer>(
         &mut self,
         alloc: Global,
-        server: &mut Server,
+        server: &mut KeptServer<K>,
         observer: &mut W,
     ) -> Result<bool, ServeFault>
-        ensures { let old = scene (key_stream self.old.keys) (world_of server.old) self.old.peers self.old.events (W.output observer.old) in
-            let new = scene (key_stream self.new.keys) (world_of server.new) self.new.peers self.new.events (W.output observer.new) in
+        ensures { let old = scene (key_stream self.old.keys) (keeping K.kept server.old) self.old.peers self.old.events (W.output observer.old) in
+            let new = scene (key_stream self.new.keys) (keeping K.kept server.new) self.new.peers self.new.events (W.output observer.new) in
             MatchResult result (λ _. TakesInSome unknown unknown uncounted W.text old new) (Stops unknown unknown uncounted W.text old new) }
     {
         for _accept in 0..ACCEPTS {
@@ -558,16 +561,16 @@ impl Serve {
 
     // Takes in one who has connected. A further socket of an address of which there are as many as may be is closed at once, and
     // one that can't be waited for is let go of.
-    fn take_in<W: Observer>(
+    fn take_in<K: Keeper, W: Observer>(
         &mut self,
         alloc: Global,
-        server: &mut Server,
+        server: &mut KeptServer<K>,
         observer: &mut W,
         mut stream: TcpStream,
         address: SocketAddr,
     ) -> Result<(), ServeFault>
-        ensures { let old = scene (key_stream self.old.keys) (world_of server.old) self.old.peers self.old.events (W.output observer.old) in
-            let new = scene (key_stream self.new.keys) (world_of server.new) self.new.peers self.new.events (W.output observer.new) in
+        ensures { let old = scene (key_stream self.old.keys) (keeping K.kept server.old) self.old.peers self.old.events (W.output observer.old) in
+            let new = scene (key_stream self.new.keys) (keeping K.kept server.new) self.new.peers self.new.events (W.output observer.new) in
             MatchResult result (λ _. MayTakeIn unknown unknown uncounted W.text (origin_of_spec (socket_ip address)) old new) (Stops unknown unknown uncounted W.text old new) }
     {
         let origin = origin_of(address.ip());

@@ -4,6 +4,7 @@ ghost use Rattle.std.specs.Prelude.{◌≡◌};
 ghost use Rattle.socket_server.specs.declared.serve_fault.ServeFault.TheVariants as serve_fault;
 
 use server_core::StepFault;
+use server_messages::StoreFault;
 use std::alloc::{AllocError, AllocFailed};
 use thiserror::Error;
 
@@ -29,6 +30,9 @@ pub enum ServeFault {
     /// What fired at an event, which the server answered, couldn't be told: a write failed.
     #[error("a write of the trace failed")]
     Trace,
+    /// What was stored can't be kept, and waits still. Nothing goes out that the server sent when it stored it, or later.
+    #[error("what was stored can't be kept")]
+    Store(StoreFault),
 }
 
 impl From<AllocError> for ServeFault {

@@ -60,7 +60,7 @@ put_other id q w apart (e ∷ es) = by (id_cmp id e.0) refl (put_other id q w ap
 
 -- ---- one more value
 
-kept_itself : (h : HistoryState) (id : NodeId) (time : ℤ) (value : DataValue) (o : Option Values) → found id h.nodes ≡ o
+pub kept_itself : (h : HistoryState) (id : NodeId) (time : ℤ) (value : DataValue) (o : Option Values) → found id h.nodes ≡ o
     → history_of id (with_one h id time value o) ≡ kept_in h.most time value (unwrap_or o [])
 kept_itself h id time value None is = ap (λ (o : Option Values). unwrap_or o []) (put_itself id (kept_in h.most time value []) h.nodes)
 kept_itself h id time value (Some values) is =
@@ -68,7 +68,7 @@ kept_itself h id time value (Some values) is =
     let there : is_some (found id h.nodes) ≡ true = ap is_some is in
     ap (λ (o : Option Values). unwrap_or o []) (lookup-set_value alike (is_at (id_cmp id)) (same_test id) id w h.nodes there ∙ ap (λ (b : Bool). cond b (Some w) (found id h.nodes)) (itself id))
 
-kept_other : (h : HistoryState) (id q : NodeId) (time : ℤ) (value : DataValue) (o : Option Values) → found id h.nodes ≡ o → is_at (id_cmp q) id ≡ false → is_at (id_cmp id) q ≡ false
+pub kept_other : (h : HistoryState) (id q : NodeId) (time : ℤ) (value : DataValue) (o : Option Values) → found id h.nodes ≡ o → is_at (id_cmp q) id ≡ false → is_at (id_cmp id) q ≡ false
     → history_of q (with_one h id time value o) ≡ history_of q h
 kept_other h id q time value None is apart away = ap (λ (o : Option Values). unwrap_or o []) (put_other id q (kept_in h.most time value []) apart h.nodes)
 kept_other h id q time value (Some values) is apart away =

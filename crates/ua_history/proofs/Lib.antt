@@ -4,3 +4,4 @@ pub mod Filling
 pub mod PagingLemmas
 pub mod Begun
 pub mod Beginning
+pub mod Dropping

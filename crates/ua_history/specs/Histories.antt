@@ -1,5 +1,5 @@
 -- What is kept of the values that variables had: of each node a plain list, by rising time of the source.
-use Rattle.std.specs.Prelude.{ℕ, ℤ, nat_lt, List, [], length, drop, Option, Some, None, unwrap_or, if◌then◌else◌}
+use Rattle.std.specs.Prelude.{ℕ, ℤ, nat_lt, List, [], length, drop, slice_get, Option, Some, None, option_map, unwrap_or, if◌then◌else◌}
 use Rattle.std.specs.List.{fold}
 use Rattle.std.specs.BTreeMap.{is_at, insert_entry}
 use Rattle.std.specs.Map.{lookup, set_value}
@@ -56,6 +56,26 @@ kept_at h id value (Some time) = with_one h id time.0 value (lookup (is_at (id_c
 -- a value is kept by the time of its source
 abbrev pub kept : HistoryState → NodeId → DataValue → HistoryState
 kept h id value = kept_at h id value value.source_time
+
+-- ---- what falls out of a history
+
+abbrev pub time_of : ℤ × DataValue → Moment
+time_of e = record { 0 = e.0 }
+
+-- where there are more than so many, the least time
+abbrev pub surplus : ℕ → Values → Option Moment
+surplus most values = if nat_lt most (length values) then option_map time_of (slice_get values 0) else None
+
+-- the time whose value goes as one more is kept
+abbrev pub dropped_in : ℕ → ℤ → DataValue → Values → Option Moment
+dropped_in most time value values = surplus most (put_in time value values)
+
+abbrev pub dropped_at : HistoryState → NodeId → DataValue → Option Moment → Option Moment
+dropped_at h id value None = None
+dropped_at h id value (Some time) = dropped_in h.most time.0 value (history_of id h)
+
+abbrev pub dropped : HistoryState → NodeId → DataValue → Option Moment
+dropped h id value = dropped_at h id value value.source_time
 
 -- ---- what a server begins with
 

@@ -4,13 +4,13 @@ use Rattle.std.specs.BTreeMap.{is_at}
 use Rattle.std.specs.List.{AllByRecursion}
 use Rattle.std.specs.List.Sorted.{IsStrictlySortedBy}
 use Rattle.std.specs.Map.{keys_of}
-use Rattle.std.specs.Ordering.{int_cmp}
+use Rattle.std.specs.Ordering.{int_cmp, is_eq}
 use Rattle.ua_types.specs.NodeIdOrder.{id_cmp}
 use Rattle.ua_types.specs.declared.moment.Moment.{Moment}
 use Rattle.ua_types.specs.declared.node_id.NodeId.{NodeId}
 use Rattle.ua_values.specs.declared.data_value.DataValue.{DataValue}
 use Rattle.ua_space.specs.Histories.{rises}
-use Rattle.ua_history.specs.Histories.{Values, HistoryState, history_of, kept_in, with_all}
+use Rattle.ua_history.specs.Histories.{Values, HistoryState, history_of, value_at, kept_in, kept, dropped, with_all}
 use Rattle.ua_history.specs.Intervals.{past, raw}
 use Rattle.ua_history.specs.Pages.{shown_of, last_given}
 use Rattle.ua_history.specs.declared.intervals.Interval.{Interval}
@@ -22,6 +22,20 @@ KeepsWithinBounds = (most : ℕ) (time : ℤ) (value : DataValue) (values : Valu
 -- The times of a history rise, so none is there twice
 abbrev pub IsByTime : Values → Type 0
 IsByTime values = IsStrictlySortedBy int_cmp (keys_of values)
+
+-- the value at a time, of one that is put there and what was there before
+abbrev pub or_before : Bool → DataValue → Option DataValue → Option DataValue
+or_before here value before = if here then Some value else before
+
+-- the value at a time, unless it fell out
+abbrev pub unless_dropped : Option Moment → ℤ → Option DataValue → Option DataValue
+unless_dropped None t value = value
+unless_dropped (Some moment) t value = if is_eq (int_cmp t moment.0) then None else value
+
+-- Beside one more value and the one that falls out for it nothing of a history changes
+abbrev pub KeepsOneMore : Type 0
+KeepsOneMore = (h : HistoryState) (id : NodeId) (value : DataValue) (time : Moment) (t : ℤ) → IsByTime (history_of id h) → value.source_time ≡ Some time
+    → value_at t (history_of id (kept h id value)) ≡ unless_dropped (dropped h id value) t (or_before (is_eq (int_cmp t time.0)) value (value_at t (history_of id h)))
 
 -- one time lies past another, as an interval is read
 abbrev pub is_past : Bool → ℤ → ℤ → Bool

@@ -1,11 +1,11 @@
 //! The histories of nodes.
 
-ghost use Rattle.std.specs.Prelude.{◌≡◌, ◌<◌, [], length, slice_get, None, IfOk, IsOk, OnOk, OnErr};
+ghost use Rattle.std.specs.Prelude.{◌≡◌, ◌<◌, [], length, slice_get, None, option_map, IfOk, IsOk, OnOk, OnErr};
 ghost use Rattle.std.specs.Option.{option_copied};
 ghost use Rattle.ua_history.specs.HistoryLaws.{IsByTime};
 ghost use Rattle.ua_history.specs.Intervals.{raw};
 ghost use Rattle.ua_history.specs.Pages.{IsCut};
-ghost use Rattle.ua_history.specs.Histories.{no_histories, kept, kept_in, history_of, with_all, with_node_if, histories_begun, value_at as value_at_spec};
+ghost use Rattle.ua_history.specs.Histories.{no_histories, kept, kept_in, time_of as time_of_spec, dropped, dropped_in, history_of, with_all, with_node_if, histories_begun, value_at as value_at_spec};
 ghost use Rattle.ua_space.specs.Histories.{history_in, without_history_in, without_histories};
 
 use crate::intervals::Interval;
@@ -36,6 +36,16 @@ impl Model for NodeHistory {
     ghost invariant = { λ h. length h.values < 2 ^ 32 };
 }
 
+// The time of a value that is taken out.
+fn time_of(taken: Option<(i64, DataValue)>) -> Option<Moment>
+    ensures { result ≡ option_map time_of_spec taken }
+{
+    match taken {
+        None => None,
+        Some((time, _)) => Some(Moment(time)),
+    }
+}
+
 impl NodeHistory {
     fn new(alloc: Global) -> NodeHistory
         ensures { result ≡ [] }
@@ -52,22 +62,23 @@ impl NodeHistory {
     }
 
     // One more value, in the place of one that was there at that time. Where it is one too many, the one with the
-    // least time goes.
+    // least time goes; that time is answered.
     fn keep(
         &mut self,
         alloc: Global,
         most: u32,
         time: i64,
         value: DataValue,
-    ) -> Result<(), AllocError>
+    ) -> Result<Option<Moment>, AllocError>
         ensures ok { OnOk result (self.new ≡ kept_in most time value self.old) }
+        ensures dropped { IfOk result (λ gone. gone ≡ dropped_in most time value self.old) }
         ensures err { OnErr result (self.new ≡ self.old) }
     {
         self.values.insert(alloc, time, value)?;
         if self.values.len() > most as usize {
-            self.values.pop_first();
+            return Ok(time_of(self.values.pop_first()));
         }
-        Ok(())
+        Ok(None)
     }
 }
 
@@ -103,23 +114,29 @@ impl History {
     /// Keeps a value of a node by its source's time. One that has none isn't kept.
     ///
     /// A value that was kept for that time is replaced. Where the node has more values than may be kept, the one
-    /// with the least time is dropped, be it the new one. A value that is later than all others, as usual, shifts
-    /// none of them. At an `Err` nothing changed.
-    pub fn keep(&mut self, alloc: Global, node: &NodeId, value: DataValue) -> Result<(), AllocError>
+    /// with the least time is dropped, be it the new one, and its time is answered. A value that is later than all
+    /// others, as usual, shifts none of them. At an `Err` nothing changed.
+    pub fn keep(
+        &mut self,
+        alloc: Global,
+        node: &NodeId,
+        value: DataValue,
+    ) -> Result<Option<Moment>, AllocError>
         ensures ok { OnOk result (self.new ≡ kept self.old node.now value) }
+        ensures dropped { IfOk result (λ gone. gone ≡ dropped self.old node.now value) }
         ensures untimed { value.source_time ≡ None → IsOk result }
         ensures err { OnErr result (self.new ≡ self.old) }
     {
         let Some(time) = value.source_time else {
-            return Ok(());
+            return Ok(None);
         };
         if let Some(values) = self.nodes.get_mut(node) {
             return values.keep(alloc, self.most, time.0, value);
         }
         let mut values = NodeHistory::new(alloc);
-        values.keep(alloc, self.most, time.0, value)?;
+        let gone = values.keep(alloc, self.most, time.0, value)?;
         self.nodes.insert(node.copy(alloc)?, values)?;
-        Ok(())
+        Ok(gone)
     }
 
     // Keeps the values that a node had before, one after the other.

@@ -1,11 +1,17 @@
 //! What follows from the definitions of keeping and of reading. The laws have no code: their contracts state them.
 
-ghost use Rattle.ua_history.specs.HistoryLaws.{KeepsWithinBounds, GoesPastTheLast, NextIsWhatFollows, PagesJoinToAll, BeginsWithTheLast, BeginsApart};
+ghost use Rattle.ua_history.specs.HistoryLaws.{KeepsWithinBounds, KeepsOneMore, GoesPastTheLast, NextIsWhatFollows, PagesJoinToAll, BeginsWithTheLast, BeginsApart};
 
 /// No more values of a node are kept than may be.
 #[tactic(auto, using(crate::proofs::Keeping::keeps_within_bounds))]
 pub fn keeps_within_bounds()
     ensures { KeepsWithinBounds }
+{}
+
+/// Beside a value that is kept, and the one whose time [`History::keep`](crate::History::keep) answers, nothing of a history changes.
+#[tactic(auto, using(crate::proofs::Dropping::keeps_one_more))]
+pub fn keeps_one_more()
+    ensures { KeepsOneMore }
 {}
 
 /// The times of a page lie past the last one that was given before it.

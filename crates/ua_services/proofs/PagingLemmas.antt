@@ -27,12 +27,14 @@ use Rattle.ua_session.specs.Sessions.{SessionsState, points_of, with_points}
 use Rattle.server_messages.specs.declared.halt.Halt.{Halt}
 use Rattle.server_messages.specs.declared.halt.Halt.TheVariants.{Memory, Exhausted}
 use Rattle.server_messages.specs.declared.served.Served.{Served}
+use Rattle.server_messages.specs.declared.stored.Stored.{Stored}
 use Rattle.server_messages.specs.declared.setting.Setting.{Setting}
 use Rattle.ua_services.specs.Paging.{Done, AllDone, told_as, with_one, all_done, Rises, paged, results_head_of, results_body_of, spent_by_points, Tells, Halts, DoesOne}
-use Rattle.ua_services.specs.Serving.{Given, Judges, refusal_by, given, given_of, is_spent, replied, reply_of, rows_of}
+use Rattle.ua_services.specs.Serving.{Given, Judges, refusal_by, given, given_of, is_spent, replied, reply_of, rows_of, served}
 use Rattle.ua_services.specs.Serving.Occurrence.{Spent}
 use Rattle.ua_services.specs.ServicesState.{Services}
 use Rattle.ua_services.specs.SessionServing.{with_sessions}
+use Rattle.ua_services.proofs.SubLemmas.{no_rows, none_stored}
 use Rattle.ua_services.specs.declared.caller.Caller.{Caller}
 use Rattle.ua_services.specs.declared.unserved.Unserved.TheVariants.{Halted}
 
@@ -139,11 +141,6 @@ pub some_lent : (sessions opened : SessionsState) (session : ℕ) (before : Poin
 some_lent sessions opened session before lent is found none =
     false≢true (ap is_some (sym (ap option_copied_mut none) ∙ points_are_there sessions.points opened.points session before _ (ap (λ (s : SessionsState). s.points) is) found))
 
--- points take a serial or spend the last one, and fire no row
-no_rows : (spent : Bool) → rows_of (if spent then Spent ∷ [] else []) ≡ []
-no_rows true = refl
-no_rows false = refl
-
 -- those that are in range spend none
 in_range_spend_none : (before after : Bool) → (before ≡ false → after ≡ false) → list_any is_spent (if not before && after then Spent ∷ [] else []) ≡ false
 in_range_spend_none true after h = refl
@@ -169,20 +166,22 @@ body_written encoding setting caller type_id count results e =
 
 -- what was answered of all, and a halt in the middle
 module _ {R : Type 0} (encoding : R → List ℕ) (setting : Setting) (caller : Caller) (session type_id : ℕ) (state : Services) where
-  pub served_all : (opened left : SessionsState) (served : Served) (b done : AllDone R)
+  pub served_all : (opened left : SessionsState) (all_served : Served) (b done : AllDone R)
       → opened ≡ with_points state.sessions session (points_of state.sessions session) → left ≡ with_points opened session b.points
-      → served ≡ replied (reply_of caller (results_body_of encoding setting caller type_id b.results)) → b ≡ done → GivesInRange (points_of state.sessions session) b.points
-      → given (with_sessions state left) served ≡ given_of (paged encoding setting caller session type_id state done)
-  served_all opened left served b done is e answered all in_range =
+      → all_served ≡ replied (reply_of caller (results_body_of encoding setting caller type_id b.results)) → b ≡ done → GivesInRange (points_of state.sessions session) b.points
+      → given (with_sessions state left) all_served ≡ given_of (paged encoding setting caller session type_id state done)
+  served_all opened left all_served b done is e answered all in_range =
       let before = points_of state.sessions session in
       let state_is : left ≡ with_points state.sessions session b.points =
       e ∙ ap (λ s. with_points s session b.points) is ∙ ap (λ held. record state.sessions { points = held }) (insert_again state.sessions.points session before b.points) in
       let after : Services = with_sessions state (with_points state.sessions session b.points) in
       let replies = reply_of caller (results_body_of encoding setting caller type_id b.results) ∷ [] in
-      ap (λ s. given (with_sessions state s) served) state_is
+      ap (λ s. given (with_sessions state s) all_served) state_is
       ∙ ap (given after) answered
-      ∙ ap (λ rows. given after (record { replies = replies; rows = rows })) (sym (no_rows (not (is_overspent before) && is_overspent b.points)))
-      ∙ ap (λ spends. let g : Given = record { state = after; served = record { replies = replies; rows = rows_of (spent_by_points before b.points) }; spends = spends } in g)
+      ∙ ap (λ rows. given after (served replies rows)) (sym (no_rows (not (is_overspent before) && is_overspent b.points)))
+      ∙ ap (λ (ss : List Stored). let g : Given = given after (record { replies = replies; rows = rows_of (spent_by_points before b.points); stored = ss }) in g)
+      (sym (none_stored (not (is_overspent before) && is_overspent b.points)))
+      ∙ ap (λ spends. let g : Given = record (given_of (record { state = after; replies = replies; occurrences = spent_by_points before b.points; is_refused = false })) { spends = spends } in g)
       (sym (in_range_spend_none (is_overspent before) (is_overspent b.points) in_range))
       ∙ ap (λ x. given_of (paged encoding setting caller session type_id state x)) all
 

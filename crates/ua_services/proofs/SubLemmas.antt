@@ -27,9 +27,10 @@ use Rattle.server_messages.specs.declared.halt.Halt.TheVariants.{Memory, Exhaust
 use Rattle.server_messages.specs.declared.reply.Reply.{Reply}
 use Rattle.server_messages.specs.declared.served.Served.{Served}
 use Rattle.server_messages.specs.declared.setting.Setting.{Setting}
+use Rattle.server_messages.specs.declared.stored.Stored.{Stored}
 use Rattle.ua_services.specs.ServicesState.{Services}
-use Rattle.ua_services.specs.Serving.{Occurrence, Serving, Given, Serves, is_spent, given, given_of, rows_of, reply_of, Judges}
-use Rattle.ua_services.specs.Serving.Occurrence.{Fire, Spent}
+use Rattle.ua_services.specs.Serving.{Occurrence, Serving, Given, Serves, is_spent, given, given_of, rows_of, stored_of, served, joined, reply_of, reply_before, Judges}
+use Rattle.ua_services.specs.Serving.Occurrence.{Fire, Store, Spent}
 use Rattle.ua_services.specs.declared.caller.Caller.{Caller}
 use Rattle.ua_services.specs.declared.unserved.Unserved.TheVariants.{Halted}
 use Rattle.ua_services.specs.SubServing.{with_subs, fires, uncounted, is_uncounted, occurrences_of, called, no_reply, told_alone, nothing_done, both, and_then, session_over, timed_out, all_timed_out, timers_met, world_at}
@@ -39,7 +40,14 @@ use Rattle.ua_services.specs.SubServing.{with_subs, fires, uncounted, is_uncount
 pub rows_joined : (xs ys : List Occurrence) → rows_of (xs ++ ys) ≡ rows_of xs ++ rows_of ys
 rows_joined [] ys = refl
 rows_joined (Fire fired ∷ xs) ys = ap (λ (rows : List Fired). fired ∷ rows) (rows_joined xs ys)
+rows_joined (Store stored ∷ xs) ys = rows_joined xs ys
 rows_joined (Spent ∷ xs) ys = rows_joined xs ys
+
+pub stored_joined : (xs ys : List Occurrence) → stored_of (xs ++ ys) ≡ stored_of xs ++ stored_of ys
+stored_joined [] ys = refl
+stored_joined (Fire fired ∷ xs) ys = stored_joined xs ys
+stored_joined (Store stored ∷ xs) ys = ap (λ (ss : List Stored). stored ∷ ss) (stored_joined xs ys)
+stored_joined (Spent ∷ xs) ys = stored_joined xs ys
 
 rows_fired : (rows : List Fired) (more : List Occurrence) → rows_of more ≡ [] → rows_of (fires rows ++ more) ≡ rows
 rows_fired [] more none = none
@@ -49,22 +57,37 @@ pub no_rows : (b : Bool) → rows_of (cond b (Spent ∷ []) []) ≡ []
 no_rows true = refl
 no_rows false = refl
 
+-- rows, and serials that are spent, are nothing for a store
+rows_store_none : (rows : List Fired) (more : List Occurrence) → stored_of more ≡ [] → stored_of (fires rows ++ more) ≡ []
+rows_store_none [] more none = none
+rows_store_none (fired ∷ rows) more none = rows_store_none rows more none
+
+pub none_stored : (b : Bool) → stored_of (cond b (Spent ∷ []) []) ≡ []
+none_stored true = refl
+none_stored false = refl
+
+pub rounds_store_none : (halted : Option Halt) (round : Round) → stored_of (occurrences_of halted round) ≡ []
+rounds_store_none halted round = rows_store_none round.rows (uncounted halted round) (none_stored (is_uncounted halted round))
+
 pub rows_of_round : (halted : Option Halt) (round : Round) → rows_of (occurrences_of halted round) ≡ round.rows
 rows_of_round halted round = rows_fired round.rows (uncounted halted round) (no_rows (is_uncounted halted round))
 
 spent_left : (xs ys : List Occurrence) → list_any is_spent xs ≡ true → list_any is_spent (xs ++ ys) ≡ true
 spent_left [] ys e = absurd cc
 spent_left (Fire fired ∷ xs) ys e = spent_left xs ys e
+spent_left (Store stored ∷ xs) ys e = spent_left xs ys e
 spent_left (Spent ∷ xs) ys e = refl
 
 spent_right : (xs ys : List Occurrence) → list_any is_spent ys ≡ true → list_any is_spent (xs ++ ys) ≡ true
 spent_right [] ys e = e
 spent_right (Fire fired ∷ xs) ys e = spent_right xs ys e
+spent_right (Store stored ∷ xs) ys e = spent_right xs ys e
 spent_right (Spent ∷ xs) ys e = refl
 
 none_in_both : (xs ys : List Occurrence) → list_any is_spent xs ≡ false → list_any is_spent ys ≡ false → list_any is_spent (xs ++ ys) ≡ false
 none_in_both [] ys first second = second
 none_in_both (Fire fired ∷ xs) ys first second = none_in_both xs ys first second
+none_in_both (Store stored ∷ xs) ys first second = none_in_both xs ys first second
 none_in_both (Spent ∷ xs) ys first second = first
 
 rows_spend_none : (rows : List Fired) → list_any is_spent (fires rows) ≡ false
@@ -87,15 +110,17 @@ counted_out (Some halt) round h = refl
 -- ---- one call
 
 module _ {A : Type 0} (state : Services) (own : A → List Reply) (said : Said A) where
-  pub called_gives : (x : Answered A) (new : SubscriptionsState) (items : ItemsState) (served : Served) → subs.Serves (Ok x) state.subs new items said → served ≡ record { replies = own x.answer ++ x.replies; rows = x.rows } →
-      given (with_subs state new items) served ≡ given_of (called state own said)
-  called_gives x new items served h e =
+  pub called_gives : (x : Answered A) (new : SubscriptionsState) (items : ItemsState) (given_served : Served) → subs.Serves (Ok x) state.subs new items said → given_served ≡ served (own x.answer ++ x.replies) x.rows →
+      given (with_subs state new items) given_served ≡ given_of (called state own said)
+  called_gives x new items given_served h e =
       let round = said.outcome.world.round in
       ap (given (with_subs state new items)) e
-      ∙ ap (λ (y : Answered A). given (with_subs state new items) (record { replies = own y.answer ++ y.replies; rows = y.rows })) h.1
-      ∙ ap (λ (s : SubscriptionsState). given (with_subs state s items) (record { replies = own said.outcome.answer ++ round.replies; rows = round.rows })) h.2
-      ∙ ap (λ (i : ItemsState). given (with_subs state said.state i) (record { replies = own said.outcome.answer ++ round.replies; rows = round.rows })) h.3
-      ∙ ap (λ (rows : List Fired). given (with_subs state said.state said.outcome.world.items) (record { replies = own said.outcome.answer ++ round.replies; rows = rows })) (sym (rows_of_round state.subs.halted round))
+      ∙ ap (λ (y : Answered A). given (with_subs state new items) (served (own y.answer ++ y.replies) y.rows)) h.1
+      ∙ ap (λ (s : SubscriptionsState). given (with_subs state s items) (served (own said.outcome.answer ++ round.replies) round.rows)) h.2
+      ∙ ap (λ (i : ItemsState). given (with_subs state said.state i) (served (own said.outcome.answer ++ round.replies) round.rows)) h.3
+      ∙ ap (λ (rows : List Fired). given (with_subs state said.state said.outcome.world.items) (served (own said.outcome.answer ++ round.replies) rows)) (sym (rows_of_round state.subs.halted round))
+      ∙ ap (λ (ss : List Stored). let g : Given = given (with_subs state said.state said.outcome.world.items) (record { replies = own said.outcome.answer ++ round.replies; rows = rows_of (occurrences_of state.subs.halted round); stored = ss }) in g)
+      (sym (rounds_store_none state.subs.halted round))
       ∙ ap (λ (b : Bool). let g : Given = record (given_of (called state own said)) { spends = b } in g) (sym (counted_in state.subs.halted round h.0 h.4))
 
   pub called_halts : (halt : Halt) (new : SubscriptionsState) (items : ItemsState) → subs.Serves (Err halt) state.subs new items said → Serves (Err halt) (with_subs state new items) (called state own said)
@@ -106,10 +131,10 @@ module _ {A : Type 0} (state : Services) (own : A → List Reply) (said : Said A
 
 -- a call that answers Publish requests alone
 module _ (state : Services) (w : World) where
-  pub told_gives : (x : Answered (Unit {0})) (new : SubscriptionsState) (items : ItemsState) (served : Served) → subs.Serves (Ok x) state.subs new items (told state.subs w) → served ≡ record { replies = x.replies; rows = x.rows } →
-      given (with_subs state new items) served ≡ given_of (told_alone state w)
+  pub told_gives : (x : Answered (Unit {0})) (new : SubscriptionsState) (items : ItemsState) (given_served : Served) → subs.Serves (Ok x) state.subs new items (told state.subs w) → given_served ≡ served x.replies x.rows →
+      given (with_subs state new items) given_served ≡ given_of (told_alone state w)
   unfolding told_alone
-  told_gives x new items served h e = called_gives state no_reply (told state.subs w) x new items served h e
+  told_gives x new items given_served h e = called_gives state no_reply (told state.subs w) x new items given_served h e
 
   pub told_halts : (halt : Halt) (new : SubscriptionsState) (items : ItemsState) → subs.Serves (Err halt) state.subs new items (told state.subs w) → Serves (Err halt) (with_subs state new items) (told_alone state w)
   unfolding told_alone
@@ -128,27 +153,29 @@ shutting_halts setting state Memory new items h = tt
 shutting_halts setting state Exhausted new items h = told_halts state (shut_down (world_at setting state)) Exhausted new items h
 
 -- a call whose answer is told first, and then what else is served
-pub called_first : {A : Type 0} (state : Services) (caller : Caller) (body : A → List ℕ) (said : Said A) (x : Answered A) (new : SubscriptionsState) (items : ItemsState) (others : Served) (bytes : List ℕ) (served : Served) → subs.Serves (Ok x) state.subs new items said →
-    others ≡ record { replies = x.replies; rows = x.rows } → bytes ≡ body x.answer → served ≡ record { replies = reply_of caller bytes ∷ others.replies; rows = others.rows } →
-    given (with_subs state new items) served ≡ given_of (called state (λ answer. reply_of caller (body answer) ∷ []) said)
-called_first state caller body said x new items others bytes served h o b e =
-    called_gives state (λ answer. reply_of caller (body answer) ∷ []) said x new items served h
-    (e ∙ ap (λ (bs : List ℕ). let s : Served = record { replies = reply_of caller bs ∷ others.replies; rows = others.rows } in s) b
-    ∙ ap (λ (more : Served). let s : Served = record { replies = reply_of caller (body x.answer) ∷ more.replies; rows = more.rows } in s) o)
+pub called_first : {A : Type 0} (state : Services) (caller : Caller) (body : A → List ℕ) (said : Said A) (x : Answered A) (new : SubscriptionsState) (items : ItemsState) (others : Served) (bytes : List ℕ) (all : Served) → subs.Serves (Ok x) state.subs new items said →
+    others ≡ served x.replies x.rows → bytes ≡ body x.answer → all ≡ reply_before (reply_of caller bytes) others →
+    given (with_subs state new items) all ≡ given_of (called state (λ answer. reply_of caller (body answer) ∷ []) said)
+called_first state caller body said x new items others bytes all h o b e =
+    called_gives state (λ answer. reply_of caller (body answer) ∷ []) said x new items all h
+    (e ∙ ap (λ (bs : List ℕ). reply_before (reply_of caller bs) others) b ∙ ap (reply_before (reply_of caller (body x.answer))) o)
 
 -- ---- one step behind another
 
-pub joined_gives : (s t : Serving) (mid new : Services) (a b all : Served) → given mid a ≡ given_of s → given new b ≡ given_of t → all ≡ record { replies = a.replies ++ b.replies; rows = a.rows ++ b.rows } →
+pub joined_gives : (s t : Serving) (mid new : Services) (a b all : Served) → given mid a ≡ given_of s → given new b ≡ given_of t → all ≡ joined a b →
     given new all ≡ given_of (both s t)
 joined_gives s t mid new a b all p q e =
     ap (given new) e
-    ∙ ap (λ (g : _). given new (record { replies = g.served.replies ++ b.replies; rows = g.served.rows ++ b.rows })) p
-    ∙ ap (λ (g : _). given g.state (record { replies = s.replies ++ g.served.replies; rows = rows_of s.occurrences ++ g.served.rows })) q
-    ∙ ap (λ (rows : List Fired). given t.state (record { replies = s.replies ++ t.replies; rows = rows })) (sym (rows_joined s.occurrences t.occurrences))
+    ∙ ap (λ (g : Given). given new (joined g.served b)) p
+    ∙ ap (λ (g : Given). given g.state (joined (given_of s).served g.served)) q
+    ∙ ap (λ (rows : List Fired). let g : Given = given t.state (record { replies = s.replies ++ t.replies; rows = rows; stored = stored_of s.occurrences ++ stored_of t.occurrences }) in g)
+    (sym (rows_joined s.occurrences t.occurrences))
+    ∙ ap (λ (ss : List Stored). let g : Given = given t.state (record { replies = s.replies ++ t.replies; rows = rows_of (s.occurrences ++ t.occurrences); stored = ss }) in g)
+    (sym (stored_joined s.occurrences t.occurrences))
     ∙ ap (λ (b : Bool). let g : Given = record (given_of (both s t)) { spends = b } in g)
     (sym (none_in_both s.occurrences t.occurrences (sym (ap (λ (g : Given). g.spends) p)) (sym (ap (λ (g : Given). g.spends) q))))
 
-pub then_gives : (s : Serving) (more : Services → Serving) (mid new : Services) (a b all : Served) → given mid a ≡ given_of s → given new b ≡ given_of (more mid) → all ≡ record { replies = a.replies ++ b.replies; rows = a.rows ++ b.rows } →
+pub then_gives : (s : Serving) (more : Services → Serving) (mid new : Services) (a b all : Served) → given mid a ≡ given_of s → given new b ≡ given_of (more mid) → all ≡ joined a b →
     given new all ≡ given_of (and_then s more)
 then_gives s more mid new a b all p q e = joined_gives s (more s.state) mid new a b all p (q ∙ ap (λ (g : _). given_of (more g.state)) p) e
 
@@ -163,7 +190,7 @@ second_halts s t Exhausted after other h = spent_right s.occurrences t.occurrenc
 -- ---- sessions that have timed out
 
 module _ (setting : Setting) where
-  pub one_more : (s : Serving) (number : ℕ) (mid new : Services) (a b all : Served) → given mid a ≡ given_of s → given new b ≡ given_of (session_over setting false number mid) → all ≡ record { replies = a.replies ++ b.replies; rows = a.rows ++ b.rows } →
+  pub one_more : (s : Serving) (number : ℕ) (mid new : Services) (a b all : Served) → given mid a ≡ given_of s → given new b ≡ given_of (session_over setting false number mid) → all ≡ joined a b →
       given new all ≡ given_of (timed_out setting s number)
   unfolding timed_out
   one_more s number mid new a b all p q e = then_gives s (session_over setting false number) mid new a b all p q e
@@ -179,7 +206,7 @@ module _ (setting : Setting) where
 
   -- one more session is over, behind those before it
   pub goes_on : (numbers : List ℕ) (i d : ℕ) (state mid new : Services) (a b all : Served) → i < length numbers → given mid a ≡ given_of (all_timed_out setting state (take i numbers)) → given new b ≡ given_of (session_over setting false (slice_index_or numbers i d) mid) →
-      all ≡ record { replies = a.replies ++ b.replies; rows = a.rows ++ b.rows } → given new all ≡ given_of (all_timed_out setting state (take (i + 1) numbers))
+      all ≡ joined a b → given new all ≡ given_of (all_timed_out setting state (take (i + 1) numbers))
   goes_on numbers i d state mid new a b all lt p q e =
       let next : suc i ≡ i + 1 = omega arith in
       one_more (all_timed_out setting state (take i numbers)) (slice_index_or numbers i d) mid new a b all p q e

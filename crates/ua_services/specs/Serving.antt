@@ -1,5 +1,5 @@
 -- What a request comes to, and what all services share.
-use Rattle.std.specs.Prelude.{◌≡◌, ⊤, ℕ, Bool, true, false, not, List, [], ◌∷◌, Result, Ok, Err}
+use Rattle.std.specs.Prelude.{◌≡◌, ⊤, ℕ, Bool, true, false, not, List, [], ◌∷◌, ◌++◌, Result, Ok, Err}
 use Rattle.std.specs.List.{list_any}
 use Rattle.ua_types.specs.declared.moment.Moment.{Moment}
 use Rattle.ua_types.specs.declared.node_id.NodeId.{NodeId}
@@ -15,15 +15,17 @@ use Rattle.server_messages.specs.declared.halt.Halt.TheVariants.{Memory, Exhaust
 use Rattle.server_messages.specs.declared.reply.Reply.{Reply}
 use Rattle.server_messages.specs.declared.served.Served.{Served}
 use Rattle.server_messages.specs.declared.setting.Setting.{Setting}
+use Rattle.server_messages.specs.declared.stored.Stored.{Stored}
 use Rattle.ua_services.specs.ServicesState.{Services}
 use Rattle.ua_services.specs.declared.caller.Caller.{Caller}
 use Rattle.ua_services.specs.declared.unserved.Unserved.{Unserved}
 use Rattle.ua_services.specs.declared.unserved.Unserved.TheVariants.{Fault, Halted}
 
--- What is said of a service beside its replies: a row of the subscriptions' state table fired, or a serial of 64 bits has
--- passed its last value
+-- What is said of a service beside its replies: a row of the subscriptions' state table fired, a store has to keep a value, or a
+-- serial of 64 bits has passed its last value
 pub data Occurrence : Type 0 where
   Fire : Fired → Occurrence
+  Store : Stored → Occurrence
   Spent : Occurrence
 
 -- what is kept after it, the replies, what occurred, and whether the one reply is a fault, and nothing else was done
@@ -65,15 +67,35 @@ refusal_of (Halted Exhausted) = refusals.Exhausted
 abbrev pub rows_of : List Occurrence → List Fired
 rows_of [] = []
 rows_of (Fire fired ∷ occurrences) = fired ∷ rows_of occurrences
+rows_of (Store stored ∷ occurrences) = rows_of occurrences
 rows_of (Spent ∷ occurrences) = rows_of occurrences
+
+abbrev pub stored_of : List Occurrence → List Stored
+stored_of [] = []
+stored_of (Fire fired ∷ occurrences) = stored_of occurrences
+stored_of (Store stored ∷ occurrences) = stored ∷ stored_of occurrences
+stored_of (Spent ∷ occurrences) = stored_of occurrences
 
 abbrev pub is_spent : Occurrence → Bool
 is_spent (Fire fired) = false
+is_spent (Store stored) = false
 is_spent Spent = true
+
+-- replies and rows, and nothing for a store
+abbrev pub served : List Reply → List Fired → Served
+served replies rows = record { replies = replies; rows = rows; stored = [] }
 
 -- one reply, and no rows
 abbrev pub replied : Reply → Served
-replied reply = record { replies = reply ∷ []; rows = [] }
+replied reply = served (reply ∷ []) []
+
+-- one reply, before what else was served
+abbrev pub reply_before : Reply → Served → Served
+reply_before reply others = record others { replies = reply ∷ others.replies }
+
+-- what was served before, and then more
+abbrev pub joined : Served → Served → Served
+joined before more = record { replies = before.replies ++ more.replies; rows = before.rows ++ more.rows; stored = before.stored ++ more.stored }
 
 -- what is kept, what is given, and whether a serial has passed its last value
 pub record Given : Type 0 where
@@ -86,7 +108,11 @@ abbrev pub given : Services → Served → Given
 given state served = record { state = state; served = served; spends = false }
 
 abbrev pub given_of : Serving → Given
-given_of s = record { state = s.state; served = record { replies = s.replies; rows = rows_of s.occurrences }; spends = list_any is_spent s.occurrences }
+given_of s = record {
+  state = s.state;
+  served = record { replies = s.replies; rows = rows_of s.occurrences; stored = stored_of s.occurrences };
+  spends = list_any is_spent s.occurrences;
+}
 
 -- A call does what is said of it, and no serial is said to be spent; unless memory ran out, or one is
 abbrev pub Serves : Result Served Halt → Services → Serving → Type 0

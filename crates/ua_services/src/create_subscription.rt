@@ -70,7 +70,7 @@ impl SessionService for CreateSubscription {
         let answered = services
             .subs
             .create(alloc, items, setting.clock, session, settings, enabled)?;
-        let (answer, others) = apart(answered);
+        let (answer, others) = apart(alloc, answered);
         let body = answer_body(alloc, setting, caller, answer)?;
         Ok(reply_first(alloc, caller, body, others)?)
     }

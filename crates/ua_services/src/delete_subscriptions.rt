@@ -42,7 +42,7 @@ impl SessionService for DeleteSubscriptions {
         let answered = services
             .subs
             .delete(alloc, items, setting.clock, session, numbers)?;
-        let (statuses, others) = apart(answered);
+        let (statuses, others) = apart(alloc, answered);
         let type_id = type_ids::DELETE_SUBSCRIPTIONS_RESPONSE;
         let body = statuses_body(alloc, type_id, setting, caller, statuses.as_slice())?;
         Ok(reply_first(alloc, caller, body, others)?)

@@ -100,7 +100,7 @@ fn answer_items(
     let answered = services
         .subs
         .items(alloc, items, setting.clock, number, before)?;
-    Ok(reply_first(alloc, caller, body, served_alone(answered))?)
+    Ok(reply_first(alloc, caller, body, served_alone(alloc, answered))?)
 }
 
 impl<S: ItemService> SessionService for S {

@@ -68,7 +68,7 @@ impl SessionService for ModifySubscription {
         let answered = services
             .subs
             .modify(alloc, items, setting.clock, session, number, settings)?;
-        let (answer, others) = apart(answered);
+        let (answer, others) = apart(alloc, answered);
         let body = answer_body(alloc, setting, caller, answer)?;
         Ok(reply_first(alloc, caller, body, others)?)
     }

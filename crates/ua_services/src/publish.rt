@@ -51,7 +51,7 @@ fn taken(
     let answered = services
         .subs
         .publish(alloc, items, clock, session, publish, acknowledgements)?;
-    Ok(served_alone(answered))
+    Ok(served_alone(alloc, answered))
 }
 
 /// Acknowledges messages, and waits for the next one of any subscription of the session ([`ua_subscriptions::Subscriptions::publish`]).

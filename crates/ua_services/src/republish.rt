@@ -58,7 +58,7 @@ impl SessionService for Republish {
         let answered = services
             .subs
             .republish(alloc, items, setting.clock, session, number, wanted)?;
-        let (answer, others) = apart(answered);
+        let (answer, others) = apart(alloc, answered);
         let body = answer_body(alloc, setting, caller, answer)?;
         Ok(reply_first(alloc, caller, body, others)?)
     }

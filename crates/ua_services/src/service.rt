@@ -36,6 +36,7 @@ pub(crate) fn reply(alloc: Global, caller: &Caller, body: MessageBody) -> Result
     Ok(Served {
         replies,
         rows: Listed::new(alloc),
+        stored: Listed::new(alloc),
     })
 }
 

@@ -206,7 +206,7 @@ impl Services {
         let items = &mut self.items;
         let answered = self.subs.shut_down(alloc, items, setting.clock)?;
         self.sessions.end_all(alloc);
-        Ok(served_alone(answered))
+        Ok(served_alone(alloc, answered))
     }
 
     /// Drops what a connection that is closed or gone still waited for: its Publish requests. Takes no memory.

@@ -42,7 +42,7 @@ impl SessionService for SetPublishingMode {
         let answered = services
             .subs
             .set_mode(alloc, items, setting.clock, session, numbers, enabled)?;
-        let (statuses, others) = apart(answered);
+        let (statuses, others) = apart(alloc, answered);
         let type_id = type_ids::SET_PUBLISHING_MODE_RESPONSE;
         let body = statuses_body(alloc, type_id, setting, caller, statuses.as_slice())?;
         Ok(reply_first(alloc, caller, body, others)?)

@@ -3,7 +3,7 @@
 ghost use Rattle.std.specs.Prelude.{◌≡◌, ◌∷◌, ◌++◌, false, not, IfOk, IsOk, OnOk};
 ghost use Rattle.std.specs.Option.{is_some};
 ghost use Rattle.ua_subscriptions.specs.Ranks.{is_any_due};
-ghost use Rattle.ua_services.specs.Serving.{Serves, reply_of};
+ghost use Rattle.ua_services.specs.Serving.{Serves, reply_of, served, reply_before, joined as joined_spec};
 ghost use Rattle.ua_services.specs.SubServing.{session_over, all_timed_out, timers_met};
 
 use crate::caller::Caller;
@@ -18,23 +18,31 @@ use ua_types::Listed;
 
 /// What a call of the subscriptions answered, and what is served beside it: replies to Publish requests, and the rows
 /// that fired.
-pub(crate) fn apart<T>(answered: Answered<T>) -> (T, Served)
+pub(crate) fn apart<T>(alloc: Global, answered: Answered<T>) -> (T, Served)
     ensures answer { result.0 ≡ answered.answer }
-    ensures others { result.1 ≡ record { replies = answered.replies; rows = answered.rows } }
+    ensures others { result.1 ≡ served answered.replies answered.rows }
 {
     let Answered {
         answer,
         replies,
         rows,
     } = answered;
-    (answer, Served { replies, rows })
+    let stored = Listed::new(alloc);
+    (
+        answer,
+        Served {
+            replies,
+            rows,
+            stored,
+        },
+    )
 }
 
 /// What is served where the answer itself says nothing.
-pub(crate) fn served_alone(answered: Answered<()>) -> Served
-    ensures { result ≡ record { replies = answered.replies; rows = answered.rows } }
+pub(crate) fn served_alone(alloc: Global, answered: Answered<()>) -> Served
+    ensures { result ≡ served answered.replies answered.rows }
 {
-    let (_, served) = apart(answered);
+    let (_, served) = apart(alloc, answered);
     served
 }
 
@@ -45,18 +53,19 @@ pub(crate) fn reply_first(
     body: MessageBody,
     others: Served,
 ) -> Result<Served, AllocError>
-    ensures { IfOk result (λ served. served ≡ record { replies = reply_of caller.now body ∷ others.replies; rows = others.rows }) }
+    ensures { IfOk result (λ all. all ≡ reply_before (reply_of caller.now body) others) }
 {
     joined(reply(alloc, caller, body)?, others)
 }
 
 /// What was served before, and then more.
-pub(crate) fn joined(mut served: Served, more: Served) -> Result<Served, AllocError>
-    ensures { IfOk result (λ all. all ≡ record { replies = served.replies ++ more.replies; rows = served.rows ++ more.rows }) }
+pub(crate) fn joined(mut before: Served, more: Served) -> Result<Served, AllocError>
+    ensures { IfOk result (λ all. all ≡ joined_spec before more) }
 {
-    served.replies.append(more.replies)?;
-    served.rows.append(more.rows)?;
-    Ok(served)
+    before.replies.append(more.replies)?;
+    before.rows.append(more.rows)?;
+    before.stored.append(more.stored)?;
+    Ok(before)
 }
 
 /// A session is over: its subscriptions are deleted with it, or left to their lifetime, and its Publish requests that
@@ -74,7 +83,7 @@ pub(crate) fn end_session(
     let answered = services
         .subs
         .session_end(alloc, items, setting.clock, number, deleting)?;
-    Ok(served_alone(answered))
+    Ok(served_alone(alloc, answered))
 }
 
 /// Sessions have timed out, and leave their subscriptions to their lifetime.
@@ -89,6 +98,7 @@ pub(crate) fn end_sessions(
     let mut served = Served {
         replies: ShortList::new(alloc),
         rows: Listed::new(alloc),
+        stored: Listed::new(alloc),
     };
     for number in numbers {
         let more = end_session(alloc, setting, *number, false, services)?;
@@ -108,5 +118,5 @@ pub(crate) fn fire_timers(
 {
     let items = &mut services.items;
     let answered = services.subs.timers(alloc, items, setting.clock)?;
-    Ok(served_alone(answered))
+    Ok(served_alone(alloc, answered))
 }

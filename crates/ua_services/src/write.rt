@@ -1,12 +1,12 @@
 //! The service Write (IEC 62541-4, "Write").
 
-ghost use Rattle.std.specs.Prelude.{◌≡◌, Some, length, OnOk, IfOk};
+ghost use Rattle.std.specs.Prelude.{◌≡◌, ◌++◌, [], ◌∷◌, Some, length, OnOk, IfOk};
 ghost use Rattle.ua_types.specs.declared.node_id.NodeId.{NodeId};
 ghost use Rattle.ua_space.specs.NodePlaces.{IsTakenIn, place_of};
 ghost use Rattle.ua_space.specs.Values.{variable_in};
 ghost use Rattle.ua_read_write.specs.Writing.{judged, accepted_of, status_of, write_of};
 ghost use Rattle.ua_views.specs.Views.{or_none};
-ghost use Rattle.ua_services.specs.Write.{is_historizing as is_historizing_spec, with_accepted, with_judged, with_written, write_meaning};
+ghost use Rattle.ua_services.specs.Write.{is_historizing as is_historizing_spec, history_with, dropped_by, stored_change, stored_judged, stored_written, for_store, with_accepted, with_judged, with_written, write_meaning};
 
 use crate::caller::Caller;
 use crate::operations::viewed_operations;
@@ -16,13 +16,15 @@ use crate::status_results::statuses_body;
 use crate::unserved::Unserved;
 use crate::viewed_service::ViewedService;
 use number_slots::Near;
-use server_messages::{Served, Setting};
+use server_messages::{Served, Setting, Stored};
 use std::alloc::{AllocError, Global};
+use ua_history::History;
 use ua_messages::type_ids;
 use ua_read_write::{AcceptedValue, accepted};
 use ua_service_views::{WriteRequestView, WriteValueView};
 use ua_space::{Node, NodeDetails};
-use ua_types::{Copyable, Moment, Refusal, Status};
+use ua_types::{Copyable, Listed, Moment, Refusal, Status};
+use ua_values::DataValue;
 use ua_views::ArrayView;
 
 // Whether the values of this node are kept.
@@ -35,38 +37,84 @@ fn is_historizing(node: &Node) -> bool
     }
 }
 
-// Shows a value that was accepted to the items that watch its variable, keeps it where the variable is historizing, and stores
-// it. So it is copied for those who queue or keep it, and moved into the variable.
-fn put(alloc: Global, services: &mut Services, accepted: AcceptedValue) -> Result<(), AllocError>
+// Keeps a value of this node in its history, where its values are kept, and answers the time that falls out.
+fn keep(
+    alloc: Global,
+    history: &mut History,
+    node: &Node,
+    value: &DataValue,
+) -> Result<Option<Moment>, AllocError>
+    ensures history { OnOk result (history.new ≡ history_with history.old node.now.id value.now (is_historizing_spec (variable_in node.now.details))) }
+    ensures dropped { IfOk result (λ time. time ≡ dropped_by history.old node.now.id value.now (is_historizing_spec (variable_in node.now.details))) }
+{
+    if is_historizing(node) {
+        history.keep(alloc, &node.id, value.copy(alloc)?)
+    } else {
+        Ok(None)
+    }
+}
+
+// Notes a value of this node for a store.
+fn note(
+    alloc: Global,
+    node: &Node,
+    value: &DataValue,
+    dropped: Option<Moment>,
+    stored: &mut Listed<Stored>,
+) -> Result<(), AllocError>
+    ensures { OnOk result (stored.new ≡ stored.old ++ (record { node_id = node.now.id; value = value.now; is_historical = is_historizing_spec (variable_in node.now.details); dropped = dropped }) ∷ []) }
+{
+    stored.push(Stored {
+        node_id: node.id.copy(alloc)?,
+        value: value.copy(alloc)?,
+        is_historical: is_historizing(node),
+        dropped,
+    })
+}
+
+// Shows a value that was accepted to the items that watch its variable, keeps it where the variable is historizing, notes it where
+// there is a store, and stores it. So it is copied for those who queue or keep it, and moved into the variable.
+fn put(
+    alloc: Global,
+    services: &mut Services,
+    has_store: bool,
+    accepted: AcceptedValue,
+    stored: &mut Listed<Stored>,
+) -> Result<(), AllocError>
     requires { IsTakenIn services.old.space.nodes accepted.place accepted.value }
-    ensures { (id : NodeId) → place_of id services.old.space.nodes ≡ Some accepted.place → OnOk result (services.new ≡ with_accepted services.old (record { node_id = id; value = accepted.value })) }
+    ensures services { (id : NodeId) → place_of id services.old.space.nodes ≡ Some accepted.place → OnOk result (services.new ≡ with_accepted services.old (record { node_id = id; value = accepted.value })) }
+    ensures stored { (id : NodeId) → place_of id services.old.space.nodes ≡ Some accepted.place →
+        OnOk result (stored.new ≡ stored.old ++ for_store has_store (stored_change services.old.space.nodes services.old.history (record { node_id = id; value = accepted.value }) ∷ [])) }
 {
     let AcceptedValue { place, value } = accepted;
     let Some(node) = services.space.node_in_order(place) else {
         unreachable!();
     };
     services.items.show(alloc, &node.id, &value)?;
-    if is_historizing(node) {
-        services.history.keep(alloc, &node.id, value.copy(alloc)?)?;
+    let dropped = keep(alloc, &mut services.history, node, &value)?;
+    if has_store {
+        note(alloc, node, &value, dropped, stored)?;
     }
     services.space.set_value_in(place, value);
     Ok(())
 }
 
-// Does with one value what the service does, and answers its outcome.
+// Does with one value what the service does, and answers its outcome. Where there is a store it is noted.
 fn write_one<'a>(
     alloc: Global,
     services: &mut Services,
     near: &mut Near,
-    clock: Moment,
+    setting: &Setting,
     value: &WriteValueView<'a>,
+    stored: &mut Listed<Stored>,
 ) -> Result<Status, AllocError>
-    ensures services { OnOk result (services.new ≡ with_judged services.old (accepted_of clock value.now (judged services.old.space.nodes value.now))) }
+    ensures services { OnOk result (services.new ≡ with_judged services.old (accepted_of setting.now.clock value.now (judged services.old.space.nodes value.now))) }
+    ensures stored { OnOk result (stored.new ≡ stored.old ++ stored_judged setting.now.config.has_store services.old (accepted_of setting.now.clock value.now (judged services.old.space.nodes value.now))) }
     ensures status { IfOk result (λ status. status ≡ status_of (judged services.old.space.nodes value.now)) }
 {
-    match accepted(alloc, &services.space, near, clock, value) {
+    match accepted(alloc, &services.space, near, setting.clock, value) {
         Ok(accepted) => {
-            put(alloc, services, accepted)?;
+            put(alloc, services, setting.config.has_store, accepted, stored)?;
             Ok(Status::GOOD)
         }
         Err(Refusal::Service(status)) => Ok(status),
@@ -75,28 +123,30 @@ fn write_one<'a>(
     }
 }
 
-// Does with all values what the service does, one after the other, and answers their outcomes.
+// Does with all values what the service does, one after the other, and answers their outcomes. Where there is a store they are noted.
 fn write_all<'a>(
     alloc: Global,
     services: &mut Services,
-    clock: Moment,
+    setting: &Setting,
     values: ArrayView<'a, WriteValueView<'a>>,
+    stored: &mut Listed<Stored>,
 ) -> Result<Vec<Status>, AllocError>
-    ensures services { OnOk result (services.new ≡ with_written services.old (write_of clock services.old.space.nodes (or_none values.entry))) }
-    ensures statuses { IfOk result (λ statuses. statuses.items ≡ (write_of clock services.old.space.nodes (or_none values.entry)).statuses) }
+    ensures services { OnOk result (services.new ≡ with_written services.old (write_of setting.now.clock services.old.space.nodes (or_none values.entry))) }
+    ensures stored { OnOk result (stored.new ≡ stored.old ++ stored_written setting.now.config.has_store services.old (write_of setting.now.clock services.old.space.nodes (or_none values.entry))) }
+    ensures statuses { IfOk result (λ statuses. statuses.items ≡ (write_of setting.now.clock services.old.space.nodes (or_none values.entry)).statuses) }
     ensures count { IfOk result (λ statuses. length statuses.items ≡ length (or_none values.entry)) }
 {
     let mut statuses = Vec::with_capacity(alloc, values.len())?;
     let mut near = Near::new();
     for value in values {
-        let status = write_one(alloc, services, &mut near, clock, &value)?;
+        let status = write_one(alloc, services, &mut near, setting, &value, stored)?;
         statuses.push(status)?;
     }
     Ok(statuses)
 }
 
 /// Gives variables new values, one after the other, shows them to the items that watch them, and keeps those of variables
-/// that are historizing.
+/// that are historizing. Where the configuration has a store, what it has to keep is told beside the reply.
 ///
 /// The faults, in this order: `BAD_NOTHING_TO_DO` for a list that is null or empty,
 /// `BAD_TOO_MANY_OPERATIONS` for one with more entries than the configuration's `operations`; then nothing is written. What is
@@ -121,9 +171,12 @@ impl<'a> ViewedService<'a> for Write {
             Ok(values) => values,
             Err(status) => return Err(Unserved::Fault(status)),
         };
-        let statuses = write_all(alloc, services, setting.clock, values)?;
+        let mut stored = Listed::new(alloc);
+        let statuses = write_all(alloc, services, setting, values, &mut stored)?;
         let type_id = type_ids::WRITE_RESPONSE;
         let body = statuses_body(alloc, type_id, setting, caller, &statuses)?;
-        Ok(reply(alloc, caller, body)?)
+        let mut served = reply(alloc, caller, body)?;
+        served.stored = stored;
+        Ok(served)
     }
 }

@@ -40,21 +40,28 @@ is_none (v ∷ vs) = false
 abbrev pub is_history : Node → Bool
 is_history node = is_none node.history || (is_historizing node.details && rises node.history)
 
--- ---- histories that are moved out
+-- ---- histories that are put in and moved out
 
 -- what a node has from before; where there is no node, nothing
 abbrev pub history_in : Option (NodeId × Node) → List DataValue
 history_in None = []
 history_in (Some entry) = entry.1.history
 
+abbrev pub with_history : List DataValue → NodeId × Node → NodeId × Node
+with_history values entry = (entry.0, record entry.1 { history = values })
+
+-- the nodes, where the one at a place has these values from before
+abbrev pub with_history_in : ℕ → List DataValue → Nodes → Nodes
+with_history_in place values [] = []
+with_history_in zero values (e ∷ es) = with_history values e ∷ es
+with_history_in (suc place) values (e ∷ es) = e ∷ with_history_in place values es
+
 abbrev pub without_history : NodeId × Node → NodeId × Node
-without_history entry = (entry.0, record entry.1 { history = [] })
+without_history entry = with_history [] entry
 
 -- the nodes, where the one at a place has nothing from before
 abbrev pub without_history_in : ℕ → Nodes → Nodes
-without_history_in place [] = []
-without_history_in zero (e ∷ es) = without_history e ∷ es
-without_history_in (suc place) (e ∷ es) = e ∷ without_history_in place es
+without_history_in place nodes = with_history_in place [] nodes
 
 -- the nodes, where none has anything from before
 abbrev pub without_histories : Nodes → Nodes

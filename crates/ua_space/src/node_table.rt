@@ -3,7 +3,7 @@
 ghost use Rattle.std.specs.Prelude.{◌≡◌, length, true, Ok, IfOk, option_map, slice_get};
 ghost use Rattle.std.specs.Option.{option_copied};
 ghost use Rattle.ua_types.specs.declared.node_id.NodeId.{NodeId};
-ghost use Rattle.ua_space.specs.Histories.{history_in, without_history_in};
+ghost use Rattle.ua_space.specs.Histories.{history_in, with_history_in, without_history_in};
 ghost use Rattle.ua_space.specs.Nodes.{node_at};
 ghost use Rattle.ua_space.specs.NodePlaces.{IsPlaceOf, place_of, takes_in, with_value_in};
 ghost use Rattle.ua_space.specs.Values.{takes_at, with_value};
@@ -122,6 +122,18 @@ fn take_in(entries: &mut Vec<(NodeId, Node)>, place: usize, alloc: Global) -> Li
     }
 }
 
+// Gives the node at this place these values from before.
+fn put_in(entries: &mut Vec<(NodeId, Node)>, place: usize, values: Listed<DataValue>)
+    ensures { entries.new.items ≡ with_history_in place values entries.old.items }
+{
+    match entries.get_mut(place) {
+        None => {}
+        Some(entry) => {
+            let _ = mem::replace(&mut entry.1.history, values);
+        }
+    }
+}
+
 impl NodeTable {
     /// The nodes of a map.
     pub(crate) fn new(alloc: Global, nodes: BTreeMap<NodeId, Node>) -> Result<NodeTable, AllocError>
@@ -204,6 +216,13 @@ impl NodeTable {
         ensures left { self.new ≡ without_history_in place self.old }
     {
         take_in(&mut self.entries, place, alloc)
+    }
+
+    /// Gives the node at a place these values from before, in the place of those that it had.
+    pub(crate) fn put_history(&mut self, place: usize, values: Listed<DataValue>)
+        ensures { self.new ≡ with_history_in place values self.old }
+    {
+        put_in(&mut self.entries, place, values);
     }
 
     /// How many nodes there are.

@@ -56,7 +56,7 @@ impl Space {
     ghost use Rattle.ua_types.specs.NodeIdOrder.{same_id};
     ghost use Rattle.ua_types.specs.declared.node_id.NodeId.{NodeId};
     ghost use Rattle.std.specs.Option.{option_copied};
-    ghost use Rattle.ua_space.specs.Histories.{history_in, without_history_in};
+    ghost use Rattle.ua_space.specs.Histories.{history_in, with_history_in, without_history_in};
     ghost use Rattle.ua_space.specs.Nodes.{node_at};
     ghost use Rattle.ua_space.specs.NodePlaces.{place_of, IsTakenIn};
     ghost use Rattle.ua_space.specs.Values.{variable_at, value_at, takes_at, with_value};
@@ -206,6 +206,18 @@ impl Space {
         ensures triples { self.new.triples ≡ self.old.triples }
     {
         self.nodes.take_history(place, alloc)
+    }
+
+    /// Gives the node at a place in the order of ids these values from before the server began, in the place of those that it
+    /// had.
+    ///
+    /// Nothing else changes. Takes no memory.
+    pub fn put_history(&mut self, place: usize, values: Listed<DataValue>)
+        requires { place < length self.old.nodes }
+        ensures nodes { self.new.nodes ≡ with_history_in place values self.old.nodes }
+        ensures triples { self.new.triples ≡ self.old.triples }
+    {
+        self.nodes.put_history(place, values);
     }
 
     /// How many nodes there are, the base set included.

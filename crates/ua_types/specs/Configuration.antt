@@ -1,5 +1,5 @@
 -- The server's configuration: its fields, the ranges of its numbers, and the standard one.
-use Rattle.std.specs.Prelude.{ℕ, pos, ◌≤ℤ◌, ◌≤◌, List, [], ◌∷◌, length, codes, Option, Some, IsSome, IfSome}
+use Rattle.std.specs.Prelude.{ℕ, Bool, false, pos, ◌≤ℤ◌, ◌≤◌, List, [], ◌∷◌, length, codes, Option, Some, IsSome, IfSome}
 use Rattle.ua_types.specs.declared.moment.Moment.{Moment}
 use Rattle.ua_types.specs.declared.duration.Duration.{Duration}
 use Rattle.ua_types.specs.declared.number_range.NumberRange.{NumberRange}
@@ -31,6 +31,7 @@ pub record Configuration : Type 0 where
   pub operations : ℕ
   pub history_page : ℕ
   pub history : ℕ
+  pub has_store : Bool
   pub session_time : ℕ
   pub publish_time : ℕ
   pub session_duration : Duration
@@ -100,6 +101,7 @@ standard = record {
   operations = 1000;
   history_page = 1000;
   history = 10000;
+  has_store = false;
   session_time = 600000000;
   publish_time = 10000000;
   session_duration = record { 0 = 0 ∷ 0 ∷ 0 ∷ 0 ∷ 0 ∷ 0x4c ∷ 0xed ∷ 0x40 ∷ [] };

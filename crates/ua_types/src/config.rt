@@ -65,6 +65,8 @@ pub struct Config {
     pub history_page: u32,
     /// The most values that a node's history keeps.
     pub history: u32,
+    /// Whether values and histories are kept in a store, so that each step tells what it has to keep.
+    pub has_store: bool,
     /// How long a session lasts without a request, in steps of 100 ns.
     pub session_time: u64,
     /// The time between two publishing timers of a subscription, in steps of 100 ns.
@@ -108,6 +110,7 @@ impl Model for Config {
       operations = c.operations;
       history_page = c.history_page;
       history = c.history;
+      has_store = c.has_store;
       session_time = c.session_time;
       publish_time = c.publish_time;
       session_duration = c.session_duration;
@@ -150,6 +153,7 @@ impl Config {
             operations: 1000,
             history_page: 1000,
             history: 10000,
+            has_store: false,
             session_time: 600_000_000,
             publish_time: 10_000_000,
             session_duration: Duration([0, 0, 0, 0, 0, 0x4c, 0xed, 0x40]),
@@ -187,6 +191,7 @@ impl Copyable for Config {
             operations: self.operations,
             history_page: self.history_page,
             history: self.history,
+            has_store: self.has_store,
             session_time: self.session_time,
             publish_time: self.publish_time,
             session_duration: self.session_duration,

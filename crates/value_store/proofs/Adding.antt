@@ -17,8 +17,8 @@ use Rattle.sqlite.proofs.Callers.{one_step}
 use Rattle.value_store.specs.Tables.{value_table, history_table, store_schema}
 use Rattle.value_store.specs.Laws.{terms}
 use Rattle.value_store.specs.Rows.{value_row, past_row}
-use Rattle.value_store.specs.declared.rows.Kept.{Kept}
-use Rattle.value_store.specs.declared.rows.Past.{Past}
+use Rattle.value_store.specs.declared.rows.ValueRow.{ValueRow}
+use Rattle.value_store.specs.declared.rows.PastRow.{PastRow}
 use Rattle.value_store.proofs.Settling.{went, same_value}
 use Rattle.value_store.proofs.Dropping.{task_of}
 
@@ -49,7 +49,7 @@ pub record Adds (table other : ℕ) (columns : Row) (db next : Trees) : Type 0 w
   pub rows : next table ≡ put_row (Int id ∷ columns) (db table)
   pub rest : next other ≡ db other
 
-pub adds_value : (limit : Option ℕ) (keys : Keys) (k : Kept) (db : Trees) (w : Written) → Inserts (task_of limit keys value_table (value_row k)) (Values terms 7) db (Ok w) → Adds 0 2 (value_row k) db w.trees
+pub adds_value : (limit : Option ℕ) (keys : Keys) (k : ValueRow) (db : Trees) (w : Written) → Inserts (task_of limit keys value_table (value_row k)) (Values terms 7) db (Ok w) → Adds 0 2 (value_row k) db w.trees
 adds_value limit keys k db w h =
     let given = went h in
     let counter = went given.2 in
@@ -68,7 +68,7 @@ adds_value limit keys k db w h =
       rest = ap (λ (t : Trees). t 2) trees ∙ step.tables.1.0 (λ e. cc);
     }
 
-pub adds_past : (limit : Option ℕ) (keys : Keys) (k : Past) (db : Trees) (w : Written) → Inserts (task_of limit keys history_table (past_row k)) (Values terms 7) db (Ok w) → Adds 2 0 (past_row k) db w.trees
+pub adds_past : (limit : Option ℕ) (keys : Keys) (k : PastRow) (db : Trees) (w : Written) → Inserts (task_of limit keys history_table (past_row k)) (Values terms 7) db (Ok w) → Adds 2 0 (past_row k) db w.trees
 adds_past limit keys k db w h =
     let given = went h in
     let counter = went given.2 in

@@ -20,8 +20,8 @@ use Rattle.sqlite.specs.State.{State, mode_of, ExecutesInside}
 use Rattle.sqlite.specs.Tree.{Trees}
 use Rattle.sqlite_rules.specs.Calls.{ids_of}
 use Rattle.sqlite.proofs.Callers.{runs_as, statement_of}
-use Rattle.value_store.specs.declared.rows.Kept.{Kept}
-use Rattle.value_store.specs.declared.rows.Past.{Past}
+use Rattle.value_store.specs.declared.rows.ValueRow.{ValueRow}
+use Rattle.value_store.specs.declared.rows.PastRow.{PastRow}
 use Rattle.value_store.specs.declared.rows.Change.TheVariants as change
 use Rattle.value_store.specs.Tables.{store_schema}
 use Rattle.value_store.specs.Laws.{terms, numbers_where, is_given, add_value_text, add_past_text, drop_value_text, drop_past_text}
@@ -38,7 +38,7 @@ use Rattle.value_store.proofs.Settling.{went, same_value}
 
 -- ---- keys
 
-text_keys : (node n : List ℕ) → is_eq (value_cmp (Text node) (Text n)) ≡ bytes_eq node n
+pub text_keys : (node n : List ℕ) → is_eq (value_cmp (Text node) (Text n)) ≡ bytes_eq node n
 text_keys node n = ap is_eq (value_cmp-Text node n) ∙ is_eq-slice_cmp node n
 
 node_alike : (node n : List ℕ) (r : Row) → is_of_node node r ≡ true → is_of_node n r ≡ bytes_eq node n
@@ -50,10 +50,10 @@ time_alike time t r h = ap is_eq (value_cmp_total.congr (column r 2) (Int time) 
 at_alike : (node : List ℕ) (time : ℤ) (n : List ℕ) (t : ℤ) (r : Row) → is_at node time r ≡ true → is_at n t r ≡ is_same node time n t
 at_alike node time n t r h = let parts = and_parts _ _ h in rw (node_alike node n r parts.0, time_alike time t r parts.1) refl
 
-same_node : (node n : List ℕ) → bytes_eq node n ≡ true → node ≡ n
+pub same_node : (node n : List ℕ) → bytes_eq node n ≡ true → node ≡ n
 same_node node n = (bytes_eq-Decides node n).0
 
-same_time : (time t : ℤ) → is_eq (int_cmp time t) ≡ true → time ≡ t
+pub same_time : (time t : ℤ) → is_eq (int_cmp time t) ≡ true → time ≡ t
 same_time time t h = exact_signed time t (equal_of _ h)
 
 at_again : (node : List ℕ) (time : ℤ) (n : List ℕ) (t : ℤ) (r : Row) → is_same node time n t ≡ true → is_at n t r ≡ true → is_at node time r ≡ true
@@ -88,7 +88,7 @@ module _ (db next : Trees) where
       go false other =
           ap (option_map columns) (ap (find (is_at n t)) d.rows ∙ others_left (is_at node time) (db 2) d.found all d.are (is_at n t) (λ r h. at_alike node time n t r h ∙ other))
 
-  pub values_added : (k : Kept) → Adds 0 2 (value_row k) db next → value_of db (string_bytes k.node) ≡ None
+  pub values_added : (k : ValueRow) → Adds 0 2 (value_row k) db next → value_of db (string_bytes k.node) ≡ None
       → (n : List ℕ) → value_of next n ≡ cond (bytes_eq (string_bytes k.node) n) (Some (value_row k)) (value_of db n)
   values_added k a room n =
       let new = Int a.id ∷ value_row k in
@@ -103,7 +103,7 @@ module _ (db next : Trees) where
       go id true false same = absurd (true≢false same)
       go id false true same = absurd (true≢false (sym same))
 
-  pub pasts_added : (p : Past) → Adds 2 0 (past_row p) db next → past_of db (string_bytes p.node) p.time ≡ None
+  pub pasts_added : (p : PastRow) → Adds 2 0 (past_row p) db next → past_of db (string_bytes p.node) p.time ≡ None
       → (n : List ℕ) (t : ℤ) → past_of next n t ≡ cond (is_same (string_bytes p.node) p.time n t) (Some (past_row p)) (past_of db n t)
   pasts_added p a room n t =
       let new = Int a.id ∷ past_row p in
@@ -151,7 +151,7 @@ module _ (old new : State) where
       let now = ap (λ (p : Tally × Database). p.1) (same_value (went (went done.2).2).2) in
       (ap (λ (d : Database). d.schema) now, subst (Drops 2 0 (is_at node time) old.now.trees) (sym (ap (λ (d : Database). d.trees) now)) (drops_past old.step_limit (mode_of old).keys node time old.now.trees done.0 done.1))
 
-  value_added : (k : Kept) (count : ℕ) → ExecutesInside 0 add_value_text (value_row k) old new (Ok count) → old.now.schema ≡ store_schema
+  value_added : (k : ValueRow) (count : ℕ) → ExecutesInside 0 add_value_text (value_row k) old new (Ok count) → old.now.schema ≡ store_schema
       → (new.now.schema ≡ store_schema) × Adds 0 2 (value_row k) old.now.trees new.now.trees
   value_added k count h has =
       let params = value_row k in
@@ -162,7 +162,7 @@ module _ (old new : State) where
       let now = ap (λ (p : Tally × Database). p.1) (same_value (went (went done.2).2).2) in
       (ap (λ (d : Database). d.schema) now, subst (Adds 0 2 (value_row k) old.now.trees) (sym (ap (λ (d : Database). d.trees) now)) (adds_value old.step_limit (mode_of old).keys k old.now.trees done.0 done.1))
 
-  past_added : (p : Past) (count : ℕ) → ExecutesInside 0 add_past_text (past_row p) old new (Ok count) → old.now.schema ≡ store_schema
+  past_added : (p : PastRow) (count : ℕ) → ExecutesInside 0 add_past_text (past_row p) old new (Ok count) → old.now.schema ≡ store_schema
       → (new.now.schema ≡ store_schema) × Adds 2 0 (past_row p) old.now.trees new.now.trees
   past_added p count h has =
       let params = past_row p in
@@ -195,7 +195,7 @@ module _ (old new : State) where
         ((d.0, subst AreNumbered (sym d.1.rest) was.1, numbered), values_rest old.now.trees new.now.trees d.1.rest, pasts_lost old.now.trees new.now.trees node time was.2 d.1),
   )
 
-  pub adds_kept : (k : Kept) (r : Result ℕ Error) → ExecutesInside 0 add_value_text (value_row k) old new r → OnOk r (step.Adds (change.Value k) old new)
+  pub adds_kept : (k : ValueRow) (r : Result ℕ Error) → ExecutesInside 0 add_value_text (value_row k) old new r → OnOk r (step.Adds (change.Value k) old new)
   adds_kept k (Err e) h = tt
   adds_kept k (Ok count) h = (
     h.1.was_open,
@@ -206,7 +206,7 @@ module _ (old new : State) where
         ((d.0, numbered, subst AreNumbered (sym d.1.rest) was.2), (values_added old.now.trees new.now.trees k d.1 room, pasts_rest old.now.trees new.now.trees d.1.rest)),
   )
 
-  pub adds_old : (p : Past) (r : Result ℕ Error) → ExecutesInside 0 add_past_text (past_row p) old new r → OnOk r (step.Adds (change.Past p) old new)
+  pub adds_old : (p : PastRow) (r : Result ℕ Error) → ExecutesInside 0 add_past_text (past_row p) old new r → OnOk r (step.Adds (change.Past p) old new)
   adds_old p (Err e) h = tt
   adds_old p (Ok count) h = (
     h.1.was_open,
@@ -227,7 +227,7 @@ same_own : (node : List ℕ) (time : ℤ) → is_same node time node time ≡ tr
 same_own node time = and_from _ _ ((bytes_eq-Decides node node).1 refl) (ap is_eq (tied_itself int_cmp_total time))
 
 module _ (old mid new : State) where
-  pub puts_kept : (k : Kept) (r : Result ℕ Error) → step.LosesValue (string_bytes k.node) old mid → OnOk r (step.Adds (change.Value k) mid new) → OnOk r (step.Makes (change.Value k) old new)
+  pub puts_kept : (k : ValueRow) (r : Result ℕ Error) → step.LosesValue (string_bytes k.node) old mid → OnOk r (step.Adds (change.Value k) mid new) → OnOk r (step.Makes (change.Value k) old new)
   puts_kept k (Err e) lost added = tt
   puts_kept k (Ok count) lost added = (
     lost.0,
@@ -240,7 +240,7 @@ module _ (old mid new : State) where
         (made.0, (λ n. made.1.0 n ∙ (ap (cond (bytes_eq node n) (Some (value_row k))) (left.1 n) ∙ hidden (bytes_eq node n) (Some (value_row k)) None (value_of old.now.trees n)), λ n t. made.1.1 n t ∙ left.2 n t)),
   )
 
-  pub puts_old : (p : Past) (r : Result ℕ Error) → step.LosesPast (string_bytes p.node) p.time old mid → OnOk r (step.Adds (change.Past p) mid new) → OnOk r (step.Makes (change.Past p) old new)
+  pub puts_old : (p : PastRow) (r : Result ℕ Error) → step.LosesPast (string_bytes p.node) p.time old mid → OnOk r (step.Adds (change.Past p) mid new) → OnOk r (step.Makes (change.Past p) old new)
   puts_old p (Err e) lost added = tt
   puts_old p (Ok count) lost added = (
     lost.0,

@@ -10,3 +10,8 @@ pub mod Closing
 pub mod Columns
 pub mod Showing
 pub mod Rising
+pub mod Telling
+pub mod Looking
+pub mod Restored
+pub mod Storing
+pub mod RestartLemmas

@@ -4,3 +4,9 @@ pub mod Model
 pub mod Laws
 pub mod Steps
 pub mod Forms
+pub mod Keeping
+pub mod Restoring
+pub mod Ready
+pub mod Lasting
+pub mod Shown
+pub mod Restarting

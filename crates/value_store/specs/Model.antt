@@ -7,8 +7,8 @@ use Rattle.sqlite.specs.Order.{Row, column, value_cmp}
 use Rattle.sqlite.specs.Tree.{Trees, rowid, has_rowid}
 use Rattle.sqlite.specs.View.{is_int}
 use Rattle.sqlite.specs.Effect.{Database}
-use Rattle.value_store.specs.declared.rows.Kept.{Kept}
-use Rattle.value_store.specs.declared.rows.Past.{Past}
+use Rattle.value_store.specs.declared.rows.ValueRow.{ValueRow}
+use Rattle.value_store.specs.declared.rows.PastRow.{PastRow}
 use Rattle.value_store.specs.declared.rows.Change.{Change}
 use Rattle.value_store.specs.declared.rows.Change.TheVariants as change
 use Rattle.value_store.specs.Rows.{value_row, past_row, columns}
@@ -67,5 +67,5 @@ IsAfter turn old new =
 -- ---- what is read back
 
 -- each row of the files is there once, and nothing else is
-abbrev pub AreAll : Trees → List Kept → List Past → Type 0
+abbrev pub AreAll : Trees → List ValueRow → List PastRow → Type 0
 AreAll trees values pasts = IsPermutation (map columns (trees 0)) (map value_row values) × IsPermutation (map columns (trees 2)) (map past_row pasts)

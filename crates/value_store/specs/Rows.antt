@@ -6,8 +6,8 @@ use Rattle.sqlite.specs.Order.{Row, column}
 use Rattle.sqlite.specs.Values.{or_null}
 use Rattle.value_store.specs.declared.rows.Scalar.{Scalar}
 use Rattle.value_store.specs.declared.rows.Scalar.TheVariants.{Nothing, Integer, Words, Bytes}
-use Rattle.value_store.specs.declared.rows.Kept.{Kept}
-use Rattle.value_store.specs.declared.rows.Past.{Past}
+use Rattle.value_store.specs.declared.rows.ValueRow.{ValueRow}
+use Rattle.value_store.specs.declared.rows.PastRow.{PastRow}
 use Rattle.value_store.specs.declared.rows.Key.{Key}
 
 abbrev pub sql_of : Scalar → Value
@@ -25,10 +25,10 @@ is_scalar (Text t) = IsUtf8 t
 is_scalar (Blob b) = ⊤
 
 -- the columns of `value`, and of `history`
-abbrev pub value_row : Kept → Row
+abbrev pub value_row : ValueRow → Row
 value_row k = Text (string_bytes k.node) ∷ Int k.kind ∷ sql_of k.value ∷ Int k.status ∷ or_null Int k.source_time ∷ or_null Int k.server_time ∷ []
 
-abbrev pub past_row : Past → Row
+abbrev pub past_row : PastRow → Row
 past_row p = Text (string_bytes p.node) ∷ Int p.time ∷ Int p.kind ∷ sql_of p.value ∷ Int p.status ∷ or_null Int p.server_time ∷ []
 
 -- the key of a row of `history`

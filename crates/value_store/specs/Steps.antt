@@ -10,6 +10,10 @@ use Rattle.value_store.specs.Model.{IsStore, IsAfter, value_of, past_of, is_same
 abbrev pub IsReady : State → Type 0
 IsReady s = HasCleanDisk s → IsTrue s.is_open → IsStore s.now
 
+-- and whatever a crash leaves of it is what the connection shows
+abbrev pub IsSettled : State → Type 0
+IsSettled s = (trees : Trees) → HasCleanDisk s → IsTrue s.is_open → s.may_leave trees → trees ≡ s.now.trees
+
 -- the file could be used, and the change is made and not committed
 abbrev pub Makes : Change → State → State → Type 0
 Makes change old new =

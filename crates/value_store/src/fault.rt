@@ -1,42 +1,58 @@
-//! Why the store fails.
+//! Why a step of the store fails.
 
+use server_messages::StoreFault;
+use sqlite::{Error, ErrorCode};
 use std::alloc::{AllocError, AllocFailed};
-use thiserror::Error;
 
-/// What went wrong. The store is as it was before the call, unless the database is closed.
-#[derive(Clone, Copy, Debug, PartialEq, Eq, Error)]
-pub enum StoreFault {
+/// What went wrong in a step. The store is as it was before the call, unless the database is closed.
+#[derive(Clone, Copy, Debug, PartialEq, Eq)]
+pub enum Fault {
     /// The database refused or failed: no memory, a full disk, a disk that failed or lied, or a transaction of the caller's own that is under way.
-    #[error("the database failed: {0:?}")]
-    Database(sqlite::Error),
+    Database(Error),
     /// The database has other tables than the store's, as one of another program or another version.
-    #[error("the database has other tables")]
     OtherTables,
-    /// Two rows of a table have one number, which no file that SQLite wrote has.
-    #[error("two rows of a table have one number")]
-    SharedNumber,
-    /// A row says no value, as one that another program wrote.
-    #[error("a row says no value")]
+    /// A row says no value, or has the key of another, as none that this program wrote.
     Unreadable,
     /// An allocation failed.
-    #[error("out of memory")]
     Memory,
 }
 
-impl From<sqlite::Error> for StoreFault {
-    fn from(error: sqlite::Error) -> StoreFault {
-        StoreFault::Database(error)
+impl From<Error> for Fault {
+    fn from(error: Error) -> Fault {
+        Fault::Database(error)
     }
 }
 
-impl From<AllocError> for StoreFault {
-    fn from(_e: AllocError) -> StoreFault {
-        StoreFault::Memory
+impl From<AllocError> for Fault {
+    fn from(_e: AllocError) -> Fault {
+        Fault::Memory
     }
 }
 
-impl<T: Drop> From<AllocFailed<T>> for StoreFault {
-    fn from(_failed: AllocFailed<T>) -> StoreFault {
-        StoreFault::Memory
+impl<T: Drop> From<AllocFailed<T>> for Fault {
+    fn from(_failed: AllocFailed<T>) -> Fault {
+        Fault::Memory
+    }
+}
+
+/// The fault as the server names it.
+pub fn stored_fault(fault: Fault) -> StoreFault {
+    match fault {
+        Fault::Database(error) => database_fault(error),
+        Fault::OtherTables => StoreFault::OtherTables,
+        Fault::Unreadable => StoreFault::Unreadable,
+        Fault::Memory => StoreFault::Memory,
+    }
+}
+
+/// An error of the database as the server names it, also of one that can't be opened.
+pub fn database_fault(error: Error) -> StoreFault {
+    match error {
+        Error::SqliteFailure(ErrorCode::OutOfMemory) => StoreFault::Memory,
+        Error::SqliteFailure(ErrorCode::DiskFull) => StoreFault::Full,
+        Error::SqliteFailure(ErrorCode::DatabaseBusy) => StoreFault::Locked,
+        Error::SqliteFailure(ErrorCode::CannotOpen) => StoreFault::CannotOpen,
+        Error::SqliteFailure(ErrorCode::NotADatabase) => StoreFault::NotADatabase,
+        _ => StoreFault::Failed,
     }
 }

@@ -1,19 +1,89 @@
 //! How the values of a server stand in the tables, and how they are read again.
 //!
-//! A value stands as a BLOB of its binary encoding (IEC 62541-6, 5.2.2.16), whose first byte is the row's `type`:
-//! the number of the type, 64 more with dimensions and 128 more for a list. No value stands as NULL with type 0.
+//! A scalar whose numbers SQL has stands as an INTEGER, and a text as TEXT, so that a person can read them; the row's
+//! `type` is then the number of the type (IEC 62541-6, 5.1.2). Everything else stands as a BLOB of its binary encoding
+//! (IEC 62541-6, 5.2.2.16), whose first byte is the row's `type`: the number, 64 more with dimensions and 128 more for
+//! a list. No value stands as NULL with type 0. No value has two forms.
 
-ghost use Rattle.std.specs.Prelude.{◌≡◌, ◌≢◌, Some, None, string_bytes, IfOk, IfErr};
-ghost use Rattle.ua_types.specs.IdTexts.{id_text};
+ghost use Rattle.std.specs.Prelude.{◌≡◌, ◌≢◌, ◌<◌, ◌^◌, length, pos, option_map, slice_index_or, string_bytes, IfOk, IfErr, IfSome, OnOk, IsTrue, false};
+ghost use Rattle.ua_types.specs.IdTexts.{id_text, id_of, IsNamed};
 ghost use Rattle.ua_binary.specs.Variants.{variant_reading};
-ghost use Rattle.value_store.specs.Forms.{whole, said, first_of, ticks as to_ticks, Says};
+ghost use Rattle.ua_values.specs.Variants.{type_number};
+ghost use Rattle.ua_values.specs.declared.variant.Variant.TheVariants.{String as StringVariant};
+ghost use Rattle.sqlite.specs.declared.types.Value.TheVariants.{Int};
+ghost use Rattle.sqlite.specs.Values.{or_null};
+ghost use Rattle.value_store.specs.Rows.{sql_of, value_row, past_row};
+ghost use Rattle.value_store.specs.Forms.{whole, natural, truth_in, is_single as is_single_spec, is_small as is_small_spec, is_text as is_text_spec, is_plain as is_plain_spec, bytes_said, integer_said, text_said, value_said, time_said, said_value, said_past, columns_said, IsSole, IsSmall, IsTruth, StandsAs};
 
-use crate::fault::StoreFault;
-use crate::rows::{Kept, Scalar};
+use crate::fault::Fault;
+use crate::rows::{Key, PastRow, Scalar, ValueRow};
 use std::alloc::{AllocError, Global};
 use ua_binary::{Cursor, TakeFault, Wire};
-use ua_types::{Moment, NodeId, Status, write_id};
-use ua_values::{DataValue, Variant};
+use ua_types::{IdFault, Identifier, Moment, NodeId, Status, Text, write_id};
+use ua_values::{Content, DataValue, Variant};
+
+fn is_single<T>(content: &Content<T>) -> bool
+    ensures { result ≡ is_single_spec content.now }
+{
+    match content {
+        Content::Scalar(_) => true,
+        Content::Array(_) => false,
+        Content::Matrix(_) => false,
+    }
+}
+
+fn is_small(content: &Content<u64>) -> bool
+    ensures { result ≡ is_small_spec content.now }
+{
+    match content {
+        Content::Scalar(n) => *n < 1 << 63,
+        Content::Array(_) => false,
+        Content::Matrix(_) => false,
+    }
+}
+
+fn is_text(content: &Content<Text>) -> bool
+    ensures { result ≡ is_text_spec content.now }
+{
+    match content {
+        Content::Scalar(text) => !text.is_null(),
+        Content::Array(_) => false,
+        Content::Matrix(_) => false,
+    }
+}
+
+// Whether a value stands as an INTEGER or as TEXT.
+fn is_plain(value: &Variant) -> bool
+    ensures { result ≡ is_plain_spec value.now }
+{
+    match value {
+        Variant::Boolean(content) => is_single(content),
+        Variant::SByte(content) => is_single(content),
+        Variant::Byte(content) => is_single(content),
+        Variant::Int16(content) => is_single(content),
+        Variant::UInt16(content) => is_single(content),
+        Variant::Int32(content) => is_single(content),
+        Variant::UInt32(content) => is_single(content),
+        Variant::Int64(content) => is_single(content),
+        Variant::UInt64(content) => is_small(content),
+        Variant::DateTime(content) => is_single(content),
+        Variant::StatusCode(content) => is_single(content),
+        Variant::String(content) => is_text(content),
+        Variant::Null
+        | Variant::Float(_)
+        | Variant::Double(_)
+        | Variant::Guid(_)
+        | Variant::ByteString(_)
+        | Variant::XmlElement(_)
+        | Variant::NodeId(_)
+        | Variant::ExpandedNodeId(_)
+        | Variant::QualifiedName(_)
+        | Variant::LocalizedText(_)
+        | Variant::ExtensionObject(_) => false,
+    }
+}
+
+// ---- what is written of a value
 
 // The bytes of a value.
 fn bytes_of(alloc: Global, value: &Variant) -> Result<Vec<u8>, AllocError>
@@ -24,66 +94,155 @@ fn bytes_of(alloc: Global, value: &Variant) -> Result<Vec<u8>, AllocError>
     Ok(bytes)
 }
 
-// The value that all of the bytes encode.
-fn value_in(alloc: Global, bytes: &[u8]) -> Result<Variant, StoreFault>
-    ensures ok { IfOk result (λ value. whole (variant_reading bytes.now) ≡ Some value) }
-    ensures err { IfErr result (λ e. e ≢ StoreFault.Memory → whole (variant_reading bytes.now) ≡ None) }
+// The one value that a content is, if it is no list.
+fn sole<T: Copy>(content: &Content<T>) -> Option<T>
+    ensures { IsSole content.now result }
 {
-    let mut cursor = Cursor::new(bytes);
-    match Variant::take(alloc, &mut cursor) {
-        Ok(value) => {
-            if cursor.rest().is_empty() {
-                Ok(value)
-            } else {
-                Err(StoreFault::Unreadable)
-            }
-        }
-        Err(TakeFault::Memory) => Err(StoreFault::Memory),
-        Err(_) => Err(StoreFault::Unreadable),
+    match content {
+        Content::Scalar(value) => Some(*value),
+        Content::Array(_) => None,
+        Content::Matrix(_) => None,
     }
 }
 
-fn scalar_of(alloc: Global, value: &Option<Variant>) -> Result<Scalar, AllocError>
-    ensures { IfOk result (λ scalar. said scalar ≡ Some value.now) }
+// A number of 64 bits, where it fits an INTEGER.
+fn small(content: &Content<u64>) -> Option<i64>
+    ensures { IsSmall content.now result }
+{
+    match content {
+        Content::Scalar(n) => { if *n < 1 << 63 { Some(*n as i64) } else { None } }
+        Content::Array(_) => None,
+        Content::Matrix(_) => None,
+    }
+}
+
+// A truth as a number.
+fn truth(content: &Content<bool>) -> Option<i64>
+    ensures { IsTruth content.now result }
+{
+    match content {
+        Content::Scalar(false) => Some(0),
+        Content::Scalar(true) => Some(1),
+        Content::Array(_) => None,
+        Content::Matrix(_) => None,
+    }
+}
+
+// A text that isn't null.
+fn words(alloc: Global, content: &Content<Text>) -> Result<Option<Scalar>, AllocError>
+    ensures { IfOk result (StandsAs (StringVariant content.now)) }
+{
+    match content {
+        Content::Scalar(text) => match text.as_str() {
+            None => Ok(None),
+            Some(text) => Ok(Some(Scalar::Words(String::from_str(alloc, text)?))),
+        },
+        Content::Array(_) => Ok(None),
+        Content::Matrix(_) => Ok(None),
+    }
+}
+
+fn integer(number: Option<i64>) -> Option<Scalar>
+    ensures { result ≡ option_map (λ n. Scalar.Integer n) number }
+{
+    match number {
+        Some(n) => Some(Scalar::Integer(n)),
+        None => None,
+    }
+}
+
+// A value as an INTEGER or as TEXT, where it stands as one.
+fn plain_of(alloc: Global, value: &Variant) -> Result<Option<Scalar>, AllocError>
+    ensures { IfOk result (StandsAs value.now) }
 {
     match value {
-        None => Ok(Scalar::Nothing),
-        Some(value) => Ok(Scalar::Bytes(bytes_of(alloc, value)?)),
+        Variant::Boolean(content) => Ok(integer(truth(content))),
+        Variant::SByte(content) => match sole(content) {
+            Some(n) => Ok(Some(Scalar::Integer(n as i64))),
+            None => Ok(None),
+        },
+        Variant::Byte(content) => match sole(content) {
+            Some(n) => Ok(Some(Scalar::Integer(n as i64))),
+            None => Ok(None),
+        },
+        Variant::Int16(content) => match sole(content) {
+            Some(n) => Ok(Some(Scalar::Integer(n as i64))),
+            None => Ok(None),
+        },
+        Variant::UInt16(content) => match sole(content) {
+            Some(n) => Ok(Some(Scalar::Integer(n as i64))),
+            None => Ok(None),
+        },
+        Variant::Int32(content) => match sole(content) {
+            Some(n) => Ok(Some(Scalar::Integer(n as i64))),
+            None => Ok(None),
+        },
+        Variant::UInt32(content) => match sole(content) {
+            Some(n) => Ok(Some(Scalar::Integer(n as i64))),
+            None => Ok(None),
+        },
+        Variant::Int64(content) => match sole(content) {
+            Some(n) => Ok(Some(Scalar::Integer(n))),
+            None => Ok(None),
+        },
+        Variant::UInt64(content) => Ok(integer(small(content))),
+        Variant::DateTime(content) => match sole(content) {
+            Some(moment) => Ok(Some(Scalar::Integer(moment.0))),
+            None => Ok(None),
+        },
+        Variant::StatusCode(content) => match sole(content) {
+            Some(status) => Ok(Some(Scalar::Integer(status.0 as i64))),
+            None => Ok(None),
+        },
+        Variant::String(content) => words(alloc, content),
+        Variant::Null
+        | Variant::Float(_)
+        | Variant::Double(_)
+        | Variant::Guid(_)
+        | Variant::ByteString(_)
+        | Variant::XmlElement(_)
+        | Variant::NodeId(_)
+        | Variant::ExpandedNodeId(_)
+        | Variant::QualifiedName(_)
+        | Variant::LocalizedText(_)
+        | Variant::ExtensionObject(_) => Ok(None),
     }
 }
 
 // The first byte, and 0 where there is none.
-fn kind_of(scalar: &Scalar) -> i64
-    ensures { result ≡ first_of scalar.now }
+fn first_of(bytes: &[u8]) -> u8
+    ensures { result ≡ slice_index_or bytes.now 0 0 }
 {
-    match scalar {
-        Scalar::Nothing => 0,
-        Scalar::Integer(_) => 0,
-        Scalar::Words(_) => 0,
-        Scalar::Bytes(bytes) => match bytes.as_slice() {
-            [first, ..] => *first as i64,
-            [] => 0,
-        },
+    match bytes {
+        [first, ..] => *first,
+        [] => 0,
     }
 }
 
-fn variant_of(alloc: Global, scalar: &Scalar) -> Result<Option<Variant>, StoreFault>
-    ensures ok { IfOk result (λ value. said scalar.now ≡ Some value) }
-    ensures err { IfErr result (λ e. e ≢ StoreFault.Memory → said scalar.now ≡ None) }
+// A value that stands as a BLOB, as that.
+fn blob_of(alloc: Global, value: &Variant) -> Result<(u8, Scalar), AllocError>
+    requires { is_plain_spec value.now ≡ false }
+    ensures { IfOk result (λ p. value_said p.0 (sql_of p.1) ≡ Some (Some value.now)) }
 {
-    match scalar {
-        Scalar::Nothing => Ok(None),
-        Scalar::Integer(_) => Err(StoreFault::Unreadable),
-        Scalar::Words(_) => Err(StoreFault::Unreadable),
-        Scalar::Bytes(bytes) => match value_in(alloc, bytes.as_slice()) {
-            Ok(value) => Ok(Some(value)),
-            Err(fault) => Err(fault),
+    let bytes = bytes_of(alloc, value)?;
+    Ok((first_of(&bytes), Scalar::Bytes(bytes)))
+}
+
+// A value as its type and what stands for it, and none as NULL.
+fn scalar_of(alloc: Global, value: &Option<Variant>) -> Result<(u8, Scalar), AllocError>
+    ensures { IfOk result (λ p. value_said p.0 (sql_of p.1) ≡ Some value.now) }
+{
+    match value {
+        None => Ok((0, Scalar::Nothing)),
+        Some(value) => match plain_of(alloc, value)? {
+            Some(scalar) => Ok((value.type_number(), scalar)),
+            None => blob_of(alloc, value),
         },
     }
 }
 
 fn ticks_of(moment: Option<Moment>) -> Option<i64>
-    ensures { result ≡ to_ticks moment }
+    ensures { time_said (or_null Int result) ≡ Some moment }
 {
     match moment {
         None => None,
@@ -91,8 +250,106 @@ fn ticks_of(moment: Option<Moment>) -> Option<i64>
     }
 }
 
+// ---- what is read
+
+// The value that all of the bytes encode.
+fn value_in(alloc: Global, bytes: &[u8]) -> Result<Variant, Fault>
+    ensures ok { IfOk result (λ value. whole (variant_reading bytes.now) ≡ Some value) }
+    ensures err { IfErr result (λ e. e ≢ Fault.Memory → whole (variant_reading bytes.now) ≡ None) }
+{
+    let mut cursor = Cursor::new(bytes);
+    match Variant::take(alloc, &mut cursor) {
+        Ok(value) => {
+            if cursor.rest().is_empty() {
+                Ok(value)
+            } else {
+                Err(Fault::Unreadable)
+            }
+        }
+        Err(TakeFault::Memory) => Err(Fault::Memory),
+        Err(_) => Err(Fault::Unreadable),
+    }
+}
+
+fn blob_variant(alloc: Global, kind: u8, bytes: &[u8]) -> Result<Variant, Fault>
+    ensures { IfOk result (λ value. bytes_said kind bytes.now ≡ Some value) }
+{
+    if kind != first_of(bytes) {
+        return Err(Fault::Unreadable);
+    }
+    let value = value_in(alloc, bytes)?;
+    if is_plain(&value) {
+        return Err(Fault::Unreadable);
+    }
+    Ok(value)
+}
+
+fn text_variant(alloc: Global, kind: u8, text: &str) -> Result<Variant, Fault>
+    ensures { IfOk result (λ value. text_said kind text.now ≡ Some value) }
+{
+    if kind != 12 || text.len() >= 1 << 31 {
+        return Err(Fault::Unreadable);
+    }
+    Ok(Variant::String(Content::Scalar(Text::from_str(alloc, text)?)))
+}
+
+fn truth_of(n: i64) -> Option<bool>
+    ensures { IfSome result (λ truth. truth_in n ≡ Some truth) }
+{
+    match n {
+        0 => Some(false),
+        1 => Some(true),
+        _ => None,
+    }
+}
+
+fn integer_variant(kind: u8, n: i64) -> Option<Variant>
+    ensures { IfSome result (λ value. integer_said kind n ≡ Some value) }
+{
+    match kind {
+        1 => Some(Variant::Boolean(Content::Scalar(truth_of(n)?))),
+        2 => Some(Variant::SByte(Content::Scalar(i8::try_from(n).ok()?))),
+        3 => Some(Variant::Byte(Content::Scalar(u8::try_from(n).ok()?))),
+        4 => Some(Variant::Int16(Content::Scalar(i16::try_from(n).ok()?))),
+        5 => Some(Variant::UInt16(Content::Scalar(u16::try_from(n).ok()?))),
+        6 => Some(Variant::Int32(Content::Scalar(i32::try_from(n).ok()?))),
+        7 => Some(Variant::UInt32(Content::Scalar(u32::try_from(n).ok()?))),
+        8 => Some(Variant::Int64(Content::Scalar(n))),
+        9 => Some(Variant::UInt64(Content::Scalar(u64::try_from(n).ok()?))),
+        13 => Some(Variant::DateTime(Content::Scalar(Moment(n)))),
+        19 => Some(Variant::StatusCode(Content::Scalar(Status(u32::try_from(n).ok()?)))),
+        _ => None,
+    }
+}
+
+fn variant_of(alloc: Global, kind: u8, scalar: &Scalar) -> Result<Option<Variant>, Fault>
+    ensures { IfOk result (λ value. value_said kind (sql_of scalar.now) ≡ Some value) }
+{
+    match scalar {
+        Scalar::Nothing => {
+            if kind == 0 {
+                Ok(None)
+            } else {
+                Err(Fault::Unreadable)
+            }
+        }
+        Scalar::Integer(n) => match integer_variant(kind, *n) {
+            Some(value) => Ok(Some(value)),
+            None => Err(Fault::Unreadable),
+        },
+        Scalar::Words(text) => match text_variant(alloc, kind, text.as_str()) {
+            Ok(value) => Ok(Some(value)),
+            Err(fault) => Err(fault),
+        },
+        Scalar::Bytes(bytes) => match blob_variant(alloc, kind, bytes.as_slice()) {
+            Ok(value) => Ok(Some(value)),
+            Err(fault) => Err(fault),
+        },
+    }
+}
+
 fn moment_of(ticks: Option<i64>) -> Option<Moment>
-    ensures { ticks ≡ to_ticks result }
+    ensures { time_said (or_null Int ticks) ≡ Some result }
 {
     match ticks {
         None => None,
@@ -100,38 +357,156 @@ fn moment_of(ticks: Option<i64>) -> Option<Moment>
     }
 }
 
-/// The row of a node's value.
-pub fn kept_of(alloc: Global, node: &NodeId, value: &DataValue) -> Result<Kept, AllocError>
-    ensures node { IfOk result (λ kept. string_bytes kept.node ≡ id_text node.now) }
-    ensures value { IfOk result (λ kept. Says kept value.now) }
+fn status_of(status: i64) -> Result<Status, Fault>
+    ensures { IfOk result (λ s. natural status ≡ Some s.0) }
 {
-    let text = write_id(alloc, node)?;
-    let scalar = scalar_of(alloc, &value.value)?;
-    Ok(Kept {
-        node: text,
-        kind: kind_of(&scalar),
+    match u32::try_from(status) {
+        Ok(status) => Ok(Status(status)),
+        Err(_) => Err(Fault::Unreadable),
+    }
+}
+
+fn kind_of(kind: i64) -> Result<u8, Fault>
+    ensures { IfOk result (λ k. natural kind ≡ Some k) }
+{
+    match u8::try_from(kind) {
+        Ok(kind) => Ok(kind),
+        Err(_) => Err(Fault::Unreadable),
+    }
+}
+
+// The value of these columns, and the times.
+fn data_value(
+    alloc: Global,
+    what: (i64, &Scalar, i64),
+    source_time: Option<i64>,
+    server_time: Option<i64>,
+) -> Result<DataValue, Fault>
+    ensures source { IfOk result (λ v. time_said (or_null Int source_time) ≡ Some v.source_time) }
+    ensures said { IfOk result (λ v. columns_said (Int what.entry.0) (sql_of what.entry.1.now) (Int what.entry.2) (or_null Int source_time) (or_null Int server_time) ≡ Some v) }
+{
+    let value = variant_of(alloc, kind_of(what.0)?, what.1)?;
+    Ok(DataValue {
+        status: status_of(what.2)?,
+        source_time: moment_of(source_time),
+        server_time: moment_of(server_time),
+        value,
+    })
+}
+
+// ---- rows
+
+fn is_named(identifier: &Identifier) -> bool
+    ensures { IsTrue result → IsNamed identifier.now }
+{
+    match identifier {
+        Identifier::Numeric(_) => true,
+        Identifier::String(text) => !text.is_null(),
+        Identifier::Guid(_) => true,
+        Identifier::Opaque(bytes) => bytes.as_slice().is_some(),
+    }
+}
+
+// The text of an id that is read again of it, as each is that isn't null.
+fn id_words(alloc: Global, id: &NodeId) -> Result<String, Fault>
+    ensures text { IfOk result (λ t. string_bytes t ≡ id_text id.now) }
+    ensures again { OnOk result (id_of (id_text id.now) ≡ Ok id.now) }
+{
+    if !is_named(&id.identifier) {
+        return Err(Fault::Unreadable);
+    }
+    Ok(write_id(alloc, id)?)
+}
+
+/// The id that a text is written for. Another text of it is refused, so that an id has one row.
+pub fn id_in(alloc: Global, text: &str) -> Result<NodeId, Fault>
+    ensures text { IfOk result (λ id. id_text id ≡ text.now) }
+    ensures again { IfOk result (λ id. id_of (id_text id) ≡ Ok id) }
+{
+    let id = match NodeId::parse(alloc, text) {
+        Ok(id) => id,
+        Err(IdFault::Memory) => return Err(Fault::Memory),
+        Err(_) => return Err(Fault::Unreadable),
+    };
+    let written = write_id(alloc, &id)?;
+    if written.as_str() != text {
+        return Err(Fault::Unreadable);
+    }
+    Ok(id)
+}
+
+/// The row of a variable's value.
+pub fn value_row_of(alloc: Global, id: &NodeId, value: &DataValue) -> Result<ValueRow, Fault>
+    ensures node { IfOk result (λ row. string_bytes row.node ≡ id_text id.now) }
+    ensures again { OnOk result (id_of (id_text id.now) ≡ Ok id.now) }
+    ensures value { IfOk result (λ row. said_value (value_row row) ≡ Some value.now) }
+{
+    let node = id_words(alloc, id)?;
+    let (kind, scalar) = scalar_of(alloc, &value.value)?;
+    Ok(ValueRow {
+        node,
+        kind: kind as i64,
         value: scalar,
-        status: i64::from(value.status.0),
+        status: value.status.0 as i64,
         source_time: ticks_of(value.source_time),
         server_time: ticks_of(value.server_time),
     })
 }
 
-/// The value that a row says. A row that [`kept_of`] made says the value that it was made of.
-pub fn data_value_of(alloc: Global, kept: &Kept) -> Result<DataValue, StoreFault>
-    ensures ok { IfOk result (Says kept.now) }
+/// The row of a value that a variable had at its source's time.
+pub fn past_row_of(
+    alloc: Global,
+    id: &NodeId,
+    time: Moment,
+    value: &DataValue,
+) -> Result<PastRow, Fault>
+    requires { value.now.source_time ≡ Some time }
+    ensures key { IfOk result (λ row. (string_bytes row.node ≡ id_text id.now) × (row.time ≡ time.0)) }
+    ensures again { OnOk result (id_of (id_text id.now) ≡ Ok id.now) }
+    ensures value { IfOk result (λ row. said_past (past_row row) ≡ Some value.now) }
 {
-    let value = variant_of(alloc, &kept.value)?;
-    if kept.kind != kind_of(&kept.value) {
-        return Err(StoreFault::Unreadable);
-    }
-    let Ok(status) = u32::try_from(kept.status) else {
-        return Err(StoreFault::Unreadable);
-    };
-    Ok(DataValue {
-        status: Status(status),
-        source_time: moment_of(kept.source_time),
-        server_time: moment_of(kept.server_time),
-        value,
+    let node = id_words(alloc, id)?;
+    let (kind, scalar) = scalar_of(alloc, &value.value)?;
+    Ok(PastRow {
+        node,
+        time: time.0,
+        kind: kind as i64,
+        value: scalar,
+        status: value.status.0 as i64,
+        server_time: ticks_of(value.server_time),
     })
+}
+
+/// The key of the row of a value that falls out.
+pub fn key_of(alloc: Global, id: &NodeId, time: Moment) -> Result<Key, Fault>
+    ensures key { IfOk result (λ key. (string_bytes key.node ≡ id_text id.now) × (key.time ≡ time.0)) }
+    ensures again { OnOk result (id_of (id_text id.now) ≡ Ok id.now) }
+{
+    let node = id_words(alloc, id)?;
+    Ok(Key { node, time: time.0 })
+}
+
+/// The value that a row says.
+pub fn value_of(alloc: Global, row: &ValueRow) -> Result<DataValue, Fault>
+    ensures { IfOk result (λ v. said_value (value_row row.now) ≡ Some v) }
+{
+    data_value(
+        alloc,
+        (row.kind, &row.value, row.status),
+        row.source_time,
+        row.server_time,
+    )
+}
+
+/// The value that a row of a variable's history says.
+pub fn past_of(alloc: Global, row: &PastRow) -> Result<DataValue, Fault>
+    ensures time { IfOk result (λ v. v.source_time ≡ Some (record { 0 = row.now.time })) }
+    ensures said { IfOk result (λ v. said_past (past_row row.now) ≡ Some v) }
+{
+    data_value(
+        alloc,
+        (row.kind, &row.value, row.status),
+        Some(row.time),
+        row.server_time,
+    )
 }

@@ -1,30 +1,38 @@
-//! A durable store: the value of each node, and its values of the past, in a SQLite file.
+//! A durable store: the value of each variable, and its values of the past, in a SQLite file.
 //!
-//! The file has two tables, `value` with one row a node and `history` with one row a node and time; the values
-//! themselves stand as bytes. What a server's turn changes goes into one transaction, and once a turn is
-//! answered with `Ok` no crash takes any of it back; a turn that fails leaves nothing.
+//! [`ValueStore`] is a server's `Keeper`. What a turn stores goes into one transaction, and once it is answered with
+//! `Ok` no crash takes any of it back; a turn that fails leaves nothing. `begin` reads all back at the next start.
 //!
-//! It is no cache and no server: it holds nothing in memory, and a turn's changes are rows of its own. `forms`
-//! makes rows of a server's values and reads them again. It opens no file either. Each call takes a
-//! connection over any store of the kit, a file or memory, so one crate above alone names a file's.
-//! No program uses it yet.
+//! The file has two tables, `value` with one row a variable and `history` with one row a variable and time. Numbers
+//! stand in them as INTEGER and texts as TEXT, so that a person can read them; the rest is bytes (`forms`).
 //!
-//! Read first `rows::Change`, what a turn is made of, and `fault::StoreFault`, how it fails. Then
-//! `reading::begin`, the first call on a connection, and `turns::keep`, each later one.
+//! It is no cache and no server: it holds nothing in memory. It opens no file either: it takes a connection over any
+//! store of the kit, a file or memory, so one crate above alone names a file's.
 //!
-//! What is proved of it speaks of disks that keep their word, as the clauses say with `HasCleanDisk`.
+//! What a contract sees is what the rows say, in the words of `server_messages` (`specs/Keeping`). Below it, `changes`
+//! makes changes of rows of what is stored, `turns` makes them in one transaction, `reading` reads the rows back, and
+//! `restoring` makes values of them. What is proved speaks of disks that keep their word, as the clauses say with
+//! `HasCleanDisk`; what a crash leaves is what the next start finds (`specs/Restarting`).
 #![tactic(auto)]
 
 ghost use Rattle.value_store.specs.Laws.{TablesAreUnderstood, AddsAreUnderstood, DropsAreUnderstood, ReadsAreUnderstood};
 
-pub mod fault;
-pub mod forms;
-pub mod reading;
-pub mod rows;
-pub mod tables;
+mod changes;
+mod fault;
+mod forms;
+mod reading;
+mod restarting;
+mod restoring;
+mod rows;
+mod store;
+mod tables;
 #[cfg(test)]
 mod tests;
-pub mod turns;
+mod turns;
+
+pub use fault::database_fault;
+pub use restarting::restarts_with_what_is_kept;
+pub use store::ValueStore;
 
 /// The texts of CREATE make the schema of the store.
 pub fn tables_are_understood()

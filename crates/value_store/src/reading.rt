@@ -10,17 +10,17 @@ ghost use Rattle.value_store.specs.Model.{AreNumbered, AreAll};
 ghost use Rattle.value_store.specs.Steps.{IsReady};
 ghost use Rattle.value_store.specs.Tables.{store_schema};
 
-use crate::fault::StoreFault;
-use crate::rows::{Kept, Past};
+use crate::fault::Fault;
+use crate::rows::{PastRow, ValueRow};
 use crate::tables::prepare;
 use sqlite::{Alter, Connection, Error, Row};
 use std::alloc::Global;
 
 /// All that a store holds, each value once.
 #[derive(Debug, Drop)]
-pub struct Stored {
-    pub values: Vec<Kept>,
-    pub pasts: Vec<Past>,
+pub struct StoredRows {
+    pub values: Vec<ValueRow>,
+    pub pasts: Vec<PastRow>,
 }
 
 // The rows of one table with their numbers, in some order.
@@ -73,10 +73,10 @@ fn numbers_rise(rows: &[Row]) -> Result<bool, Error>
 }
 
 // What a row tells.
-fn kept_in(row: &Row) -> Result<Kept, Error>
+fn kept_in(row: &Row) -> Result<ValueRow, Error>
     ensures { IfOk result (λ k. columns row.now ≡ value_row k) }
 {
-    Ok(Kept {
+    Ok(ValueRow {
         node: row.get(1)?,
         kind: row.get(2)?,
         value: row.get(3)?,
@@ -86,10 +86,10 @@ fn kept_in(row: &Row) -> Result<Kept, Error>
     })
 }
 
-fn past_in(row: &Row) -> Result<Past, Error>
+fn past_in(row: &Row) -> Result<PastRow, Error>
     ensures { IfOk result (λ p. columns row.now ≡ past_row p) }
 {
-    Ok(Past {
+    Ok(PastRow {
         node: row.get(1)?,
         time: row.get(2)?,
         kind: row.get(3)?,
@@ -99,7 +99,7 @@ fn past_in(row: &Row) -> Result<Past, Error>
     })
 }
 
-fn values_in(alloc: Global, rows: &[Row]) -> Result<Vec<Kept>, StoreFault>
+fn values_in(alloc: Global, rows: &[Row]) -> Result<Vec<ValueRow>, Fault>
     ensures { IfOk result (λ values. map value_row values.items ≡ map columns rows.now) }
 {
     let mut values = Vec::new(alloc);
@@ -109,7 +109,7 @@ fn values_in(alloc: Global, rows: &[Row]) -> Result<Vec<Kept>, StoreFault>
     Ok(values)
 }
 
-fn pasts_in(alloc: Global, rows: &[Row]) -> Result<Vec<Past>, StoreFault>
+fn pasts_in(alloc: Global, rows: &[Row]) -> Result<Vec<PastRow>, Fault>
     ensures { IfOk result (λ pasts. map past_row pasts.items ≡ map columns rows.now) }
 {
     let mut pasts = Vec::new(alloc);
@@ -119,7 +119,7 @@ fn pasts_in(alloc: Global, rows: &[Row]) -> Result<Vec<Past>, StoreFault>
     Ok(pasts)
 }
 
-fn values<S: Alter>(alloc: Global, conn: &mut Connection<S>) -> Result<Vec<Kept>, StoreFault>
+fn values<S: Alter>(alloc: Global, conn: &mut Connection<S>) -> Result<Vec<ValueRow>, Fault>
     requires tables { HasCleanDisk (state S.Store conn.old) → (state S.Store conn.old).now.schema ≡ store_schema }
     ensures all { HasCleanDisk (state S.Store conn.new) → IfOk result (λ values. IsPermutation (map columns ((state S.Store conn.old).now.trees 0)) (map value_row values.items)) }
     ensures numbered { HasCleanDisk (state S.Store conn.new) → OnOk result (AreNumbered ((state S.Store conn.old).now.trees 0)) }
@@ -128,12 +128,12 @@ fn values<S: Alter>(alloc: Global, conn: &mut Connection<S>) -> Result<Vec<Kept>
 {
     let rows = value_rows(conn)?;
     if !numbers_rise(&rows)? {
-        return Err(StoreFault::SharedNumber);
+        return Err(Fault::Unreadable);
     }
     values_in(alloc, &rows)
 }
 
-fn pasts<S: Alter>(alloc: Global, conn: &mut Connection<S>) -> Result<Vec<Past>, StoreFault>
+fn pasts<S: Alter>(alloc: Global, conn: &mut Connection<S>) -> Result<Vec<PastRow>, Fault>
     requires tables { HasCleanDisk (state S.Store conn.old) → (state S.Store conn.old).now.schema ≡ store_schema }
     ensures all { HasCleanDisk (state S.Store conn.new) → IfOk result (λ pasts. IsPermutation (map columns ((state S.Store conn.old).now.trees 2)) (map past_row pasts.items)) }
     ensures numbered { HasCleanDisk (state S.Store conn.new) → OnOk result (AreNumbered ((state S.Store conn.old).now.trees 2)) }
@@ -142,13 +142,13 @@ fn pasts<S: Alter>(alloc: Global, conn: &mut Connection<S>) -> Result<Vec<Past>,
 {
     let rows = past_rows(conn)?;
     if !numbers_rise(&rows)? {
-        return Err(StoreFault::SharedNumber);
+        return Err(Fault::Unreadable);
     }
     pasts_in(alloc, &rows)
 }
 
 /// All that is kept, in some order. Whoever has read it back may keep turns.
-pub fn read_back<S: Alter>(alloc: Global, conn: &mut Connection<S>) -> Result<Stored, StoreFault>
+pub fn read_back<S: Alter>(alloc: Global, conn: &mut Connection<S>) -> Result<StoredRows, Fault>
     requires tables { HasCleanDisk (state S.Store conn.old) → (state S.Store conn.old).now.schema ≡ store_schema }
     ensures all { HasCleanDisk (state S.Store conn.new) → IfOk result (λ stored. AreAll (state S.Store conn.old).now.trees stored.values.items stored.pasts.items) }
     ensures ready { OnOk result (IsReady (state S.Store conn.new)) }
@@ -157,18 +157,20 @@ pub fn read_back<S: Alter>(alloc: Global, conn: &mut Connection<S>) -> Result<St
 {
     let values = values(alloc, conn)?;
     let pasts = pasts(alloc, conn)?;
-    Ok(Stored { values, pasts })
+    Ok(StoredRows { values, pasts })
 }
 
 /// Makes the two tables where the database has no table, and reads back all that it holds. Whoever has begun may keep turns.
 ///
 /// A database with other tables is refused, and left as it was.
-pub fn begin<S: Alter>(alloc: Global, conn: &mut Connection<S>) -> Result<Stored, StoreFault>
+pub fn begin<S: Alter>(alloc: Global, conn: &mut Connection<S>) -> Result<StoredRows, Fault>
     ensures all { HasCleanDisk (state S.Store conn.new) → IfOk result (λ stored. AreAll (state S.Store conn.new).now.trees stored.values.items stored.pasts.items) }
     ensures ready { OnOk result (IsReady (state S.Store conn.new)) }
+    // Where the tables are there, nothing is changed.
+    ensures same { HasCleanDisk (state S.Store conn.new) → (state S.Store conn.old).now.schema ≡ store_schema → OnOk result (IsUnchanged (state S.Store conn.old) (state S.Store conn.new)) }
 {
     if !prepare(conn)? {
-        return Err(StoreFault::OtherTables);
+        return Err(Fault::OtherTables);
     }
     read_back(alloc, conn)
 }

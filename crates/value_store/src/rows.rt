@@ -18,7 +18,7 @@ pub enum Scalar {
 
 /// The value that a node has: a row of `value`, whose key is the node.
 #[derive(Debug, Drop, PartialEq, Eq)]
-pub struct Kept {
+pub struct ValueRow {
     /// The text of the node's id.
     pub node: String,
     /// Which type the value is of, as the caller numbers types.
@@ -35,7 +35,7 @@ pub struct Kept {
 
 /// A value that a node had: a row of `history`, whose key is the node and the time.
 #[derive(Debug, Drop, PartialEq, Eq)]
-pub struct Past {
+pub struct PastRow {
     /// The text of the node's id.
     pub node: String,
     /// When the node had it, in units of the caller's.
@@ -63,9 +63,9 @@ pub struct Key {
 #[derive(Debug, Drop, PartialEq, Eq)]
 pub enum Change {
     /// The node has this value now, in the place of the one before.
-    Value(Kept),
+    Value(ValueRow),
     /// The node had this value at its time, in the place of what it had there.
-    Past(Past),
+    Past(PastRow),
     /// The node's value at this time falls out of its history. Where there is none, nothing changes.
     Forget(Key),
 }

@@ -1,11 +1,11 @@
 //! Whether a database has the two tables, and nothing else.
 
-ghost use Rattle.std.specs.Prelude.{◌≡◌, [], ◌∷◌, true, false, None, Ok, IsTrue, OnOk};
+ghost use Rattle.std.specs.Prelude.{◌≡◌, ◌==◌, length, [], ◌∷◌, true, false, None, Ok, IsTrue, OnOk};
 ghost use Rattle.value_store.specs.Tables.{value_table, history_table, value_key, history_key, store_schema, plain_column};
 ghost use Rattle.sqlite_value.specs.Keys.{plain};
 ghost use Rattle.sqlite.specs.Held.{state};
 
-use crate::fault::StoreFault;
+use crate::fault::Fault;
 use sqlite::{Alter, Connection, Error, ErrorCode};
 use sqlite_schema::schema::{Column, Index, Kind, Schema, Table};
 use sqlite_value::keys::{Collation, Order};
@@ -180,12 +180,21 @@ fn make_tables<S: Alter>(conn: &mut Connection<S>) -> Result<(), Error> {
     transaction.commit()
 }
 
-/// Makes the two tables where the database has none. The answer is whether it has these now, and nothing else: a file of another program, or of another version, is left as it was.
-pub fn prepare<S: Alter>(conn: &mut Connection<S>) -> Result<bool, StoreFault>
-    ensures { OnOk result (result ≡ Ok true → (state S.Store conn.new).now.schema ≡ store_schema) }
+fn has_no_table(schema: &Schema) -> bool
+    ensures { result ≡ (length schema.now.tables == 0) }
 {
-    if conn.schema().tables.is_empty() {
-        make_tables(conn)?;
+    schema.tables.is_empty()
+}
+
+/// Makes the two tables where the database has none. The answer is whether it has these now, and nothing else: a file of another program, or of another version, is left as it was.
+pub fn prepare<S: Alter>(conn: &mut Connection<S>) -> Result<bool, Fault>
+    ensures ready { OnOk result (result ≡ Ok true → (state S.Store conn.new).now.schema ≡ store_schema) }
+    // Where the tables are there, nothing is done.
+    ensures same { (state S.Store conn.old).now.schema ≡ store_schema → conn.new ≡ conn.old }
+{
+    if !has_no_table(conn.schema()) {
+        return Ok(is_store(conn.schema()));
     }
+    make_tables(conn)?;
     Ok(is_store(conn.schema()))
 }

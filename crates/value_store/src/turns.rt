@@ -4,20 +4,19 @@ ghost use Rattle.std.specs.Prelude.{◌≡◌, [], ◌∷◌, string_bytes, fals
 ghost use Rattle.sqlite.specs.declared.types.Value.TheVariants.{Int, Text};
 ghost use Rattle.sqlite.specs.State.{HasCleanDisk, Survives};
 ghost use Rattle.sqlite.specs.Held.{state};
-ghost use Rattle.sqlite.specs.Tree.{Trees};
 ghost use Rattle.sqlite.specs.Values.{bound};
 ghost use Rattle.value_store.specs.Rows.{value_row, past_row};
 ghost use Rattle.value_store.specs.Model.{IsAfter};
-ghost use Rattle.value_store.specs.Steps.{IsReady, Makes, Adds, LosesValue, LosesPast, KeepsCommit};
+ghost use Rattle.value_store.specs.Steps.{IsReady, IsSettled, Makes, Adds, LosesValue, LosesPast, KeepsCommit};
 ghost use Rattle.value_store.specs.declared.rows.Change.TheVariants as change;
 
-use crate::fault::StoreFault;
-use crate::rows::{Change, Kept, Past};
+use crate::fault::Fault;
+use crate::rows::{Change, PastRow, ValueRow};
 use sqlite::types::{ToSql, ValueRef};
 use sqlite::{Alter, Connection, Error, ErrorCode, Transaction};
 
 // What the statements are given, in the order of their columns.
-fn value_columns<'a>(kept: &'a Kept) -> [ValueRef<'a>; 6]
+fn value_columns<'a>(kept: &'a ValueRow) -> [ValueRef<'a>; 6]
     ensures { bound result ≡ value_row kept.now }
 {
     [
@@ -30,7 +29,7 @@ fn value_columns<'a>(kept: &'a Kept) -> [ValueRef<'a>; 6]
     ]
 }
 
-fn past_columns<'a>(past: &'a Past) -> [ValueRef<'a>; 6]
+fn past_columns<'a>(past: &'a PastRow) -> [ValueRef<'a>; 6]
     ensures { bound result ≡ past_row past.now }
 {
     [
@@ -80,7 +79,7 @@ fn drop_past<S: Alter>(
     )
 }
 
-fn add_value<S: Alter>(turn: &mut Transaction<'_, S>, kept: &Kept) -> Result<usize, Error>
+fn add_value<S: Alter>(turn: &mut Transaction<'_, S>, kept: &ValueRow) -> Result<usize, Error>
     ensures same_reference { turn.new.conn.ghost_name ≡ turn.old.conn.ghost_name }
     ensures made { HasCleanDisk (state S.Store turn.new.conn.now) → IsTrue (state S.Store turn.old.conn.now).in_transaction → OnOk result (Adds (change.Value kept.now) (state S.Store turn.old.conn.now) (state S.Store turn.new.conn.now)) }
     ensures kept { HasCleanDisk (state S.Store turn.new.conn.now) → IsTrue (state S.Store turn.old.conn.now).in_transaction → KeepsCommit (state S.Store turn.old.conn.now) (state S.Store turn.new.conn.now) }
@@ -92,7 +91,7 @@ fn add_value<S: Alter>(turn: &mut Transaction<'_, S>, kept: &Kept) -> Result<usi
     )
 }
 
-fn add_past<S: Alter>(turn: &mut Transaction<'_, S>, past: &Past) -> Result<usize, Error>
+fn add_past<S: Alter>(turn: &mut Transaction<'_, S>, past: &PastRow) -> Result<usize, Error>
     ensures same_reference { turn.new.conn.ghost_name ≡ turn.old.conn.ghost_name }
     ensures made { HasCleanDisk (state S.Store turn.new.conn.now) → IsTrue (state S.Store turn.old.conn.now).in_transaction → OnOk result (Adds (change.Past past.now) (state S.Store turn.old.conn.now) (state S.Store turn.new.conn.now)) }
     ensures kept { HasCleanDisk (state S.Store turn.new.conn.now) → IsTrue (state S.Store turn.old.conn.now).in_transaction → KeepsCommit (state S.Store turn.old.conn.now) (state S.Store turn.new.conn.now) }
@@ -104,7 +103,7 @@ fn add_past<S: Alter>(turn: &mut Transaction<'_, S>, past: &Past) -> Result<usiz
     )
 }
 
-fn put_value<S: Alter>(turn: &mut Transaction<'_, S>, kept: &Kept) -> Result<usize, Error>
+fn put_value<S: Alter>(turn: &mut Transaction<'_, S>, kept: &ValueRow) -> Result<usize, Error>
     ensures same_reference { turn.new.conn.ghost_name ≡ turn.old.conn.ghost_name }
     ensures made { HasCleanDisk (state S.Store turn.new.conn.now) → IsTrue (state S.Store turn.old.conn.now).in_transaction → OnOk result (Makes (change.Value kept.now) (state S.Store turn.old.conn.now) (state S.Store turn.new.conn.now)) }
     ensures kept { HasCleanDisk (state S.Store turn.new.conn.now) → IsTrue (state S.Store turn.old.conn.now).in_transaction → KeepsCommit (state S.Store turn.old.conn.now) (state S.Store turn.new.conn.now) }
@@ -114,7 +113,7 @@ fn put_value<S: Alter>(turn: &mut Transaction<'_, S>, kept: &Kept) -> Result<usi
     add_value(turn, kept)
 }
 
-fn put_past<S: Alter>(turn: &mut Transaction<'_, S>, past: &Past) -> Result<usize, Error>
+fn put_past<S: Alter>(turn: &mut Transaction<'_, S>, past: &PastRow) -> Result<usize, Error>
     ensures same_reference { turn.new.conn.ghost_name ≡ turn.old.conn.ghost_name }
     ensures made { HasCleanDisk (state S.Store turn.new.conn.now) → IsTrue (state S.Store turn.old.conn.now).in_transaction → OnOk result (Makes (change.Past past.now) (state S.Store turn.old.conn.now) (state S.Store turn.new.conn.now)) }
     ensures kept { HasCleanDisk (state S.Store turn.new.conn.now) → IsTrue (state S.Store turn.old.conn.now).in_transaction → KeepsCommit (state S.Store turn.old.conn.now) (state S.Store turn.new.conn.now) }
@@ -140,11 +139,11 @@ fn make<S: Alter>(turn: &mut Transaction<'_, S>, change: &Change) -> Result<usiz
 // Makes all changes in one transaction.
 fn make_all<S: Alter>(conn: &mut Connection<S>, turn: &[Change]) -> Result<(), Error>
     requires ready { IsReady (state S.Store conn.old) }
+    requires settled { IsSettled (state S.Store conn.old) }
     ensures ready { IsReady (state S.Store conn.new) }
+    ensures settled { IsSettled (state S.Store conn.new) }
     ensures kept { HasCleanDisk (state S.Store conn.new) → OnOk result (IsAfter turn.now (state S.Store conn.old).now.trees (state S.Store conn.new).now.trees) }
-    ensures committed { HasCleanDisk (state S.Store conn.new) → OnOk result ((state S.Store conn.new).committed ≡ (state S.Store conn.new).now) }
     ensures refused { HasCleanDisk (state S.Store conn.new) → IsTrue (state S.Store conn.new).is_open → OnErr result (((state S.Store conn.new).now ≡ (state S.Store conn.old).now) × ((state S.Store conn.new).committed ≡ (state S.Store conn.old).committed)) }
-    ensures lasting { HasCleanDisk (state S.Store conn.new) → OnOk result ((trees : Trees) → (state S.Store conn.new).may_leave trees → IsAfter turn.now (state S.Store conn.old).now.trees trees) }
     ensures crash { Survives (state S.Store conn.old) (state S.Store conn.new) (λ trees. IsAfter turn.now (state S.Store conn.old).now.trees trees) }
 {
     if !conn.is_autocommit() {
@@ -159,18 +158,20 @@ fn make_all<S: Alter>(conn: &mut Connection<S>, turn: &[Change]) -> Result<(), E
 
 /// Makes all changes of a turn, one after the other, and commits them, or none of them.
 ///
-/// After `Ok` every crash leaves all of them. At any moment of the call a crash leaves what was there before, or all of them. After an `Err` nothing of the turn is there, and the next turn may be kept, unless the database is closed: then each later call fails, and the file has what was committed.
-pub fn keep<S: Alter>(conn: &mut Connection<S>, turn: &[Change]) -> Result<(), StoreFault>
+/// At any moment of the call a crash leaves what was there before, or all of them, and after `Ok` all of them, since they are committed.
+/// After an `Err` nothing of the turn is there, and the next turn may be kept, unless the database is closed: then each later call
+/// fails, and the file has what was committed.
+pub fn keep<S: Alter>(conn: &mut Connection<S>, turn: &[Change]) -> Result<(), Fault>
     requires ready { IsReady (state S.Store conn.old) }
+    requires settled { IsSettled (state S.Store conn.old) }
     ensures ready { IsReady (state S.Store conn.new) }
+    ensures settled { IsSettled (state S.Store conn.new) }
     ensures kept { HasCleanDisk (state S.Store conn.new) → OnOk result (IsAfter turn.now (state S.Store conn.old).now.trees (state S.Store conn.new).now.trees) }
-    ensures committed { HasCleanDisk (state S.Store conn.new) → OnOk result ((state S.Store conn.new).committed ≡ (state S.Store conn.new).now) }
     ensures refused { HasCleanDisk (state S.Store conn.new) → IsTrue (state S.Store conn.new).is_open → OnErr result (((state S.Store conn.new).now ≡ (state S.Store conn.old).now) × ((state S.Store conn.new).committed ≡ (state S.Store conn.old).committed)) }
-    ensures lasting { HasCleanDisk (state S.Store conn.new) → OnOk result ((trees : Trees) → (state S.Store conn.new).may_leave trees → IsAfter turn.now (state S.Store conn.old).now.trees trees) }
     ensures crash { Survives (state S.Store conn.old) (state S.Store conn.new) (λ trees. IsAfter turn.now (state S.Store conn.old).now.trees trees) }
 {
     match make_all(conn, turn) {
         Ok(()) => Ok(()),
-        Err(error) => Err(StoreFault::Database(error)),
+        Err(error) => Err(Fault::Database(error)),
     }
 }

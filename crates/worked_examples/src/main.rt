@@ -73,6 +73,7 @@ use std::rt::Files;
 use std::sync::Wait;
 use std::time::Clock;
 use std::{env, io};
+use store_restoring::NoStores;
 use stream_taps::Tap;
 
 // The files of lines, in the order in which they are printed.
@@ -94,7 +95,7 @@ fn printed<R: Files + AllocGlobal + Net + RandomSource + Clock + Wait>(
     let mut input = Tap::new(nothing);
     let mut output = Tap::new(Vec::new(rt.alloc()));
     let mut errors = Vec::new(rt.alloc());
-    let ended = commands::run(rt, words, &mut input, &mut output, &mut errors);
+    let ended = commands::run(rt, &NoStores, words, &mut input, &mut output, &mut errors);
     let mut all = output.into_inner();
     write_end(ended.status, errors.as_slice(), &mut all)?;
     Ok(all)

@@ -48,7 +48,8 @@ returns-clause-some c = record {
   all_subscriptions = ap total_of (sym c.get_str-8.ensures) ∙ sym c.total_of.ensures ∙ c.in_ok-total_of.was;
   all_items = ap total_of (sym c.get_str-9.ensures) ∙ sym c.total_of-2.ensures ∙ c.in_ok-total_of-2.was;
   stop_file = sym c.get_str-10.ensures;
-  url = sym c.get_str-11.ensures;
-  quiet = ap is_given (sym c.get_str-12.ensures) ∙ sym c.is_given-2.ensures;
-  summary = ap is_given (sym c.get_str-13.ensures) ∙ sym c.is_given-3.ensures;
+  store = sym c.get_str-11.ensures;
+  url = sym c.get_str-12.ensures;
+  quiet = ap is_given (sym c.get_str-13.ensures) ∙ sym c.is_given-2.ensures;
+  summary = ap is_given (sym c.get_str-14.ensures) ∙ sym c.is_given-3.ensures;
 }

@@ -1,18 +1,41 @@
-use Rattle.std.proofs.Common.{◌≡◌, ◌∙◌, ℕ, ap, subst, Option, Some}
+use Rattle.std.proofs.Common.{◌≡◌, ◌∙◌, ap, subst, sym}
 use Rattle.ua_types.specs.Configuration.{Configuration}
-use Rattle.server_core.specs.World.{opening, world_of}
-use Rattle.server_core.specs.declared.world.World.{World}
+use Rattle.socket_server.specs.Keeping.{keeping}
 use Rattle.scenario_lines.specs.Held.{place}
-use Rattle.commands.specs.Serving.{ServesOn, configured, idle_of}
+use Rattle.commands.specs.Serving.{ServesBy, idle_of}
+use Rattle.commands.proofs.ServeLemmas.{by_words, no_memory_by, served_from_store, served_without_store}
 use Rattle.commands.proofs.serving.serve.Goals as goal
 
-pub returns-in-Ok-new : goal.returns-in-Ok-new
-returns-in-Ok-new g c =
+pub returns-in_default : goal.returns-in_default
+returns-in_default g c =
+    let at = place g.O.Write.contents c.args.output.now in
+    subst (ServesBy at at c.args.options.now c.args.made) (sym c.no_memory.ensures) (no_memory_by at c.args.options.now c.args.made)
+
+pub returns-in-Err : goal.returns-in-Err
+returns-in-Err g c =
+    let at = place g.O.Write.contents c.args.output.now in
+    subst (ServesBy at at c.args.options.now c.args.made) (sym c.no_memory-in-Err.ensures) (no_memory_by at c.args.options.now c.args.made)
+
+pub returns-in-Ok-stored_server : goal.returns-in-Ok-stored_server
+returns-in-Ok-stored_server g c =
+    let old = place g.O.Write.contents c.args.output.now in
+    let new = place g.O.Write.contents c.serve_on-in-Ok-stored_server.new.output in
+    let o = c.args.options.now in
+    let status = c.serve_on-in-Ok-stored_server.result in
+    let asked = c.idle_of-idle.result in
+    let idle : asked ≡ idle_of c.args.made.0.session_time o.idle = c.idle_of-idle.ensures ∙ ap (λ (k : Configuration). idle_of k.session_time o.idle) c.config.view_is in
+    by_words old new o c.args.made status asked c.in-Ok.config idle c.in-Ok.ensures
+    (served_from_store old new asked o c.in-Ok.config c.args.made.1 status c.in-Some.path c.in-Some.is (keeping g.P.Store.Keeper.kept c.in-Ok-stored_server.server)
+    c.in-Ok-stored_server.ensures c.serve_on-in-Ok-stored_server.ensures)
+
+pub returns-in-Ok-kept_server : goal.returns-in-Ok-kept_server
+returns-in-Ok-kept_server g c =
     let old = place g.O.Write.contents c.args.output.now in
     let new = place g.O.Write.contents c.serve_on.new.output in
     let o = c.args.options.now in
-    let idle : c.idle_of-idle.result ≡ idle_of c.args.config.session_time o.idle = c.idle_of-idle.ensures ∙ ap (λ (k : Configuration). idle_of k.session_time o.idle) c.config.view_is in
-    let opened : world_of c.in-Ok-new.server ≡ Some (opening (configured c.args.config o) c.args.space) =
-    c.in-Ok-new.ensures.opening ∙ ap (λ (k : Configuration). Some (opening k c.args.space)) c.in-Ok.ensures in
-    subst (λ (n : ℕ). ServesOn old new n o (Some (opening (configured c.args.config o) c.args.space)) c.serve_on.result) idle
-    (subst (λ (w : Option World). ServesOn old new c.idle_of-idle.result o w c.serve_on.result) opened c.serve_on.ensures)
+    let status = c.serve_on.result in
+    let asked = c.idle_of-idle.result in
+    let idle : asked ≡ idle_of c.args.made.0.session_time o.idle = c.idle_of-idle.ensures ∙ ap (λ (k : Configuration). idle_of k.session_time o.idle) c.config.view_is in
+    by_words old new o c.args.made status asked c.in-Ok.config idle c.in-Ok.ensures
+    (served_without_store old new asked o c.in-Ok.config c.args.made.1 status c.in-None.is _
+    c.in-Ok-kept_server.ensures c.serve_on.ensures)

@@ -1,5 +1,6 @@
 use Rattle.std.proofs.Common.{◌∙◌, List, ℕ, refl, subst, sym}
-use Rattle.server_core.specs.World.{world_of}
+use Rattle.socket_server.specs.Keeping.{keeping}
+use Rattle.socket_server.specs.declared.serve_fault.ServeFault.TheVariants as serve_fault
 use Rattle.scenario_lines.specs.Held.{place}
 use Rattle.commands.specs.Said.{Says}
 use Rattle.commands.specs.Serving.{ServesOn, listening_line}
@@ -8,16 +9,23 @@ use Rattle.commands.specs.declared.status.Status.TheVariants.{Done}
 use Rattle.commands.proofs.ServeLemmas.{ended, refused}
 use Rattle.commands.proofs.serving.serve_on.Goals as goal
 
+pub returns-in_default : goal.returns-in_default
+returns-in_default g c =
+    let first = keeping g.K.Keeper.kept c.args.server.now in
+    let at = place g.O.Write.contents c.args.output.now in
+    subst (ServesOn at at c.args.idle c.args.options.now first) (sym c.no_memory.ensures)
+    (refused at at c.args.idle c.args.options.now first serve_fault.Memory tt refl)
+
 pub returns-in-Err : goal.returns-in-Err
 returns-in-Err g c =
-    let first = world_of c.args.server.now in
+    let first = keeping g.K.Keeper.kept c.args.server.now in
     let at = place g.O.Write.contents c.args.output.now in
     subst (ServesOn at at c.args.idle c.args.options.now first) (sym c.served.ensures)
     (refused at at c.args.idle c.args.options.now first c.in-Err.fault c.in-Err.ensures.err refl)
 
 pub returns-in-Done : goal.returns-in-Done
 returns-in-Done g c =
-    let first = world_of c.args.server.now in
+    let first = keeping g.K.Keeper.kept c.args.server.now in
     let old = place g.O.Write.contents c.args.output.now in
     let mid = place g.O.Write.contents c.say.new.output in
     let new = place g.O.Write.contents c.serve_and_log-ran.new.output in

@@ -53,21 +53,6 @@ returns-clause-crash g c =
     let same : c.commit.new.self.0 ≡ c.conn-2-1.given.0 = search rules in
     subst (λ h. Survives old (state g.S.Store h) P) same whole
 
-pub returns-clause-lasting : goal.returns-clause-lasting
-returns-clause-lasting g c clean =
-    let old = state g.S.Store c.args.conn.now in
-    let mid = state g.S.Store c.each.transaction.conn.now in
-    let end = state g.S.Store c.commit.new.self.0 in
-    let same : c.commit.new.self.0 ≡ c.conn-2-1.given.0 = search rules in
-    let late : HasCleanDisk end = subst (λ h. HasCleanDisk (state g.S.Store h)) (sym same) clean in
-    let was = c.each.invariant.2 (omega (arith, c.commit.ensures.survives.clean)) in
-    let P = λ (trees : Trees). IsAfter c.args.turn.now old.now.trees trees in
-    let kept : P mid.now.trees = made_all old mid c.args.turn.now c.each.change-index (omega (arith, c.each-test.false)) was.2 was.3 (c.requires.ready (omega (arith, c.each.invariant.1.clean, c.commit.ensures.survives.clean))) in
-    let rest = on_ok c.commit.result (c.commit.ensures.ok late) (λ done trees may.
-    let alone = g.met.S.Store.settled c.commit.new.self.0.store trees done.1.is_open may in
-    subst P (sym (alone ∙ ap (λ (d : Database). d.trees) done.1.committed_is)) kept) in
-    subst (λ h. OnOk c.commit.result ((trees : Trees) → (state g.S.Store h).may_leave trees → P trees)) same rest
-
 pub returns-clause-kept : goal.returns-clause-kept
 returns-clause-kept g c clean =
     let old = state g.S.Store c.args.conn.now in
@@ -81,13 +66,19 @@ returns-clause-kept g c clean =
     let rest = on_ok c.commit.result (c.commit.ensures.ok late) (λ done. subst P (sym (ap (λ (d : Database). d.trees) done.1.now_is)) kept) in
     subst (λ h. OnOk c.commit.result (P (state g.S.Store h).now.trees)) same rest
 
-pub returns-clause-committed : goal.returns-clause-committed
-returns-clause-committed g c clean =
+pub returns-clause-settled : goal.returns-clause-settled
+returns-clause-settled g c trees clean is_open may =
+    let old = state g.S.Store c.args.conn.now in
+    let mid = state g.S.Store c.each.transaction.conn.now in
     let end = state g.S.Store c.commit.new.self.0 in
     let same : c.commit.new.self.0 ≡ c.conn-2-1.given.0 = search rules in
     let late : HasCleanDisk end = subst (λ h. HasCleanDisk (state g.S.Store h)) (sym same) clean in
-    let rest = on_ok c.commit.result (c.commit.ensures.ok late) (λ done. done.1.committed_is ∙ sym done.1.now_is) in
-    subst (λ h. OnOk c.commit.result ((state g.S.Store h).committed ≡ (state g.S.Store h).now)) same rest
+    let still : IsTrue end.is_open = subst (λ h. IsTrue (state g.S.Store h).is_open) (sym same) is_open in
+    let was = c.each.invariant.2 (omega (arith, c.commit.ensures.survives.clean)) in
+    let rest : end.committed ≡ end.now = either_way _ c.commit.result (c.commit.ensures.ok late) (c.commit.ensures.err late)
+    (λ done. done.1.committed_is ∙ sym done.1.now_is)
+    (λ e h. let back = undone_then old mid end was.1 (rolled_at_commit mid end e was.0 h) still in back.1 ∙ sym back.0) in
+    g.met.S.Store.settled c.conn-2-1.given.0.store trees is_open may ∙ subst (λ h. (state g.S.Store h).committed.trees ≡ (state g.S.Store h).now.trees) same (ap (λ (d : Database). d.trees) rest)
 
 pub returns-clause-refused : goal.returns-clause-refused
 returns-clause-refused g c clean is_open =
@@ -156,3 +147,18 @@ returns-in_err-make-clause-ready g c clean is_open =
     let store = c.requires.ready (omega (arith, c.each.invariant.1.clean, c.make.ensures.survives.clean, early)) in
     let rest : IsStore end.now = subst IsStore (settled ∙ sym back.0) (store back.2) in
     subst (λ h. IsStore (state g.S.Store h).now) same rest
+
+pub returns-in_err-make-clause-settled : goal.returns-in_err-make-clause-settled
+returns-in_err-make-clause-settled g c trees clean is_open may =
+    let old = state g.S.Store c.args.conn.now in
+    let mid = state g.S.Store c.each.transaction.conn.now in
+    let new = state g.S.Store c.make.new.turn.conn.now in
+    let end = state g.S.Store c.drop-transaction.new.self.0 in
+    let same : c.drop-transaction.new.self.0 ≡ c.conn-1.given.0 = search rules in
+    let late : HasCleanDisk end = subst (λ h. HasCleanDisk (state g.S.Store h)) (sym same) clean in
+    let still : IsTrue end.is_open = subst (λ h. IsTrue (state g.S.Store h).is_open) (sym same) is_open in
+    let undone = c.drop-transaction.ensures.undone late in
+    let early : HasCleanDisk new = omega (arith, c.drop-transaction.ensures.survives.clean) in
+    let was = c.each.invariant.2 (omega (arith, c.make.ensures.survives.clean)) in
+    let back = undone_then old new end (keeps_then old mid new was.1 (c.make.ensures.kept early was.0)) undone still in
+    g.met.S.Store.settled c.conn-1.given.0.store trees is_open may ∙ subst (λ h. (state g.S.Store h).committed.trees ≡ (state g.S.Store h).now.trees) same (ap (λ (d : Database). d.trees) (back.1 ∙ sym back.0))

@@ -10,7 +10,7 @@ returns-then-goes_on-clause-fed c =
     let there = lent_found c.get_mut.result _ c.in-Some.framer c.in-Some.is c.get_mut.ensures.found in
     let back = given_back _ c.get_mut.result c.in-Some.framer c.in-Some.is (c.get_mut.follows.holds c.feed.new.self) in
     piece_in_place c.args.self.now c.args.conn c.args.piece.now framer c.feed.new.self c.in_ok-fed.fed c.finish.new.self c.new-step.result c.finish.new.step c.in_ok-goes_on.goes_on _ _ there
-    c.new-step.ensures.outs c.new-step.ensures.rows c.in_ok-fed.ensures.fed c.in_ok-goes_on.ensures back
+    c.new-step.ensures c.in_ok-fed.ensures.fed c.in_ok-goes_on.ensures back
     (ap (λ b. if b then c.get_mut.follows.lender c.feed.new.self else remove (c.get_mut.follows.lender c.feed.new.self) c.args.conn) (sym c.if-goes_on.true))
 
 pub returns-clause-fed : goal.returns-clause-fed
@@ -19,5 +19,5 @@ returns-clause-fed c =
     let there = lent_found c.get_mut.result _ c.in-Some.framer c.in-Some.is c.get_mut.ensures.found in
     let back = given_back _ c.get_mut.result c.in-Some.framer c.in-Some.is (c.get_mut.follows.holds c.feed.new.self) in
     piece_in_place c.args.self.now c.args.conn c.args.piece.now framer c.feed.new.self c.in_ok-fed.fed c.finish.new.self c.new-step.result c.finish.new.step c.in_ok-goes_on.goes_on _ _ there
-    c.new-step.ensures.outs c.new-step.ensures.rows c.in_ok-fed.ensures.fed c.in_ok-goes_on.ensures back
+    c.new-step.ensures c.in_ok-fed.ensures.fed c.in_ok-goes_on.ensures back
     (c.remove.ensures.removed ∙ ap (λ b. if b then c.get_mut.follows.lender c.feed.new.self else remove (c.get_mut.follows.lender c.feed.new.self) c.args.conn) (sym c.if-goes_on.false))

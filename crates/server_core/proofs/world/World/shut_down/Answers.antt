@@ -1,11 +1,11 @@
-use Rattle.std.proofs.Common.{◌∙◌, ap, sym, [], Ok}
+use Rattle.std.proofs.Common.{sym, Ok}
 use Rattle.std.proofs.lemmas.Result.{err_from_is_err_and}
 use Rattle.server_core.specs.Effects.{step}
 use Rattle.server_core.proofs.ShuttingLemmas.{nothing_more, all_ends, all_halts}
 use Rattle.server_core.proofs.world.World.shut_down.Goals as goal
 
 pub returns-then-self-clause-shut : goal.returns-then-self-clause-shut
-returns-then-self-clause-shut c = nothing_more c.args.self.now c.if-self.true c.new.result (ap (λ outs. step outs []) (sym c.new.ensures.outs) ∙ ap (λ rows. step c.new.result.outs rows) (sym c.new.ensures.rows))
+returns-then-self-clause-shut c = nothing_more c.args.self.now c.if-self.true c.new.result (sym c.new.ensures)
 
 pub returns-in_err-step-clause-shut : goal.returns-in_err-step-clause-shut
 returns-in_err-step-clause-shut c =

@@ -1,8 +1,8 @@
 use Rattle.std.proofs.Common.{rules, ◌≡◌, ◌≢◌, ◌+◌, ◌-◌, true, refl}
-use Rattle.server_core.specs.World.{world_of}
+use Rattle.socket_server.specs.Keeping.{keeping}
 use Rattle.socket_server.specs.Sockets.{key_stream}
 use Rattle.socket_server.specs.Serving.{scene, unknown, uncounted}
-use Rattle.socket_server.proofs.ServingLemmas.{left_at_first, one_left_less, last_taken, asked_to_stop, turns_go, next_turn, stops_after}
+use Rattle.socket_server.proofs.ServingLemmas.{left_at_first, one_left_less, last_taken, asked_to_stop, turns_go, next_turn, gives_up_after}
 use Rattle.socket_server.proofs.serve.Serve.run_on.Goals as goal
 
 pub loop-turn-init : goal.loop-turn-init
@@ -10,9 +10,9 @@ loop-turn-init g c = (0, left_at_first unknown unknown uncounted g.W.Observer.te
 
 pub returns-in-Err : goal.returns-in-Err
 returns-in-Err g c =
-    let mid = (scene (key_stream c.loop-turn.self.keys) (world_of c.loop-turn.server) c.loop-turn.self.peers c.loop-turn.self.events (g.W.Observer.output c.loop-turn.observer)) in
-    let new = (scene (key_stream c.turn.new.self.keys) (world_of c.turn.new.server) c.turn.new.self.peers c.turn.new.self.events (g.W.Observer.output c.turn.new.observer)) in
-    stops_after unknown unknown uncounted g.W.Observer.text c.loop-turn.invariant.0 _ mid new c.in-Err.fault (turns_go unknown unknown uncounted g.W.Observer.text c.loop-turn.invariant.0 _ mid c.loop-turn.invariant.2) c.in-Err.ensures
+    let mid = (scene (key_stream c.loop-turn.self.keys) (keeping g.K.Keeper.kept c.loop-turn.server) c.loop-turn.self.peers c.loop-turn.self.events (g.W.Observer.output c.loop-turn.observer)) in
+    let new = (scene (key_stream c.turn.new.self.keys) (keeping g.K.Keeper.kept c.turn.new.server) c.turn.new.self.peers c.turn.new.self.events (g.W.Observer.output c.turn.new.observer)) in
+    gives_up_after unknown unknown uncounted g.W.Observer.text c.loop-turn.invariant.0 _ mid new c.in-Err.fault (turns_go unknown unknown uncounted g.W.Observer.text c.loop-turn.invariant.0 _ mid c.loop-turn.invariant.2) c.in-Err.ensures
 
 pub returns-then-left-eq1 : goal.returns-then-left-eq1
 returns-then-left-eq1 g c =

@@ -1,9 +1,10 @@
+use Rattle.std.proofs.Common.{[]}
 use Rattle.ua_space.proofs.Emptying.{emptied_sound}
 use Rattle.ua_space.proofs.space.Space.take_history.Goals as goal
 
 pub invariant_of-self : goal.invariant_of-self
 invariant_of-self c = record {
-  sound = rw c.take_history.ensures.left (emptied_sound c.self.inside.nodes c.self.inside.triples.items c.args.place c.self.invariant.sound);
+  sound = rw c.take_history.ensures.left (emptied_sound [] c.self.inside.nodes c.self.inside.triples.items c.args.place c.self.invariant.sound);
   indexes = c.self.invariant.indexes;
   numbered = c.self.invariant.numbered;
 }

@@ -1,0 +1,4 @@
+pub mod Fitting
+pub mod Restored
+pub mod Opened
+pub mod Times

@@ -1,0 +1,76 @@
+//! What values that are stored make of the rows.
+
+ghost use Rattle.std.specs.Prelude.{◌≡◌, IfOk, OnOk};
+ghost use Rattle.server_messages.specs.Kept.{put_at, dropped_at, with_stored, AreAlike};
+ghost use Rattle.value_store.specs.Keeping.{HasValue, HasHistory, Grows, AreChanges};
+
+use crate::fault::Fault;
+use crate::forms::{key_of, past_row_of, value_row_of};
+use crate::rows::Change;
+use server_messages::Stored;
+use std::alloc::Global;
+use ua_types::{Moment, NodeId};
+
+// The variable has the value.
+fn push_value(alloc: Global, stored: &Stored, changes: &mut Vec<Change>) -> Result<(), Fault>
+    ensures { OnOk result (Grows (HasValue stored.now.node_id stored.now.value) changes.old.items changes.new.items) }
+{
+    let row = value_row_of(alloc, &stored.node_id, &stored.value)?;
+    changes.push(Change::Value(row))?;
+    Ok(())
+}
+
+// The variable had the value at its source's time.
+fn push_past(alloc: Global, stored: &Stored, changes: &mut Vec<Change>) -> Result<(), Fault>
+    ensures { OnOk result (Grows (HasHistory stored.now.node_id (put_at stored.now.value.source_time stored.now.value)) changes.old.items changes.new.items) }
+{
+    match stored.value.source_time {
+        None => Ok(()),
+        Some(time) => {
+            let row = past_row_of(alloc, &stored.node_id, time, &stored.value)?;
+            changes.push(Change::Past(row))?;
+            Ok(())
+        }
+    }
+}
+
+// The value of a time falls out of the variable's history.
+fn push_dropped(
+    alloc: Global,
+    id: &NodeId,
+    dropped: Option<Moment>,
+    changes: &mut Vec<Change>,
+) -> Result<(), Fault>
+    ensures { OnOk result (Grows (HasHistory id.now (dropped_at dropped)) changes.old.items changes.new.items) }
+{
+    match dropped {
+        None => Ok(()),
+        Some(time) => {
+            let key = key_of(alloc, id, time)?;
+            changes.push(Change::Forget(key))?;
+            Ok(())
+        }
+    }
+}
+
+fn push_all(alloc: Global, stored: &Stored, changes: &mut Vec<Change>) -> Result<(), Fault>
+    ensures { OnOk result (Grows (λ a b. AreAlike (with_stored a stored.now) b) changes.old.items changes.new.items) }
+{
+    push_value(alloc, stored, changes)?;
+    if !stored.is_historical {
+        return Ok(());
+    }
+    push_past(alloc, stored, changes)?;
+    push_dropped(alloc, &stored.node_id, stored.dropped, changes)
+}
+
+/// The changes of rows that keep these, in their order.
+pub fn changes_of(alloc: Global, stored: &[Stored]) -> Result<Vec<Change>, Fault>
+    ensures { IfOk result (λ changes. AreChanges stored.now changes.items) }
+{
+    let mut changes = Vec::new(alloc);
+    'each: for one in stored {
+        push_all(alloc, one, &mut changes)?;
+    }
+    Ok(changes)
+}
