@@ -267,17 +267,39 @@ fn is_one_dropped<R: Clock + Wait>(
     Ok(is_done && serve.len() == 1 && told.as_slice().ends_with(WAITED))
 }
 
+// The same of a server whose values nobody keeps.
+fn is_one_dropped_by<R: Clock + Wait>(
+    rt: &R,
+    alloc: Global,
+    serve: &mut Serve,
+    server: Server,
+    two: &TcpStream,
+) -> Result<bool, Fail> {
+    let mut server = KeptServer::new(alloc, server, NoKeeper);
+    is_one_dropped(rt, alloc, serve, &mut server, two)
+}
+
+// The same, once two clients are there.
+fn is_one_of_two_dropped<R: Clock + Wait>(
+    host: &HostRuntime,
+    rt: &R,
+    alloc: Global,
+    serve: &mut Serve,
+    mut server: Server,
+) -> Result<bool, Fail> {
+    let (_one, two) = two_clients(host, alloc, serve, &mut server)?;
+    is_one_dropped_by(rt, alloc, serve, server, &two)
+}
+
 #[test]
 fn a_client_that_never_reads(rt: HostRuntime) -> Result<(), Fail> {
     let alloc = rt.alloc();
     let mut serve = Serve::bind(&rt, alloc, 0)?;
-    let mut server = labelled_server(alloc)?;
-    let (_one, two) = two_clients(&rt, alloc, &serve, &mut server)?;
-    let mut server = KeptServer::new(alloc, server, NoKeeper);
+    let server = labelled_server(alloc)?;
     holds(
         &rt,
         "dropped",
-        is_one_dropped(&rt, alloc, &mut serve, &mut server, &two)?,
+        is_one_of_two_dropped(&rt, &rt, alloc, &mut serve, server)?,
     );
     Ok(())
 }
