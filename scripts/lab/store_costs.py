@@ -4,8 +4,9 @@
 usage: scripts/lab/store_costs.py PROGRAM [SECONDS]      build the program by fast_program.py, or take the proved one
 
 Clients are processes of Python, each with a session of its own, that write one variable each, one value a Write. C SQLite is Python's
-`sqlite3` on the same disk: one transaction a Write, by DELETE and INSERT into `value` alone, synced: no history and no server. Beside that a store of 1,000,000
-values is opened, and of one client's Writes the processor time of the server is taken, and the longest that one waited. Needs Linux.
+`sqlite3` on the same disk: one transaction a Write, by DELETE and INSERT into `value` alone, synced: no history and no server. Beside that a
+store of 1,000,000 values is opened, and of one client's Writes the processor time of the server is taken, and the longest that one waited.
+Needs Linux.
 """
 import multiprocessing
 import os

@@ -8,7 +8,8 @@ use crate::stored::Stored;
 
 /// Who keeps values and histories, so that they outlast the server.
 ///
-/// Contracts see what it keeps, or nothing where that isn't known.
+/// Contracts see what it keeps, or nothing where that isn't known, and what the next start may find. Each keeper says by these
+/// what its words promise: one of whom it is never known what is kept promises nothing.
 pub trait Keeper {
     /// What it keeps, where that is known.
     ghost kept: { Self → Option Kept };

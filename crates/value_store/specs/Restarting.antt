@@ -10,11 +10,11 @@ use Rattle.sqlite.specs.Files.{file_state}
 use Rattle.sqlite.specs.Start.{FindsIn}
 use Rattle.value_store.specs.Keeping.{kept_at, kept_in}
 
--- a crash leaves a database, as each connection has it of its files
+-- whatever a crash leaves is a database: so the kit has it of the files of each connection
 abbrev pub LeavesDatabases : {D : Type 0} {g : Ghosts D} → FileStore D g → Type 0
 LeavesDatabases store = IsTrue (files.view store).is_numbered × AreDatabases (files.recovers store)
 
--- the second is opened on what a crash may have left of the files of the first, and has what the first kept
+-- where the second is opened on what a crash may have left of the files of the first, its rows say what the first kept
 abbrev pub Restarts : {D E : Type 0} {g : Ghosts D} {h : Ghosts E} → Held (FileStore D g) → Held (FileStore E h) → Type 0
 Restarts before after =
     LeavesDatabases before.store → (left : Image) → (files.state before.store).may_leave left → FindsIn left (file_state after)

@@ -32,6 +32,7 @@ fn restore<S: Alter>(alloc: Global, conn: &mut Connection<S>) -> Result<KeptValu
     restored(alloc, &rows)
 }
 
+// Keeps these in one transaction, all of them or none.
 fn keep_all<S: Alter>(
     alloc: Global,
     conn: &mut Connection<S>,
@@ -74,7 +75,8 @@ impl<S: Alter + Drop> ValueStore<S> {
 
     /// Makes the two tables where the database has none, and reads back all that they keep.
     ///
-    /// A database with other tables is refused, and so is one with a row that says no value. Either is left as it was.
+    /// A database with other tables is refused, and so is one with a row that says no value. Either is left as it was. A connection
+    /// inside a transaction of the caller's is refused, too.
     pub fn begin(
         alloc: Global,
         conn: Connection<S>,
