@@ -34,20 +34,6 @@ use stream_taps::Tap;
 use ua_space::Space;
 use ua_types::{Config, Text, write_id};
 
-// The word for why a store can't keep what is to be kept, or can't be opened.
-fn cause_of(fault: StoreFault) -> &'static str {
-    match fault {
-        StoreFault::CannotOpen => "CannotOpen",
-        StoreFault::Locked => "Locked",
-        StoreFault::NotADatabase => "NotADatabase",
-        StoreFault::OtherTables => "OtherTables",
-        StoreFault::Unreadable => "Unreadable",
-        StoreFault::Full => "Full",
-        StoreFault::Failed => "Failed",
-        StoreFault::Memory => "Memory",
-    }
-}
-
 // Says why a store can't keep what is to be kept, or can't be opened.
 fn store_fault<E: Write>(fault: StoreFault, errors: &mut E) -> Status
     ensures { result ≡ status_stored fault }
@@ -55,8 +41,7 @@ fn store_fault<E: Write>(fault: StoreFault, errors: &mut E) -> Status
     match fault {
         StoreFault::Memory => no_memory(errors),
         _ => {
-            let cause = cause_of(fault);
-            let _ = writeln!(errors, "store {cause}");
+            let _ = writeln!(errors, "store {fault:?}");
             Status::Store
         }
     }

@@ -1,32 +1,25 @@
 -- How a turn ends.
-use Rattle.std.proofs.Common.{◌≡◌, ℕ, ℤ, List, [], ◌∷◌, ◌++◌, cond, Some, None, Ok, Err, Result, OnOk, OnErr, IfErr, sym, ap, ◌∙◌, string_bytes, fold}
-use Rattle.std.specs.Prelude.{bytes_eq}
+use Rattle.std.proofs.Common.{◌≡◌, ℕ, ℤ, List, [], ◌∷◌, ◌++◌, cond, Option, Some, None, Ok, Err, Result, OnOk, OnErr, IfErr, sym, ap, ◌∙◌, string_bytes, fold}
 use Rattle.std.proofs.lemmas.List.Sums.{fold_push}
 use Rattle.sqlite.specs.Tree.{Trees}
 use Rattle.value_store.specs.declared.rows.Change.{Change}
 use Rattle.value_store.specs.declared.rows.Change.TheVariants as change
-use Rattle.value_store.specs.Rows.{value_row, past_row}
-use Rattle.value_store.specs.Model.{Values, Pasts, IsAfter, is_same, value_of, past_of, values_with, pasts_with}
+use Rattle.value_store.specs.declared.rows.TableName.{TableName}
+use Rattle.value_store.specs.declared.rows.TableName.TheVariants as table
+use Rattle.value_store.specs.Rows.{row_in}
+use Rattle.value_store.specs.Model.{Rows, IsAfter, is_key, rows_at, rows_with}
 
-values_like : (it : Change) (f g : Values) → ((n : List ℕ) → f n ≡ g n) → (n : List ℕ) → values_with f it n ≡ values_with g it n
-values_like (change.Value k) f g same n = ap (cond (bytes_eq (string_bytes k.node) n) (Some (value_row k))) (same n)
-values_like (change.Past p) f g same n = same n
-values_like (change.Forget m) f g same n = same n
-
-pasts_like : (it : Change) (f g : Pasts) → ((n : List ℕ) (t : ℤ) → f n t ≡ g n t) → (n : List ℕ) (t : ℤ) → pasts_with f it n t ≡ pasts_with g it n t
-pasts_like (change.Value k) f g same n t = same n t
-pasts_like (change.Past p) f g same n t = ap (cond (is_same (string_bytes p.node) p.time n t) (Some (past_row p))) (same n t)
-pasts_like (change.Forget m) f g same n t = ap (cond (is_same (string_bytes m.node) m.time n t) None) (same n t)
+alike_with : (it : Change) (f g : Rows) → ((t : TableName) (n : List ℕ) (at : Option ℤ) → f t n at ≡ g t n at) → (t : TableName) (n : List ℕ) (at : Option ℤ) → rows_with f it t n at ≡ rows_with g it t n at
+alike_with (change.Put s r) f g same t n at = ap (cond (is_key s (string_bytes r.node) r.source_time t n at) (Some (row_in s r))) (same t n at)
+alike_with (change.Forget k) f g same t n at = ap (cond (is_key table.History (string_bytes k.node) (Some k.time) t n at) None) (same t n at)
 
 -- one change more
 pub after_more : (turn : List Change) (it : Change) (a b c : Trees) → IsAfter turn a b → IsAfter (it ∷ []) b c → IsAfter (turn ++ it ∷ []) a c
-after_more turn it a b c many one = (
-  λ n. one.0 n ∙ (values_like it (value_of b) (fold values_with (value_of a) turn) many.0 n ∙ ap (λ (f : Values). f n) (sym (fold_push values_with (value_of a) turn it))),
-  λ n t. one.1 n t ∙ (pasts_like it (past_of b) (fold pasts_with (past_of a) turn) many.1 n t ∙ ap (λ (f : Pasts). f n t) (sym (fold_push pasts_with (past_of a) turn it))),
-)
+after_more turn it a b c many one t n at =
+    one t n at ∙ (alike_with it (rows_at b) (fold rows_with (rows_at a) turn) many t n at ∙ ap (λ (f : Rows). f t n at) (sym (fold_push rows_with (rows_at a) turn it)))
 
 pub after_none : (a b : Trees) → b ≡ a → IsAfter [] a b
-after_none a b same = (λ n. ap (λ t. value_of t n) same, λ n t. ap (λ x. past_of x n t) same)
+after_none a b same t n at = ap (λ trees. rows_at trees t n at) same
 
 pub on_ok : {T E A B : Type 0} (r : Result T E) → OnOk r A → (A → B) → OnOk r B
 on_ok (Ok t) h f = f h

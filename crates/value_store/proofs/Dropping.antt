@@ -1,11 +1,12 @@
 -- What DELETE under a key does.
-use Rattle.std.proofs.Common.{◌≡◌, inl, inr, ℕ, ℤ, List, [], ◌∷◌, ◌++◌, map, Bool, true, false, cond, ◌&&◌, Option, Some, Ok, refl, sym, ap, subst, ◌∙◌, true≢false}
+use Rattle.std.proofs.Common.{◌≡◌, inl, inr, ℕ, ℤ, List, [], ◌∷◌, ◌++◌, map, Bool, true, false, cond, ◌&&◌, Option, Some, None, Ok, refl, sym, ap, subst, ◌∙◌, true≢false}
 use Rattle.std.specs.Prelude.{flat_map, IsPermutation}
 use Rattle.std.specs.Ordering.{is_eq}
 use Rattle.std.proofs.lemmas.List.Sorted.{IsPermutation-map, IsPermutation-sym, Contains-permutation}
 use Rattle.sqlite.specs.declared.types.Value.{Value}
 use Rattle.sqlite.specs.declared.types.Value.TheVariants.{Null, Int, Real, Text, Blob}
 use Rattle.sqlite.specs.Order.{Row, column, value_cmp}
+use Rattle.sqlite.specs.Values.{or_null}
 use Rattle.sqlite_value.proofs.OrderLemmas.{value_cmp-Null}
 use Rattle.sqlite.specs.Ops.{binary, is_true, from_truth}
 use Rattle.sqlite.specs.Collation.TheVariants.{Binary}
@@ -23,9 +24,12 @@ use Rattle.sqlite_rules.specs.Lists.{Has}
 use Rattle.sqlite_rules.specs.Calls.{ids_of}
 use Rattle.sqlite_rules.proofs.ListLemmas.{has_contained, contains_had}
 use Rattle.sqlite.proofs.Callers.{one_step}
+use Rattle.value_store.specs.declared.rows.TableName.{TableName}
+use Rattle.value_store.specs.declared.rows.TableName.TheVariants as table
 use Rattle.value_store.specs.Tables.{value_table, history_table, store_schema}
-use Rattle.value_store.specs.Laws.{numbers_where, is_given}
-use Rattle.value_store.specs.Model.{is_of_node, is_at}
+use Rattle.value_store.specs.Laws.{numbers_where, is_given, rows_with_key}
+use Rattle.value_store.specs.Rows.{key_in}
+use Rattle.value_store.specs.Model.{tree_of, is_of_node, is_when, is_at}
 use Rattle.value_store.proofs.Settling.{went, same_value}
 use Rattle.value_store.proofs.Taking.{AreOf}
 
@@ -85,6 +89,18 @@ tested_int (Real x) n = told_true (is_eq (value_cmp (Real x) (Int n)))
 tested_int (Text t) n = told_true (is_eq (value_cmp (Text t) (Int n)))
 tested_int (Blob b) n = told_true (is_eq (value_cmp (Blob b) (Int n)))
 
+tested_null : (v : Value) → is_true (binary (Compare Eq Binary) v Null) ≡ false
+unfolding binary
+tested_null Null = refl
+tested_null (Int m) = refl
+tested_null (Real x) = refl
+tested_null (Text t) = refl
+tested_null (Blob b) = refl
+
+tested_when : (v : Value) (time : Option ℤ) → is_true (binary (Compare Eq Binary) v (or_null Int time)) ≡ is_when time v
+tested_when v None = tested_null v
+tested_when v (Some n) = tested_int v n
+
 -- what a query shows of the rows that pass its tests
 abbrev shown_of : Query → (Row → Bool) → Row → List Row → List Row
 shown_of q test params rows = map (λ (o : Output). o.1) (map (output q) (flat_map (λ (r : Row). cond (test r) ((params ∷ r ∷ []) ∷ []) []) rows))
@@ -102,15 +118,23 @@ shown_are q test p params shows alike (r ∷ rows) = go (test r) (p r) (alike r)
     go true false same later = absurd (true≢false same)
     go false true same later = absurd (true≢false (sym same))
 
+abbrev pub other : TableName → TableName
+other table.Value = table.History
+other table.History = table.Value
+
 -- what is left of one table, and the other
-pub record Drops (table other : ℕ) (p : Row → Bool) (db next : Trees) : Type 0 where
+pub record Drops (s : TableName) (p : Row → Bool) (db next : Trees) : Type 0 where
   pub found : List Row
-  pub are : AreOf p (db table) found
-  pub rows : next table ≡ without_all (db table) (ids_of found)
-  pub rest : next other ≡ db other
+  pub are : AreOf p (db (tree_of s)) found
+  pub rows : next (tree_of s) ≡ without_all (db (tree_of s)) (ids_of found)
+  pub rest : next (tree_of (other s)) ≡ db (tree_of (other s))
 
 abbrev pub task_of : Option ℕ → Keys → Table → Row → Task
 task_of limit keys table params = record { limit = limit; keys = keys; schema = store_schema; table = table; params = params }
+
+abbrev pub table_in : TableName → Table
+table_in table.Value = value_table
+table_in table.History = history_table
 
 abbrev value_tests : Row → List ℕ → Bool
 value_tests r node = is_true (binary (Compare Eq Binary) (column r 1) (Text node)) && true
@@ -122,18 +146,18 @@ value_alike node r = rw (tested_text (column r 1) node) (plain (is_of_node node 
     plain true = refl
     plain false = refl
 
-past_alike : (node : List ℕ) (time : ℤ) (r : Row)
-    → (is_true (binary (Compare Eq Binary) (column r 1) (Text node)) && (is_true (binary (Compare Eq Binary) (column r 2) (Int time)) && true)) ≡ is_at node time r
-past_alike node time r = rw (tested_text (column r 1) node, tested_int (column r 2) time) (plain (is_of_node node r) (is_eq (value_cmp (column r 2) (Int time))))
+past_alike : (node : List ℕ) (time : Option ℤ) (r : Row)
+    → (is_true (binary (Compare Eq Binary) (column r 1) (Text node)) && (is_true (binary (Compare Eq Binary) (column r 2) (or_null Int time)) && true)) ≡ is_at table.History node time r
+past_alike node time r = rw (tested_text (column r 1) node, tested_when (column r 2) time) (plain (is_of_node node r) (is_when time (column r 2)))
   where
     plain : (a b : Bool) → (a && (b && true)) ≡ (a && b)
     plain true true = refl
     plain true false = refl
     plain false b = refl
 
-pub drops_value : (limit : Option ℕ) (keys : Keys) (node : List ℕ) (db : Trees) (w : Written)
-    → Deletes (task_of limit keys value_table (Text node ∷ [])) (record { lets = []; body = numbers_where 0 (is_given 1 0 ∷ []) }) db (Ok w) → Drops 0 2 (is_of_node node) db w.trees
-drops_value limit keys node db w h =
+pub drops_rows : (s : TableName) (limit : Option ℕ) (keys : Keys) (node : List ℕ) (time : Option ℤ) (db : Trees) (w : Written)
+    → Deletes (task_of limit keys (table_in s) (key_in s node time)) (rows_with_key s) db (Ok w) → Drops s (is_at s node time) db w.trees
+drops_rows table.Value limit keys node time db w h =
     let q = numbers_where 0 (is_given 1 0 ∷ []) in
     let given = went h in
     let made = went given.2 in
@@ -150,24 +174,21 @@ drops_value limit keys node db w h =
       rows = ap (λ (t : Trees). t 0) trees ∙ step.rows;
       rest = ap (λ (t : Trees). t 2) trees ∙ step.tables.1.0 (λ e. cc);
     }
-
-pub drops_past : (limit : Option ℕ) (keys : Keys) (node : List ℕ) (time : ℤ) (db : Trees) (w : Written)
-    → Deletes (task_of limit keys history_table (Text node ∷ Int time ∷ [])) (record { lets = []; body = numbers_where 2 (is_given 1 0 ∷ is_given 2 1 ∷ []) }) db (Ok w) → Drops 2 0 (is_at node time) db w.trees
-drops_past limit keys node time db w h =
+drops_rows table.History limit keys node time db w h =
     let q = numbers_where 2 (is_given 1 0 ∷ is_given 2 1 ∷ []) in
-    let params = Text node ∷ Int time ∷ [] in
+    let params = Text node ∷ or_null Int time ∷ [] in
     let given = went h in
     let made = went given.2 in
     let a : IsAnswer q (overlay db []) params given.0 = given.1.answer Null in
     let kept = a.distinct ∙ ap (map (output q)) a.grouped in
     let same = IsPermutation-map (λ (o : Output). o.1) a.kept a.ordered a.same in
     let shown : IsPermutation (map (λ (o : Output). o.1) a.kept) given.0 = subst (IsPermutation (map (λ (o : Output). o.1) a.kept)) (sym a.shown) same in
-    let all : map (λ (o : Output). o.1) a.kept ≡ numbers (is_at node time) (db 2) = ap (map (λ (o : Output). o.1)) kept ∙ shown_are q _ (is_at node time) params (λ r. refl) (past_alike node time) (db 2) in
+    let all : map (λ (o : Output). o.1) a.kept ≡ numbers (is_at table.History node time) (db 2) = ap (map (λ (o : Output). o.1)) kept ∙ shown_are q _ (is_at table.History node time) params (λ r. refl) (past_alike node time) (db 2) in
     let step = one_step store_schema keys db made.0 (edit_of db history_table (ids_of given.0) Given 0 []) refl made.1 in
     let trees : w.trees ≡ made.0 = ap (λ (it : Written). it.trees) (same_value made.2) in
     record {
       found = given.0;
-      are = are_of (is_at node time) (db 2) given.0 (subst (λ xs. IsPermutation xs given.0) all shown);
+      are = are_of (is_at table.History node time) (db 2) given.0 (subst (λ xs. IsPermutation xs given.0) all shown);
       rows = ap (λ (t : Trees). t 2) trees ∙ step.rows;
       rest = ap (λ (t : Trees). t 0) trees ∙ step.tables.0 (λ e. cc);
     }

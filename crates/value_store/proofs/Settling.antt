@@ -1,5 +1,5 @@
 -- What is left of a statement, whether it is made, refused or fails.
-use Rattle.std.proofs.Common.{◌≡◌, ◌⊎◌, inl, inr, ℕ, List, Ok, Err, Result, ◌∙◌, IsTrue}
+use Rattle.std.proofs.Common.{◌≡◌, ◌⊎◌, inl, inr, ℕ, List, Ok, Err, Result, sym, ◌∙◌, IsTrue}
 use Rattle.sqlite.specs.Order.{Row}
 use Rattle.sqlite.specs.declared.error.Error.{Error}
 use Rattle.sqlite.specs.State.{State, ExecutesInside, IsRolledBack, IsUnchanged}
@@ -31,12 +31,15 @@ keeps_commit sql params old new (Err e) h = keeps_err sql params old new e h
 pub keeps_then : (a b c : State) → KeepsCommit a b → KeepsCommit b c → KeepsCommit a c
 keeps_then a b c first second is_open = let s = second is_open in let f = first s.0 in (f.0, s.1 ∙ f.1)
 
+-- the end has what was there before, and nothing is left to commit
+abbrev pub Back : State → State → Type 0
+Back old end = (end.now ≡ old.now) × (end.committed ≡ old.committed) × (end.committed ≡ end.now) × IsTrue old.is_open
+
 -- the drop of a transaction, and a commit that fails, go back to the last commit
-pub undone_then : (old mid end : State) → KeepsCommit old mid → IsRolledBack mid end → IsTrue end.is_open → (end.now ≡ old.committed) × (end.committed ≡ old.committed) × IsTrue old.is_open
-undone_then old mid end kept undone is_open =
-    let was = undone.was_open is_open in
+pub undone_then : (old mid end : State) → KeepsCommit old mid → (IsTrue old.is_open → old.now ≡ old.committed) → IsRolledBack mid end → IsTrue end.is_open → Back old end
+undone_then old mid end kept settled undone is_open =
     let back = undone.undone is_open in
-    let still = kept was in (back.0 ∙ still.1, back.1 ∙ still.1, still.0)
+    let still = kept (undone.was_open is_open) in (back.0 ∙ (still.1 ∙ sym (settled still.0)), back.1 ∙ still.1, back.1 ∙ sym back.0, still.0)
 
 pub rolled_at_commit : (old new : State) (e : Error) → IsTrue old.in_transaction → FailsToCommit old new e → IsRolledBack old new
 rolled_at_commit old new e inside (inl h) = h.3

@@ -7,18 +7,21 @@ use Rattle.sqlite.specs.declared.types.Value.TheVariants.{Null}
 use Rattle.sqlite.specs.Order.{Row}
 use Rattle.sqlite.specs.Query.{IsAnswer, output, Output}
 use Rattle.sqlite.specs.Program.{overlay}
+use Rattle.sqlite_sql.specs.Query.{matches_as}
 use Rattle.sqlite.specs.State.{State, Shown, IsUnchanged}
 use Rattle.sqlite.specs.Listing.{understood}
-use Rattle.sqlite.specs.Tree.{rowid, has_rowid}
+use Rattle.sqlite.specs.Tree.{Trees, rowid, has_rowid}
 use Rattle.sqlite.specs.View.{is_int}
 use Rattle.sqlite.proofs.Callers.{reads_as, IsPlain}
 use Rattle.sqlite_rules.specs.Lists.{Has}
 use Rattle.sqlite_rules.proofs.ListLemmas.{all_has, all_from}
+use Rattle.value_store.specs.declared.rows.TableName.{TableName}
+use Rattle.value_store.specs.declared.rows.TableName.TheVariants as table
 use Rattle.value_store.specs.Tables.{store_schema}
-use Rattle.value_store.specs.Laws.{values_text, pasts_text, rows_of}
+use Rattle.value_store.specs.Laws.{rows_text, rows_of}
 use Rattle.value_store.specs.Rows.{columns, with_number}
-use Rattle.value_store.specs.Model.{AreNumbered}
-use Rattle.value_store.proofs.Texts.{reads_are, values_plain, pasts_plain}
+use Rattle.value_store.specs.Model.{tree_of, AreNumbered}
+use Rattle.value_store.proofs.Texts.{reads_are, rows_plain}
 use Rattle.value_store.proofs.Dropping.{moved}
 
 -- each row once, in the order of the file
@@ -26,24 +29,19 @@ all_matches : (tree : ℕ) (rows : List Row) → map (λ (o : Output). o.1) (map
 all_matches tree [] = refl
 all_matches tree (r ∷ rows) = ap (λ rest. with_number r ∷ rest) (all_matches tree rows)
 
-pub values_shown : (old new : State) (rows : List Row) → old.now.schema ≡ store_schema → Shown values_text [] old new rows → IsPermutation (map with_number (old.now.trees 0)) rows
-values_shown old new rows has h =
-    let q = rows_of 0 in
-    let got = reads_as values_text [] old new store_schema has _ reads_are.0 values_plain reads_are.1 rows h in
-    let a : IsAnswer q (overlay old.now.trees []) [] rows = got.answer Null in
-    let kept : a.kept ≡ map (output q) (flat_map (λ (r : Row). ([] ∷ r ∷ []) ∷ []) (old.now.trees 0)) = a.distinct ∙ ap (map (output q)) a.grouped in
-    let same = IsPermutation-map (λ (o : Output). o.1) a.kept a.ordered a.same in
-    subst (λ xs. IsPermutation xs rows) (ap (map (λ (o : Output). o.1)) kept ∙ all_matches 0 (old.now.trees 0))
-    (subst (λ xs. IsPermutation (map (λ (o : Output). o.1) a.kept) xs) (sym a.shown) same)
+matched : (t : TableName) (db : Trees) → matches_as Null (overlay db []) (rows_of (tree_of t)).filter (rows_of (tree_of t)).from ([] ∷ []) ≡ flat_map (λ (r : Row). ([] ∷ r ∷ []) ∷ []) (db (tree_of t))
+matched table.Value db = refl
+matched table.History db = refl
 
-pub pasts_shown : (old new : State) (rows : List Row) → old.now.schema ≡ store_schema → Shown pasts_text [] old new rows → IsPermutation (map with_number (old.now.trees 2)) rows
-pasts_shown old new rows has h =
-    let q = rows_of 2 in
-    let got = reads_as pasts_text [] old new store_schema has _ reads_are.2 pasts_plain reads_are.3 rows h in
+pub rows_shown : (t : TableName) (old new : State) (rows : List Row) → old.now.schema ≡ store_schema → Shown (rows_text t) [] old new rows → IsPermutation (map with_number (old.now.trees (tree_of t))) rows
+rows_shown t old new rows has h =
+    let q = rows_of (tree_of t) in
+    let file = old.now.trees (tree_of t) in
+    let got = reads_as (rows_text t) [] old new store_schema has _ (reads_are t).0 (rows_plain t) (reads_are t).1 rows h in
     let a : IsAnswer q (overlay old.now.trees []) [] rows = got.answer Null in
-    let kept : a.kept ≡ map (output q) (flat_map (λ (r : Row). ([] ∷ r ∷ []) ∷ []) (old.now.trees 2)) = a.distinct ∙ ap (map (output q)) a.grouped in
+    let kept : a.kept ≡ map (output q) (flat_map (λ (r : Row). ([] ∷ r ∷ []) ∷ []) file) = a.distinct ∙ ap (map (output q)) (a.grouped ∙ matched t old.now.trees) in
     let same = IsPermutation-map (λ (o : Output). o.1) a.kept a.ordered a.same in
-    subst (λ xs. IsPermutation xs rows) (ap (map (λ (o : Output). o.1)) kept ∙ all_matches 2 (old.now.trees 2))
+    subst (λ xs. IsPermutation xs rows) (ap (map (λ (o : Output). o.1)) kept ∙ all_matches (tree_of t) file)
     (subst (λ xs. IsPermutation (map (λ (o : Output). o.1) a.kept) xs) (sym a.shown) same)
 
 -- a query changes nothing

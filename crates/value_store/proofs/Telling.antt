@@ -12,18 +12,20 @@ use Rattle.ua_types.specs.declared.node_id.NodeId.{NodeId}
 use Rattle.ua_types.specs.contracts.node_id.NodeIdOrd.TheImpl.Laws.{matches_eq-law}
 use Rattle.ua_types.proofs.SameIds.{same_id_true, same_id_itself}
 use Rattle.ua_values.specs.declared.data_value.DataValue.{DataValue}
-use Rattle.server_messages.specs.Kept.{Kept, Past, is_same, put_at, dropped_at, past_with, with_stored, with_all_stored, AreAlike}
+use Rattle.server_messages.specs.Kept.{Kept, Past, is_same, is_at_time, put_at, dropped_at, past_with, with_stored, with_all_stored, AreAlike}
 use Rattle.server_messages.specs.declared.stored.Stored.{Stored}
+use Rattle.sqlite.specs.declared.types.Value.TheVariants.{Int}
 use Rattle.sqlite.specs.Order.{Row}
+use Rattle.sqlite.specs.Values.{or_null}
 use Rattle.sqlite.specs.Tree.{Trees}
-use Rattle.value_store.specs.declared.rows.ValueRow.{ValueRow}
-use Rattle.value_store.specs.declared.rows.PastRow.{PastRow}
+use Rattle.value_store.specs.declared.rows.StoredRow.{StoredRow}
+use Rattle.value_store.specs.declared.rows.TableName.TheVariants as table
 use Rattle.value_store.specs.declared.rows.Key.{Key}
 use Rattle.value_store.specs.declared.rows.Change.{Change}
 use Rattle.value_store.specs.declared.rows.Change.TheVariants as change
-use Rattle.value_store.specs.Rows.{value_row, past_row}
-use Rattle.value_store.specs.Forms.{said_value, said_past}
-use Rattle.value_store.specs.Model.{Values, Pasts, IsAfter, value_of, past_of, values_with, pasts_with}
+use Rattle.value_store.specs.Rows.{row_in}
+use Rattle.value_store.specs.Forms.{said_of, said_in, time_said}
+use Rattle.value_store.specs.Model.{Rows, IsAfter, is_time, rows_at, rows_with}
 use Rattle.value_store.specs.Keeping.{is_read, is_readable, kept_by, kept_at, kept_after, HasValue, HasHistory, Grows, AreChanges, HasAll}
 
 -- ---- ids and their texts
@@ -60,79 +62,83 @@ same_cond false x = refl
 
 -- ---- one change
 
-module _ (id : NodeId) (again : id_of (id_text id) ≡ Ok id) (values : Values) (pasts : Pasts) where
-  value_here : (value : DataValue) (row : Row) (old : Option Row) → said_value row ≡ Some value → (b : Bool)
-      → option_and_then said_value (cond b (Some row) old) ≡ cond b (Some value) (option_and_then said_value old)
+some_said : (a b : Option Moment) → ◌≡◌ {A = Option (Option Moment)} (Some a) (Some b) → a ≡ b
+some_said a b e = cc
+
+-- the time of a row beside that of what it says
+pub times : (ticks : Option ℤ) (at : Option Moment) (time : ℤ) → time_said (or_null Int ticks) ≡ Some at → is_time ticks (Some time) ≡ is_at_time time at
+times None at time said = ap (is_at_time time) (some_said None at said)
+times (Some n) at time said = ap (is_at_time time) (some_said (Some (record { 0 = n })) at said)
+
+put_is : (at : Option Moment) (value : DataValue) (past : Past) (time : ℤ) → cond (is_at_time time at) (Some value) (past time) ≡ put_at at value past time
+put_is None value past time = refl
+put_is (Some moment) value past time = refl
+
+module _ (id : NodeId) (again : id_of (id_text id) ≡ Ok id) (rows : Rows) where
+  value_here : (value : DataValue) (row : Row) (old : Option Row) → said_in table.Value row ≡ Some value → (b : Bool)
+      → option_and_then (said_in table.Value) (cond b (Some row) old) ≡ cond b (Some value) (option_and_then (said_in table.Value) old)
   value_here value row old said true = said
   value_here value row old said false = refl
 
-  put_here : (value : DataValue) (row : Row) (old : Option Row) → said_past row ≡ Some value → (b c : Bool)
-      → option_and_then said_past (cond (b && c) (Some row) old) ≡ cond b (cond c (Some value) (option_and_then said_past old)) (option_and_then said_past old)
-  put_here value row old said true true = said
-  put_here value row old said true false = refl
-  put_here value row old said false true = refl
-  put_here value row old said false false = refl
+  past_here : (become : Option DataValue) (new old : Option Row) → option_and_then (said_in table.History) new ≡ become → (b c : Bool)
+      → option_and_then (said_in table.History) (cond (b && c) new old) ≡ cond b (cond c become (option_and_then (said_in table.History) old)) (option_and_then (said_in table.History) old)
+  past_here become new old said true true = said
+  past_here become new old said true false = refl
+  past_here become new old said false true = refl
+  past_here become new old said false false = refl
 
-  drop_here : (old : Option Row) (b c : Bool) → option_and_then said_past (cond (b && c) None old) ≡ cond b (cond c None (option_and_then said_past old)) (option_and_then said_past old)
-  drop_here old true true = refl
-  drop_here old true false = refl
-  drop_here old false true = refl
-  drop_here old false false = refl
-
-  pub has_value : (value : DataValue) (k : ValueRow) → string_bytes k.node ≡ id_text id → said_value (value_row k) ≡ Some value
-      → HasValue id value (kept_by values pasts) (kept_by (values_with values (change.Value k)) (pasts_with pasts (change.Value k)))
-  has_value value k text said = record { values = λ other. go other (is_readable other) refl; histories = λ other time. refl }
+  pub has_value : (value : DataValue) (r : StoredRow) → string_bytes r.node ≡ id_text id → said_of r ≡ Some value
+      → HasValue id value (kept_by rows) (kept_by (rows_with rows (change.Put table.Value r)))
+  has_value value r text said = record { values = λ other. go other (is_readable other) refl; histories = λ other time. refl }
     where
-      go : (other : NodeId) (r : Bool) → is_readable other ≡ r
-          → cond r (option_and_then said_value (cond (bytes_eq (string_bytes k.node) (id_text other)) (Some (value_row k)) (values (id_text other)))) None
-          ≡ cond (is_same id other) (Some value) (cond r (option_and_then said_value (values (id_text other))) None)
+      go : (other : NodeId) (readable : Bool) → is_readable other ≡ readable
+          → cond readable (option_and_then (said_in table.Value) (cond (bytes_eq (string_bytes r.node) (id_text other)) (Some (row_in table.Value r)) (rows table.Value (id_text other) None))) None
+          ≡ cond (is_same id other) (Some value) (cond readable (option_and_then (said_in table.Value) (rows table.Value (id_text other) None)) None)
       go other true readable =
-          ap (λ b. option_and_then said_value (cond b (Some (value_row k)) (values (id_text other)))) (text_test id other (string_bytes k.node) again text readable)
-          ∙ value_here value (value_row k) (values (id_text other)) said (is_same id other)
+          ap (λ b. option_and_then (said_in table.Value) (cond b (Some (row_in table.Value r)) (rows table.Value (id_text other) None))) (text_test id other (string_bytes r.node) again text readable)
+          ∙ value_here value (row_in table.Value r) (rows table.Value (id_text other) None) said (is_same id other)
       go other false unread = ap (λ b. cond b (Some value) None) (sym (unread_apart id other again unread))
 
-  pub has_put : (time : Moment) (value : DataValue) (p : PastRow) → string_bytes p.node ≡ id_text id → p.time ≡ time.0 → said_past (past_row p) ≡ Some value
-      → HasHistory id (put_at (Some time) value) (kept_by values pasts) (kept_by (values_with values (change.Past p)) (pasts_with pasts (change.Past p)))
-  has_put time value p text at said = record { values = λ other. refl; histories = λ other t. go other t (is_readable other) refl }
-    where
-      go : (other : NodeId) (t : ℤ) (r : Bool) → is_readable other ≡ r
-          → cond r (option_and_then said_past (cond (bytes_eq (string_bytes p.node) (id_text other) && is_eq (int_cmp p.time t)) (Some (past_row p)) (pasts (id_text other) t))) None
-          ≡ cond (is_same id other) (cond (is_eq (int_cmp time.0 t)) (Some value) (cond r (option_and_then said_past (pasts (id_text other) t)) None)) (cond r (option_and_then said_past (pasts (id_text other) t)) None)
-      go other t true readable =
-          ap (λ b. option_and_then said_past (cond (b && is_eq (int_cmp p.time t)) (Some (past_row p)) (pasts (id_text other) t))) (text_test id other (string_bytes p.node) again text readable)
-          ∙ (ap (λ z. option_and_then said_past (cond (is_same id other && is_eq (int_cmp z t)) (Some (past_row p)) (pasts (id_text other) t))) at
-          ∙ put_here value (past_row p) (pasts (id_text other) t) said (is_same id other) (is_eq (int_cmp time.0 t)))
-      go other t false unread = ap (λ b. cond b (cond (is_eq (int_cmp time.0 t)) (Some value) None) None) (sym (unread_apart id other again unread))
+  -- what becomes of a history where the row of one key becomes another, or none
+  become : (text : List ℕ) (ticks : Option ℤ) (at : Option Moment) (new : Option Row) (told : Option DataValue) → text ≡ id_text id → time_said (or_null Int ticks) ≡ Some at
+      → option_and_then (said_in table.History) new ≡ told → (other : NodeId) (time : ℤ) (readable : Bool) → is_readable other ≡ readable
+      → cond readable (option_and_then (said_in table.History) (cond (bytes_eq text (id_text other) && is_time ticks (Some time)) new (rows table.History (id_text other) (Some time)))) None
+      ≡ cond (is_same id other) (cond (is_at_time time at) told (cond readable (option_and_then (said_in table.History) (rows table.History (id_text other) (Some time))) None))
+      (cond readable (option_and_then (said_in table.History) (rows table.History (id_text other) (Some time))) None)
+  become text ticks at new told is timed said other time true readable =
+      let old = rows table.History (id_text other) (Some time) in
+      ap (λ b. option_and_then (said_in table.History) (cond (b && is_time ticks (Some time)) new old)) (text_test id other text again is readable)
+      ∙ (ap (λ c. option_and_then (said_in table.History) (cond (is_same id other && c) new old)) (times ticks at time timed) ∙ past_here told new old said (is_same id other) (is_at_time time at))
+  become text ticks at new told is timed said other time false unread = ap (λ b. cond b (cond (is_at_time time at) told None) None) (sym (unread_apart id other again unread))
 
-  pub has_dropped : (time : Moment) (m : Key) → string_bytes m.node ≡ id_text id → m.time ≡ time.0
-      → HasHistory id (dropped_at (Some time)) (kept_by values pasts) (kept_by (values_with values (change.Forget m)) (pasts_with pasts (change.Forget m)))
-  has_dropped time m text at = record { values = λ other. refl; histories = λ other t. go other t (is_readable other) refl }
-    where
-      go : (other : NodeId) (t : ℤ) (r : Bool) → is_readable other ≡ r
-          → cond r (option_and_then said_past (cond (bytes_eq (string_bytes m.node) (id_text other) && is_eq (int_cmp m.time t)) None (pasts (id_text other) t))) None
-          ≡ cond (is_same id other) (cond (is_eq (int_cmp time.0 t)) None (cond r (option_and_then said_past (pasts (id_text other) t)) None)) (cond r (option_and_then said_past (pasts (id_text other) t)) None)
-      go other t true readable =
-          ap (λ b. option_and_then said_past (cond (b && is_eq (int_cmp m.time t)) None (pasts (id_text other) t))) (text_test id other (string_bytes m.node) again text readable)
-          ∙ (ap (λ z. option_and_then said_past (cond (is_same id other && is_eq (int_cmp z t)) None (pasts (id_text other) t))) at
-          ∙ drop_here (pasts (id_text other) t) (is_same id other) (is_eq (int_cmp time.0 t)))
-      go other t false unread = ap (λ b. cond b (cond (is_eq (int_cmp time.0 t)) None None) None) (sym (unread_apart id other again unread))
+  pub has_put : (value : DataValue) (r : StoredRow) → string_bytes r.node ≡ id_text id → time_said (or_null Int r.source_time) ≡ Some value.source_time → said_of r ≡ Some value
+      → HasHistory id (put_at value.source_time value) (kept_by rows) (kept_by (rows_with rows (change.Put table.History r)))
+  has_put value r text timed said = record {
+    values = λ other. refl;
+    histories = λ other time.
+        become (string_bytes r.node) r.source_time value.source_time (Some (row_in table.History r)) (Some value) text timed said other time (is_readable other) refl
+        ∙ ap (λ x. cond (is_same id other) x ((kept_by rows).histories other time)) (put_is value.source_time value ((kept_by rows).histories other) time);
+  }
+
+  pub has_dropped : (time : Moment) (k : Key) → string_bytes k.node ≡ id_text id → k.time ≡ time.0
+      → HasHistory id (dropped_at (Some time)) (kept_by rows) (kept_by (rows_with rows (change.Forget k)))
+  has_dropped time k text at = record {
+    values = λ other. refl;
+    histories = λ other t. become (string_bytes k.node) (Some k.time) (Some time) None None text (ap (λ (n : ℤ). let m : Moment = record { 0 = n } in Some (Some m)) at) refl other t (is_readable other) refl;
+  }
 
 -- ---- more changes
 
-pub grows_push : (B : Kept → Kept → Type 0) (c : Change) → ((values : Values) (pasts : Pasts) → B (kept_by values pasts) (kept_by (values_with values c) (pasts_with pasts c)))
-    → (old new : List Change) → new ≡ old ++ c ∷ [] → Grows B old new
-grows_push B c each old new is values pasts =
-    let v = fold_push values_with values old c in
-    let p = fold_push pasts_with pasts old c in
-    subst (λ (l : List Change). B (kept_after values pasts old) (kept_after values pasts l)) (sym is)
-    (subst (λ (x : Values). B (kept_after values pasts old) (kept_by x (fold pasts_with pasts (old ++ c ∷ [])))) (sym v)
-    (subst (λ (y : Pasts). B (kept_after values pasts old) (kept_by (values_with (fold values_with values old) c) y)) (sym p) (each (fold values_with values old) (fold pasts_with pasts old))))
+pub grows_push : (B : Kept → Kept → Type 0) (c : Change) → ((rows : Rows) → B (kept_by rows) (kept_by (rows_with rows c))) → (old new : List Change) → new ≡ old ++ c ∷ [] → Grows B old new
+grows_push B c each old new is rows =
+    subst (λ (l : List Change). B (kept_after rows old) (kept_after rows l)) (sym is)
+    (subst (λ (x : Rows). B (kept_after rows old) (kept_by x)) (sym (fold_push rows_with rows old c)) (each (fold rows_with rows old)))
 
 pub history_stays : (id : NodeId) (become : Past → Past) → ((past : Past) (time : ℤ) → past time ≡ become past time) → (changes : List Change) → Grows (HasHistory id become) changes changes
-history_stays id become same changes values pasts = record {
+history_stays id become same changes rows = record {
   values = λ other. refl;
   histories = λ other time.
-      let a = kept_after values pasts changes in
+      let a = kept_after rows changes in
       same_cond (is_same id other) (a.histories other time) ∙ ap (λ x. cond (is_same id other) x (a.histories other time)) (same (a.histories other) time);
 }
 
@@ -195,20 +201,20 @@ pub alike_then : (a b c : Kept) → AreAlike a b → AreAlike b c → AreAlike a
 alike_then a b c first second = record { values = λ id. first.values id ∙ second.values id; histories = λ id time. first.histories id time ∙ second.histories id time }
 
 pub changes_none : AreChanges [] []
-changes_none values pasts = record { values = λ id. refl; histories = λ id time. refl }
+changes_none rows = record { values = λ id. refl; histories = λ id time. refl }
 
 pub changes_more : (done : List Stored) (s : Stored) (old new : List Change) → AreChanges done old → Grows (λ a b. AreAlike (with_stored a s) b) old new → AreChanges (done ++ s ∷ []) new
-changes_more done s old new was grows values pasts =
-    let before = with_all_stored (kept_by values pasts) done in
-    let more = fold_push with_stored (kept_by values pasts) done s in
-    subst (λ (k : Kept). AreAlike k (kept_after values pasts new)) (sym more)
-    (alike_then (with_stored before s) (with_stored (kept_after values pasts old) s) (kept_after values pasts new) (stored_like s before (kept_after values pasts old) (was values pasts)) (grows values pasts))
+changes_more done s old new was grows rows =
+    let before = with_all_stored (kept_by rows) done in
+    let more = fold_push with_stored (kept_by rows) done s in
+    subst (λ (k : Kept). AreAlike k (kept_after rows new)) (sym more)
+    (alike_then (with_stored before s) (with_stored (kept_after rows old) s) (kept_after rows new) (stored_like s before (kept_after rows old) (was rows)) (grows rows))
 
 -- ---- the tables
 
 pub has_all : (stored : List Stored) (changes : List Change) (old new : Trees) → AreChanges stored changes → IsAfter changes old new → HasAll stored old new
 has_all stored changes old new are after =
-    alike_then (with_all_stored (kept_at old) stored) (kept_after (value_of old) (past_of old) changes) (kept_at new) (are (value_of old) (past_of old)) (record {
-      values = λ id. ap (λ o. cond (is_readable id) (option_and_then said_value o) None) (sym (after.0 (id_text id)));
-      histories = λ id time. ap (λ o. cond (is_readable id) (option_and_then said_past o) None) (sym (after.1 (id_text id) time));
+    alike_then (with_all_stored (kept_at old) stored) (kept_after (rows_at old) changes) (kept_at new) (are (rows_at old)) (record {
+      values = λ id. ap (λ o. cond (is_readable id) (option_and_then (said_in table.Value) o) None) (sym (after table.Value (id_text id) None));
+      histories = λ id time. ap (λ o. cond (is_readable id) (option_and_then (said_in table.History) o) None) (sym (after table.History (id_text id) (Some time)));
     })

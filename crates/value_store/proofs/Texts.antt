@@ -3,8 +3,10 @@ use Rattle.std.proofs.Common.{refl}
 use Rattle.sqlite_tied.specs.Compute.{everything}
 use Rattle.sqlite.specs.Listing.{understood}
 use Rattle.sqlite.proofs.Callers.{IsPlain}
+use Rattle.value_store.specs.declared.rows.TableName.{TableName}
+use Rattle.value_store.specs.declared.rows.TableName.TheVariants as table
 use Rattle.value_store.specs.Tables.{store_schema}
-use Rattle.value_store.specs.Laws.{add_value_text, add_past_text, drop_value_text, drop_past_text, values_text, pasts_text, TablesAreUnderstood, AddsAreUnderstood, DropsAreUnderstood, ReadsAreUnderstood}
+use Rattle.value_store.specs.Laws.{add_text, drop_text, rows_text, TablesAreUnderstood, AddsAreUnderstood, DropsAreUnderstood, ReadsAreUnderstood}
 
 pub tables_are : TablesAreUnderstood
 unfolding understood everything
@@ -12,36 +14,30 @@ tables_are = (refl, refl, refl)
 
 pub adds_are : AddsAreUnderstood
 unfolding understood everything
-adds_are = (refl, refl)
+adds_are table.Value = refl
+adds_are table.History = refl
 
 pub drops_are : DropsAreUnderstood
 unfolding understood everything
-drops_are = (refl, refl)
+drops_are table.Value = refl
+drops_are table.History = refl
 
 pub reads_are : ReadsAreUnderstood
 unfolding understood everything
-reads_are = (refl, refl, refl, refl)
+reads_are table.Value = (refl, refl)
+reads_are table.History = (refl, refl)
 
-pub add_value_plain : IsPlain (understood store_schema add_value_text)
+pub add_plain : (t : TableName) → IsPlain (understood store_schema (add_text t))
 unfolding understood everything
-add_value_plain = (refl, refl)
+add_plain table.Value = (refl, refl)
+add_plain table.History = (refl, refl)
 
-pub add_past_plain : IsPlain (understood store_schema add_past_text)
+pub drop_plain : (t : TableName) → IsPlain (understood store_schema (drop_text t))
 unfolding understood everything
-add_past_plain = (refl, refl)
+drop_plain table.Value = (refl, refl)
+drop_plain table.History = (refl, refl)
 
-pub drop_value_plain : IsPlain (understood store_schema drop_value_text)
+pub rows_plain : (t : TableName) → IsPlain (understood store_schema (rows_text t))
 unfolding understood everything
-drop_value_plain = (refl, refl)
-
-pub drop_past_plain : IsPlain (understood store_schema drop_past_text)
-unfolding understood everything
-drop_past_plain = (refl, refl)
-
-pub values_plain : IsPlain (understood store_schema values_text)
-unfolding understood everything
-values_plain = (refl, refl)
-
-pub pasts_plain : IsPlain (understood store_schema pasts_text)
-unfolding understood everything
-pasts_plain = (refl, refl)
+rows_plain table.Value = (refl, refl)
+rows_plain table.History = (refl, refl)

@@ -13,7 +13,11 @@ use Rattle.ua_binary.specs.Variants.{variant_reading}
 use Rattle.sqlite.specs.declared.types.Value.{Value}
 use Rattle.sqlite.specs.declared.types.Value.TheVariants.{Null, Int, Real, Text, Blob}
 use Rattle.sqlite.specs.Order.{Row, column}
+use Rattle.sqlite.specs.Values.{or_null}
 use Rattle.value_store.specs.declared.rows.Scalar.{Scalar}
+use Rattle.value_store.specs.declared.rows.StoredRow.{StoredRow}
+use Rattle.value_store.specs.declared.rows.TableName.{TableName}
+use Rattle.value_store.specs.declared.rows.TableName.TheVariants as table
 use Rattle.value_store.specs.Rows.{sql_of}
 
 infixl 10 ◌>>=◌
@@ -134,12 +138,14 @@ columns_said kind value status source server = do
   at ← time_said server
   Some (record { status = record { 0 = s }; source_time = from; server_time = at; value = v })
 
--- a row of `value`, and one of `history`, whose time is the source's
-abbrev pub said_value : Row → Option DataValue
-said_value r = columns_said (column r 1) (column r 2) (column r 3) (column r 4) (column r 5)
+-- a row of either table
+abbrev pub said_of : StoredRow → Option DataValue
+said_of r = columns_said (Int r.kind) (sql_of r.value) (Int r.status) (or_null Int r.source_time) (or_null Int r.server_time)
 
-abbrev pub said_past : Row → Option DataValue
-said_past r = columns_said (column r 2) (column r 3) (column r 4) (column r 1) (column r 5)
+-- the columns of a row of `value`, and of one of `history`, whose time is the source's
+abbrev pub said_in : TableName → Row → Option DataValue
+said_in table.Value r = columns_said (column r 1) (column r 2) (column r 3) (column r 4) (column r 5)
+said_in table.History r = columns_said (column r 2) (column r 3) (column r 4) (column r 1) (column r 5)
 
 -- ---- what is written of a value
 

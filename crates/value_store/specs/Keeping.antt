@@ -10,8 +10,9 @@ use Rattle.server_messages.specs.declared.stored.Stored.{Stored}
 use Rattle.sqlite.specs.State.{State, HasCleanDisk}
 use Rattle.sqlite.specs.Tree.{Trees}
 use Rattle.value_store.specs.declared.rows.Change.{Change}
-use Rattle.value_store.specs.Forms.{said_value, said_past}
-use Rattle.value_store.specs.Model.{Values, Pasts, value_of, past_of, values_with, pasts_with}
+use Rattle.value_store.specs.declared.rows.TableName.TheVariants as table
+use Rattle.value_store.specs.Forms.{said_in}
+use Rattle.value_store.specs.Model.{Rows, rows_at, rows_with}
 
 abbrev pub is_read : NodeId → Result NodeId IdFault → Bool
 is_read id (Ok other) = is_same other id
@@ -22,14 +23,14 @@ abbrev pub is_readable : NodeId → Bool
 is_readable id = is_read id (id_of (id_text id))
 
 -- what the rows under the text of an id say
-abbrev pub kept_by : Values → Pasts → Kept
-kept_by values pasts = record {
-  values = λ id. if is_readable id then option_and_then said_value (values (id_text id)) else None;
-  histories = λ id time. if is_readable id then option_and_then said_past (pasts (id_text id) time) else None;
+abbrev pub kept_by : Rows → Kept
+kept_by rows = record {
+  values = λ id. if is_readable id then option_and_then (said_in table.Value) (rows table.Value (id_text id) None) else None;
+  histories = λ id time. if is_readable id then option_and_then (said_in table.History) (rows table.History (id_text id) (Some time)) else None;
 }
 
 abbrev pub kept_at : Trees → Kept
-kept_at trees = kept_by (value_of trees) (past_of trees)
+kept_at trees = kept_by (rows_at trees)
 
 -- what a store keeps, where its disk has kept its word and it is open
 abbrev pub kept_in : State → Option Kept
@@ -41,8 +42,8 @@ MayFind s found = HasCleanDisk s × (trees : Trees) × s.may_leave trees × AreA
 
 -- ---- what changes of rows mean
 
-abbrev pub kept_after : Values → Pasts → List Change → Kept
-kept_after values pasts changes = kept_by (fold values_with values changes) (fold pasts_with pasts changes)
+abbrev pub kept_after : Rows → List Change → Kept
+kept_after rows changes = kept_by (fold rows_with rows changes)
 
 -- the second has the value, and all else as the first
 pub record HasValue (id : NodeId) (value : DataValue) (a b : Kept) : Type 0 where
@@ -56,11 +57,11 @@ pub record HasHistory (id : NodeId) (become : Past → Past) (a b : Kept) : Type
 
 -- whatever was kept before, what some more changes make of it
 abbrev pub Grows : (Kept → Kept → Type 0) → List Change → List Change → Type 0
-Grows Becomes old new = (values : Values) (pasts : Pasts) → Becomes (kept_after values pasts old) (kept_after values pasts new)
+Grows Becomes old new = (rows : Rows) → Becomes (kept_after rows old) (kept_after rows new)
 
 -- the changes make of whatever was kept what the values say
 abbrev pub AreChanges : List Stored → List Change → Type 0
-AreChanges stored changes = (values : Values) (pasts : Pasts) → AreAlike (with_all_stored (kept_by values pasts) stored) (kept_after values pasts changes)
+AreChanges stored changes = (rows : Rows) → AreAlike (with_all_stored (kept_by rows) stored) (kept_after rows changes)
 
 -- the second has what the first has, with all of the values
 abbrev pub HasAll : List Stored → Trees → Trees → Type 0

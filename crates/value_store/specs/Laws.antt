@@ -9,28 +9,26 @@ use Rattle.sqlite_sql.specs.declared.ops.CompareOp.TheVariants.{Eq}
 use Rattle.sqlite.specs.Command.TheVariants.{Insert, Select, Delete}
 use Rattle.sqlite.specs.Listing.{understood, reads_listing}
 use Rattle.sqlite.specs.Query.{Query, inner, end}
+use Rattle.sqlite_schema.specs.declared.program.Program.{Program}
 use Rattle.sqlite.specs.Change.{created}
 use Rattle.sqlite.specs.Compile.{table_defined_by}
 use Rattle.sqlite.proofs.Callers.{command_of}
+use Rattle.value_store.specs.declared.rows.TableName.{TableName}
+use Rattle.value_store.specs.declared.rows.TableName.TheVariants as table
+use Rattle.value_store.specs.Model.{tree_of}
 use Rattle.value_store.specs.Tables.{value_text, history_text, value_table, history_table, no_schema, store_schema}
 
-abbrev pub add_value_text : List ℕ
-add_value_text = codes "INSERT INTO value (node, type, value, status, source_time, server_time) VALUES (?1, ?2, ?3, ?4, ?5, ?6)"
+abbrev pub add_text : TableName → List ℕ
+add_text table.Value = codes "INSERT INTO value (node, type, value, status, source_time, server_time) VALUES (?1, ?2, ?3, ?4, ?5, ?6)"
+add_text table.History = codes "INSERT INTO history (node, time, type, value, status, server_time) VALUES (?1, ?2, ?3, ?4, ?5, ?6)"
 
-abbrev pub add_past_text : List ℕ
-add_past_text = codes "INSERT INTO history (node, time, type, value, status, server_time) VALUES (?1, ?2, ?3, ?4, ?5, ?6)"
+abbrev pub drop_text : TableName → List ℕ
+drop_text table.Value = codes "DELETE FROM value WHERE node = ?1"
+drop_text table.History = codes "DELETE FROM history WHERE node = ?1 AND time = ?2"
 
-abbrev pub drop_value_text : List ℕ
-drop_value_text = codes "DELETE FROM value WHERE node = ?1"
-
-abbrev pub drop_past_text : List ℕ
-drop_past_text = codes "DELETE FROM history WHERE node = ?1 AND time = ?2"
-
-abbrev pub values_text : List ℕ
-values_text = codes "SELECT rowid, node, type, value, status, source_time, server_time FROM value"
-
-abbrev pub pasts_text : List ℕ
-pasts_text = codes "SELECT rowid, node, time, type, value, status, server_time FROM history"
+abbrev pub rows_text : TableName → List ℕ
+rows_text table.Value = codes "SELECT rowid, node, type, value, status, source_time, server_time FROM value"
+rows_text table.History = codes "SELECT rowid, node, time, type, value, status, server_time FROM history"
 
 -- the texts of the tables make the schema of the store
 abbrev pub TablesAreUnderstood : Type 0
@@ -42,8 +40,13 @@ TablesAreUnderstood =
 abbrev pub terms : List Term
 terms = lit Null ∷ col 0 0 ∷ col 0 1 ∷ col 0 2 ∷ col 0 3 ∷ col 0 4 ∷ col 0 5 ∷ []
 
+-- the place of a table in the schema
+abbrev pub place_of : TableName → ℕ
+place_of table.Value = 0
+place_of table.History = 1
+
 abbrev pub AddsAreUnderstood : Type 0
-AddsAreUnderstood = (command_of (understood store_schema add_value_text) ≡ Insert 0 (Values terms 7)) × (command_of (understood store_schema add_past_text) ≡ Insert 1 (Values terms 7))
+AddsAreUnderstood = (t : TableName) → command_of (understood store_schema (add_text t)) ≡ Insert (place_of t) (Values terms 7)
 
 -- the numbers of the rows of one table that pass some tests
 abbrev pub numbers_where : ℕ → List Term → Query
@@ -63,22 +66,24 @@ numbers_where tree tests = record {
 abbrev pub is_given : ℕ → ℕ → Term
 is_given at place = op2 (Compare Eq Binary) (col 1 at) (col 0 place)
 
+abbrev pub key_tests : TableName → List Term
+key_tests table.Value = is_given 1 0 ∷ []
+key_tests table.History = is_given 1 0 ∷ is_given 2 1 ∷ []
+
+abbrev pub rows_with_key : TableName → Program
+rows_with_key t = record { lets = []; body = numbers_where (tree_of t) (key_tests t) }
+
 abbrev pub DropsAreUnderstood : Type 0
-DropsAreUnderstood =
-    (command_of (understood store_schema drop_value_text) ≡ Delete 0 (record { lets = []; body = numbers_where 0 (is_given 1 0 ∷ []) }))
-    × (command_of (understood store_schema drop_past_text) ≡ Delete 1 (record { lets = []; body = numbers_where 2 (is_given 1 0 ∷ is_given 2 1 ∷ []) }))
+DropsAreUnderstood = (t : TableName) → command_of (understood store_schema (drop_text t)) ≡ Delete (place_of t) (rows_with_key t)
 
 -- each row of one table
 abbrev pub rows_of : ℕ → Query
 rows_of tree = record (numbers_where tree []) { project = col 1 0 ∷ col 1 1 ∷ col 1 2 ∷ col 1 3 ∷ col 1 4 ∷ col 1 5 ∷ col 1 6 ∷ [] }
 
-abbrev pub value_names : List (List ℕ)
-value_names = codes "rowid" ∷ codes "node" ∷ codes "type" ∷ codes "value" ∷ codes "status" ∷ codes "source_time" ∷ codes "server_time" ∷ []
-
-abbrev pub past_names : List (List ℕ)
-past_names = codes "rowid" ∷ codes "node" ∷ codes "time" ∷ codes "type" ∷ codes "value" ∷ codes "status" ∷ codes "server_time" ∷ []
+abbrev pub names_in : TableName → List (List ℕ)
+names_in table.Value = codes "rowid" ∷ codes "node" ∷ codes "type" ∷ codes "value" ∷ codes "status" ∷ codes "source_time" ∷ codes "server_time" ∷ []
+names_in table.History = codes "rowid" ∷ codes "node" ∷ codes "time" ∷ codes "type" ∷ codes "value" ∷ codes "status" ∷ codes "server_time" ∷ []
 
 abbrev pub ReadsAreUnderstood : Type 0
 ReadsAreUnderstood =
-    (command_of (understood store_schema values_text) ≡ Select (record { lets = []; body = rows_of 0 }) value_names) × (reads_listing store_schema values_text ≡ false)
-    × (command_of (understood store_schema pasts_text) ≡ Select (record { lets = []; body = rows_of 2 }) past_names) × (reads_listing store_schema pasts_text ≡ false)
+    (t : TableName) → (command_of (understood store_schema (rows_text t)) ≡ Select (record { lets = []; body = rows_of (tree_of t) }) (names_in t)) × (reads_listing store_schema (rows_text t) ≡ false)

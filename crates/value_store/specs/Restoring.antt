@@ -7,33 +7,28 @@ use Rattle.ua_types.specs.IdTexts.{id_text, id_of}
 use Rattle.ua_types.specs.NodeIdOrder.{id_cmp}
 use Rattle.ua_types.specs.declared.moment.Moment.{Moment}
 use Rattle.server_messages.specs.declared.kept_values.KeptValue.{KeptValue}
-use Rattle.value_store.specs.declared.rows.ValueRow.{ValueRow}
-use Rattle.value_store.specs.declared.rows.PastRow.{PastRow}
-use Rattle.value_store.specs.Rows.{value_row, past_row}
-use Rattle.value_store.specs.Forms.{said_value, said_past}
+use Rattle.sqlite.specs.declared.types.Value.TheVariants.{Int}
+use Rattle.sqlite.specs.Values.{or_null}
+use Rattle.value_store.specs.declared.rows.StoredRow.{StoredRow}
+use Rattle.value_store.specs.declared.rows.TableName.{TableName}
+use Rattle.value_store.specs.declared.rows.TableName.TheVariants as table
+use Rattle.value_store.specs.Forms.{said_of, time_said}
 
 -- the row says the value, of the variable whose id its text is written for
-pub record IsOf (r : ValueRow) (k : KeptValue) : Type 0 where
+pub record IsOf (r : StoredRow) (k : KeptValue) : Type 0 where
   pub text : id_text k.node_id ≡ string_bytes r.node
   pub again : id_of (id_text k.node_id) ≡ Ok k.node_id
-  pub value : said_value (value_row r) ≡ Some k.value
-
-pub record IsPastOf (r : PastRow) (k : KeptValue) : Type 0 where
-  pub text : id_text k.node_id ≡ string_bytes r.node
-  pub again : id_of (id_text k.node_id) ≡ Ok k.node_id
-  pub value : said_past (past_row r) ≡ Some k.value
-  pub time : k.value.source_time ≡ Some (record { 0 = r.time })
-
--- the order of ids, and in it that of times
-abbrev pub value_order : KeptValue → KeptValue → Ordering
-value_order a b = id_cmp a.node_id b.node_id
+  pub value : said_of r ≡ Some k.value
+  pub source : time_said (or_null Int r.source_time) ≡ Some k.value.source_time
 
 abbrev pub source_ticks : Option Moment → ℤ
 source_ticks None = pos 0
 source_ticks (Some moment) = moment.0
 
-abbrev pub past_order : KeptValue → KeptValue → Ordering
-past_order a b = ordering_then (id_cmp a.node_id b.node_id) (int_cmp (source_ticks a.value.source_time) (source_ticks b.value.source_time))
+-- the order of ids, and in `history` then that of times
+abbrev pub order_in : TableName → KeptValue → KeptValue → Ordering
+order_in table.Value a b = id_cmp a.node_id b.node_id
+order_in table.History a b = ordering_then (id_cmp a.node_id b.node_id) (int_cmp (source_ticks a.value.source_time) (source_ticks b.value.source_time))
 
 -- each stands before the next, so that no two are of one key
 abbrev pub Rise : (KeptValue → KeptValue → Ordering) → List KeptValue → Type 0

@@ -1,14 +1,14 @@
 -- What is kept, as the rows of the two tables.
-use Rattle.std.specs.Prelude.{ℤ, [], ◌∷◌, string_bytes, IsUtf8, ⊤, Option, Some, None, ◌<ℤ◌}
+use Rattle.std.specs.Prelude.{ℕ, ℤ, List, [], ◌∷◌, string_bytes, IsUtf8, ⊤, Option, Some, None, ◌<ℤ◌}
 use Rattle.sqlite.specs.declared.types.Value.{Value}
 use Rattle.sqlite.specs.declared.types.Value.TheVariants.{Null, Int, Real, Text, Blob}
 use Rattle.sqlite.specs.Order.{Row, column}
 use Rattle.sqlite.specs.Values.{or_null}
 use Rattle.value_store.specs.declared.rows.Scalar.{Scalar}
 use Rattle.value_store.specs.declared.rows.Scalar.TheVariants.{Nothing, Integer, Words, Bytes}
-use Rattle.value_store.specs.declared.rows.ValueRow.{ValueRow}
-use Rattle.value_store.specs.declared.rows.PastRow.{PastRow}
-use Rattle.value_store.specs.declared.rows.Key.{Key}
+use Rattle.value_store.specs.declared.rows.StoredRow.{StoredRow}
+use Rattle.value_store.specs.declared.rows.TableName.{TableName}
+use Rattle.value_store.specs.declared.rows.TableName.TheVariants as table
 
 abbrev pub sql_of : Scalar → Value
 sql_of Nothing = Null
@@ -24,16 +24,15 @@ is_scalar (Real x) = ⊥
 is_scalar (Text t) = IsUtf8 t
 is_scalar (Blob b) = ⊤
 
--- the columns of `value`, and of `history`
-abbrev pub value_row : ValueRow → Row
-value_row k = Text (string_bytes k.node) ∷ Int k.kind ∷ sql_of k.value ∷ Int k.status ∷ or_null Int k.source_time ∷ or_null Int k.server_time ∷ []
+-- the columns of a row of each table
+abbrev pub row_in : TableName → StoredRow → Row
+row_in table.Value r = Text (string_bytes r.node) ∷ Int r.kind ∷ sql_of r.value ∷ Int r.status ∷ or_null Int r.source_time ∷ or_null Int r.server_time ∷ []
+row_in table.History r = Text (string_bytes r.node) ∷ or_null Int r.source_time ∷ Int r.kind ∷ sql_of r.value ∷ Int r.status ∷ or_null Int r.server_time ∷ []
 
-abbrev pub past_row : PastRow → Row
-past_row p = Text (string_bytes p.node) ∷ Int p.time ∷ Int p.kind ∷ sql_of p.value ∷ Int p.status ∷ or_null Int p.server_time ∷ []
-
--- the key of a row of `history`
-abbrev pub key_row : Key → Row
-key_row m = Text (string_bytes m.node) ∷ Int m.time ∷ []
+-- what a row of a table is found by
+abbrev pub key_in : TableName → List ℕ → Option ℤ → Row
+key_in table.Value node time = Text node ∷ []
+key_in table.History node time = Text node ∷ or_null Int time ∷ []
 
 -- the six columns of a row in either file, whose number stands before them
 abbrev pub columns : Row → Row

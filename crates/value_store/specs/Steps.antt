@@ -1,10 +1,12 @@
 -- What one change does to a connection, inside the transaction of its turn.
-use Rattle.std.specs.Prelude.{◌≡◌, List, ℕ, ℤ, [], ◌∷◌, None, ⊤, string_bytes, bytes_eq, if◌then◌else◌, IsTrue}
+use Rattle.std.specs.Prelude.{◌≡◌, List, ℕ, ℤ, [], ◌∷◌, Option, None, true, string_bytes, if◌then◌else◌, IsTrue}
 use Rattle.sqlite.specs.State.{State, HasCleanDisk}
 use Rattle.sqlite.specs.Tree.{Trees}
 use Rattle.value_store.specs.declared.rows.Change.{Change}
+use Rattle.value_store.specs.declared.rows.StoredRow.{StoredRow}
+use Rattle.value_store.specs.declared.rows.TableName.{TableName}
 use Rattle.value_store.specs.declared.rows.Change.TheVariants as change
-use Rattle.value_store.specs.Model.{IsStore, IsAfter, value_of, past_of, is_same}
+use Rattle.value_store.specs.Model.{IsStore, IsAfter, rows_at, is_key}
 
 -- while the file can be used, it has the two tables, with their rows numbered
 abbrev pub IsReady : State → Type 0
@@ -19,29 +21,19 @@ abbrev pub Makes : Change → State → State → Type 0
 Makes change old new =
     IsTrue old.is_open × IsTrue new.in_transaction × (IsStore old.now → IsStore new.now × IsAfter (change ∷ []) old.now.trees new.now.trees)
 
--- nothing lies yet where the change puts something
-abbrev pub HasRoom : Change → Trees → Type 0
-HasRoom (change.Value k) trees = value_of trees (string_bytes k.node) ≡ None
-HasRoom (change.Past p) trees = past_of trees (string_bytes p.node) p.time ≡ None
-HasRoom (change.Forget m) trees = ⊤
+-- nothing has the key of the row yet
+abbrev pub HasRoom : TableName → StoredRow → Trees → Type 0
+HasRoom s r trees = (n : List ℕ) (at : Option ℤ) → is_key s (string_bytes r.node) r.source_time s n at ≡ true → rows_at trees s n at ≡ None
 
-abbrev pub Adds : Change → State → State → Type 0
-Adds change old new =
-    IsTrue old.is_open × IsTrue new.in_transaction × (IsStore old.now → HasRoom change old.now.trees → IsStore new.now × IsAfter (change ∷ []) old.now.trees new.now.trees)
+abbrev pub Adds : TableName → StoredRow → State → State → Type 0
+Adds s r old new =
+    IsTrue old.is_open × IsTrue new.in_transaction × (IsStore old.now → HasRoom s r old.now.trees → IsStore new.now × IsAfter (change.Put s r ∷ []) old.now.trees new.now.trees)
 
--- the node has no value, and all else is as it was
-abbrev pub LosesValue : List ℕ → State → State → Type 0
-LosesValue node old new =
+-- nothing has the key any more, and all else is as it was
+abbrev pub Loses : TableName → List ℕ → Option ℤ → State → State → Type 0
+Loses s node time old new =
     IsTrue old.is_open × IsTrue new.in_transaction × (IsStore old.now → IsStore new.now
-    × ((n : List ℕ) → value_of new.now.trees n ≡ (if bytes_eq node n then None else value_of old.now.trees n))
-    × ((n : List ℕ) (t : ℤ) → past_of new.now.trees n t ≡ past_of old.now.trees n t))
-
--- the node has no value at the time, and all else is as it was
-abbrev pub LosesPast : List ℕ → ℤ → State → State → Type 0
-LosesPast node time old new =
-    IsTrue old.is_open × IsTrue new.in_transaction × (IsStore old.now → IsStore new.now
-    × ((n : List ℕ) → value_of new.now.trees n ≡ value_of old.now.trees n)
-    × ((n : List ℕ) (t : ℤ) → past_of new.now.trees n t ≡ (if is_same node time n t then None else past_of old.now.trees n t)))
+    × ((t : TableName) (n : List ℕ) (at : Option ℤ) → rows_at new.now.trees t n at ≡ (if is_key s node time t n at then None else rows_at old.now.trees t n at)))
 
 -- nothing was committed
 abbrev pub KeepsCommit : State → State → Type 0

@@ -5,8 +5,8 @@ ghost use Rattle.server_messages.specs.Kept.{put_at, dropped_at, with_stored, Ar
 ghost use Rattle.value_store.specs.Keeping.{HasValue, HasHistory, Grows, AreChanges};
 
 use crate::fault::Fault;
-use crate::forms::{key_of, past_row_of, value_row_of};
-use crate::rows::Change;
+use crate::forms::{key_of, row_of};
+use crate::rows::{Change, TableName};
 use server_messages::Stored;
 use std::alloc::Global;
 use ua_types::{Moment, NodeId};
@@ -15,8 +15,8 @@ use ua_types::{Moment, NodeId};
 fn push_value(alloc: Global, stored: &Stored, changes: &mut Vec<Change>) -> Result<(), Fault>
     ensures { OnOk result (Grows (HasValue stored.now.node_id stored.now.value) changes.old.items changes.new.items) }
 {
-    let row = value_row_of(alloc, &stored.node_id, &stored.value)?;
-    changes.push(Change::Value(row))?;
+    let row = row_of(alloc, &stored.node_id, &stored.value)?;
+    changes.push(Change::Put(TableName::Value, row))?;
     Ok(())
 }
 
@@ -26,9 +26,9 @@ fn push_past(alloc: Global, stored: &Stored, changes: &mut Vec<Change>) -> Resul
 {
     match stored.value.source_time {
         None => Ok(()),
-        Some(time) => {
-            let row = past_row_of(alloc, &stored.node_id, time, &stored.value)?;
-            changes.push(Change::Past(row))?;
+        Some(_) => {
+            let row = row_of(alloc, &stored.node_id, &stored.value)?;
+            changes.push(Change::Put(TableName::History, row))?;
             Ok(())
         }
     }

@@ -1,5 +1,8 @@
 //! Why a step of the store fails.
 
+ghost use Rattle.std.specs.Prelude.{◌≡◌};
+ghost use Rattle.value_store.specs.declared.fault.Fault.TheVariants as fault;
+
 use server_messages::StoreFault;
 use sqlite::{Error, ErrorCode};
 use std::alloc::{AllocError, AllocFailed};
@@ -18,18 +21,24 @@ pub enum Fault {
 }
 
 impl From<Error> for Fault {
+    ghost from_gives = { λ error f. f ≡ fault.Database error };
+
     fn from(error: Error) -> Fault {
         Fault::Database(error)
     }
 }
 
 impl From<AllocError> for Fault {
+    ghost from_gives = { λ _ f. f ≡ fault.Memory };
+
     fn from(_e: AllocError) -> Fault {
         Fault::Memory
     }
 }
 
 impl<T: Drop> From<AllocFailed<T>> for Fault {
+    ghost from_gives = { λ _ f. f ≡ fault.Memory };
+
     fn from(_failed: AllocFailed<T>) -> Fault {
         Fault::Memory
     }

@@ -5,18 +5,18 @@
 //! (IEC 62541-6, 5.2.2.16), whose first byte is the row's `type`: the number, 64 more with dimensions and 128 more for
 //! a list. No value stands as NULL with type 0. No value has two forms.
 
-ghost use Rattle.std.specs.Prelude.{◌≡◌, ◌≢◌, ◌<◌, ◌^◌, length, pos, option_map, slice_index_or, string_bytes, IfOk, IfErr, IfSome, OnOk, IsTrue, false};
+ghost use Rattle.std.specs.Prelude.{◌≡◌, ◌≢◌, ◌<◌, ◌^◌, length, pos, slice_index_or, string_bytes, IfOk, IfErr, IfSome, OnOk, IsTrue, false};
 ghost use Rattle.ua_types.specs.IdTexts.{id_text, id_of, IsNamed};
 ghost use Rattle.ua_binary.specs.Variants.{variant_reading};
 ghost use Rattle.ua_values.specs.Variants.{type_number};
 ghost use Rattle.ua_values.specs.declared.variant.Variant.TheVariants.{String as StringVariant};
 ghost use Rattle.sqlite.specs.declared.types.Value.TheVariants.{Int};
 ghost use Rattle.sqlite.specs.Values.{or_null};
-ghost use Rattle.value_store.specs.Rows.{sql_of, value_row, past_row};
-ghost use Rattle.value_store.specs.Forms.{whole, natural, truth_in, is_single as is_single_spec, is_small as is_small_spec, is_text as is_text_spec, is_plain as is_plain_spec, bytes_said, integer_said, text_said, value_said, time_said, said_value, said_past, columns_said, IsSole, IsSmall, IsTruth, StandsAs};
+ghost use Rattle.value_store.specs.Rows.{sql_of};
+ghost use Rattle.value_store.specs.Forms.{whole, natural, truth_in, is_single as is_single_spec, is_small as is_small_spec, is_text as is_text_spec, is_plain as is_plain_spec, bytes_said, integer_said, text_said, value_said, time_said, said_of, IsSole, IsSmall, IsTruth, StandsAs};
 
 use crate::fault::Fault;
-use crate::rows::{Key, PastRow, Scalar, ValueRow};
+use crate::rows::{Key, Scalar, StoredRow};
 use std::alloc::{AllocError, Global};
 use ua_binary::{Cursor, TakeFault, Wire};
 use ua_types::{IdFault, Identifier, Moment, NodeId, Status, Text, write_id};
@@ -27,8 +27,7 @@ fn is_single<T>(content: &Content<T>) -> bool
 {
     match content {
         Content::Scalar(_) => true,
-        Content::Array(_) => false,
-        Content::Matrix(_) => false,
+        _ => false,
     }
 }
 
@@ -37,8 +36,7 @@ fn is_small(content: &Content<u64>) -> bool
 {
     match content {
         Content::Scalar(n) => *n < 1 << 63,
-        Content::Array(_) => false,
-        Content::Matrix(_) => false,
+        _ => false,
     }
 }
 
@@ -47,8 +45,7 @@ fn is_text(content: &Content<Text>) -> bool
 {
     match content {
         Content::Scalar(text) => !text.is_null(),
-        Content::Array(_) => false,
-        Content::Matrix(_) => false,
+        _ => false,
     }
 }
 
@@ -69,17 +66,7 @@ fn is_plain(value: &Variant) -> bool
         Variant::DateTime(content) => is_single(content),
         Variant::StatusCode(content) => is_single(content),
         Variant::String(content) => is_text(content),
-        Variant::Null
-        | Variant::Float(_)
-        | Variant::Double(_)
-        | Variant::Guid(_)
-        | Variant::ByteString(_)
-        | Variant::XmlElement(_)
-        | Variant::NodeId(_)
-        | Variant::ExpandedNodeId(_)
-        | Variant::QualifiedName(_)
-        | Variant::LocalizedText(_)
-        | Variant::ExtensionObject(_) => false,
+        _ => false,
     }
 }
 
@@ -100,8 +87,7 @@ fn sole<T: Copy>(content: &Content<T>) -> Option<T>
 {
     match content {
         Content::Scalar(value) => Some(*value),
-        Content::Array(_) => None,
-        Content::Matrix(_) => None,
+        _ => None,
     }
 }
 
@@ -111,8 +97,7 @@ fn small(content: &Content<u64>) -> Option<i64>
 {
     match content {
         Content::Scalar(n) => { if *n < 1 << 63 { Some(*n as i64) } else { None } }
-        Content::Array(_) => None,
-        Content::Matrix(_) => None,
+        _ => None,
     }
 }
 
@@ -123,8 +108,7 @@ fn truth(content: &Content<bool>) -> Option<i64>
     match content {
         Content::Scalar(false) => Some(0),
         Content::Scalar(true) => Some(1),
-        Content::Array(_) => None,
-        Content::Matrix(_) => None,
+        _ => None,
     }
 }
 
@@ -137,17 +121,7 @@ fn words(alloc: Global, content: &Content<Text>) -> Result<Option<Scalar>, Alloc
             None => Ok(None),
             Some(text) => Ok(Some(Scalar::Words(String::from_str(alloc, text)?))),
         },
-        Content::Array(_) => Ok(None),
-        Content::Matrix(_) => Ok(None),
-    }
-}
-
-fn integer(number: Option<i64>) -> Option<Scalar>
-    ensures { result ≡ option_map (λ n. Scalar.Integer n) number }
-{
-    match number {
-        Some(n) => Some(Scalar::Integer(n)),
-        None => None,
+        _ => Ok(None),
     }
 }
 
@@ -156,56 +130,19 @@ fn plain_of(alloc: Global, value: &Variant) -> Result<Option<Scalar>, AllocError
     ensures { IfOk result (StandsAs value.now) }
 {
     match value {
-        Variant::Boolean(content) => Ok(integer(truth(content))),
-        Variant::SByte(content) => match sole(content) {
-            Some(n) => Ok(Some(Scalar::Integer(n as i64))),
-            None => Ok(None),
-        },
-        Variant::Byte(content) => match sole(content) {
-            Some(n) => Ok(Some(Scalar::Integer(n as i64))),
-            None => Ok(None),
-        },
-        Variant::Int16(content) => match sole(content) {
-            Some(n) => Ok(Some(Scalar::Integer(n as i64))),
-            None => Ok(None),
-        },
-        Variant::UInt16(content) => match sole(content) {
-            Some(n) => Ok(Some(Scalar::Integer(n as i64))),
-            None => Ok(None),
-        },
-        Variant::Int32(content) => match sole(content) {
-            Some(n) => Ok(Some(Scalar::Integer(n as i64))),
-            None => Ok(None),
-        },
-        Variant::UInt32(content) => match sole(content) {
-            Some(n) => Ok(Some(Scalar::Integer(n as i64))),
-            None => Ok(None),
-        },
-        Variant::Int64(content) => match sole(content) {
-            Some(n) => Ok(Some(Scalar::Integer(n))),
-            None => Ok(None),
-        },
-        Variant::UInt64(content) => Ok(integer(small(content))),
-        Variant::DateTime(content) => match sole(content) {
-            Some(moment) => Ok(Some(Scalar::Integer(moment.0))),
-            None => Ok(None),
-        },
-        Variant::StatusCode(content) => match sole(content) {
-            Some(status) => Ok(Some(Scalar::Integer(status.0 as i64))),
-            None => Ok(None),
-        },
+        Variant::Boolean(content) => Ok(truth(content).map(|n| Scalar::Integer(n))),
+        Variant::SByte(content) => Ok(sole(content).map(|n| Scalar::Integer(n as i64))),
+        Variant::Byte(content) => Ok(sole(content).map(|n| Scalar::Integer(n as i64))),
+        Variant::Int16(content) => Ok(sole(content).map(|n| Scalar::Integer(n as i64))),
+        Variant::UInt16(content) => Ok(sole(content).map(|n| Scalar::Integer(n as i64))),
+        Variant::Int32(content) => Ok(sole(content).map(|n| Scalar::Integer(n as i64))),
+        Variant::UInt32(content) => Ok(sole(content).map(|n| Scalar::Integer(n as i64))),
+        Variant::Int64(content) => Ok(sole(content).map(|n| Scalar::Integer(n))),
+        Variant::UInt64(content) => Ok(small(content).map(|n| Scalar::Integer(n))),
+        Variant::DateTime(content) => Ok(sole(content).map(|moment| Scalar::Integer(moment.0))),
+        Variant::StatusCode(content) => Ok(sole(content).map(|n| Scalar::Integer(n.0 as i64))),
         Variant::String(content) => words(alloc, content),
-        Variant::Null
-        | Variant::Float(_)
-        | Variant::Double(_)
-        | Variant::Guid(_)
-        | Variant::ByteString(_)
-        | Variant::XmlElement(_)
-        | Variant::NodeId(_)
-        | Variant::ExpandedNodeId(_)
-        | Variant::QualifiedName(_)
-        | Variant::LocalizedText(_)
-        | Variant::ExtensionObject(_) => Ok(None),
+        _ => Ok(None),
     }
 }
 
@@ -244,10 +181,7 @@ fn scalar_of(alloc: Global, value: &Option<Variant>) -> Result<(u8, Scalar), All
 fn ticks_of(moment: Option<Moment>) -> Option<i64>
     ensures { time_said (or_null Int result) ≡ Some moment }
 {
-    match moment {
-        None => None,
-        Some(moment) => Some(moment.0),
-    }
+    moment.map(|moment| moment.0)
 }
 
 // ---- what is read
@@ -333,65 +267,28 @@ fn variant_of(alloc: Global, kind: u8, scalar: &Scalar) -> Result<Option<Variant
                 Err(Fault::Unreadable)
             }
         }
-        Scalar::Integer(n) => match integer_variant(kind, *n) {
-            Some(value) => Ok(Some(value)),
-            None => Err(Fault::Unreadable),
-        },
-        Scalar::Words(text) => match text_variant(alloc, kind, text.as_str()) {
-            Ok(value) => Ok(Some(value)),
-            Err(fault) => Err(fault),
-        },
-        Scalar::Bytes(bytes) => match blob_variant(alloc, kind, bytes.as_slice()) {
-            Ok(value) => Ok(Some(value)),
-            Err(fault) => Err(fault),
-        },
+        Scalar::Integer(n) => Ok(Some(integer_variant(kind, *n).ok_or(Fault::Unreadable)?)),
+        Scalar::Words(text) => Ok(Some(text_variant(alloc, kind, text.as_str())?)),
+        Scalar::Bytes(bytes) => Ok(Some(blob_variant(alloc, kind, bytes.as_slice())?)),
     }
 }
 
 fn moment_of(ticks: Option<i64>) -> Option<Moment>
     ensures { time_said (or_null Int ticks) ≡ Some result }
 {
-    match ticks {
-        None => None,
-        Some(ticks) => Some(Moment(ticks)),
-    }
+    ticks.map(|ticks| Moment(ticks))
 }
 
 fn status_of(status: i64) -> Result<Status, Fault>
     ensures { IfOk result (λ s. natural status ≡ Some s.0) }
 {
-    match u32::try_from(status) {
-        Ok(status) => Ok(Status(status)),
-        Err(_) => Err(Fault::Unreadable),
-    }
+    Ok(Status(u32::try_from(status).ok().ok_or(Fault::Unreadable)?))
 }
 
 fn kind_of(kind: i64) -> Result<u8, Fault>
     ensures { IfOk result (λ k. natural kind ≡ Some k) }
 {
-    match u8::try_from(kind) {
-        Ok(kind) => Ok(kind),
-        Err(_) => Err(Fault::Unreadable),
-    }
-}
-
-// The value of these columns, and the times.
-fn data_value(
-    alloc: Global,
-    what: (i64, &Scalar, i64),
-    source_time: Option<i64>,
-    server_time: Option<i64>,
-) -> Result<DataValue, Fault>
-    ensures source { IfOk result (λ v. time_said (or_null Int source_time) ≡ Some v.source_time) }
-    ensures said { IfOk result (λ v. columns_said (Int what.entry.0) (sql_of what.entry.1.now) (Int what.entry.2) (or_null Int source_time) (or_null Int server_time) ≡ Some v) }
-{
-    let value = variant_of(alloc, kind_of(what.0)?, what.1)?;
-    Ok(DataValue {
-        status: status_of(what.2)?,
-        source_time: moment_of(source_time),
-        server_time: moment_of(server_time),
-        value,
-    })
+    u8::try_from(kind).ok().ok_or(Fault::Unreadable)
 }
 
 // ---- rows
@@ -435,44 +332,21 @@ pub fn id_in(alloc: Global, text: &str) -> Result<NodeId, Fault>
     Ok(id)
 }
 
-/// The row of a variable's value.
-pub fn value_row_of(alloc: Global, id: &NodeId, value: &DataValue) -> Result<ValueRow, Fault>
+/// The row of a variable's value, in either table.
+pub fn row_of(alloc: Global, id: &NodeId, value: &DataValue) -> Result<StoredRow, Fault>
     ensures node { IfOk result (λ row. string_bytes row.node ≡ id_text id.now) }
     ensures again { OnOk result (id_of (id_text id.now) ≡ Ok id.now) }
-    ensures value { IfOk result (λ row. said_value (value_row row) ≡ Some value.now) }
+    ensures source { IfOk result (λ row. time_said (or_null Int row.source_time) ≡ Some value.now.source_time) }
+    ensures said { IfOk result (λ row. said_of row ≡ Some value.now) }
 {
     let node = id_words(alloc, id)?;
     let (kind, scalar) = scalar_of(alloc, &value.value)?;
-    Ok(ValueRow {
+    Ok(StoredRow {
         node,
         kind: kind as i64,
         value: scalar,
         status: value.status.0 as i64,
         source_time: ticks_of(value.source_time),
-        server_time: ticks_of(value.server_time),
-    })
-}
-
-/// The row of a value that a variable had at its source's time.
-pub fn past_row_of(
-    alloc: Global,
-    id: &NodeId,
-    time: Moment,
-    value: &DataValue,
-) -> Result<PastRow, Fault>
-    requires { value.now.source_time ≡ Some time }
-    ensures key { IfOk result (λ row. (string_bytes row.node ≡ id_text id.now) × (row.time ≡ time.0)) }
-    ensures again { OnOk result (id_of (id_text id.now) ≡ Ok id.now) }
-    ensures value { IfOk result (λ row. said_past (past_row row) ≡ Some value.now) }
-{
-    let node = id_words(alloc, id)?;
-    let (kind, scalar) = scalar_of(alloc, &value.value)?;
-    Ok(PastRow {
-        node,
-        time: time.0,
-        kind: kind as i64,
-        value: scalar,
-        status: value.status.0 as i64,
         server_time: ticks_of(value.server_time),
     })
 }
@@ -487,26 +361,15 @@ pub fn key_of(alloc: Global, id: &NodeId, time: Moment) -> Result<Key, Fault>
 }
 
 /// The value that a row says.
-pub fn value_of(alloc: Global, row: &ValueRow) -> Result<DataValue, Fault>
-    ensures { IfOk result (λ v. said_value (value_row row.now) ≡ Some v) }
+pub fn value_of(alloc: Global, row: &StoredRow) -> Result<DataValue, Fault>
+    ensures source { IfOk result (λ v. time_said (or_null Int row.now.source_time) ≡ Some v.source_time) }
+    ensures said { IfOk result (λ v. said_of row.now ≡ Some v) }
 {
-    data_value(
-        alloc,
-        (row.kind, &row.value, row.status),
-        row.source_time,
-        row.server_time,
-    )
-}
-
-/// The value that a row of a variable's history says.
-pub fn past_of(alloc: Global, row: &PastRow) -> Result<DataValue, Fault>
-    ensures time { IfOk result (λ v. v.source_time ≡ Some (record { 0 = row.now.time })) }
-    ensures said { IfOk result (λ v. said_past (past_row row.now) ≡ Some v) }
-{
-    data_value(
-        alloc,
-        (row.kind, &row.value, row.status),
-        Some(row.time),
-        row.server_time,
-    )
+    let value = variant_of(alloc, kind_of(row.kind)?, &row.value)?;
+    Ok(DataValue {
+        status: status_of(row.status)?,
+        source_time: moment_of(row.source_time),
+        server_time: moment_of(row.server_time),
+        value,
+    })
 }

@@ -5,13 +5,14 @@ ghost use Rattle.sqlite.specs.declared.types.Value.TheVariants.{Int};
 ghost use Rattle.sqlite.specs.Order.{column};
 ghost use Rattle.sqlite.specs.State.{HasCleanDisk, Survives, IsUnchanged};
 ghost use Rattle.sqlite.specs.Held.{state};
-ghost use Rattle.value_store.specs.Rows.{value_row, past_row, columns, with_number, IsAbove};
-ghost use Rattle.value_store.specs.Model.{AreNumbered, AreAll};
+ghost use Rattle.value_store.specs.Rows.{row_in as row_in_spec, columns, with_number, IsAbove};
+ghost use Rattle.value_store.specs.Laws.{rows_text as rows_text_spec};
+ghost use Rattle.value_store.specs.Model.{tree_of, AreNumbered, AreRowsOf, AreAll};
 ghost use Rattle.value_store.specs.Steps.{IsReady};
 ghost use Rattle.value_store.specs.Tables.{store_schema};
 
 use crate::fault::Fault;
-use crate::rows::{PastRow, ValueRow};
+use crate::rows::{StoredRow, TableName};
 use crate::tables::prepare;
 use sqlite::{Alter, Connection, Error, Row};
 use std::alloc::Global;
@@ -19,33 +20,32 @@ use std::alloc::Global;
 /// All that a store holds, each value once.
 #[derive(Debug, Drop)]
 pub struct StoredRows {
-    pub values: Vec<ValueRow>,
-    pub pasts: Vec<PastRow>,
+    pub values: Vec<StoredRow>,
+    pub pasts: Vec<StoredRow>,
 }
 
-// The rows of one table with their numbers, in some order.
-fn value_rows<S: Alter>(conn: &mut Connection<S>) -> Result<Vec<Row>, Error>
+// The text that shows the rows of a table, each with its number.
+fn rows_text(table: TableName) -> &'static str
+    ensures { result.now ≡ rows_text_spec table }
+{
+    match table {
+        TableName::Value => {
+            "SELECT rowid, node, type, value, status, source_time, server_time FROM value"
+        }
+        TableName::History => {
+            "SELECT rowid, node, time, type, value, status, server_time FROM history"
+        }
+    }
+}
+
+// The rows of a table with their numbers, in some order.
+fn shown_rows<S: Alter>(conn: &mut Connection<S>, table: TableName) -> Result<Vec<Row>, Error>
     requires tables { HasCleanDisk (state S.Store conn.old) → (state S.Store conn.old).now.schema ≡ store_schema }
-    ensures rows { HasCleanDisk (state S.Store conn.new) → IfOk result (λ rows. IsPermutation (map with_number ((state S.Store conn.old).now.trees 0)) rows.items) }
+    ensures rows { HasCleanDisk (state S.Store conn.new) → IfOk result (λ rows. IsPermutation (map with_number ((state S.Store conn.old).now.trees (tree_of table))) rows.items) }
     ensures same { HasCleanDisk (state S.Store conn.new) → OnOk result (IsUnchanged (state S.Store conn.old) (state S.Store conn.new)) }
     ensures crash { Survives (state S.Store conn.old) (state S.Store conn.new) (λ _. ⊥) }
 {
-    conn.query_all(
-        "SELECT rowid, node, type, value, status, source_time, server_time FROM value",
-        &[],
-    )
-}
-
-fn past_rows<S: Alter>(conn: &mut Connection<S>) -> Result<Vec<Row>, Error>
-    requires tables { HasCleanDisk (state S.Store conn.old) → (state S.Store conn.old).now.schema ≡ store_schema }
-    ensures rows { HasCleanDisk (state S.Store conn.new) → IfOk result (λ rows. IsPermutation (map with_number ((state S.Store conn.old).now.trees 2)) rows.items) }
-    ensures same { HasCleanDisk (state S.Store conn.new) → OnOk result (IsUnchanged (state S.Store conn.old) (state S.Store conn.new)) }
-    ensures crash { Survives (state S.Store conn.old) (state S.Store conn.new) (λ _. ⊥) }
-{
-    conn.query_all(
-        "SELECT rowid, node, time, type, value, status, server_time FROM history",
-        &[],
-    )
+    conn.query_all(rows_text(table), &[])
 }
 
 fn is_above(number: i64, last: Option<i64>) -> bool
@@ -72,79 +72,57 @@ fn numbers_rise(rows: &[Row]) -> Result<bool, Error>
     Ok(true)
 }
 
-// What a row tells.
-fn kept_in(row: &Row) -> Result<ValueRow, Error>
-    ensures { IfOk result (λ k. columns row.now ≡ value_row k) }
+// What a row of a table tells.
+fn row_in(table: TableName, row: &Row) -> Result<StoredRow, Error>
+    ensures { IfOk result (λ stored. columns row.now ≡ row_in_spec table stored) }
 {
-    Ok(ValueRow {
-        node: row.get(1)?,
-        kind: row.get(2)?,
-        value: row.get(3)?,
-        status: row.get(4)?,
-        source_time: row.get(5)?,
-        server_time: row.get(6)?,
-    })
-}
-
-fn past_in(row: &Row) -> Result<PastRow, Error>
-    ensures { IfOk result (λ p. columns row.now ≡ past_row p) }
-{
-    Ok(PastRow {
-        node: row.get(1)?,
-        time: row.get(2)?,
-        kind: row.get(3)?,
-        value: row.get(4)?,
-        status: row.get(5)?,
-        server_time: row.get(6)?,
-    })
-}
-
-fn values_in(alloc: Global, rows: &[Row]) -> Result<Vec<ValueRow>, Fault>
-    ensures { IfOk result (λ values. map value_row values.items ≡ map columns rows.now) }
-{
-    let mut values = Vec::new(alloc);
-    'each: for row in rows {
-        values.push(kept_in(row)?)?;
+    match table {
+        TableName::Value => Ok(StoredRow {
+            node: row.get(1)?,
+            kind: row.get(2)?,
+            value: row.get(3)?,
+            status: row.get(4)?,
+            source_time: row.get(5)?,
+            server_time: row.get(6)?,
+        }),
+        TableName::History => Ok(StoredRow {
+            node: row.get(1)?,
+            source_time: Some(row.get(2)?),
+            kind: row.get(3)?,
+            value: row.get(4)?,
+            status: row.get(5)?,
+            server_time: row.get(6)?,
+        }),
     }
-    Ok(values)
 }
 
-fn pasts_in(alloc: Global, rows: &[Row]) -> Result<Vec<PastRow>, Fault>
-    ensures { IfOk result (λ pasts. map past_row pasts.items ≡ map columns rows.now) }
+fn rows_told(alloc: Global, table: TableName, rows: &[Row]) -> Result<Vec<StoredRow>, Fault>
+    ensures { IfOk result (λ stored. map (row_in_spec table) stored.items ≡ map columns rows.now) }
 {
-    let mut pasts = Vec::new(alloc);
+    let mut stored = Vec::new(alloc);
     'each: for row in rows {
-        pasts.push(past_in(row)?)?;
+        stored.push(row_in(table, row)?)?;
     }
-    Ok(pasts)
+    Ok(stored)
 }
 
-fn values<S: Alter>(alloc: Global, conn: &mut Connection<S>) -> Result<Vec<ValueRow>, Fault>
+// What the rows of a table tell, in some order, where each has a number of its own.
+fn rows_in<S: Alter>(
+    alloc: Global,
+    conn: &mut Connection<S>,
+    table: TableName,
+) -> Result<Vec<StoredRow>, Fault>
     requires tables { HasCleanDisk (state S.Store conn.old) → (state S.Store conn.old).now.schema ≡ store_schema }
-    ensures all { HasCleanDisk (state S.Store conn.new) → IfOk result (λ values. IsPermutation (map columns ((state S.Store conn.old).now.trees 0)) (map value_row values.items)) }
-    ensures numbered { HasCleanDisk (state S.Store conn.new) → OnOk result (AreNumbered ((state S.Store conn.old).now.trees 0)) }
+    ensures all { HasCleanDisk (state S.Store conn.new) → IfOk result (λ rows. AreRowsOf table (state S.Store conn.old).now.trees rows.items) }
+    ensures numbered { HasCleanDisk (state S.Store conn.new) → OnOk result (AreNumbered ((state S.Store conn.old).now.trees (tree_of table))) }
     ensures same { HasCleanDisk (state S.Store conn.new) → OnOk result (IsUnchanged (state S.Store conn.old) (state S.Store conn.new)) }
     ensures crash { Survives (state S.Store conn.old) (state S.Store conn.new) (λ _. ⊥) }
 {
-    let rows = value_rows(conn)?;
+    let rows = shown_rows(conn, table)?;
     if !numbers_rise(&rows)? {
         return Err(Fault::Unreadable);
     }
-    values_in(alloc, &rows)
-}
-
-fn pasts<S: Alter>(alloc: Global, conn: &mut Connection<S>) -> Result<Vec<PastRow>, Fault>
-    requires tables { HasCleanDisk (state S.Store conn.old) → (state S.Store conn.old).now.schema ≡ store_schema }
-    ensures all { HasCleanDisk (state S.Store conn.new) → IfOk result (λ pasts. IsPermutation (map columns ((state S.Store conn.old).now.trees 2)) (map past_row pasts.items)) }
-    ensures numbered { HasCleanDisk (state S.Store conn.new) → OnOk result (AreNumbered ((state S.Store conn.old).now.trees 2)) }
-    ensures same { HasCleanDisk (state S.Store conn.new) → OnOk result (IsUnchanged (state S.Store conn.old) (state S.Store conn.new)) }
-    ensures crash { Survives (state S.Store conn.old) (state S.Store conn.new) (λ _. ⊥) }
-{
-    let rows = past_rows(conn)?;
-    if !numbers_rise(&rows)? {
-        return Err(Fault::Unreadable);
-    }
-    pasts_in(alloc, &rows)
+    rows_told(alloc, table, &rows)
 }
 
 /// All that is kept, in some order. Whoever has read it back may keep turns.
@@ -155,8 +133,8 @@ pub fn read_back<S: Alter>(alloc: Global, conn: &mut Connection<S>) -> Result<St
     ensures same { HasCleanDisk (state S.Store conn.new) → OnOk result (IsUnchanged (state S.Store conn.old) (state S.Store conn.new)) }
     ensures crash { Survives (state S.Store conn.old) (state S.Store conn.new) (λ _. ⊥) }
 {
-    let values = values(alloc, conn)?;
-    let pasts = pasts(alloc, conn)?;
+    let values = rows_in(alloc, conn, TableName::Value)?;
+    let pasts = rows_in(alloc, conn, TableName::History)?;
     Ok(StoredRows { values, pasts })
 }
 

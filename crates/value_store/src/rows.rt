@@ -3,6 +3,15 @@
 use sqlite::types::{FromSql, FromSqlError, ToSql, ValueRef};
 use std::alloc::Global;
 
+/// Which of the two tables.
+#[derive(Clone, Copy, Debug, PartialEq, Eq)]
+pub enum TableName {
+    /// `value`: what each node has now.
+    Value,
+    /// `history`: what it had, and when.
+    History,
+}
+
 /// A value as SQL has it. Floats are none: a NaN has no place in a database, so what holds one is kept as bytes.
 #[derive(Debug, Drop, PartialEq, Eq)]
 pub enum Scalar {
@@ -16,9 +25,9 @@ pub enum Scalar {
     Bytes(Vec<u8>),
 }
 
-/// The value that a node has: a row of `value`, whose key is the node.
+/// A row of either table: a value that a node has, in `value`, or had, in `history`.
 #[derive(Debug, Drop, PartialEq, Eq)]
-pub struct ValueRow {
+pub struct StoredRow {
     /// The text of the node's id.
     pub node: String,
     /// Which type the value is of, as the caller numbers types.
@@ -27,25 +36,8 @@ pub struct ValueRow {
     pub value: Scalar,
     /// How good it is, as the number of its status.
     pub status: i64,
-    /// When the source had it, in units of the caller's.
+    /// When the source had it, in units of the caller's. In `history` it is of the key, and never NULL.
     pub source_time: Option<i64>,
-    /// When the server learnt of it, in the same units.
-    pub server_time: Option<i64>,
-}
-
-/// A value that a node had: a row of `history`, whose key is the node and the time.
-#[derive(Debug, Drop, PartialEq, Eq)]
-pub struct PastRow {
-    /// The text of the node's id.
-    pub node: String,
-    /// When the node had it, in units of the caller's.
-    pub time: i64,
-    /// Which type the value is of, as the caller numbers types.
-    pub kind: i64,
-    /// The value itself.
-    pub value: Scalar,
-    /// How good it is, as the number of its status.
-    pub status: i64,
     /// When the server learnt of it, in the same units.
     pub server_time: Option<i64>,
 }
@@ -62,10 +54,8 @@ pub struct Key {
 /// One step of a turn.
 #[derive(Debug, Drop, PartialEq, Eq)]
 pub enum Change {
-    /// The node has this value now, in the place of the one before.
-    Value(ValueRow),
-    /// The node had this value at its time, in the place of what it had there.
-    Past(PastRow),
+    /// The row stands in the table, in the place of the one that has its key.
+    Put(TableName, StoredRow),
     /// The node's value at this time falls out of its history. Where there is none, nothing changes.
     Forget(Key),
 }

@@ -1,7 +1,7 @@
 //! Whether a database has the two tables, and nothing else.
 
 ghost use Rattle.std.specs.Prelude.{◌≡◌, ◌==◌, length, [], ◌∷◌, true, false, None, Ok, IsTrue, OnOk};
-ghost use Rattle.value_store.specs.Tables.{value_table, history_table, value_key, history_key, store_schema, plain_column};
+ghost use Rattle.value_store.specs.Tables.{value_table, history_table, store_schema, plain_column};
 ghost use Rattle.sqlite_value.specs.Keys.{plain};
 ghost use Rattle.sqlite.specs.Held.{state};
 
@@ -116,24 +116,14 @@ fn is_history(table: &Table) -> bool
     keyed & columns & bare
 }
 
-fn is_value_key(index: &Index) -> bool
-    ensures { IsTrue result → index.now ≡ value_key }
+// Whether it is the index of a key, by its parts.
+fn is_key(index: &Index, name: &str, tree: u32, table: u32, places: &[usize]) -> bool
+    ensures { IsTrue result → index.now ≡ record { name = name.now; tree = tree; table = table; columns = places.now; order = plain; is_unique = true } }
 {
-    index.name.as_slice() == "sqlite_autoindex_value_1".as_bytes()
-        && index.tree == 1
-        && index.table == 0
-        && index.columns.as_slice() == [1].as_slice()
-        && index.order == Order::PLAIN
-        && index.is_unique
-}
-
-fn is_history_key(index: &Index) -> bool
-    ensures { IsTrue result → index.now ≡ history_key }
-{
-    index.name.as_slice() == "sqlite_autoindex_history_1".as_bytes()
-        && index.tree == 3
-        && index.table == 2
-        && index.columns.as_slice() == [1, 2].as_slice()
+    index.name.as_slice() == name.as_bytes()
+        && index.tree == tree
+        && index.table == table
+        && index.columns.as_slice() == places
         && index.order == Order::PLAIN
         && index.is_unique
 }
@@ -142,7 +132,10 @@ fn has_keys(schema: &Schema) -> bool
     ensures { IsTrue result → schema.now.indexes ≡ store_schema.indexes }
 {
     match schema.indexes.as_slice() {
-        [value, history] => is_value_key(value) && is_history_key(history),
+        [value, history] => {
+            is_key(value, "sqlite_autoindex_value_1", 1, 0, &[1])
+                && is_key(history, "sqlite_autoindex_history_1", 3, 2, &[1, 2])
+        }
         _ => false,
     }
 }

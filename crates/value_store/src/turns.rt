@@ -1,126 +1,117 @@
 //! One transaction for the changes of a turn.
 
-ghost use Rattle.std.specs.Prelude.{◌≡◌, [], ◌∷◌, string_bytes, false, OnOk, OnErr, IsTrue};
-ghost use Rattle.sqlite.specs.declared.types.Value.TheVariants.{Int, Text};
+ghost use Rattle.std.specs.Prelude.{◌≡◌, string_bytes, None, OnOk, OnErr, IsTrue};
 ghost use Rattle.sqlite.specs.State.{HasCleanDisk, Survives};
 ghost use Rattle.sqlite.specs.Held.{state};
 ghost use Rattle.sqlite.specs.Values.{bound};
-ghost use Rattle.value_store.specs.Rows.{value_row, past_row};
+ghost use Rattle.value_store.specs.Rows.{row_in, key_in};
+ghost use Rattle.value_store.specs.Laws.{add_text as add_text_spec};
 ghost use Rattle.value_store.specs.Model.{IsAfter};
-ghost use Rattle.value_store.specs.Steps.{IsReady, IsSettled, Makes, Adds, LosesValue, LosesPast, KeepsCommit};
+ghost use Rattle.value_store.specs.Steps.{IsReady, IsSettled, Makes, Adds, Loses, KeepsCommit};
 ghost use Rattle.value_store.specs.declared.rows.Change.TheVariants as change;
+ghost use Rattle.value_store.specs.declared.rows.TableName.TheVariants as tables;
 
 use crate::fault::Fault;
-use crate::rows::{Change, PastRow, ValueRow};
+use crate::rows::{Change, StoredRow, TableName};
 use sqlite::types::{ToSql, ValueRef};
 use sqlite::{Alter, Connection, Error, ErrorCode, Transaction};
 
-// What the statements are given, in the order of their columns.
-fn value_columns<'a>(kept: &'a ValueRow) -> [ValueRef<'a>; 6]
-    ensures { bound result ≡ value_row kept.now }
+// What the statements are given: a row in the order of its table's columns, and keys.
+fn row_columns<'a>(table: TableName, row: &'a StoredRow) -> [ValueRef<'a>; 6]
+    ensures { bound result ≡ row_in table row.now }
 {
-    [
-        kept.node.to_sql(),
-        kept.kind.to_sql(),
-        kept.value.to_sql(),
-        kept.status.to_sql(),
-        kept.source_time.to_sql(),
-        kept.server_time.to_sql(),
-    ]
-}
-
-fn past_columns<'a>(past: &'a PastRow) -> [ValueRef<'a>; 6]
-    ensures { bound result ≡ past_row past.now }
-{
-    [
-        past.node.to_sql(),
-        past.time.to_sql(),
-        past.kind.to_sql(),
-        past.value.to_sql(),
-        past.status.to_sql(),
-        past.server_time.to_sql(),
-    ]
+    match table {
+        TableName::Value => [
+            row.node.to_sql(),
+            row.kind.to_sql(),
+            row.value.to_sql(),
+            row.status.to_sql(),
+            row.source_time.to_sql(),
+            row.server_time.to_sql(),
+        ],
+        TableName::History => [
+            row.node.to_sql(),
+            row.source_time.to_sql(),
+            row.kind.to_sql(),
+            row.value.to_sql(),
+            row.status.to_sql(),
+            row.server_time.to_sql(),
+        ],
+    }
 }
 
 fn node_column<'a>(node: &'a String) -> [ValueRef<'a>; 1]
-    ensures { bound result ≡ Text (string_bytes node.now) ∷ [] }
+    ensures { bound result ≡ key_in tables.Value (string_bytes node.now) None }
 {
     [node.to_sql()]
 }
 
-fn key_columns<'a>(node: &'a String, time: &'a i64) -> [ValueRef<'a>; 2]
-    ensures { bound result ≡ Text (string_bytes node.now) ∷ Int time.now ∷ [] }
+fn key_columns<'a>(node: &'a String, time: &'a Option<i64>) -> [ValueRef<'a>; 2]
+    ensures { bound result ≡ key_in tables.History (string_bytes node.now) time.now }
 {
     [node.to_sql(), time.to_sql()]
 }
 
-fn drop_value<S: Alter>(turn: &mut Transaction<'_, S>, node: &String) -> Result<usize, Error>
-    ensures same_reference { turn.new.conn.ghost_name ≡ turn.old.conn.ghost_name }
-    ensures made { HasCleanDisk (state S.Store turn.new.conn.now) → IsTrue (state S.Store turn.old.conn.now).in_transaction → OnOk result (LosesValue (string_bytes node.now) (state S.Store turn.old.conn.now) (state S.Store turn.new.conn.now)) }
-    ensures kept { HasCleanDisk (state S.Store turn.new.conn.now) → IsTrue (state S.Store turn.old.conn.now).in_transaction → KeepsCommit (state S.Store turn.old.conn.now) (state S.Store turn.new.conn.now) }
-    ensures survives { Survives (state S.Store turn.old.conn.now) (state S.Store turn.new.conn.now) (λ _. ⊥) }
+// The text that adds a row to a table.
+fn add_text(table: TableName) -> &'static str
+    ensures { result.now ≡ add_text_spec table }
 {
-    turn.execute("DELETE FROM value WHERE node = ?1", &node_column(node))
+    match table {
+        TableName::Value => {
+            "INSERT INTO value (node, type, value, status, source_time, server_time) VALUES (?1, ?2, ?3, ?4, ?5, ?6)"
+        }
+        TableName::History => {
+            "INSERT INTO history (node, time, type, value, status, server_time) VALUES (?1, ?2, ?3, ?4, ?5, ?6)"
+        }
+    }
 }
 
-fn drop_past<S: Alter>(
+fn add_row<S: Alter>(
     turn: &mut Transaction<'_, S>,
-    node: &String,
-    time: &i64,
+    table: TableName,
+    row: &StoredRow,
 ) -> Result<usize, Error>
     ensures same_reference { turn.new.conn.ghost_name ≡ turn.old.conn.ghost_name }
-    ensures made { HasCleanDisk (state S.Store turn.new.conn.now) → IsTrue (state S.Store turn.old.conn.now).in_transaction → OnOk result (LosesPast (string_bytes node.now) time.now (state S.Store turn.old.conn.now) (state S.Store turn.new.conn.now)) }
+    ensures made { HasCleanDisk (state S.Store turn.new.conn.now) → IsTrue (state S.Store turn.old.conn.now).in_transaction → OnOk result (Adds table row.now (state S.Store turn.old.conn.now) (state S.Store turn.new.conn.now)) }
     ensures kept { HasCleanDisk (state S.Store turn.new.conn.now) → IsTrue (state S.Store turn.old.conn.now).in_transaction → KeepsCommit (state S.Store turn.old.conn.now) (state S.Store turn.new.conn.now) }
     ensures survives { Survives (state S.Store turn.old.conn.now) (state S.Store turn.new.conn.now) (λ _. ⊥) }
 {
-    turn.execute(
-        "DELETE FROM history WHERE node = ?1 AND time = ?2",
-        &key_columns(node, time),
-    )
+    turn.execute(add_text(table), &row_columns(table, row))
 }
 
-fn add_value<S: Alter>(turn: &mut Transaction<'_, S>, kept: &ValueRow) -> Result<usize, Error>
+// In `value` the node alone is the key.
+fn drop_row<S: Alter>(
+    turn: &mut Transaction<'_, S>,
+    table: TableName,
+    node: &String,
+    time: Option<i64>,
+) -> Result<usize, Error>
     ensures same_reference { turn.new.conn.ghost_name ≡ turn.old.conn.ghost_name }
-    ensures made { HasCleanDisk (state S.Store turn.new.conn.now) → IsTrue (state S.Store turn.old.conn.now).in_transaction → OnOk result (Adds (change.Value kept.now) (state S.Store turn.old.conn.now) (state S.Store turn.new.conn.now)) }
+    ensures made { HasCleanDisk (state S.Store turn.new.conn.now) → IsTrue (state S.Store turn.old.conn.now).in_transaction → OnOk result (Loses table (string_bytes node.now) time (state S.Store turn.old.conn.now) (state S.Store turn.new.conn.now)) }
     ensures kept { HasCleanDisk (state S.Store turn.new.conn.now) → IsTrue (state S.Store turn.old.conn.now).in_transaction → KeepsCommit (state S.Store turn.old.conn.now) (state S.Store turn.new.conn.now) }
     ensures survives { Survives (state S.Store turn.old.conn.now) (state S.Store turn.new.conn.now) (λ _. ⊥) }
 {
-    turn.execute(
-        "INSERT INTO value (node, type, value, status, source_time, server_time) VALUES (?1, ?2, ?3, ?4, ?5, ?6)",
-        &value_columns(kept),
-    )
+    match table {
+        TableName::Value => turn.execute("DELETE FROM value WHERE node = ?1", &node_column(node)),
+        TableName::History => turn.execute(
+            "DELETE FROM history WHERE node = ?1 AND time = ?2",
+            &key_columns(node, &time),
+        ),
+    }
 }
 
-fn add_past<S: Alter>(turn: &mut Transaction<'_, S>, past: &PastRow) -> Result<usize, Error>
+fn put_row<S: Alter>(
+    turn: &mut Transaction<'_, S>,
+    table: TableName,
+    row: &StoredRow,
+) -> Result<usize, Error>
     ensures same_reference { turn.new.conn.ghost_name ≡ turn.old.conn.ghost_name }
-    ensures made { HasCleanDisk (state S.Store turn.new.conn.now) → IsTrue (state S.Store turn.old.conn.now).in_transaction → OnOk result (Adds (change.Past past.now) (state S.Store turn.old.conn.now) (state S.Store turn.new.conn.now)) }
+    ensures made { HasCleanDisk (state S.Store turn.new.conn.now) → IsTrue (state S.Store turn.old.conn.now).in_transaction → OnOk result (Makes (change.Put table row.now) (state S.Store turn.old.conn.now) (state S.Store turn.new.conn.now)) }
     ensures kept { HasCleanDisk (state S.Store turn.new.conn.now) → IsTrue (state S.Store turn.old.conn.now).in_transaction → KeepsCommit (state S.Store turn.old.conn.now) (state S.Store turn.new.conn.now) }
     ensures survives { Survives (state S.Store turn.old.conn.now) (state S.Store turn.new.conn.now) (λ _. ⊥) }
 {
-    turn.execute(
-        "INSERT INTO history (node, time, type, value, status, server_time) VALUES (?1, ?2, ?3, ?4, ?5, ?6)",
-        &past_columns(past),
-    )
-}
-
-fn put_value<S: Alter>(turn: &mut Transaction<'_, S>, kept: &ValueRow) -> Result<usize, Error>
-    ensures same_reference { turn.new.conn.ghost_name ≡ turn.old.conn.ghost_name }
-    ensures made { HasCleanDisk (state S.Store turn.new.conn.now) → IsTrue (state S.Store turn.old.conn.now).in_transaction → OnOk result (Makes (change.Value kept.now) (state S.Store turn.old.conn.now) (state S.Store turn.new.conn.now)) }
-    ensures kept { HasCleanDisk (state S.Store turn.new.conn.now) → IsTrue (state S.Store turn.old.conn.now).in_transaction → KeepsCommit (state S.Store turn.old.conn.now) (state S.Store turn.new.conn.now) }
-    ensures survives { Survives (state S.Store turn.old.conn.now) (state S.Store turn.new.conn.now) (λ _. ⊥) }
-{
-    drop_value(turn, &kept.node)?;
-    add_value(turn, kept)
-}
-
-fn put_past<S: Alter>(turn: &mut Transaction<'_, S>, past: &PastRow) -> Result<usize, Error>
-    ensures same_reference { turn.new.conn.ghost_name ≡ turn.old.conn.ghost_name }
-    ensures made { HasCleanDisk (state S.Store turn.new.conn.now) → IsTrue (state S.Store turn.old.conn.now).in_transaction → OnOk result (Makes (change.Past past.now) (state S.Store turn.old.conn.now) (state S.Store turn.new.conn.now)) }
-    ensures kept { HasCleanDisk (state S.Store turn.new.conn.now) → IsTrue (state S.Store turn.old.conn.now).in_transaction → KeepsCommit (state S.Store turn.old.conn.now) (state S.Store turn.new.conn.now) }
-    ensures survives { Survives (state S.Store turn.old.conn.now) (state S.Store turn.new.conn.now) (λ _. ⊥) }
-{
-    drop_past(turn, &past.node, &past.time)?;
-    add_past(turn, past)
+    drop_row(turn, table, &row.node, row.source_time)?;
+    add_row(turn, table, row)
 }
 
 fn make<S: Alter>(turn: &mut Transaction<'_, S>, change: &Change) -> Result<usize, Error>
@@ -130,9 +121,8 @@ fn make<S: Alter>(turn: &mut Transaction<'_, S>, change: &Change) -> Result<usiz
     ensures survives { Survives (state S.Store turn.old.conn.now) (state S.Store turn.new.conn.now) (λ _. ⊥) }
 {
     match change {
-        Change::Value(kept) => put_value(turn, kept),
-        Change::Past(past) => put_past(turn, past),
-        Change::Forget(moment) => drop_past(turn, &moment.node, &moment.time),
+        Change::Put(table, row) => put_row(turn, *table, row),
+        Change::Forget(key) => drop_row(turn, TableName::History, &key.node, Some(key.time)),
     }
 }
 

@@ -5,13 +5,13 @@ use Rattle.value_store.proofs.Telling.{stored_now, stored_past}
 use Rattle.value_store.proofs.changes.push_all.Goals as goal
 
 pub returns-then-not-stored : goal.returns-then-not-stored
-returns-then-not-stored c values pasts =
+returns-then-not-stored c rows =
     let not : c.args.stored.now.is_historical ≡ false = search rules in
-    stored_now c.args.stored.now not (kept_after values pasts c.args.changes.now.items) (kept_after values pasts c.push_value.new.changes.items) (c.in_ok-push_value.ensures values pasts)
+    stored_now c.args.stored.now not (kept_after rows c.args.changes.now.items) (kept_after rows c.push_value.new.changes.items) (c.in_ok-push_value.ensures rows)
 
 pub returns : goal.returns
 returns c =
     let is : c.args.stored.now.is_historical ≡ true = search rules in
-    on_ok c.push_dropped.result c.push_dropped.ensures (λ drop values pasts. stored_past c.args.stored.now is (kept_after values pasts c.args.changes.now.items)
-    (kept_after values pasts c.push_value.new.changes.items) (kept_after values pasts c.push_past.new.changes.items) (kept_after values pasts c.push_dropped.new.changes.items) (c.in_ok-push_value.ensures values pasts)
-    (c.in_ok-push_past.ensures values pasts) (drop values pasts))
+    on_ok c.push_dropped.result c.push_dropped.ensures (λ drop rows. stored_past c.args.stored.now is (kept_after rows c.args.changes.now.items)
+    (kept_after rows c.push_value.new.changes.items) (kept_after rows c.push_past.new.changes.items) (kept_after rows c.push_dropped.new.changes.items) (c.in_ok-push_value.ensures rows)
+    (c.in_ok-push_past.ensures rows) (drop rows))

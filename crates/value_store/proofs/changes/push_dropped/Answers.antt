@@ -14,5 +14,5 @@ returns-in_ok-push-in-Some c =
     let told = c.in_ok-key-in-Some.ensures in
     let old = c.args.changes.now.items in
     let new = c.push.new.self.items in
-    let grown = grows_push (HasHistory id (dropped_at (Some time))) (change.Forget key) (λ values pasts. has_dropped id told.again values pasts time key told.key.0 told.key.1) old new c.in_ok-push-in-Some.ensures.items in
+    let grown = grows_push (HasHistory id (dropped_at (Some time))) (change.Forget key) (λ rows. has_dropped id told.again rows time key told.key.0 told.key.1) old new c.in_ok-push-in-Some.ensures.items in
     subst (λ (d : Option Moment). Grows (HasHistory id (dropped_at d)) old new) (sym c.in-Some.is) grown

@@ -1,5 +1,6 @@
 use Rattle.value_store.specs.Keeping.{HasValue}
 use Rattle.value_store.specs.declared.rows.Change.TheVariants as change
+use Rattle.value_store.specs.declared.rows.TableName.TheVariants as table
 use Rattle.value_store.proofs.Telling.{grows_push, has_value}
 use Rattle.value_store.proofs.changes.push_value.Goals as goal
 
@@ -9,4 +10,4 @@ returns c =
     let value = c.args.stored.now.value in
     let row = c.in_ok-row.row in
     let told = c.in_ok-row.ensures in
-    grows_push (HasValue id value) (change.Value row) (λ values pasts. has_value id told.again values pasts value row told.node told.value) c.args.changes.now.items c.push.new.self.items c.in_ok-push.ensures.items
+    grows_push (HasValue id value) (change.Put table.Value row) (λ rows. has_value id told.again rows value row told.node told.said) c.args.changes.now.items c.push.new.self.items c.in_ok-push.ensures.items

@@ -1,18 +1,16 @@
-use Rattle.std.proofs.Common.{string_bytes}
 use Rattle.sqlite.specs.Held.{state}
-use Rattle.value_store.specs.Laws.{drop_value_text}
-use Rattle.value_store.proofs.Changing.{loses_value}
+use Rattle.value_store.proofs.Changing.{adds}
 use Rattle.value_store.proofs.Settling.{keeps_commit}
-use Rattle.value_store.proofs.turns.drop_value.Goals as goal
+use Rattle.value_store.proofs.turns.add_row.Goals as goal
 
 pub returns-clause-made : goal.returns-clause-made
 returns-clause-made g c clean inside =
     let old = state g.S.Store c.args.turn.now.conn.now in
     let new = state g.S.Store c.execute.new.self.conn.now in
-    loses_value old new (string_bytes c.args.node.now) c.execute.result (rw c.node_column.ensures at (c.execute.ensures.runs clean inside))
+    adds old new c.args.table c.args.row.now c.execute.result (rw (c.add_text.ensures, c.row_columns.ensures) at (c.execute.ensures.runs clean inside))
 
 pub returns-clause-kept : goal.returns-clause-kept
 returns-clause-kept g c clean inside =
     let old = state g.S.Store c.args.turn.now.conn.now in
     let new = state g.S.Store c.execute.new.self.conn.now in
-    keeps_commit drop_value_text _ old new c.execute.result (c.execute.ensures.runs clean inside)
+    keeps_commit _ _ old new c.execute.result (c.execute.ensures.runs clean inside)

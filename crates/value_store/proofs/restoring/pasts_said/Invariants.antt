@@ -1,7 +1,0 @@
-use Rattle.std.proofs.Common.{take}
-use Rattle.std.specs.List.{AllZip}
-use Rattle.value_store.specs.Restoring.{IsPastOf}
-use Rattle.value_store.proofs.restoring.pasts_said.Given as goal
-
-abbrev pub invariant-each : goal.invariant-each
-invariant-each l = AllZip IsPastOf (take l.row-index l.rows) l.kept.items

@@ -1,8 +1,0 @@
-use Rattle.std.proofs.Common.{◌≡◌, ℕ, ◌+◌, ◌<◌, slice_index_or}
-use Rattle.std.specs.declared.cmp.Ordering.TheVariants.{Less}
-use Rattle.server_messages.specs.declared.kept_values.KeptValue.{KeptValue}
-use Rattle.value_store.specs.Restoring.{value_order}
-use Rattle.value_store.proofs.restoring.values_rise.Given as goal
-
-abbrev pub invariant-each : goal.invariant-each
-invariant-each l = (i : ℕ) (d : KeptValue) → i + 1 < l.place → value_order (slice_index_or l.kept i d) (slice_index_or l.kept (i + 1) d) ≡ Less
