@@ -1,10 +1,11 @@
 #!/usr/bin/env python3
-"""Writes the index of laws in docs/PROMISES.md, from the laws' doc comments: scripts/checks/pages.py sees that it is today's.
+"""Writes the index of laws in docs/PROMISES.md, and docs/definitions.csv: scripts/checks/pages.py sees that both are today's.
 
 usage: scripts/authoring/promise_index.py
 
-A law is a public function of a crate's module `laws`, or of a crate whose name ends in `_laws`. Of those that speak of every run of a
-server the index has the first sentence, up to a colon; of all others their names. It stands between two comments of the page.
+A law is a public function of a crate's module `laws`, or of a crate whose name ends in `_laws`. Stories aren't among them, as the page has
+a table of these. The index stands between two comments of the page. The definitions are the files of specs/ that the clauses of
+`server_laws` lead to, from `use` to `use`, with their lines.
 """
 import glob
 import os
@@ -14,39 +15,47 @@ import sys
 TOP = os.path.dirname(os.path.dirname(os.path.dirname(os.path.realpath(__file__))))
 PAGE = f"{TOP}/docs/PROMISES.md"
 BEGIN, END = "<!-- Made by scripts/authoring/promise_index.py -->", "<!-- End of what is made -->"
-OVER_RUNS = ("server_core", "server_laws")
+DEFINITIONS = f"{TOP}/docs/definitions.csv"
 
 
 def laws():
-    """For each law its file, its name and its first sentence."""
+    """For each law its file and its name."""
     for path in sorted(set(glob.glob(f"{TOP}/crates/*/src/laws.rt") + glob.glob(f"{TOP}/crates/*_laws/src/*.rt"))):
-        doc = []
-        with open(path, encoding="utf-8") as file:
-            for line in map(str.strip, file):
-                function = re.match(r"pub fn (\w+)", line)
-                if line.startswith("///"):
-                    doc.append(line[3:].strip())
-                elif function:
-                    paragraph = " ".join(doc).split("  ")[0]
-                    yield path, function[1], re.split(r"(?<=\.)\s|:\s", paragraph)[0].rstrip(".")
-                    doc = []
-                elif line and not line.startswith("#["):
-                    doc = []
+        if not path.endswith("/stories.rt"):
+            with open(path, encoding="utf-8") as file:
+                for name in re.findall(r"^ *pub fn (\w+)", file.read(), flags=re.M):
+                    yield path, name
+
+
+def module_of(crate, path):
+    """The file of specs/ that a path leads to, if it is a file."""
+    parts = path.split(".")
+    files = (f"{TOP}/crates/{crate}/specs/{'/'.join(parts[:k])}.antt" for k in range(len(parts), 0, -1))
+    return next((file for file in files if os.path.exists(file)), None)
+
+
+def definitions():
+    """The files of specs/ that the laws of a server lead to, with their lines, as CSV."""
+    files, left = {}, glob.glob(f"{TOP}/crates/server_laws/src/*.rt")
+    while left:
+        with open(left.pop(), encoding="utf-8") as file:
+            for crate, path in re.findall(r"^(?:ghost |pub )?use Rattle\.(\w+)\.specs\.([\w.]+\w)", file.read(), flags=re.M):
+                found = module_of(crate, path)
+                if found and found not in files:
+                    with open(found, encoding="utf-8") as module:
+                        files[found] = len(module.readlines())
+                    left.append(found)
+    rows = [f"{os.path.relpath(file, TOP)},{files[file]}" for file in sorted(files)]
+    return "\n".join(["file,lines", *rows, f"all {len(rows)},{sum(files.values())}", ""])
 
 
 def index():
     """The text of the index."""
-    told, named = [], {}
-    for path, name, sentence in laws():
+    named = {}
+    for path, name in laws():
         crate = os.path.relpath(path, f"{TOP}/crates").split(os.sep)[0]
-        link = f"[`{name}`](../{os.path.relpath(path, TOP)})"
-        if crate in OVER_RUNS:
-            told.append(f"| {link} | {sentence.replace(f'{TOP}/', '')} |")
-        else:
-            named.setdefault(crate, []).append(link)
-    lines = ["| Law over every run | What it says |", "|---|---|", *told, "", "| Crate | Its laws |", "|---|---|"]
-    lines += [f"| `{crate}` | {', '.join(links)} |" for crate, links in named.items()]
-    return "\n".join(lines)
+        named.setdefault(crate, []).append(f"[`{name}`](../{os.path.relpath(path, TOP)})")
+    return "\n".join(["| Crate | Its laws |", "|---|---|"] + [f"| `{crate}` | {', '.join(links)} |" for crate, links in named.items()])
 
 
 def page_with_index():
@@ -64,6 +73,8 @@ def main():
     _, text = page_with_index()
     with open(PAGE, "w", encoding="utf-8") as file:
         file.write(text)
+    with open(DEFINITIONS, "w", encoding="utf-8") as file:
+        file.write(definitions())
 
 
 if __name__ == "__main__":

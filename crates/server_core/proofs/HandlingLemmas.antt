@@ -1,5 +1,5 @@
 -- What the code does about a frame and a piece is what is said of it.
-use Rattle.std.proofs.Common.{◌≡◌, ℕ, Bool, true, false, cond, if◌then◌else◌, List, ◌++◌, Option, Some, None, refl, sym, subst, ◌∙◌, ap}
+use Rattle.std.proofs.Common.{◌≡◌, ℕ, Bool, true, false, cond, if◌then◌else◌, List, ◌++◌, Option, Some, None, Ok, refl, sym, subst, ◌∙◌, ap}
 use Rattle.std.proofs.lemmas.Bool.{false≢true}
 use Rattle.std.specs.Ordering.{nat_cmp}
 use Rattle.std.specs.FinMap.{FinMap, get, insert, remove}
@@ -26,7 +26,9 @@ use Rattle.ua_services.specs.Services.{serving_of}
 use Rattle.server_core.specs.declared.out.Step.{Step}
 use Rattle.server_core.specs.Effects.{Effect, are_spent, step, no_step, shown}
 use Rattle.server_core.specs.Handling.{Doing, doing_so, doing_after, Shows, asked_for, answered, handled, broken}
-use Rattle.server_core.specs.Stepping.{with_held, fed_to, fed}
+use Rattle.server_core.specs.Stepping as stepping
+use Rattle.server_core.specs.Stepping.{Matches, with_held, fed_to, fed}
+use Rattle.ua_types.specs.Answers as answers
 use Rattle.server_core.specs.World.{Core, World}
 use Rattle.server_core.proofs.EffectLemmas.{after_answered, answered_spends_none}
 
@@ -124,23 +126,25 @@ piece_shows world conn piece framing core done b found e =
           ∙ ap (λ (x : Doing). x.spends) (sym e),
     )
 
+pub matches : (old new : World) (given : Step) (s : stepping.Served) → s.world ≡ new → shown s.effects ≡ given → are_spent s.effects ≡ false → Matches (Ok given) old new (Ok s)
+matches old new given s there told unspent = (ap (λ (w : World). answers.step (Ok (shown s.effects)) w) there ∙ ap (λ (g : Step). answers.step (Ok g) new) told, unspent)
+
 -- a framer that took a piece in its place, and is dropped there where the connection doesn't go on
 pub piece_in_place : (world : World) (conn : ℕ) (piece : List ℕ) (before after : Framing) (given : Fed) (core : Core) (begun done : Step) (b : Bool) (lent left : FinMap nat_cmp Framing) → get world.framers conn ≡ Some before →
     begun ≡ no_step → feeding given after ≡ feeding_of before piece → Shows core begun done b (and_then (all_handled (handled conn) world.core given.frames) (refused_if (broken conn) given.fault)) →
     lent ≡ insert world.framers conn after → left ≡ (if b then lent else remove lent conn) →
-    ((fed world conn piece).world ≡ record { framers = left; core = core }) × (shown (fed world conn piece).effects ≡ done) × (are_spent (fed world conn piece).effects ≡ false)
+    Matches (Ok done) world (record { framers = left; core = core }) (Ok (fed world conn piece))
 piece_in_place world conn piece before after given core begun done b lent left there none fed_is shows back is =
     let said : Fed → Done Core Effect = λ f. and_then (all_handled (handled conn) world.core f.frames) (refused_if (broken conn) f.fault) in
     let from_nothing = subst (λ (s : Step). Shows core s done b (said given)) none shows in
     let shown_so = piece_shows world conn piece before core done b there
     (subst (λ (f : Fed). Shows core no_step done b (said f)) (ap (λ (x : Feeding). x.fed) fed_is) from_nothing) in
-    let at : Framing → World = λ framing. record { framers = framers_kept b conn framing (remove world.framers conn); core = core } in (
-      shown_so.0
-          ∙ ap (λ (x : Feeding). at x.framing) (sym fed_is)
-          ∙ ap (λ (ls : FinMap nat_cmp Framing). record { framers = ls; core = core }) (kept_in_place b conn after world.framers lent left back is),
-      shown_so.1,
-      shown_so.2,
-    )
+    let at : Framing → World = λ framing. record { framers = framers_kept b conn framing (remove world.framers conn); core = core } in
+    matches world (record { framers = left; core = core }) done (fed world conn piece)
+    (shown_so.0
+    ∙ ap (λ (x : Feeding). at x.framing) (sym fed_is)
+    ∙ ap (λ (ls : FinMap nat_cmp Framing). record { framers = ls; core = core }) (kept_in_place b conn after world.framers lent left back is))
+    shown_so.1 shown_so.2
 
 pub piece_spends : (world : World) (conn : ℕ) (piece : List ℕ) (framing : Framing) → get world.framers conn ≡ Some framing →
     (let framed = framed_of framing.limit framing.held piece in

@@ -9,8 +9,6 @@ use Rattle.ua_types.specs.declared.status.Status.{Status}
 use Rattle.ua_types.specs.declared.status.TheConstants.Status as status
 use Rattle.ua_tcp.specs.Feeding.{Framing, unfed, framed_of}
 use Rattle.ua_tcp.specs.Pieces.{Stepped, at_end, all_handled}
-use Rattle.server_messages.specs.declared.halt.Halt.{Halt}
-use Rattle.server_messages.specs.declared.halt.Halt.TheVariants as halt
 use Rattle.server_connections.specs.Connecting.{is_known, is_new, welcomed, turned_away}
 use Rattle.ua_services.specs.Services.{is_idle}
 use Rattle.server_core.specs.declared.event.Event.{Event}
@@ -138,11 +136,6 @@ takes_no_memory world (Tick now) = is_idle (setting_at world.core (later world.c
 takes_no_memory world Shutdown = world.core.is_shut
 
 -- ---- what the code gives of it
-
-abbrev pub Feeds : Result Step Halt → World → Served → Type 0
-Feeds (Ok given) new said = (said.world ≡ new) × (shown said.effects ≡ given) × (are_spent said.effects ≡ false)
-Feeds (Err halt.Memory) new said = ⊤
-Feeds (Err halt.Exhausted) new said = are_spent said.effects ≡ true
 
 abbrev pub IsSpent : Result Served StepFault → Type 0
 IsSpent (Ok s) = are_spent s.effects ≡ true

@@ -1,9 +1,9 @@
 //! All that the server is, and what an event does to it.
 
-ghost use Rattle.std.specs.Prelude.{◌≡◌, true, false, None, Err, IsOk, OnOk};
+ghost use Rattle.std.specs.Prelude.{◌≡◌, true, false, None, Ok, Err, IsOk, OnOk};
 ghost use Rattle.std.specs.FinMap.{get};
 ghost use Rattle.server_connections.specs.Connecting.{is_new, is_known};
-ghost use Rattle.server_core.specs.Stepping.{Feeds, fed, greeted, has_room as has_room_spec, refusal_of, opened, shut_down, step_of, Matches, takes_no_memory};
+ghost use Rattle.server_core.specs.Stepping.{fed, greeted, has_room as has_room_spec, refusal_of, opened, shut_down, step_of, Matches, takes_no_memory};
 ghost use Rattle.server_core.specs.declared.out.StepFault.TheVariants as step_fault;
 
 use crate::event::Event;
@@ -11,7 +11,6 @@ use crate::out::{Step, StepFault};
 use crate::parts::Core;
 use bytes::Bytes;
 use number_slots::Numbered;
-use server_messages::Halt;
 use std::alloc::{AllocError, Global};
 use ua_tcp::Framer;
 use ua_types::Status;
@@ -29,8 +28,8 @@ pub struct World {
 impl World {
     // Takes a piece of a connection's stream. One that is closed takes nothing, and no memory.
     #[tactic(auto, unfolding(crate::specs::Stepping::fed))]
-    fn feed(&mut self, alloc: Global, conn: u64, piece: &Bytes) -> Result<Step, Halt>
-        ensures fed { Feeds result self.new (fed self.old conn piece.now) }
+    fn feed(&mut self, alloc: Global, conn: u64, piece: &Bytes) -> Result<Step, StepFault>
+        ensures fed { Matches result self.old self.new (Ok (fed self.old conn piece.now)) }
         ensures closed { get self.old.framers conn ≡ None → IsOk result }
     {
         let mut step = Step::new(alloc);
@@ -96,8 +95,8 @@ impl World {
     }
 
     // Ends all that is open, unless that was done before.
-    fn shut_down(&mut self, alloc: Global) -> Result<Step, Halt>
-        ensures shut { Feeds result self.new (shut_down self.old) }
+    fn shut_down(&mut self, alloc: Global) -> Result<Step, StepFault>
+        ensures shut { Matches result self.old self.new (Ok (shut_down self.old)) }
         ensures again { self.old.core.is_shut ≡ true → IsOk result }
     {
         if self.core.is_shut {
@@ -119,7 +118,7 @@ impl World {
                 if !self.core.connections.is_known(*conn) {
                     return Err(StepFault::UnknownConnection);
                 }
-                Ok(self.feed(alloc, *conn, bytes)?)
+                self.feed(alloc, *conn, bytes)
             }
             Event::Gone { conn } => {
                 if !self.core.connections.is_known(*conn) {
@@ -133,7 +132,7 @@ impl World {
                 let clock = self.core.setting.clock.later(*now);
                 Ok(self.core.tick(alloc, clock)?)
             }
-            Event::Shutdown => Ok(self.shut_down(alloc)?),
+            Event::Shutdown => self.shut_down(alloc),
         }
     }
 }

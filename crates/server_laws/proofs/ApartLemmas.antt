@@ -102,7 +102,7 @@ use Rattle.ua_services.specs.SubServing.{world_at, called, no_reply, told_alone,
 use Rattle.ua_services.specs.Write.{sampled, write_listed, write_meaning}
 use Rattle.ua_services.specs.declared.caller.Caller.{Caller}
 use Rattle.ua_services.specs.declared.history_read.Wanted.{Wanted}
-use Rattle.server_laws.proofs.MovingLemmas.{Asks, created_asks, modified_asks, moded_asks, linked_asks, deleted_asks, items_left}
+use Rattle.server_laws.proofs.WalkingServices.{Asks, created_asks, modified_asks, moded_asks, linked_asks, deleted_asks, row_after, asked_ran}
 use Rattle.server_laws.proofs.OtherSessions.{IsFresh, Keeps, unchanged, sessions_stay, named_given, fresh_after, ticked_fresh, find_leaves, activate_leaves, close_leaves, create_stays, points_stay, stay_behind}
 
 -- ---- what is left as it was
@@ -341,13 +341,12 @@ republish_stays session setting caller request state from =
 
 -- ---- monitored items
 
-module _ (session : ℕ) (setting : Setting) (caller : Caller) (number : ℕ) (state : Services) (from : CameBy state.subs state.items) (items_done : Itemed) (asked : ItemsCall) (asks : Asks number state.items items_done.items asked) where
+module _ (session : ℕ) (setting : Setting) (caller : Caller) (number : ℕ) (state : Services) (from : CameBy state.subs state.items) (items_done : Itemed) (asked : Option ItemsCall) (asks : Asks number state.items items_done.items asked) where
   found_stays : (found : Option Vars) → vars_found number state.items state.subs.table ≡ found → is_own state.subs.table session number ≡ true → KeepsRest session state (items_called_by setting caller number state items_done found).state
   found_stays None e own = none_stays session state
-  found_stays (Some before) e own = record {
-    sessions = unchanged session state.sessions;
-    rest = subst (StaysIn session state) (items_left setting caller number state items_done asked asks before e from.rows from.came.replied) (call_stays session state from (Move.Items setting.clock number asked) own);
-  }
+  found_stays (Some before) e own =
+      one_stays session state from (λ (x : Unit {0}). reply_of caller items_done.body ∷ []) (row_after setting number state items_done.items before) (Move.Items setting.clock number asked)
+      (asked_ran setting number state items_done.items asked asks before e) own
 
   own_stays : (own : Bool) → is_own state.subs.table session number ≡ own → KeepsRest session state (items_called_by setting caller number state items_done (cond own (vars_found number state.items state.subs.table) None)).state
   own_stays true e = found_stays (vars_found number state.items state.subs.table) refl e

@@ -1,11 +1,13 @@
 pub mod MovingLemmas
 pub mod OtherSessions
 pub mod ApartLemmas
+pub mod Walking
 pub mod TableLemmas
 pub mod ShutLemmas
 pub mod MessageLemmas
 pub mod FateLemmas
 pub mod ReplyLemmas
+pub mod WalkingServices
 pub mod ServicesKept
 pub mod ServersKept
 pub mod ClockLemmas
@@ -15,6 +17,7 @@ pub mod PointsFew
 pub mod FewLemmas
 pub mod NotingLemmas
 pub mod PostingLemmas
+pub mod SentLemmas
 pub mod ReachingLemmas
 pub mod StoredLemmas
 pub mod ServicesStored

@@ -1,7 +1,8 @@
 -- The messages that a server makes are those of the calls by which it came, and more events only add calls.
 use Rattle.std.proofs.Common.{◌≡◌, ℕ, Bool, true, false, cond, List, [], ◌∷◌, ◌++◌, map, fold, Option, Some, None, Result, Ok, Err, refl, sym, ap, subst, ◌∙◌, append_assoc}
 use Rattle.std.proofs.lemmas.Bool.{eq-eqb}
-use Rattle.std.specs.List.{AllByRecursion}
+use Rattle.std.proofs.lemmas.List.Concat.{flat_map-append}
+use Rattle.std.specs.List.{AllByRecursion, flat_map}
 use Rattle.std.specs.Option.{is_some}
 use Rattle.std.specs.Prelude.{find}
 use Rattle.ua_types.specs.Configuration.{Configuration}
@@ -19,7 +20,8 @@ use Rattle.ua_services.specs.declared.services.Services.{Services}
 use Rattle.subscription_laws.specs.Messaging.{Made, moved_made, run_made, messages_for, IsAmong}
 use Rattle.subscription_laws.specs.Runs.{Move, Ran, moved, start, run}
 use Rattle.subscription_laws.proofs.RunMessages.{messages_numbered, messages_live, messages_kept, messages_given_again, messages_noted}
-use Rattle.server_laws.specs.EventMoves.{event_moves, moves_then, moves_from, moves_of}
+use Rattle.server_laws.specs.Dealings.{Dealing, event_dealings, dealings_then, dealings_from, dealings_of}
+use Rattle.server_laws.specs.EventMoves.{moves_at, moves_of}
 use Rattle.server_core.specs.Coherent.{reached, IfRuns}
 use Rattle.server_laws.specs.Messages.{LastsAreTheirs, NotesComeNext, KeepsWhatItShows, made_by, NumbersItsMessages, GivesTheFirstBytes}
 use Rattle.server_core.specs.Stepping.{Served, step_of}
@@ -32,23 +34,25 @@ use Rattle.server_laws.proofs.TableLemmas.{comes_by_moves}
 
 -- ---- the calls of events
 
--- more events only add calls
-add_by : (world : World) (event : Event) (r : Result Served StepFault) (long short : World → List Move) → ((next : World) → (later : List Move) × (long next ≡ short next ++ later)) →
-    (later : List Move) × (moves_then world event r long ≡ moves_then world event r short ++ later)
+-- more events only add to what is asked
+add_by : (world : World) (event : Event) (r : Result Served StepFault) (long short : World → List Dealing) → ((next : World) → (later : List Dealing) × (long next ≡ short next ++ later)) →
+    (later : List Dealing) × (dealings_then world event r long ≡ dealings_then world event r short ++ later)
 add_by world event (Ok s) long short f =
     let rest = f s.world in
-    let first = event_moves world event in
-    (rest.0, ap (λ (moves : List Move). first ++ moves) rest.1 ∙ sym (append_assoc first (short s.world) rest.0))
+    let first = event_dealings world event in
+    (rest.0, ap (λ (ds : List Dealing). first ++ ds) rest.1 ∙ sym (append_assoc first (short s.world) rest.0))
 add_by world event (Err fault) long short f = ([], refl)
 
-moves_add : (events more : List Event) (world : World) → (later : List Move) × (moves_from world (events ++ more) ≡ moves_from world events ++ later)
-moves_add [] more world = (moves_from world more, refl)
-moves_add (event ∷ events) more world =
-    add_by world event (step_of world event) (λ next. moves_from next (events ++ more)) (λ next. moves_from next events) (λ next. moves_add events more next)
+dealings_add : (events more : List Event) (world : World) → (later : List Dealing) × (dealings_from world (events ++ more) ≡ dealings_from world events ++ later)
+dealings_add [] more world = (dealings_from world more, refl)
+dealings_add (event ∷ events) more world =
+    add_by world event (step_of world event) (λ next. dealings_from next (events ++ more)) (λ next. dealings_from next events) (λ next. dealings_add events more next)
 
--- so those of a server's run
+-- and so to the calls
 pub more_moves : (config : Configuration) (space : SpaceState) (events more : List Event) → (later : List Move) × (moves_of config space (events ++ more) ≡ moves_of config space events ++ later)
-more_moves config space events more = moves_add events more (opening config space)
+more_moves config space events more =
+    let added = dealings_add events more (opening config space) in
+    (flat_map moves_at added.0, ap (flat_map moves_at) added.1 ∙ flat_map-append moves_at (dealings_of config space events) added.0)
 
 -- ---- what they make
 

@@ -1,60 +1,41 @@
 -- What each event has a store keep is what it changed of the nodes' values and of the histories.
-use Rattle.std.proofs.Common.{◌≡◌, ℕ, Bool, true, false, cond, List, [], ◌∷◌, ◌++◌, Option, Some, None, Result, Ok, Err, refl, sym, ap, subst, ◌∙◌}
-use Rattle.std.specs.Prelude.{⊤, not}
-use Rattle.std.specs.FinMap.{get}
+use Rattle.std.proofs.Common.{◌≡◌, ◌⊎◌, inl, inr, ℤ, Bool, false, true, cond, List, [], ◌∷◌, ◌++◌, Option, Some, None, refl, sym, ap, subst, ◌∙◌}
+use Rattle.std.specs.Ordering.{is_eq, int_cmp}
 use Rattle.ua_types.specs.Configuration.{Configuration}
 use Rattle.ua_types.specs.Moments.{later}
 use Rattle.ua_types.specs.declared.moment.Moment.{Moment}
-use Rattle.ua_types.specs.declared.status.Status.{Status}
-use Rattle.ua_tcp.specs.Feeding.{Framing, framed_of}
-use Rattle.ua_tcp.specs.Frames.{End, Rest, Broken}
-use Rattle.ua_tcp.specs.Pieces.{Done, and_then, all_handled, at_end}
-use Rattle.ua_tcp.specs.declared.frame.Frame.{Frame}
-use Rattle.ua_tcp.specs.declared.frame.FrameFault.{FrameFault}
-use Rattle.server_messages.specs.declared.out.Out.{Out}
-use Rattle.server_messages.specs.declared.stored.Stored.{Stored}
-use Rattle.server_messages.specs.Kept.{with_all_stored}
-use Rattle.server_connections.specs.Connecting.{is_known, is_new, taking_of, break_of}
-use Rattle.server_connections.specs.Delivering.{Delivery, delivery_of}
-use Rattle.server_connections.specs.Shutting.{shut}
-use Rattle.server_connections.specs.declared.connections.Connections.{Connections}
-use Rattle.server_connections.specs.declared.frame_outcome.FrameOutcome.{FrameOutcome}
-use Rattle.server_connections.specs.declared.frame_outcome.FrameOutcome.TheVariants as outcome
+use Rattle.ua_types.specs.declared.node_id.NodeId.{NodeId}
+use Rattle.ua_values.specs.declared.data_value.DataValue.{DataValue}
 use Rattle.ua_space.specs.Nodes.{SpaceState}
+use Rattle.ua_space.specs.Values.{value_at}
+use Rattle.ua_history.specs.Histories as history
+use Rattle.ua_history.specs.Histories.{history_of}
+use Rattle.server_messages.specs.declared.out.Out.{Out}
+use Rattle.server_messages.specs.declared.setting.Setting.{Setting}
+use Rattle.server_messages.specs.declared.stored.Stored.{Stored}
+use Rattle.server_messages.specs.Kept.{Past, is_same, put_at, dropped_at, past_with, Kept, with_stored, with_all_stored}
+use Rattle.server_connections.specs.Delivering.{delivery_of}
 use Rattle.ua_history.proofs.Dropping.{AreByTime, begun_by_time}
-use Rattle.ua_services.specs.Services.{serving_of, ticking_of, shutting_of, forgotten}
+use Rattle.ua_services.specs.Services.{serving_of, ticking_of, shutting_of}
 use Rattle.ua_services.specs.Serving as serving
-use Rattle.ua_services.specs.Serving.{Occurrence, Serving}
+use Rattle.ua_services.specs.Serving.{Serving}
 use Rattle.ua_services.specs.ServicesState.{no_services_used}
 use Rattle.ua_services.specs.declared.services.Services.{Services}
-use Rattle.server_core.specs.Coherent.{reached, IfRuns}
-use Rattle.server_core.specs.Effects.{Effect, doing, effects_of, stored_of}
-use Rattle.server_core.specs.Handling.{answered, asked_for, handled, broken, setting_at, ticked_core, shut_core, gone_from}
-use Rattle.server_core.specs.Running.{Running, then_run, run_of}
-use Rattle.server_core.specs.Stepping as stepping
-use Rattle.server_core.specs.Stepping.{Served, served, fed_to, fed, step_of}
-use Rattle.server_core.specs.declared.event.Event.{Event}
-use Rattle.server_core.specs.declared.event.Event.TheVariants.{Opened, Bytes, Gone, Tick, Shutdown}
-use Rattle.server_core.specs.declared.out.StepFault.{StepFault}
-use Rattle.server_core.specs.declared.out.StepFault.TheVariants.{KnownConnection, UnknownConnection}
+use Rattle.server_core.specs.Coherent.{reached}
+use Rattle.server_core.specs.Effects.{Effect, doing, stored_of}
+use Rattle.server_core.specs.Handling.{closed_on}
 use Rattle.server_core.specs.World.{opening}
+use Rattle.server_core.specs.declared.event.Event.{Event}
 use Rattle.server_core.specs.declared.parts.Core.{Core}
 use Rattle.server_core.specs.declared.world.World.{World}
 use Rattle.server_core.proofs.EffectLemmas.{stored_of-append, stored_of_doing, stored_of_effects}
-use Rattle.server_laws.specs.Storing.{HasAll, stored_in, StoreHasAll, NothingIsStored}
-use Rattle.server_laws.proofs.ServersKept.{if_runs}
+use Rattle.server_laws.specs.Dealings.{Dealing, with_clock, dealings_of}
+use Rattle.server_laws.specs.Storing.{stored_in, HasWhatChanged, StoreHasWhatChanged, NothingIsStored}
+use Rattle.server_laws.proofs.StoredLemmas.{HasAll}
 use Rattle.server_laws.proofs.ServicesStored.{Told, still, told_both, serving_tells, ticking_tells, shutting_tells}
-
-stored_answered : (outs : List Out) (occurrences : List Occurrence) (d : Delivery) → stored_of (doing outs ++ effects_of occurrences d) ≡ serving.stored_of occurrences
-stored_answered outs occurrences d =
-    stored_of-append (doing outs) (effects_of occurrences d)
-    ∙ ap (λ (ss : List Stored). ss ++ stored_of (effects_of occurrences d)) (stored_of_doing outs)
-    ∙ stored_of_effects occurrences d
+use Rattle.server_laws.proofs.Walking.{core_served, effects_served, Follows, HasGone, seen, walked}
 
 module _ (config : Configuration) where
-  abbrev Tells : Services → List Effect → Services → Type 0
-  Tells before effects after = Told config.has_store before (stored_of effects) after
-
   -- it has this configuration, and its histories are by time
   record Fits (core : Core) : Type 0 where
     config_is : core.setting.config ≡ config
@@ -62,14 +43,11 @@ module _ (config : Configuration) where
 
   record Comes (before : Core) (effects : List Effect) (after : Core) : Type 0 where
     config_is : after.setting.config ≡ config
-    told : Tells before.services effects after.services
+    told : Told config.has_store before.services (stored_of effects) after.services
 
-  fits_after : (before : Core) (effects : List Effect) (after : Core) → Comes before effects after → Fits after
-  fits_after before effects after c = record { config_is = c.config_is; sorted = c.told.sorted }
-
-  quiet : (before after : Core) (outs : List Out) → Fits before → after.setting.config ≡ before.setting.config → (let a : Services = after.services in let b : Services = before.services in (a.space.nodes ≡ b.space.nodes) × (a.history ≡ b.history)) →
+  quiet : (before after : Core) (outs : List Out) → after.setting.config ≡ before.setting.config → (let a : Services = after.services in let b : Services = before.services in (a.space.nodes ≡ b.space.nodes) × (a.history ≡ b.history)) → Fits before →
       Comes before (doing outs) after
-  quiet before after outs f c same = record { config_is = c ∙ f.config_is; told = still config.has_store before.services after.services (stored_of (doing outs)) f.sorted same.0 same.1 (stored_of_doing outs) }
+  quiet before after outs c same f = record { config_is = c ∙ f.config_is; told = still config.has_store before.services after.services (stored_of (doing outs)) f.sorted same.0 same.1 (stored_of_doing outs) }
 
   chain : (a b c : Core) (xs ys : List Effect) → Comes a xs b → Comes b ys c → Comes a (xs ++ ys) c
   chain a b c xs ys p q = record {
@@ -77,134 +55,139 @@ module _ (config : Configuration) where
     told = subst (λ (ss : List Stored). Told config.has_store a.services ss c.services) (sym (stored_of-append xs ys)) (told_both config.has_store a.services b.services c.services (stored_of xs) (stored_of ys) p.told q.told);
   }
 
-  answered_comes : (core at : Core) (outs : List Out) (s : Serving) → at.setting.config ≡ config → Told config.has_store core.services (serving.stored_of s.occurrences) s.state → (let d = answered at outs s in Comes core d.outs d.state)
-  answered_comes core at outs s c p =
-      let d = delivery_of at.setting at.connections s.replies in
-      record { config_is = c; told = subst (λ (ss : List Stored). Told config.has_store core.services ss s.state) (sym (stored_answered outs s.occurrences d)) p }
+  served_comes : (core : Core) (s : Serving) → core.setting.config ≡ config → Told config.has_store core.services (serving.stored_of s.occurrences) s.state → Comes core (effects_served core s) (core_served core s)
+  served_comes core s c p = record {
+    config_is = c;
+    told = subst (λ (ss : List Stored). Told config.has_store core.services ss s.state) (sym (stored_of_effects s.occurrences (delivery_of core.setting core.connections s.replies))) p;
+  }
 
-  store_is : (core : Core) → Fits core → core.setting.config.has_store ≡ config.has_store
-  store_is core f = ap (λ (c : Configuration). c.has_store) f.config_is
+  abbrev Keeps : Core → List Dealing → List Effect → Core → Type 0
+  Keeps before ds effects after = Fits before → Comes before effects after
 
-  asked_comes : (conn : ℕ) (core : Core) (connections : Connections) (outs : List Out) (found : FrameOutcome) → Fits core → (let d = asked_for conn (record core { connections = connections }) outs found in Comes core d.outs d.state)
-  asked_comes conn core connections outs outcome.Nothing f = quiet core (record core { connections = connections }) outs f refl (refl, refl)
-  asked_comes conn core connections outs outcome.Closed f = quiet core _ outs f refl (refl, refl)
-  asked_comes conn core connections outs (outcome.Request request) f =
-      answered_comes core (record core { connections = connections }) outs (serving_of core.setting request core.services) f.config_is
-      (serving_tells config.has_store core.setting (store_is core f) request core.services f.sorted)
+  follows : Follows Keeps
+  follows = record {
+    none = λ core. quiet core core [] refl (refl, refl);
+    next = λ a b c ds es xs ys p q f. let first = p f in chain a b c xs ys first (q (record { config_is = first.config_is; sorted = first.told.sorted }));
+    aside = λ a b outs set.
+        quiet a b outs (ap (λ (s : Setting). s.config) set.setting) (ap (λ (services : Services). services.space.nodes) set.services, ap (λ (services : Services). services.history) set.services);
+    serves = λ core request f.
+        served_comes core (serving_of core.setting request core.services) f.config_is
+        (serving_tells config.has_store core.setting (ap (λ (c : Configuration). c.has_store) f.config_is) request core.services f.sorted);
+    ticks = λ core brought f.
+        let at = with_clock core (later core.setting.clock brought) in
+        let c = served_comes at (ticking_of at.setting at.services) f.config_is (ticking_tells config.has_store at.setting at.services f.sorted) in
+        record { config_is = c.config_is; told = c.told };
+    forgets = λ core conn. quiet core (closed_on conn core) [] refl (refl, refl);
+    ends = λ core f. served_comes core (shutting_of core.setting core.services) f.config_is (shutting_tells config.has_store core.setting core.services f.sorted);
+  }
 
-  handled_comes : (conn : ℕ) (core : Core) (frame : Frame) → Fits core → (let d = handled conn core frame in Comes core d.outs d.state)
-  unfolding handled
-  handled_comes conn core frame f = let t = taking_of core.setting conn core.connections frame in asked_comes conn core t.connections t.outs t.asked f
+  module _ (space : SpaceState) (events : List Event) where
+    gone : HasGone Keeps (opening config space).core (dealings_of config space events) (reached config space events)
+    gone = walked Keeps follows config space events
 
-  broken_comes : (conn : ℕ) (core : Core) (fault : FrameFault) → Fits core → (let d = broken conn core fault in Comes core d.outs d.state)
-  unfolding broken
-  broken_comes conn core fault f = quiet core _ (break_of conn core.connections fault).outs f refl (refl, refl)
+    told : Told config.has_store (no_services_used config space) (stored_in (reached config space events)) gone.world.core.services
+    told = (gone.goes (record { config_is = refl; sorted = begun_by_time config space.nodes })).told
 
-  ticked_comes : (core : Core) (clock : Moment) → Fits core → (let d = ticked_core core clock in Comes core d.outs d.state)
-  ticked_comes core clock f =
-      let setting = setting_at core clock in
-      answered_comes core (record core { setting = setting }) [] (ticking_of setting core.services) f.config_is (ticking_tells config.has_store setting core.services f.sorted)
+-- ---- whatever was kept before
 
-  ended_comes : (core : Core) → Fits core → (let d = shut_core core in Comes core d.outs d.state)
-  ended_comes core f =
-      let s = shutting_of core.setting core.services in
-      let d = delivery_of core.setting core.connections s.replies in
-      let between : Comes core (effects_of s.occurrences d) (answered core [] s).state = answered_comes core core [] s f.config_is (shutting_tells config.has_store core.setting core.services f.sorted) in
-      chain core (answered core [] s).state (shut_core core).state (effects_of s.occurrences d) (doing (shut d.connections).outs) between
-      (quiet (answered core [] s).state (shut_core core).state (shut d.connections).outs (fits_after core (effects_of s.occurrences d) (answered core [] s).state between) refl (refl, refl))
+-- what is seen of two stores once the same was stored in both: the same, or of each what was seen before
+module _ {V : Type 0} (seen_of : Kept → V) where
+  abbrev SameOrOld : Kept → Kept → Kept → Kept → Type 0
+  SameOrOld a b c d = (seen_of c ≡ seen_of d) ⊎ ((seen_of c ≡ seen_of a) × (seen_of d ≡ seen_of b))
 
-  -- ---- pieces
+  module _ (one : (a b : Kept) (s : Stored) → SameOrOld a b (with_stored a s) (with_stored b s)) where
+    same_all : (ss : List Stored) (a b : Kept) → seen_of a ≡ seen_of b → seen_of (with_all_stored a ss) ≡ seen_of (with_all_stored b ss)
+    same_all [] a b e = e
+    same_all (s ∷ ss) a b e = same_all ss (with_stored a s) (with_stored b s) (by (one a b s))
+      where
+        by : SameOrOld a b (with_stored a s) (with_stored b s) → seen_of (with_stored a s) ≡ seen_of (with_stored b s)
+        by (inl same) = same
+        by (inr (old, other)) = old ∙ e ∙ sym other
 
-  then_comes : (before mid : Core) (effects : List Effect) (b : Bool) (more : Core → Done Core Effect) → Comes before effects mid → (Fits mid → Comes mid (more mid).outs (more mid).state) →
-      (let d = and_then (record { state = mid; outs = effects; goes_on = b }) more in Comes before d.outs d.state)
-  then_comes before mid effects true more p f = chain before mid (more mid).state effects (more mid).outs p (f (fits_after before effects mid p))
-  then_comes before mid effects false more p f = p
+    all_stored : (ss : List Stored) (a b : Kept) → SameOrOld a b (with_all_stored a ss) (with_all_stored b ss)
+    all_stored [] a b = inr (refl, refl)
+    all_stored (s ∷ ss) a b = by (one a b s) (all_stored ss (with_stored a s) (with_stored b s))
+      where
+        by : SameOrOld a b (with_stored a s) (with_stored b s) → SameOrOld (with_stored a s) (with_stored b s) (with_all_stored (with_stored a s) ss) (with_all_stored (with_stored b s) ss) →
+            SameOrOld a b (with_all_stored (with_stored a s) ss) (with_all_stored (with_stored b s) ss)
+        by (inl same) rest = inl (same_all ss (with_stored a s) (with_stored b s) same)
+        by (inr old) (inl same) = inl same
+        by (inr (old, other)) (inr (kept, left)) = inr (kept ∙ old, left ∙ other)
 
-  frames_come : (conn : ℕ) (frames : List Frame) (core : Core) → Fits core → (let d = all_handled (handled conn) core frames in Comes core d.outs d.state)
-  frames_come conn [] core f = quiet core core [] f refl (refl, refl)
-  frames_come conn (frame ∷ frames) core f =
-      let d = handled conn core frame in
-      then_comes core d.state d.outs d.goes_on (λ s. all_handled (handled conn) s frames) (handled_comes conn core frame f) (frames_come conn frames d.state)
+one_value : (id : NodeId) (a b : Kept) (s : Stored) → SameOrOld (λ (k : Kept). k.values id) a b (with_stored a s) (with_stored b s)
+one_value id a b s = by (is_same s.node_id id)
+  where
+    by : (c : Bool) → (cond c (Some s.value) (a.values id) ≡ cond c (Some s.value) (b.values id)) ⊎ ((cond c (Some s.value) (a.values id) ≡ a.values id) × (cond c (Some s.value) (b.values id) ≡ b.values id))
+    by true = inl refl
+    by false = inr (refl, refl)
 
-  end_comes : (conn : ℕ) (core : Core) (end : End) (d : Done Core Effect) → Comes core d.outs d.state → (let s = at_end (broken conn) end d in Comes core s.outs s.stream.state)
-  end_comes conn core (Rest bytes) d p = p
-  end_comes conn core (Broken fault) d p = then_comes core d.state d.outs d.goes_on (λ s. broken conn s fault) p (broken_comes conn d.state fault)
+module _ (time : ℤ) where
+  abbrev PastOr : Past → Past → Past → Past → Type 0
+  PastOr p q u v = (u time ≡ v time) ⊎ ((u time ≡ p time) × (v time ≡ q time))
 
-  fed_by : (world : World) (conn : ℕ) (piece : List ℕ) (found : Option Framing) → Fits world.core → (let s = fed_to world conn piece found in Comes world.core s.effects s.world.core)
-  fed_by world conn piece None f = quiet world.core world.core [] f refl (refl, refl)
-  fed_by world conn piece (Some framing) f =
-      let framed = framed_of framing.limit framing.held piece in
-      end_comes conn world.core framed.end (all_handled (handled conn) world.core framed.frames) (frames_come conn framed.frames world.core f)
-
-  fed_comes : (world : World) (conn : ℕ) (piece : List ℕ) → Fits world.core → (let s = fed world conn piece in Comes world.core s.effects s.world.core)
-  unfolding fed
-  fed_comes world conn piece f = fed_by world conn piece (get world.framers conn) f
-
-  -- ---- events
-
-  -- what an answered event comes to
-  abbrev Answers : World → Result Served StepFault → Type 0
-  Answers world (Ok s) = Comes world.core s.effects s.world.core
-  Answers world (Err fault) = ⊤
-
-  either : (world : World) (b : Bool) (x y : Result Served StepFault) → Answers world x → Answers world y → Answers world (cond b x y)
-  either world true x y p q = p
-  either world false x y p q = q
-
-  opened_comes : (world : World) (conn : ℕ) (key : List ℕ) → Fits world.core → (why : Option Status) → Answers world (Ok (stepping.opened_by world conn key why))
-  opened_comes world conn key f None = quiet world.core _ [] f refl (refl, refl)
-  opened_comes world conn key f (Some code) = quiet world.core _ _ f refl (refl, refl)
-
-  shut_comes : (world : World) → Fits world.core → Answers world (Ok (stepping.shut_down world))
-  unfolding stepping.shut_down
-  shut_comes world f = by world.core.is_shut
+  put_or : (source : Option Moment) (value : DataValue) (p q : Past) → PastOr p q (put_at source value p) (put_at source value q)
+  put_or None value p q = inr (refl, refl)
+  put_or (Some moment) value p q = by (is_eq (int_cmp moment.0 time))
     where
-      by : (b : Bool) → Answers world (Ok (cond b (served world []) (stepping.ended world)))
-      by true = quiet world.core world.core [] f refl (refl, refl)
-      by false = ended_comes world.core f
+      by : (c : Bool) → (cond c (Some value) (p time) ≡ cond c (Some value) (q time)) ⊎ ((cond c (Some value) (p time) ≡ p time) × (cond c (Some value) (q time) ≡ q time))
+      by true = inl refl
+      by false = inr (refl, refl)
 
-  step_comes : (world : World) (event : Event) → Fits world.core → Answers world (step_of world event)
-  step_comes world (Opened conn key) f =
-      either world (not (is_new world.core.connections conn)) (Err KnownConnection) (Ok (stepping.opened_by world conn key (stepping.refusal_of world))) tt (opened_comes world conn key f (stepping.refusal_of world))
-  step_comes world (Bytes conn bytes) f = either world (is_known world.core.connections conn) (Ok (fed world conn bytes)) (Err UnknownConnection) (fed_comes world conn bytes f) tt
-  step_comes world (Gone conn) f =
-      either world (is_known world.core.connections conn) (Ok (served (stepping.forgotten world conn) [])) (Err UnknownConnection) (quiet world.core (gone_from world.core conn) [] f refl (refl, refl)) tt
-  step_comes world (Tick now) f = ticked_comes world.core (later world.core.setting.clock now) f
-  step_comes world Shutdown f = shut_comes world f
+  dropped_or : (dropped : Option Moment) (p q u v : Past) → PastOr p q u v → PastOr p q (dropped_at dropped u) (dropped_at dropped v)
+  dropped_or None p q u v h = h
+  dropped_or (Some moment) p q u v h = by (is_eq (int_cmp moment.0 time))
+    where
+      by : (c : Bool) → (cond c None (u time) ≡ cond c None (v time)) ⊎ ((cond c None (u time) ≡ p time) × (cond c None (v time) ≡ q time))
+      by true = inl refl
+      by false = h
 
-  -- ---- runs
+  past_or : (s : Stored) (p q : Past) → PastOr p q (past_with s p) (past_with s q)
+  past_or s p q = by s.is_historical
+    where
+      by : (c : Bool) → let u = dropped_at s.dropped (put_at s.value.source_time s.value p) in let v = dropped_at s.dropped (put_at s.value.source_time s.value q) in
+          (cond c (u time) (p time) ≡ cond c (v time) (q time)) ⊎ ((cond c (u time) (p time) ≡ p time) × (cond c (v time) (q time) ≡ q time))
+      by true = dropped_or s.dropped p q (put_at s.value.source_time s.value p) (put_at s.value.source_time s.value q) (put_or s.value.source_time s.value p q)
+      by false = inr (refl, refl)
 
-  record RunComes (before : Services) (r : Running) : Type 0 where
-    all : IfRuns (λ (world : World). Told config.has_store before (stored_in r.steps) world.core.services) r.server
-    nothing : config.has_store ≡ false → stored_in r.steps ≡ []
+  one_past : (id : NodeId) (a b : Kept) (s : Stored) → SameOrOld (λ (k : Kept). k.histories id time) a b (with_stored a s) (with_stored b s)
+  one_past id a b s = by (is_same s.node_id id)
+    where
+      by : (c : Bool) → let p = a.histories id in let q = b.histories id in
+          (cond c (past_with s p time) (p time) ≡ cond c (past_with s q time) (q time)) ⊎ ((cond c (past_with s p time) (p time) ≡ p time) × (cond c (past_with s q time) (q time) ≡ q time))
+      by true = past_or s (a.histories id) (b.histories id)
+      by false = inr (refl, refl)
 
-  told_behind : (a b : Services) (xs ys : List Stored) → Told config.has_store a xs b → (server : Option World) → IfRuns (λ (world : World). Told config.has_store b ys world.core.services) server →
-      IfRuns (λ (world : World). Told config.has_store a (xs ++ ys) world.core.services) server
-  told_behind a b xs ys p None q = tt
-  told_behind a b xs ys p (Some world) q = told_both config.has_store a b world.core.services xs ys p q
+-- a store that has all that the server begins with
+abbrev begun : Configuration → SpaceState → Kept
+begun config space =
+    let services = no_services_used config space in
+    record { values = λ id. value_at id services.space.nodes; histories = λ id time. history.value_at time (history_of id services.history) }
 
-  run_by : (world : World) (r : Result Served StepFault) (more : Option World → Running) → Fits world.core → Answers world r → ((next : World) → Fits next.core → RunComes next.core.services (more (Some next))) →
-      RunComes world.core.services (then_run (Some world) r more)
-  run_by world (Ok s) more f c g =
-      let rest = g s.world (fits_after world.core s.effects s.world.core c) in
-      record {
-        all = told_behind world.core.services s.world.core.services (stored_of s.effects) (stored_in (more (Some s.world)).steps) c.told (more (Some s.world)).server rest.all;
-        nothing = λ is. ap (λ (ss : List Stored). ss ++ stored_in (more (Some s.world)).steps) (c.told.nothing is) ∙ rest.nothing is;
-      }
-  run_by world (Err fault) more f c g = record { all = still config.has_store world.core.services world.core.services [] f.sorted refl refl refl; nothing = λ is. refl }
-
-  run_comes : (events : List Event) (world : World) → Fits world.core → RunComes world.core.services (run_of (Some world) events)
-  run_comes [] world f = record { all = still config.has_store world.core.services world.core.services [] f.sorted refl refl refl; nothing = λ is. refl }
-  run_comes (event ∷ events) world f = run_by world (step_of world event) (λ s. run_of s events) f (step_comes world event f) (λ next g. run_comes events next g)
-
-  begun_fits : (space : SpaceState) → Fits (opening config space).core
-  begun_fits space = record { config_is = refl; sorted = begun_by_time config space.nodes }
-
-pub store_has_all : (config : Configuration) (space : SpaceState) (events : List Event) → config.has_store ≡ true → StoreHasAll config space events
-store_has_all config space events is kept has =
+pub store_has_what_changed : (config : Configuration) (space : SpaceState) (events : List Event) → config.has_store ≡ true → StoreHasWhatChanged config space events
+store_has_what_changed config space events is kept =
     let r = reached config space events in
-    if_runs (λ (world : World). Told config.has_store (no_services_used config space) (stored_in r.steps) world.core.services) (λ (world : World). HasAll (with_all_stored kept (stored_in r.steps)) world.core.services)
-    (λ world told. told.all is kept has) r.server (run_comes config events (opening config space) (begun_fits config space)).all
+    let ss = stored_in r in
+    let first = begun config space in
+    let services : Services = (gone config space events).world.core.services in
+    let has : HasAll (with_all_stored first ss) services = (told config space events).all is first (record { values = λ id value e. e; histories = λ id time. refl }) in
+    seen (gone config space events) (λ (world : World). HasWhatChanged (no_services_used config space) world.core.services kept (with_all_stored kept ss))
+    (record {
+      values = λ id value e. of_value id value (has.values id value e) (all_stored (λ (k : Kept). k.values id) (one_value id) ss kept first);
+      histories = λ id time. of_past id time (has.histories id time) (all_stored (λ (k : Kept). k.histories id time) (one_past time id) ss kept first);
+    })
+  where
+    all : Kept → Kept
+    all k = with_all_stored k (stored_in (reached config space events))
+
+    of_value : (id : NodeId) (value : DataValue) → (all (begun config space)).values id ≡ Some value → SameOrOld (λ (k : Kept). k.values id) kept (begun config space) (all kept) (all (begun config space)) →
+        ((all kept).values id ≡ Some value) ⊎ (((all kept).values id ≡ kept.values id) × ((begun config space).values id ≡ Some value))
+    of_value id value e (inl same) = inl (same ∙ e)
+    of_value id value e (inr (mine, its)) = inr (mine, sym its ∙ e)
+
+    of_past : (id : NodeId) (time : ℤ) {x : Option DataValue} → (all (begun config space)).histories id time ≡ x → SameOrOld (λ (k : Kept). k.histories id time) kept (begun config space) (all kept) (all (begun config space)) →
+        ((all kept).histories id time ≡ x) ⊎ (((all kept).histories id time ≡ kept.histories id time) × (x ≡ (begun config space).histories id time))
+    of_past id time e (inl same) = inl (same ∙ e)
+    of_past id time e (inr (mine, its)) = inr (mine, sym e ∙ its)
 
 pub nothing_is_stored : (config : Configuration) (space : SpaceState) (events : List Event) → config.has_store ≡ false → NothingIsStored config space events
-nothing_is_stored config space events is = (run_comes config events (opening config space) (begun_fits config space)).nothing is
+nothing_is_stored config space events is = (told config space events).nothing is

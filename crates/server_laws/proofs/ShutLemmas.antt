@@ -10,17 +10,9 @@ use Rattle.ua_types.specs.Moments.{later}
 use Rattle.ua_types.specs.declared.moment.Moment.{Moment}
 use Rattle.ua_types.specs.declared.status.Status.{Status}
 use Rattle.ua_types.specs.declared.status.TheConstants.Status as status
-use Rattle.ua_tcp.specs.Feeding.{Framing, framed_of}
-use Rattle.ua_tcp.specs.Pieces.{all_handled}
-use Rattle.ua_tcp.specs.declared.frame.Frame.{Frame}
-use Rattle.ua_tcp.specs.declared.frame.FrameFault.{FrameFault}
-use Rattle.server_messages.specs.declared.fired.Fired.{Fired}
-use Rattle.server_messages.specs.declared.out.Out.{Out}
+use Rattle.ua_tcp.specs.Feeding.{Framing}
 use Rattle.server_messages.specs.declared.setting.Setting.{Setting}
-use Rattle.server_connections.specs.Connecting.{is_known, is_new, taking_of}
-use Rattle.server_connections.specs.declared.connections.Connections.{Connections}
-use Rattle.server_connections.specs.declared.frame_outcome.FrameOutcome.{FrameOutcome}
-use Rattle.server_connections.specs.declared.frame_outcome.FrameOutcome.TheVariants as outcome
+use Rattle.server_connections.specs.Connecting.{is_known, is_new}
 use Rattle.ua_space.specs.Nodes.{SpaceState}
 use Rattle.ua_monitored_items.specs.ItemTables.{item_at}
 use Rattle.ua_monitored_items.specs.declared.item.Item.{Item}
@@ -29,14 +21,15 @@ use Rattle.ua_subscriptions.specs.SubscriptionCalls.{world_of}
 use Rattle.ua_subscriptions.specs.Tables.{TableState, subscription_at}
 use Rattle.ua_subscriptions.specs.declared.subscription.Subscription.{Subscription}
 use Rattle.ua_subscriptions.proofs.Shutdowns.{nothing_left}
-use Rattle.ua_services.specs.Services.{shutting_of}
+use Rattle.ua_services.specs.Services.{ticking_of, shutting_of}
+use Rattle.ua_services.specs.Serving.{Serving}
 use Rattle.ua_services.specs.declared.services.Services.{Services}
 use Rattle.subscription_laws.specs.Runs.{Move, Ran}
 use Rattle.subscription_laws.proofs.ShutdownLemmas.{none_comes}
 use Rattle.subscription_laws.proofs.Walks.{makes}
 use Rattle.server_core.specs.Coherent.{reached, IfRuns}
 use Rattle.server_core.specs.Effects.{Effect}
-use Rattle.server_core.specs.Handling.{asked_for, handled, broken, setting_at}
+use Rattle.server_core.specs.Handling.{setting_at}
 use Rattle.server_core.specs.Stepping as stepping
 use Rattle.server_core.specs.Stepping.{Served, served, fed_to, fed, step_of}
 use Rattle.server_core.specs.World.{opening}
@@ -44,14 +37,15 @@ use Rattle.server_core.specs.declared.event.Event.{Event}
 use Rattle.server_core.specs.declared.event.Event.TheVariants.{Opened, Bytes, Gone, Tick, Shutdown}
 use Rattle.server_core.specs.declared.out.StepFault.{StepFault}
 use Rattle.server_core.specs.declared.out.StepFault.TheVariants.{KnownConnection, UnknownConnection}
-use Rattle.server_core.specs.declared.parts.Core.{Core}
 use Rattle.server_core.specs.declared.world.World.{World}
-use Rattle.server_core.proofs.Keeping.{frames_keep, end_keeps, Kept, lift}
+use Rattle.server_core.proofs.Keeping.{Kept, lift}
 use Rattle.number_slots.proofs.NumberMaps.{get_removed, get_removed_elsewhere}
-use Rattle.server_laws.specs.EventMoves.{end_move}
-use Rattle.server_laws.specs.Moving.{ComesOn, ran_at}
+use Rattle.server_laws.specs.EventMoves.{end_move, ticking_moves}
+use Rattle.server_laws.specs.Moving.{ComesOnBy, ran_at}
 use Rattle.server_laws.specs.Tables.{ItemsAreOfLive, IsEmptyOnceShut, ItemsHaveSubscriptions}
-use Rattle.server_laws.proofs.TableLemmas.{shutting_goes, step_goes, items_live}
+use Rattle.server_core.proofs.ApartLemmas.{fed_apart}
+use Rattle.server_laws.proofs.MovingLemmas.{ticking_on, shutting_on}
+use Rattle.server_laws.proofs.TableLemmas.{items_live}
 use Rattle.subscription_laws.proofs.Entries.{same_or_not}
 
 -- it hears no connection, and has no subscription
@@ -70,20 +64,20 @@ ends_plain : (setting : Setting) (numbers : List ℕ) (rest : List Move) → All
 ends_plain setting [] rest h = h
 ends_plain setting (n ∷ ns) rest h = (refl, ends_plain setting ns rest h)
 
-none_after : (before after : Services) (moves : List Move) (rows : List Fired) → ComesOn before moves after rows → AllByRecursion Plain moves → before.subs.table.subscriptions ≡ [] → after.subs.table.subscriptions ≡ []
-none_after before after moves rows goes plain none = sym (ap (λ (r : Ran). r.subs.table.subscriptions) (goes [] []).left) ∙ none_comes moves (ran_at before [] []) plain none
+none_after : (before : Services) (moves : List Move) (s : Serving) → ComesOnBy before moves s → AllByRecursion Plain moves → before.subs.table.subscriptions ≡ [] → s.state.subs.table.subscriptions ≡ []
+none_after before moves s goes plain none = sym (ap (λ (r : Ran). r.subs.table.subscriptions) (goes [] []).left) ∙ none_comes moves (ran_at before [] []) plain none
 
 ticked_empty : (world : World) (now : Moment) → EndsEmpty world → EndsEmpty (stepping.ticked world now).world
 ticked_empty world now h is =
     let setting = setting_at world.core (later world.core.setting.clock now) in
     let empty = h is in
-    (empty.0, none_after world.core.services (stepping.ticked world now).world.core.services _ _ (step_goes world (Tick now)).goes (ends_plain setting (ended_by world.core.services.sessions setting.clock) _ (refl, tt)) empty.1)
+    (empty.0, none_after world.core.services (ticking_moves setting world.core.services) (ticking_of setting world.core.services) (ticking_on setting world.core.services) (ends_plain setting (ended_by world.core.services.sessions setting.clock) _ (refl, tt)) empty.1)
 
 -- ---- the shutdown
 
 none_left : (setting : Setting) (services : Services) → (shutting_of setting services).state.subs.table.subscriptions ≡ []
 none_left setting services =
-    sym (ap (λ (r : Ran). r.subs.table.subscriptions) ((shutting_goes setting services).goes [] []).left) ∙ ap (λ (t : TableState). t.subscriptions) (nothing_left (world_of services.subs services.items setting.clock))
+    sym (ap (λ (r : Ran). r.subs.table.subscriptions) (shutting_on setting services [] []).left) ∙ ap (λ (t : TableState). t.subscriptions) (nothing_left (world_of services.subs services.items setting.clock))
 
 shut_empty : (world : World) → EndsEmpty world → EndsEmpty (stepping.shut_down world).world
 unfolding stepping.shut_down
@@ -95,37 +89,14 @@ shut_empty world h = by world.core.is_shut
 
 -- ---- bytes, of a connection that is heard still
 
-module _ (conn : ℕ) (shut : Bool) where
-  asked_same : (core : Core) (connections : Connections) (outs : List Out) (found : FrameOutcome) → core.is_shut ≡ shut → (asked_for conn (record core { connections = connections }) outs found).state.is_shut ≡ shut
-  asked_same core connections outs outcome.Nothing h = h
-  asked_same core connections outs outcome.Closed h = h
-  asked_same core connections outs (outcome.Request request) h = h
-
-  handled_same : (core : Core) (frame : Frame) → core.is_shut ≡ shut → (let d = handled conn core frame in (d.state.is_shut ≡ shut) × ⊤)
-  unfolding handled
-  handled_same core frame h = let t = taking_of core.setting conn core.connections frame in (asked_same core t.connections t.outs t.asked h, tt)
-
-  broken_same : (core : Core) (fault : FrameFault) → core.is_shut ≡ shut → (let d = broken conn core fault in (d.state.is_shut ≡ shut) × ⊤)
-  unfolding broken
-  broken_same core fault h = (h, tt)
-
-  fed_same : (world : World) (piece : List ℕ) (framing : Framing) → world.core.is_shut ≡ shut → (fed_to world conn piece (Some framing)).world.core.is_shut ≡ shut
-  fed_same world piece framing h =
-      let A : Bool → Core → Type 0 = λ b core. core.is_shut ≡ shut in
-      let Q : List Effect → Type 0 = λ effects. ⊤ in
-      let framed = framed_of framing.limit framing.held piece in
-      let d = all_handled (handled conn) world.core framed.frames in
-      let f = frames_keep conn A Q tt (λ xs ys p q. tt) handled_same broken_same framed.frames world.core h in
-      (end_keeps conn A Q tt (λ xs ys p q. tt) handled_same broken_same framed.end d f.0 f.1).0
-
 fed_empty : (world : World) (conn : ℕ) (piece : List ℕ) → EndsEmpty world → EndsEmpty (fed world conn piece).world
 unfolding fed
-fed_empty world conn piece h = by (get world.framers conn) refl
+fed_empty world conn piece h = by (get world.framers conn) refl (ap (λ (w : World). w.core.is_shut) (fed_apart world conn piece).rest)
   where
-    by : (o : Option Framing) → get world.framers conn ≡ o → EndsEmpty (fed_to world conn piece o).world
-    by None found = h
-    by (Some framing) found = λ is.
-        let clash : None ≡ Some framing = sym ((h (sym (fed_same conn world.core.is_shut world piece framing refl) ∙ is)).0 conn) ∙ found in
+    by : (o : Option Framing) → get world.framers conn ≡ o → (fed_to world conn piece o).world.core.is_shut ≡ world.core.is_shut → EndsEmpty (fed_to world conn piece o).world
+    by None found same = h
+    by (Some framing) found same = λ is.
+        let clash : None ≡ Some framing = sym ((h (sym same ∙ is)).0 conn) ∙ found in
         absurd (cc)
 
 -- ---- any event

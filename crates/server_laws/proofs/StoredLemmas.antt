@@ -26,7 +26,11 @@ use Rattle.ua_read_write.proofs.WrittenNodes.{changes_values_alone}
 use Rattle.server_messages.specs.Kept.{Kept, Past, is_same, put_at, dropped_at, past_with, with_stored, with_all_stored}
 use Rattle.ua_services.specs.declared.services.Services.{Services}
 use Rattle.ua_services.specs.Write.{is_historizing, history_with, dropped_by, with_change, all_kept, stored_change, stored_changes, with_written}
-use Rattle.server_laws.specs.Storing.{HasAll}
+
+-- the value of each variable is kept, and its history, as the server has them
+pub record HasAll (kept : Kept) (services : Services) : Type 0 where
+  pub values : (id : NodeId) (value : DataValue) → value_at id services.space.nodes ≡ Some value → kept.values id ≡ Some value
+  pub histories : (id : NodeId) (time : ℤ) → kept.histories id time ≡ history.value_at time (history_of id services.history)
 
 -- ---- values
 

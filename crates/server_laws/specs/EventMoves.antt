@@ -1,15 +1,10 @@
 -- The calls of subscriptions and items that the server comes to: a case for each kind of request, tick, and connection that is no more.
 use Rattle.std.specs.Prelude.{ℕ, ◌==◌, if◌then◌else◌, Bool, false, List, [], ◌∷◌, ◌++◌, map, length, nat_lt, Option, Some, None, Result, Ok, Err}
-use Rattle.std.specs.FinMap.{get}
+use Rattle.std.specs.List.{flat_map}
 use Rattle.ua_types.specs.Configuration.{Configuration}
-use Rattle.ua_types.specs.Moments.{later}
 use Rattle.ua_types.specs.declared.node_id.NodeId.{NodeId}
 use Rattle.ua_types.specs.declared.status.Status.{Status}
 use Rattle.ua_binary.specs.declared.fault.TakeFault.{TakeFault}
-use Rattle.ua_tcp.specs.Feeding.{Framing, framed_of}
-use Rattle.ua_tcp.specs.Frames.{End, Rest, Broken}
-use Rattle.ua_tcp.specs.Pieces.{all_handled}
-use Rattle.ua_tcp.specs.declared.frame.Frame.{Frame}
 use Rattle.ua_messages.specs.Bodies.{message_id_of}
 use Rattle.ua_messages.specs.Requests.{Headed, headed_of, fields_of}
 use Rattle.ua_messages.specs.declared.type_ids.TheConstants.{GET_ENDPOINTS_REQUEST, CREATE_SESSION_REQUEST, ACTIVATE_SESSION_REQUEST, CLOSE_SESSION_REQUEST, READ_REQUEST, WRITE_REQUEST, BROWSE_REQUEST, BROWSE_NEXT_REQUEST, HISTORY_READ_REQUEST, CREATE_MONITORED_ITEMS_REQUEST, MODIFY_MONITORED_ITEMS_REQUEST, SET_MONITORING_MODE_REQUEST, SET_TRIGGERING_REQUEST, DELETE_MONITORED_ITEMS_REQUEST, CREATE_SUBSCRIPTION_REQUEST, MODIFY_SUBSCRIPTION_REQUEST, SET_PUBLISHING_MODE_REQUEST, DELETE_SUBSCRIPTIONS_REQUEST, PUBLISH_REQUEST, REPUBLISH_REQUEST}
@@ -46,9 +41,6 @@ use Rattle.ua_monitored_items.specs.Kinds.{mode_numbered}
 use Rattle.ua_monitored_items.specs.declared.kinds.Mode.{Mode}
 use Rattle.ua_session.specs.Sessions.{SessionsState, find_of, close_of, ended_by}
 use Rattle.subscription_laws.specs.Runs.{ItemsCall, Move}
-use Rattle.server_connections.specs.Connecting.{taking_of}
-use Rattle.server_connections.specs.declared.frame_outcome.FrameOutcome.{FrameOutcome}
-use Rattle.server_connections.specs.declared.frame_outcome.FrameOutcome.TheVariants as outcome
 use Rattle.ua_services.specs.CreateSubscription.{settings_asked}
 use Rattle.ua_services.specs.ItemServing.{own_vars}
 use Rattle.ua_services.specs.ModifySubscription.{settings_wanted}
@@ -59,14 +51,10 @@ use Rattle.ua_services.specs.Services.{call_of}
 use Rattle.ua_services.specs.SessionServing.{with_sessions}
 use Rattle.ua_services.specs.declared.caller.Caller.{Caller}
 use Rattle.ua_services.specs.declared.services.Services.{Services}
-use Rattle.server_core.specs.Handling.{setting_at, handled}
-use Rattle.server_core.specs.Stepping.{Served, step_of}
-use Rattle.server_core.specs.World.{opening}
 use Rattle.server_core.specs.declared.parts.Core.{Core}
 use Rattle.server_core.specs.declared.world.World.{World}
 use Rattle.server_core.specs.declared.event.Event.{Event}
-use Rattle.server_core.specs.declared.event.Event.TheVariants.{Opened, Bytes, Gone, Tick, Shutdown}
-use Rattle.server_core.specs.declared.out.StepFault.{StepFault}
+use Rattle.server_laws.specs.Dealings.{Asked, Serves, Ticks, Forgets, Ends, Dealing, event_dealings, dealings_of}
 
 -- ---- what every service begins with
 
@@ -134,62 +122,59 @@ republish_moves setting session request state = Move.Republish setting.clock ses
 -- ---- the items of a subscription
 
 -- a request that is refused asks nothing of them
-abbrev pub nothing_asked : ItemsCall
-nothing_asked = ItemsCall.Delete []
+abbrev pub create_listed_asked : Setting → Services → Timestamps → Result (List MonitoredItemCreateRequest) Status → Option ItemsCall
+create_listed_asked setting state times (Ok requests) = Some (ItemsCall.Create state.space.nodes setting.clock times requests)
+create_listed_asked setting state times (Err code) = None
 
-abbrev pub create_listed_asked : Setting → Services → Timestamps → Result (List MonitoredItemCreateRequest) Status → ItemsCall
-create_listed_asked setting state times (Ok requests) = ItemsCall.Create state.space.nodes setting.clock times requests
-create_listed_asked setting state times (Err code) = nothing_asked
-
-abbrev pub create_timed_asked : Setting → Services → Option (List MonitoredItemCreateRequest) → Option Timestamps → ItemsCall
-create_timed_asked setting state requests None = nothing_asked
+abbrev pub create_timed_asked : Setting → Services → Option (List MonitoredItemCreateRequest) → Option Timestamps → Option ItemsCall
+create_timed_asked setting state requests None = None
 create_timed_asked setting state requests (Some times) = create_listed_asked setting state times (operations_of setting.config requests)
 
-abbrev pub create_asked : Setting → CreateMonitoredItemsRequest → Services → ItemsCall
+abbrev pub create_asked : Setting → CreateMonitoredItemsRequest → Services → Option ItemsCall
 create_asked setting request state = create_timed_asked setting state request.items_to_create (timestamps_of request.timestamps_to_return)
 
-abbrev pub modify_listed_asked : Timestamps → Result (List MonitoredItemModifyRequest) Status → ItemsCall
-modify_listed_asked times (Ok requests) = ItemsCall.Modify times requests
-modify_listed_asked times (Err code) = nothing_asked
+abbrev pub modify_listed_asked : Timestamps → Result (List MonitoredItemModifyRequest) Status → Option ItemsCall
+modify_listed_asked times (Ok requests) = Some (ItemsCall.Modify times requests)
+modify_listed_asked times (Err code) = None
 
-abbrev pub modify_timed_asked : Setting → Option (List MonitoredItemModifyRequest) → Option Timestamps → ItemsCall
-modify_timed_asked setting requests None = nothing_asked
+abbrev pub modify_timed_asked : Setting → Option (List MonitoredItemModifyRequest) → Option Timestamps → Option ItemsCall
+modify_timed_asked setting requests None = None
 modify_timed_asked setting requests (Some times) = modify_listed_asked times (operations_of setting.config requests)
 
-abbrev pub modify_asked : Setting → ModifyMonitoredItemsRequest → Services → ItemsCall
+abbrev pub modify_asked : Setting → ModifyMonitoredItemsRequest → Services → Option ItemsCall
 modify_asked setting request state = modify_timed_asked setting request.items_to_modify (timestamps_of request.timestamps_to_return)
 
-abbrev pub mode_asked_by : Setting → Services → List ℕ → Option Mode → ItemsCall
-mode_asked_by setting state numbers None = nothing_asked
-mode_asked_by setting state numbers (Some mode) = ItemsCall.SetMode state.space.nodes setting.clock mode numbers
+abbrev pub mode_asked_by : Setting → Services → List ℕ → Option Mode → Option ItemsCall
+mode_asked_by setting state numbers None = None
+mode_asked_by setting state numbers (Some mode) = Some (ItemsCall.SetMode state.space.nodes setting.clock mode numbers)
 
-abbrev pub mode_listed_asked : Setting → Services → Option Mode → Result (List ℕ) Status → ItemsCall
+abbrev pub mode_listed_asked : Setting → Services → Option Mode → Result (List ℕ) Status → Option ItemsCall
 mode_listed_asked setting state mode (Ok numbers) = mode_asked_by setting state numbers mode
-mode_listed_asked setting state mode (Err code) = nothing_asked
+mode_listed_asked setting state mode (Err code) = None
 
-abbrev pub mode_asked : Setting → SetMonitoringModeRequest → Services → ItemsCall
+abbrev pub mode_asked : Setting → SetMonitoringModeRequest → Services → Option ItemsCall
 mode_asked setting request state = mode_listed_asked setting state (mode_numbered request.monitoring_mode) (operations_of setting.config request.monitored_item_ids)
 
-abbrev pub link_counted_asked : SetTriggeringRequest → Result (Unit {0}) Status → ItemsCall
-link_counted_asked request (Ok good) = ItemsCall.Link request.triggering_item_id (listed request.links_to_add) (listed request.links_to_remove)
-link_counted_asked request (Err code) = nothing_asked
+abbrev pub link_counted_asked : SetTriggeringRequest → Result (Unit {0}) Status → Option ItemsCall
+link_counted_asked request (Ok good) = Some (ItemsCall.Link request.triggering_item_id (listed request.links_to_add) (listed request.links_to_remove))
+link_counted_asked request (Err code) = None
 
-abbrev pub link_asked : Setting → SetTriggeringRequest → Services → ItemsCall
+abbrev pub link_asked : Setting → SetTriggeringRequest → Services → Option ItemsCall
 link_asked setting request state = link_counted_asked request (count_judged setting.config (links_asked request))
 
-abbrev pub delete_listed_asked : Result (List ℕ) Status → ItemsCall
-delete_listed_asked (Ok numbers) = ItemsCall.Delete numbers
-delete_listed_asked (Err code) = nothing_asked
+abbrev pub delete_listed_asked : Result (List ℕ) Status → Option ItemsCall
+delete_listed_asked (Ok numbers) = Some (ItemsCall.Delete numbers)
+delete_listed_asked (Err code) = None
 
-abbrev pub delete_asked : Setting → DeleteMonitoredItemsRequest → Services → ItemsCall
+abbrev pub delete_asked : Setting → DeleteMonitoredItemsRequest → Services → Option ItemsCall
 delete_asked setting request state = delete_listed_asked (operations_of setting.config request.monitored_item_ids)
 
 -- the subscription is looked up first of all: it is the session's own, or there is no call
-abbrev pub items_moves_by : Setting → ℕ → ItemsCall → Option Vars → List Move
+abbrev pub items_moves_by : Setting → ℕ → Option ItemsCall → Option Vars → List Move
 items_moves_by setting number asked None = []
 items_moves_by setting number asked (Some before) = Move.Items setting.clock number asked ∷ []
 
-abbrev pub items_moves : Setting → ℕ → ℕ → ItemsCall → Services → List Move
+abbrev pub items_moves : Setting → ℕ → ℕ → Option ItemsCall → Services → List Move
 items_moves setting session number asked state = items_moves_by setting number asked (own_vars session number state)
 
 -- ---- a request
@@ -254,54 +239,22 @@ forgetting_moves conn = Move.Gone conn ∷ []
 abbrev pub shutting_moves : Setting → List Move
 shutting_moves setting = Move.Shutdown setting.clock ∷ []
 
--- ---- an event
+-- ---- a run
 
--- a frame completes a request, ends its connection, or neither
-abbrev pub asked_moves : ℕ → Core → FrameOutcome → List Move
-asked_moves conn core outcome.Nothing = []
-asked_moves conn core outcome.Closed = forgetting_moves conn
-asked_moves conn core (outcome.Request request) = serving_moves core.setting request core.services
+-- what is asked of the services
+abbrev pub moves_for : Core → Asked → List Move
+moves_for core (Serves request) = serving_moves core.setting request core.services
+moves_for core Ticks = ticking_moves core.setting core.services
+moves_for core (Forgets conn) = forgetting_moves conn
+moves_for core Ends = shutting_moves core.setting
 
-abbrev pub frame_moves : ℕ → Core → Frame → List Move
-frame_moves conn core frame = asked_moves conn core (taking_of core.setting conn core.connections frame).asked
-
--- frames in order, up to the one that closes the connection
-abbrev pub frames_moves : ℕ → Core → List Frame → List Move
-frames_moves conn core [] = []
-frames_moves conn core (frame ∷ frames) =
-    let d = handled conn core frame in
-    frame_moves conn core frame ++ (if d.goes_on then frames_moves conn d.state frames else [])
-
--- what is no frame ends a connection that is open still
-abbrev pub end_moves : ℕ → End → Bool → List Move
-end_moves conn (Rest bytes) goes_on = []
-end_moves conn (Broken fault) goes_on = if goes_on then forgetting_moves conn else []
-
-abbrev pub piece_moves : World → ℕ → List ℕ → Option Framing → List Move
-piece_moves world conn piece None = []
-piece_moves world conn piece (Some framing) =
-    let framed = framed_of framing.limit framing.held piece in
-    frames_moves conn world.core framed.frames ++ end_moves conn framed.end (all_handled (handled conn) world.core framed.frames).goes_on
+abbrev pub moves_at : Dealing → List Move
+moves_at d = moves_for d.core d.asked
 
 -- of an event that isn't refused
 abbrev pub event_moves : World → Event → List Move
-event_moves world (Opened conn key) = []
-event_moves world (Bytes conn bytes) = piece_moves world conn bytes (get world.framers conn)
-event_moves world (Gone conn) = forgetting_moves conn
-event_moves world (Tick now) = let core : Core = world.core in ticking_moves (setting_at core (later core.setting.clock now)) core.services
-event_moves world Shutdown = let core : Core = world.core in if core.is_shut then [] else shutting_moves core.setting
-
--- ---- a run
-
-abbrev pub moves_then : World → Event → Result Served StepFault → (World → List Move) → List Move
-moves_then world event (Ok s) more = event_moves world event ++ more s.world
-moves_then world event (Err fault) more = []
-
--- event after event, each by the world that those before it left, up to the first that is refused
-abbrev pub moves_from : World → List Event → List Move
-moves_from world [] = []
-moves_from world (event ∷ events) = moves_then world event (step_of world event) (λ next. moves_from next events)
+event_moves world event = flat_map moves_at (event_dealings world event)
 
 -- what a run of a server comes to: a function of its configuration, its nodes and the events
 abbrev pub moves_of : Configuration → SpaceState → List Event → List Move
-moves_of config space events = moves_from (opening config space) events
+moves_of config space events = flat_map moves_at (dealings_of config space events)

@@ -1,4 +1,5 @@
 pub mod Moving
+pub mod Dealings
 pub mod EventMoves
 pub mod Apart
 pub mod Concern

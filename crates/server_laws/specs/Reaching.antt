@@ -1,39 +1,37 @@
 -- How the values that items queued reach their clients.
-use Rattle.std.specs.Prelude.{◌≡◌, ◌⊎◌, ℕ, suc, ◌<◌, ◌≤◌, Bool, true, false, List, [], ◌∷◌, ◌++◌, drop, length, map, Option, Some, None, Ok, not}
+use Rattle.std.specs.Prelude.{◌≡◌, ℕ, suc, ◌<◌, ◌≤◌, Bool, true, false, List, [], ◌∷◌, ◌++◌, drop, length, map, Option, Some, None, Ok, not}
+use Rattle.std.specs.List.{AllByRecursion, flat_map}
 use Rattle.ua_types.specs.Configuration.{Configuration}
 use Rattle.ua_types.specs.declared.moment.Moment.{Moment}
 use Rattle.ua_space.specs.Nodes.{SpaceState}
 use Rattle.ua_values.specs.declared.data_value.DataValue.{DataValue}
-use Rattle.ua_item_queue.specs.Fates.{Fate, AccountEntry, account, any_marked, is_first_marked, is_waiting, waiting}
-use Rattle.ua_item_queue.specs.Fates.Fate.{Waits, WasSent, WasLost, WasCleared}
-use Rattle.ua_item_queue.specs.ItemQueue.{QueueMove, entry}
+use Rattle.ua_item_queue.specs.Fates.{Fate, account, any_marked, is_waiting, waiting, LossesAreMarked}
+use Rattle.ua_item_queue.specs.Fates.Fate.{Waits, WasLost, WasCleared}
+use Rattle.ua_item_queue.specs.ItemQueue.{QueueMove}
 use Rattle.ua_item_queue.specs.ItemQueue.QueueMove.{Sample}
 use Rattle.ua_item_queue.specs.Marks.{fate_at}
+use Rattle.ua_item_queue.specs.Sendings.{sent_of}
 use Rattle.ua_item_queue.specs.declared.entry.Entry.{Entry}
 use Rattle.ua_monitored_items.specs.Causes.{call_may_give}
 use Rattle.ua_monitored_items.specs.Givings.{entries_of}
 use Rattle.ua_monitored_items.specs.Moves as item_moves
-use Rattle.ua_monitored_items.specs.Moves.{account_of, queue_at}
+use Rattle.ua_monitored_items.specs.Moves.{account_of}
 use Rattle.ua_subscriptions.specs.declared.messages.KeptMessage.{KeptMessage}
 use Rattle.ua_subscriptions.specs.Making.{republished}
 use Rattle.ua_subscriptions.specs.SubscriptionCalls.{world_of}
 use Rattle.subscription_laws.specs.ItemCalls.{item_calls}
 use Rattle.subscription_laws.specs.MessageContents.{Taken, IsMadeOf, all_taken}
 use Rattle.subscription_laws.specs.Messaging.{Made, IsAmong, messages_for}
-use Rattle.subscription_laws.specs.Tellings.{Telling, Told, Notifications, KeepAlive, TimedOut, Refused, answer_of}
+use Rattle.subscription_laws.specs.Tellings.{Telling, Told, Notifications, answer_of}
 use Rattle.ua_services.specs.declared.services.Services.{Services}
 use Rattle.server_core.specs.Subscriptions.{kept_on}
 use Rattle.server_core.specs.declared.world.World.{World}
 use Rattle.server_core.specs.declared.event.Event.{Event}
 use Rattle.server_laws.specs.EventMoves.{moves_of}
-use Rattle.server_laws.specs.Fates.{queue_moves_after, account_after}
+use Rattle.server_laws.specs.Fates.{queue_moves_after, account_after, HoldsWhatWaits}
 use Rattle.server_laws.specs.Messages.{made_by}
 use Rattle.server_laws.specs.Postings.{Posting, posted}
 use Rattle.server_laws.specs.Tellings.{told_by}
-
-abbrev pub StandsIn : {A : Type 0} → A → List A → Type 0
-StandsIn x [] = ⊥
-StandsIn x (y ∷ ys) = (x ≡ y) ⊎ StandsIn x ys
 
 -- ---- which answer brings which value
 
@@ -48,21 +46,26 @@ pub record BroughtValue : Type 0 where
 abbrev pub brought_value : Telling → Made → Taken → Entry DataValue → BroughtValue
 brought_value answer message taken value = record { answer = answer; message = message; taken = taken; value = value }
 
-abbrev pub by_message : ℕ → Telling → Made → List Taken → (List Taken → List BroughtValue) → List BroughtValue
-by_message number answer message [] rest = []
-by_message number answer message (t ∷ ts) rest = map (brought_value answer message t) (entries_of number t.givings) ++ rest ts
+-- the message of an answer with notifications; the others bring none
+abbrev pub message_by : Telling → Told → List (Telling × Made)
+message_by answer (Notifications message more) = (answer, message) ∷ []
+message_by answer told = []
 
-abbrev pub by_answer : ℕ → Telling → Told → List Taken → (List Taken → List BroughtValue) → List BroughtValue
-by_answer number answer (Notifications message more) taken rest = by_message number answer message taken rest
-by_answer number answer (KeepAlive subscription next) taken rest = rest taken
-by_answer number answer (TimedOut note) taken rest = rest taken
-by_answer number answer (Refused code) taken rest = rest taken
+abbrev pub messages_by : Telling → List (Telling × Made)
+messages_by answer = message_by answer answer.told
 
--- The values of the item of a number that answers bring, answer after answer. Each answer with notifications brings what was taken
--- next, in the order in which the item gave it; the others bring nothing
+-- each message brings what was taken next, in the order in which the item of a number gave it
+abbrev pub values_by : ℕ → List (Telling × Made) → List Taken → List BroughtValue
+values_by number [] taken = []
+values_by number (b ∷ bs) [] = []
+values_by number (b ∷ bs) (t ∷ ts) = map (brought_value b.0 b.1 t) (entries_of number t.givings) ++ values_by number bs ts
+
+-- the values of the item of a number that answers bring, answer after answer
 abbrev pub brought_values : ℕ → List Telling → List Taken → List BroughtValue
-brought_values number [] taken = []
-brought_values number (answer ∷ answers) taken = by_answer number answer answer.told taken (λ left. brought_values number answers left)
+brought_values number answers taken = values_by number (flat_map messages_by answers) taken
+
+abbrev pub value_of : BroughtValue → Entry DataValue
+value_of b = b.value
 
 -- all of a run
 abbrev pub brought_in : Configuration → SpaceState → List Event → ℕ → List BroughtValue
@@ -81,7 +84,7 @@ pub record IsBrought (config : Configuration) (space : SpaceState) (events : Lis
   pub brings : b.answer.told ≡ Notifications b.message more
   pub posting : Posting
   pub carries : posting.reply ≡ answer_of b.answer
-  pub goes_out : StandsIn posting (posted config space events)
+  pub goes_out : IsAmong posting (posted config space events)
   pub notes : IsMadeOf b.message b.taken
   pub kept : IsAlone b.message (made_by config space events) → (bytes : List ℕ) → kept_on (Some world) b.message.subscription b.message.message.number ≡ Some bytes → bytes ≡ b.message.message.bytes
   pub republished : IsAlone b.message (made_by config space events) → (clock : Moment) (session : ℕ) (bytes : List ℕ) → let services : Services = world.core.services in
@@ -120,43 +123,15 @@ pub record IsDrivenOut (queue_moves : List (QueueMove DataValue)) (place : ℕ) 
 
 -- ---- what has come of each
 
--- what is said of a value that an answer brings, and of one that was lost or cleared, by its place
-pub record Sayings : Type 1 where
-  pub Brought : BroughtValue → Type 0
-  pub Lost : ℕ → Type 0
-  pub Cleared : ℕ → Type 0
-
-abbrev pub HasWaited : Entry DataValue → List (Entry DataValue) → (List (Entry DataValue) → Type 0) → Type 0
-HasWaited value [] Rest = ⊥
-HasWaited value (first ∷ queue) Rest = (first ≡ value) × Rest queue
-
-abbrev pub WasBrought : (BroughtValue → Type 0) → Entry DataValue → List BroughtValue → (List BroughtValue → Type 0) → Type 0
-WasBrought Brought value [] Rest = ⊥
-WasBrought Brought value (first ∷ brought) Rest = (first.value ≡ value) × Brought first × Rest brought
-
--- A value waits as the next one of the queue; or it is the next one that answers bring, with its mark; or it was lost, and if nothing
--- was cleared since and the queue holds more than one value, the first one behind it that is left carries the mark; or it was cleared
-abbrev pub HasCome : Sayings → List (Entry DataValue) → List BroughtValue → (place : ℕ) → AccountEntry DataValue → (behind : List (AccountEntry DataValue)) → (List (Entry DataValue) → List BroughtValue → Type 0) → Fate → Type 0
-HasCome S queue brought place t behind Rest Waits = HasWaited (entry t.value t.marked) queue (λ left. Rest left brought)
-HasCome S queue brought place t behind Rest WasSent = WasBrought S.Brought (entry t.value t.marked) brought (λ left. Rest queue left)
-HasCome S queue brought place t behind Rest WasLost = S.Lost place × (t.needs_mark ≡ true → is_first_marked behind ≡ true) × Rest queue brought
-HasCome S queue brought place t behind Rest WasCleared = S.Cleared place × Rest queue brought
-
--- So it is with each value of an account, in order, from a place on; and the queue holds no other value, and the answers bring no other
-abbrev pub HaveCome : Sayings → List (Entry DataValue) → List BroughtValue → (place : ℕ) → List (AccountEntry DataValue) → Type 0
-HaveCome S queue brought place [] = (queue ≡ []) × (brought ≡ [])
-HaveCome S queue brought place (t ∷ ts) = HasCome S queue brought place t ts (λ q ds. HaveCome S q ds (suc place) ts) t.fate
-
--- of an item of a run
-abbrev pub sayings : Configuration → SpaceState → List Event → ℕ → World → Sayings
-sayings config space events number world = record {
-  Brought = IsBrought config space events world;
-  Lost = λ place. IsDrivenOut (queue_moves_after config space events number) place × IsCausedBy config (item_calls config (moves_of config space events)) number place WasLost;
-  Cleared = λ place. IsCausedBy config (item_calls config (moves_of config space events)) number place WasCleared;
-}
-
--- and with each value that the item of a number queued in a run
-abbrev pub ValuesHaveCome : Configuration → SpaceState → List Event → ℕ → World → Type 0
-ValuesHaveCome config space events number world =
-    let services : Services = world.core.services in
-    HaveCome (sayings config space events number world) (queue_at number services.items.items) (brought_in config space events number) 0 (account_after config space events number)
+-- Of each value that the item of a number queued, as its account has them, in the order of sampling: the queue is those that wait; what
+-- answers brought are those that were sent, in order, each with its mark in its message; each that was lost or cleared has its cause,
+-- and if nothing was cleared since and the queue holds more than one value, the first one left behind a lost one carries the mark
+pub record ValuesHaveCome (config : Configuration) (space : SpaceState) (events : List Event) (number : ℕ) (world : World) : Type 0 where
+  pub wait : HoldsWhatWaits (account_after config space events number) number world
+  pub sent : map value_of (brought_in config space events number) ≡ sent_of (account_after config space events number)
+  pub brought : AllByRecursion (IsBrought config space events world) (brought_in config space events number)
+  pub lost : (place : ℕ) → fate_at place (account_after config space events number) ≡ Some WasLost →
+      IsDrivenOut (queue_moves_after config space events number) place × IsCausedBy config (item_calls config (moves_of config space events)) number place WasLost
+  pub cleared : (place : ℕ) → fate_at place (account_after config space events number) ≡ Some WasCleared →
+      IsCausedBy config (item_calls config (moves_of config space events)) number place WasCleared
+  pub marked : LossesAreMarked (account_after config space events number)

@@ -1,5 +1,5 @@
 -- What a store has to keep of a server.
-use Rattle.std.specs.Prelude.{◌≡◌, ℤ, List, [], ◌∷◌, ◌++◌, Some}
+use Rattle.std.specs.Prelude.{◌≡◌, ◌⊎◌, ℤ, List, [], Some}
 use Rattle.ua_types.specs.Configuration.{Configuration}
 use Rattle.ua_types.specs.declared.node_id.NodeId.{NodeId}
 use Rattle.ua_values.specs.declared.data_value.DataValue.{DataValue}
@@ -12,26 +12,29 @@ use Rattle.server_messages.specs.declared.stored.Stored.{Stored}
 use Rattle.ua_services.specs.ServicesState.{no_services_used}
 use Rattle.ua_services.specs.declared.services.Services.{Services}
 use Rattle.server_core.specs.Coherent.{reached, IfRuns}
-use Rattle.server_core.specs.Effects.{Effect, stored_of}
+use Rattle.server_core.specs.Effects.{stored_of}
+use Rattle.server_core.specs.Running.{Running, joined_effects}
 use Rattle.server_core.specs.declared.world.World.{World}
 use Rattle.server_core.specs.declared.event.Event.{Event}
 
--- the value of each variable is kept, and its history, as the server has them
-pub record HasAll (kept : Kept) (services : Services) : Type 0 where
-  pub values : (id : NodeId) (value : DataValue) → value_at id services.space.nodes ≡ Some value → kept.values id ≡ Some value
-  pub histories : (id : NodeId) (time : ℤ) → kept.histories id time ≡ history.value_at time (history_of id services.history)
+-- what a run has a store keep, in order
+abbrev pub stored_in : Running → List Stored
+stored_in r = stored_of (joined_effects r.steps)
 
--- what steps have a store keep, in order
-abbrev pub stored_in : List (List Effect) → List Stored
-stored_in [] = []
-stored_in (effects ∷ steps) = stored_of effects ++ stored_in steps
+-- Of each variable the value is kept that the server has; or nothing was kept of it, and the server has what it began with. So it is at
+-- each time of its history
+pub record HasWhatChanged (begun services : Services) (before kept : Kept) : Type 0 where
+  pub values : (id : NodeId) (value : DataValue) → value_at id services.space.nodes ≡ Some value →
+      (kept.values id ≡ Some value) ⊎ ((kept.values id ≡ before.values id) × (value_at id begun.space.nodes ≡ Some value))
+  pub histories : (id : NodeId) (time : ℤ) → let has = λ (s : Services). history.value_at time (history_of id s.history) in
+      (kept.histories id time ≡ has services) ⊎ ((kept.histories id time ≡ before.histories id time) × (has services ≡ has begun))
 
--- who had all that the server began with, and keeps what its steps tell, has all that the server has
-abbrev pub StoreHasAll : Configuration → SpaceState → List Event → Type 0
-StoreHasAll config space events =
-    (kept : Kept) → HasAll kept (no_services_used config space) →
-    let r = reached config space events in IfRuns (λ (world : World). HasAll (with_all_stored kept (stored_in r.steps)) world.core.services) r.server
+-- so it is with whoever keeps what the steps of a server tell, whatever was kept before
+abbrev pub StoreHasWhatChanged : Configuration → SpaceState → List Event → Type 0
+StoreHasWhatChanged config space events =
+    (kept : Kept) → let r = reached config space events in
+    IfRuns (λ (world : World). HasWhatChanged (no_services_used config space) world.core.services kept (with_all_stored kept (stored_in r))) r.server
 
 -- nothing is told for a store
 abbrev pub NothingIsStored : Configuration → SpaceState → List Event → Type 0
-NothingIsStored config space events = stored_in (reached config space events).steps ≡ []
+NothingIsStored config space events = stored_in (reached config space events) ≡ []

@@ -2,7 +2,10 @@
 use Rattle.std.specs.Prelude.{◌≡◌, ◌<◌, ◌+◌, ℕ, true, false, List, [], ◌∷◌, ◌++◌, Option, Some, None}
 use Rattle.ua_types.specs.Configuration.{Configuration}
 use Rattle.server_messages.specs.declared.fired.Fired.{Fired}
+use Rattle.ua_types.specs.declared.moment.Moment.{Moment}
 use Rattle.ua_space.specs.Nodes.{SpaceState}
+use Rattle.ua_subscription_messages.specs.declared.publishing.SubscriptionAcknowledgement.{SubscriptionAcknowledgement}
+use Rattle.ua_subscriptions.specs.declared.publish_call.PublishCall.{PublishCall}
 use Rattle.ua_monitored_items.specs.ItemTables.{item_at}
 use Rattle.ua_state_table.specs.Sound.{IsSound}
 use Rattle.ua_state_table.specs.StateTable.{fires}
@@ -15,6 +18,7 @@ use Rattle.subscription_laws.specs.Histories.{counts_at, life_at}
 use Rattle.ua_subscriptions.specs.Ranks.{is_waiting}
 use Rattle.subscription_laws.specs.LiveItems.{AreOfLive}
 use Rattle.subscription_laws.specs.OwnRequests.{AreOwnAnswers}
+use Rattle.subscription_laws.specs.Precedence.{ComesToTheBest, ComesBestFirst}
 use Rattle.subscription_laws.specs.Runs.{Move, run}
 use Rattle.ua_subscriptions.specs.SubscriptionCalls.{SubscriptionsState}
 use Rattle.ua_subscriptions.specs.Subscriptions.{vars_of}
@@ -116,3 +120,10 @@ pub record ItemsHaveSubscriptions (config : Configuration) (space : SpaceState) 
 -- at each call of a run, what is answered about a subscription is given to a Publish request that came in that one's session
 abbrev pub AnswersStayInSessions : Configuration → SpaceState → List Event → Type 0
 AnswersStayInSessions config space events = (before : List Move) (m : Move) (rest : List Move) → before ++ m ∷ rest ≡ moves_of config space events → AreOwnAnswers config before m
+
+-- Each Publish request of a run comes to the best of the subscriptions that wait for it, and each tick to those that are due, the best
+-- first
+pub record ServesTheBestFirst (config : Configuration) (space : SpaceState) (events : List Event) : Type 0 where
+  pub asked : (before : List Move) (clock : Moment) (session : ℕ) (asked : PublishCall) (acks : List SubscriptionAcknowledgement) (rest : List Move) →
+      before ++ Move.Publish clock session asked acks ∷ rest ≡ moves_of config space events → ComesToTheBest (run config before) clock session asked acks
+  pub due : (before : List Move) (clock : Moment) (rest : List Move) → before ++ Move.Timers clock ∷ rest ≡ moves_of config space events → ComesBestFirst (run config before) clock

@@ -1,9 +1,9 @@
 //! Laws of the server: what holds of its sessions and subscriptions after every list of events.
 //!
 //! The laws have no code: their contracts state them, over the definitions of the crate [`server_core`] and those below it.
-//! What a run did is a function of its configuration, its nodes and its events: `EventMoves` has the calls of subscriptions and
-//! items that each request, tick and connection that is no more comes to, and [`subscriptions_come_by_moves`] says that they lead
-//! to what the server holds. All that is said of a run is said over that one list.
+//! What a run did is a function of its configuration, its nodes and its events: `Dealings` has what it asks of the services, one thing
+//! after the other; `EventMoves` the calls of subscriptions and items that each comes to, and [`subscriptions_come_by_moves`] says
+//! that they lead to what the server holds; `Postings` what goes out for each. All that is said of a run is said over that one list.
 //!
 //! What a contract sees: the runs of a server, and the calls that they come to.
 //!
@@ -20,7 +20,7 @@ pub mod storing;
 pub mod tellings;
 
 ghost use Rattle.std.specs.Prelude.{ℕ, List, []};
-ghost use Rattle.ua_types.specs.Configuration.{Configuration};
+ghost use Rattle.ua_types.specs.Configuration.{Configuration, IsConfigured};
 ghost use Rattle.server_messages.specs.declared.request.Request.{Request};
 ghost use Rattle.server_messages.specs.declared.setting.Setting.{Setting};
 ghost use Rattle.ua_space.specs.Nodes.{SpaceState};
@@ -35,9 +35,10 @@ ghost use Rattle.server_laws.specs.EventMoves.{serving_moves, ticking_moves, for
 ghost use Rattle.server_laws.specs.Fates.{HaveOneFate, StandInMessages, MarksItsLosses};
 ghost use Rattle.server_laws.specs.Messages.{made_by, NumbersItsMessages, GivesTheFirstBytes};
 ghost use Rattle.server_laws.specs.Moving.{ComesOn, ComesOnBy};
+ghost use Rattle.server_laws.specs.Postings.{AnswersAreSent};
 ghost use Rattle.server_laws.specs.Replying.{BringsMessages, SendsReplies};
 ghost use Rattle.server_laws.specs.SessionsApart.{SessionsStayApart};
-ghost use Rattle.server_laws.specs.Tables.{rows_of_run, IfShown, LeadTo, NoneWaitsBesideARequest, NoKeepAliveIsSkipped, FiresOneRow, TimesOutExactly, NoneTimesOutBesideARequest, ItemsHaveSubscriptions, AnswersStayInSessions};
+ghost use Rattle.server_laws.specs.Tables.{rows_of_run, IfShown, LeadTo, NoneWaitsBesideARequest, NoKeepAliveIsSkipped, FiresOneRow, TimesOutExactly, NoneTimesOutBesideARequest, ItemsHaveSubscriptions, AnswersStayInSessions, ServesTheBestFirst};
 
 /// What the services do is a function of what is asked: each request, served or refused, each tick, and each connection that is
 /// gone comes to the calls of the subscriptions and their items that `EventMoves` lists for it. The subscriptions and items after
@@ -74,6 +75,9 @@ pub fn subscriptions_come_by_moves()
 ///   items, its own and others, only that they see the values that it accepts. A request is what a frame completes.
 /// - `answers_in_their_sessions`: each answer about a subscription is given to a Publish request that came in that subscription's
 ///   session, the note that it has timed out, too: in the session that it had.
+/// - `best_first`: a Publish request is answered by the best of the subscriptions of its session that wait, and by no other, unless its
+///   answer is the note of a time-out; a tick comes to those that are due, the best first. The best has the highest priority, then the
+///   least recent message, then the least number.
 /// - `items_have_subscriptions`: each monitored item is of a live subscription, and once the server was shut down, there is none.
 pub fn table()
     ensures one_row { (config : Configuration) (space : SpaceState) (events : List Event) → FiresOneRow config space events }
@@ -86,6 +90,7 @@ pub fn table()
         IfShown (NoKeepAliveIsSkipped (rows_of_run r)) r.server }
     ensures sessions_apart { (config : Configuration) (space : SpaceState) (events : List Event) → SessionsStayApart config space events }
     ensures answers_in_their_sessions { (config : Configuration) (space : SpaceState) (events : List Event) → AnswersStayInSessions config space events }
+    ensures best_first { (config : Configuration) (space : SpaceState) (events : List Event) → ServesTheBestFirst config space events }
     ensures items_have_subscriptions { (config : Configuration) (space : SpaceState) (events : List Event) → ItemsHaveSubscriptions config space events }
 {}
 
@@ -104,12 +109,18 @@ pub fn table()
 ///   once it is no more; more events only add messages. A note of a time-out has the number that would have come next.
 /// - `republish_gives_the_first_bytes`: what Republish and [`Server::kept`](server_core::Server::kept) give is, byte for byte, the
 ///   message that was made under that number, and under each number that is shown there is one.
+/// - `answers_are_sent`: each answer that is posted goes out by the channel of the connection that its request came by, in its
+///   chunks; or, where that channel finds it too large for its client, the fault Bad_ResponseTooLarge does in its place, at the
+///   server's time. None goes out as nothing. That all of it is among what the run sends, in order, is `go_out` of
+///   [`values_reach_their_clients`](reaching::values_reach_their_clients). (That a configuration `IsConfigured` is the invariant of
+///   every [`ua_types::Config`].)
 pub fn losses()
     ensures fates { (config : Configuration) (space : SpaceState) (events : List Event) (number : ℕ) → HaveOneFate config space events number }
     ensures each_in_one_message { (config : Configuration) (space : SpaceState) (events : List Event) (number : ℕ) → StandInMessages config space events number }
     ensures overflow_marks { (config : Configuration) (space : SpaceState) (events : List Event) (number : ℕ) → MarksItsLosses config space events number }
     ensures message_numbers { (config : Configuration) (space : SpaceState) (events : List Event) → NumbersItsMessages config space events }
     ensures republish_gives_the_first_bytes { (config : Configuration) (space : SpaceState) (events : List Event) → GivesTheFirstBytes config space events }
+    ensures answers_are_sent { (config : Configuration) (space : SpaceState) (events : List Event) → IsConfigured config → AnswersAreSent config space events }
 {}
 
 /// Whatever happens, each message that a row makes answers a Publish request, one message a request, in the

@@ -10,13 +10,12 @@ ghost use Rattle.ua_types.specs.Configuration.{Configuration};
 
 /// What has come of each value that an item queued, whatever happens: all that [`losses`](crate::losses) says of one, in one clause.
 ///
-/// - `come`: the account of an item, value by value in the order of sampling, is its queue and what answers brought, merged, and the
-///   rest was lost or cleared. One that waits is the next of the queue. One that was sent is the next that an answer brings, with its
-///   mark, in a message whose bytes are the notes of what the items gave for it; the answer goes out, to the Publish request that it
-///   answers; and while the message is kept, those bytes are what [`Server::kept`](server_core::Server::kept) and Republish give.
-///   One that was lost was driven out by a newer one of a full queue, and where that holds more than one value, a later one carried
-///   the mark at once; and if nothing was cleared since, the first one behind it that is left does. One that was cleared was so by a
-///   call that clears, which stands among those of the run.
+/// - `come`: the account of an item has each value that it queued, in the order of sampling. Those that wait are its queue. Those that
+///   were sent are what answers brought, in order, each with its mark, in a message whose bytes are the notes of what the items gave
+///   for it; the answer goes out, to the Publish request that it answers; and while the message is kept, those bytes are what
+///   [`Server::kept`](server_core::Server::kept) and Republish give. Each that was lost was driven out by a newer one of a full queue,
+///   and where that holds more than one value, a later one carried the mark at once; and if nothing was cleared since, the first one
+///   behind it that is left does. Each that was cleared was so by a call that clears, which stands among those of the run.
 /// - `go_out`: what is posted for replies goes out, in the order of the replies: each in its chunks on the connection that its request
 ///   came by, or as the fault `BAD_RESPONSE_TOO_LARGE` in its place. None lacks a channel
 ///   ([`loses_no_reply`](server_core::laws::loses_no_reply)).

@@ -3,21 +3,31 @@
 //! A body calls the law and does nothing else, so what is proved follows from the law's contract. If a clause said nothing, its
 //! story would be let through, and this module wouldn't be proved.
 
-ghost use Rattle.std.specs.Prelude.{◌≡◌, ◌≢◌, ℕ, true, List, [], ◌∷◌, ◌++◌, Some};
-ghost use Rattle.ua_types.specs.Configuration.{Configuration};
+ghost use Rattle.std.specs.Prelude.{◌≡◌, ◌≢◌, ℕ, true, List, [], ◌∷◌, ◌++◌, Some, None, Ok};
+ghost use Rattle.ua_types.specs.Configuration.{Configuration, IsConfigured};
+ghost use Rattle.ua_types.specs.declared.moment.Moment.{Moment};
+ghost use Rattle.ua_types.specs.declared.node_id.NodeId.{NodeId};
 ghost use Rattle.ua_space.specs.Nodes.{SpaceState};
+ghost use Rattle.ua_space.specs.Values.{value_at};
 ghost use Rattle.ua_values.specs.declared.data_value.DataValue.{DataValue};
 ghost use Rattle.ua_read_write.specs.declared.writing.Change.{Change};
+ghost use Rattle.ua_channel.specs.ChannelStates.{ChannelState};
+ghost use Rattle.ua_channel.specs.Cutting.{send_of};
+ghost use Rattle.server_messages.specs.Kept.{Kept, with_all_stored};
 ghost use Rattle.server_messages.specs.declared.fired.Fired.{Fired};
 ghost use Rattle.server_messages.specs.declared.request.Request.{Request};
 ghost use Rattle.ua_state_table.specs.declared.event.TableEvent.TheVariants.{Timer};
 ghost use Rattle.ua_state_table.specs.declared.row.RowId.TheVariants.{G6};
 ghost use Rattle.ua_subscriptions.specs.declared.subscription.Subscription.{Subscription};
 ghost use Rattle.ua_subscriptions.specs.declared.messages.KeptMessage.{KeptMessage};
-ghost use Rattle.ua_subscriptions.specs.Ranks.{is_waiting};
+ghost use Rattle.ua_subscriptions.specs.declared.publish_call.PublishCall.{PublishCall};
+ghost use Rattle.ua_subscriptions.specs.declared.ranks.Rank.{Rank};
+ghost use Rattle.ua_subscriptions.specs.Publishing.{note_of, ready};
+ghost use Rattle.ua_subscriptions.specs.Ranks.{is_waiting, waiting_of};
 ghost use Rattle.ua_subscriptions.specs.Scenes.{Scene};
+ghost use Rattle.ua_subscriptions.specs.SubscriptionCalls.{world_of};
 ghost use Rattle.ua_subscriptions.specs.Tables.{part_at, subscription_at};
-ghost use Rattle.subscription_laws.specs.Concern.{Concern, all_concerned};
+ghost use Rattle.subscription_laws.specs.Concern.{Concern, concerned, all_concerned};
 ghost use Rattle.subscription_laws.specs.Encounters.{Meets, encounters};
 ghost use Rattle.subscription_laws.specs.Histories.{counts_at, life_at};
 ghost use Rattle.subscription_laws.specs.Messaging.{messages_for};
@@ -25,7 +35,9 @@ ghost use Rattle.subscription_laws.specs.OwnRequests.{CameIn};
 ghost use Rattle.subscription_laws.specs.Requests.{name_of};
 ghost use Rattle.subscription_laws.specs.Runs.{Move, run};
 ghost use Rattle.subscription_laws.specs.Tellings.{Telling, told_at};
+ghost use Rattle.server_connections.specs.Reactions.{sends};
 ghost use Rattle.ua_services.specs.Services.{serving_of};
+ghost use Rattle.ua_services.specs.ServicesState.{no_services_used};
 ghost use Rattle.ua_services.specs.Write.{sampled};
 ghost use Rattle.server_core.specs.Coherent.{reached};
 ghost use Rattle.server_core.specs.Subscriptions.{kept_on};
@@ -35,9 +47,12 @@ ghost use Rattle.server_laws.specs.Apart.{NamesOnly, accepted, is_write};
 ghost use Rattle.server_laws.specs.EventMoves.{moves_of};
 ghost use Rattle.server_laws.specs.Fates.{account_after};
 ghost use Rattle.server_laws.specs.Messages.{made_by};
+ghost use Rattle.server_laws.specs.Postings.{Posting, posted};
+ghost use Rattle.server_laws.specs.Storing.{stored_in};
 ghost use Rattle.server_laws.specs.Stories.{lost, sent, waiting};
 ghost use Rattle.server_laws.specs.Tables.{rows_of_run};
 
+use crate::storing::store_has_what_changed;
 use crate::{losses, table};
 
 /// A value was lost, and the next one that waits carries no mark.
@@ -108,6 +123,33 @@ pub fn an_answer_across_sessions()
     table();
 }
 
+/// Two subscriptions of a session wait, and a Publish request comes to the one that comes second.
+pub fn the_second_best_answers()
+    ensures { (config : Configuration) (space : SpaceState) (events : List Event) (before : List Move) (clock : Moment) (session : ℕ) (asked : PublishCall) (rest : List Move) (first second : Rank) (c : Concern) →
+        before ++ Move.Publish clock session asked [] ∷ rest ≡ moves_of config space events → let r = run config before in let t = (ready session [] (world_of r.subs r.items clock)).table in
+        note_of session r.subs.table.sessions ≡ None → waiting_of t.subscriptions (part_at session t.sessions).numbers ≡ first ∷ second ∷ [] →
+        concerned r (Move.Publish clock session asked []) ≡ c ∷ [] → c.subscription ≡ second.number → first.number ≢ second.number → ⊥ }
+{
+    table();
+}
+
+/// An answer is posted, and nothing goes out for it.
+pub fn an_answer_that_is_swallowed()
+    ensures { (config : Configuration) (space : SpaceState) (events : List Event) (p : Posting) → IsConfigured config →
+        posted config space events ≡ p ∷ [] → p.outs ≡ [] → ⊥ }
+{
+    losses();
+}
+
+/// An answer fits by the channel of its client, and something else goes out: the fault for one that is too large, for instance.
+pub fn an_answer_that_fits_is_refused()
+    ensures { (config : Configuration) (space : SpaceState) (events : List Event) (p : Posting) (channel : ChannelState) (chunks : List (List ℕ)) → IsConfigured config →
+        posted config space events ≡ p ∷ [] → p.channel ≡ Some channel → (send_of channel p.reply.id p.reply.body).answer ≡ Ok chunks →
+        p.outs ≢ sends p.reply.conn chunks → ⊥ }
+{
+    losses();
+}
+
 /// A Write accepts two values, and the items see the first alone.
 pub fn a_second_value_unseen()
     ensures { (config : Configuration) (space : SpaceState) (events : List Event) (world : World) (request : Request) (session : ℕ) (first second : Change) →
@@ -117,4 +159,13 @@ pub fn a_second_value_unseen()
         sampled before.items (first ∷ []) ≢ sampled before.items (first ∷ second ∷ []) → ⊥ }
 {
     table();
+}
+
+/// A variable's value changed, and a store that kept what the steps say has another one.
+pub fn a_change_that_is_not_kept()
+    ensures { (config : Configuration) (space : SpaceState) (events : List Event) (world : World) (kept : Kept) (id : NodeId) (value other : DataValue) → config.has_store ≡ true →
+        (reached config space events).server ≡ Some world → value_at id world.core.services.space.nodes ≡ Some value → value_at id (no_services_used config space).space.nodes ≢ Some value →
+        (with_all_stored kept (stored_in (reached config space events))).values id ≡ Some other → other ≢ value → ⊥ }
+{
+    store_has_what_changed();
 }

@@ -1,10 +1,10 @@
 -- Whether the items of a subscription have values to send, while those of another change, and while values are shown.
 use Rattle.std.proofs.Common.{◌≡◌, ◌≢◌, ◌⊎◌, inl, inr, ℕ, arith, Bool, true, false, cond, ◌||◌, List, [], ◌∷◌, ◌++◌, length, Option, Some, None, refl, sym, ap, ◌∙◌, subst}
-use Rattle.std.proofs.lemmas.Bool.{eqb-true}
+use Rattle.std.proofs.lemmas.Bool.{ne_eqb, eqb-true, or_right}
 use Rattle.std.proofs.lemmas.List.Sums.{fold-append}
 use Rattle.std.specs.BTreeMap.{is_at}
 use Rattle.std.specs.Map.{set_value}
-use Rattle.std.specs.Ordering.{nat_cmp, is_eq}
+use Rattle.std.specs.Ordering.{nat_cmp}
 use Rattle.std.specs.Prelude.{◌==◌, ◌&&◌, fold, nat_lt}
 use Rattle.number_slots.proofs.NumberMaps.{same_number}
 use Rattle.ua_types.specs.Configuration.{Configuration}
@@ -15,7 +15,7 @@ use Rattle.ua_item_queue.specs.ItemQueue.QueueChange.{Queued, FrontDropped, Newe
 use Rattle.ua_item_queue.specs.ItemQueue.QueueMove.{Sample}
 use Rattle.ua_item_queue.specs.declared.entry.Entry.{Entry}
 use Rattle.ua_monitored_items.specs.Item.{is_reporting, is_sampling, tells, takes, queued, seen, released_in}
-use Rattle.ua_monitored_items.specs.ItemTables.{NumberedItems, item_at, is_of, numbers_of, with_found, with_item, AreAbove, AreRising}
+use Rattle.ua_monitored_items.specs.ItemTables.{NumberedItems, item_at, is_of, numbers_of, with_found, with_item, AreRising}
 use Rattle.ua_monitored_items.specs.Items.{ItemsState, no_items, is_available, any_waits, waits_in, Visit, visits_of, visited, sampled_items}
 use Rattle.ua_monitored_items.specs.Moves.{Move, Moved, moved, moved_on, run, OthersStay, IsOfSubscription}
 use Rattle.ua_monitored_items.specs.Moves.Move.{Show}
@@ -24,9 +24,12 @@ use Rattle.ua_monitored_items.specs.declared.item.Item.{Item}
 use Rattle.ua_monitored_items.specs.declared.releases.Release.{Release}
 use Rattle.ua_monitored_items.proofs.Apart.{subscriptions_stay_apart}
 use Rattle.ua_monitored_items.proofs.Runs.{run_step}
-use Rattle.ua_monitored_items.proofs.Tables.{greater}
+use Rattle.ua_monitored_items.proofs.Releasing.{there_released}
+use Rattle.ua_monitored_items.proofs.Tables.{there_seen}
 use Rattle.subscription_laws.specs.Calm.{AreReached}
-use Rattle.subscription_laws.proofs.Entries.{at_itself, same_or_not, set_here, set_other}
+use Rattle.ua_subscriptions.proofs.Choosing.{either}
+use Rattle.subscription_laws.proofs.Entries.{AreFound, all_found, same_or_not, set_here, set_other}
+use Rattle.subscription_laws.proofs.Folds.{fold_keeps}
 
 -- an item of a subscription that has a value to send
 pub record Waiting (items : NumberedItems) (subscription : ℕ) : Type 0 where
@@ -36,10 +39,6 @@ pub record Waiting (items : NumberedItems) (subscription : ℕ) : Type 0 where
   pub own : is_of subscription item ≡ true
   pub waits : waits_in (Some item) ≡ true
 
-either : (a b : Bool) → b ≡ true → (a || b) ≡ true
-either true b h = refl
-either false b h = h
-
 -- one whose number is among those that are asked
 waits_among : (items es : NumberedItems) (subscription number : ℕ) (item : Item) → item_at number es ≡ Some item → is_of subscription item ≡ true → waits_in (item_at number items) ≡ true →
     any_waits items (numbers_of subscription es) ≡ true
@@ -47,7 +46,7 @@ waits_among items [] subscription number item found own waits = absurd (cc)
 waits_among items (e ∷ es) subscription number item found own waits = by (is_at (nat_cmp number) e.0) refl found (λ it. waits_among items es subscription number item it own waits)
   where
     rest : (b : Bool) → any_waits items (numbers_of subscription es) ≡ true → any_waits items (cond b (e.0 ∷ numbers_of subscription es) (numbers_of subscription es)) ≡ true
-    rest true h = either (waits_in (item_at e.0 items)) _ h
+    rest true h = or_right (waits_in (item_at e.0 items)) _ h
     rest false h = h
 
     here : (b : Bool) → is_of subscription e.1 ≡ b → b ≡ true → waits_in (item_at e.0 items) ≡ true → any_waits items (cond b (e.0 ∷ numbers_of subscription es) (numbers_of subscription es)) ≡ true
@@ -65,29 +64,6 @@ pub is_there : (s : ItemsState) (subscription : ℕ) → Waiting s.items subscri
 is_there s subscription w = waits_among s.items s.items subscription w.number w.item w.found w.own (ap waits_in w.found ∙ w.waits)
 
 -- and the other way round
-both_cases : (a b : Bool) → (a || b) ≡ true → a ≡ false → b ≡ true
-both_cases true b h e = absurd (cc)
-both_cases false b h e = h
-
-waits_found : (items : NumberedItems) (number : ℕ) (o : Option Item) → o ≡ item_at number items → waits_in o ≡ true → (item : Item) × (item_at number items ≡ Some item) × (waits_in (Some item) ≡ true)
-waits_found items number None is h = absurd (cc)
-waits_found items number (Some item) is h = (item, sym is, h)
-
--- all these entries are found in the items
-abbrev AreFound : NumberedItems → NumberedItems → Type 0
-AreFound items [] = Unit {0}
-AreFound items (e ∷ es) = (item_at e.0 items ≡ Some e.1) × AreFound items es
-
-found_behind : (e : ℕ × Item) (items es : NumberedItems) → AreAbove e.0 es → AreFound items es → AreFound (e ∷ items) es
-found_behind e items [] above found = tt
-found_behind e items (x ∷ es) above found =
-    let other : is_at (nat_cmp x.0) e.0 ≡ false = ap is_eq (greater x.0 e.0 above.0) in
-    (rw other found.0, found_behind e items es above.1 found.1)
-
-all_found : (items : NumberedItems) → AreRising items → AreFound items items
-all_found [] rising = tt
-all_found (e ∷ es) rising = (rw (at_itself e.0) refl, found_behind e es es rising.0 (all_found es rising.1))
-
 among_waits : (items es : NumberedItems) (subscription : ℕ) → AreFound items es → any_waits items (numbers_of subscription es) ≡ true → Waiting items subscription
 among_waits items [] subscription found h = absurd (cc)
 among_waits items (e ∷ es) subscription found h = by (is_of subscription e.1) refl h (among_waits items es subscription found.1)
@@ -106,11 +82,7 @@ waiting s subscription rising h = among_waits s.items s.items subscription (all_
 -- ---- the items of another subscription change
 
 not_own : (a b : ℕ) (item : Item) → a ≢ b → is_of a item ≡ true → is_of b item ≡ false
-not_own a b item other own = by (item.subscription == b) refl
-  where
-    by : (c : Bool) → (item.subscription == b) ≡ c → c ≡ false
-    by false e = refl
-    by true e = absurd (other (sym (eqb-true item.subscription a own) ∙ eqb-true item.subscription b e))
+not_own a b item other own = ne_eqb item.subscription b (λ is. other (sym (eqb-true item.subscription a own) ∙ is))
 
 pub stays_available : (other subscription : ℕ) (before after : ItemsState) → subscription ≢ other → AreRising before.items → OthersStay other before.items after.items →
     is_available before subscription ≡ true → is_available after subscription ≡ true
@@ -171,38 +143,17 @@ queued_waits v item h = by (tells item) h
     by false k = k
 
 seen_waits : (v : DataValue) (item : Item) → waits_in (Some item) ≡ true → waits_in (Some (seen v item)) ≡ true
-seen_waits v item h = by (takes item v)
-  where
-    by : (b : Bool) → waits_in (Some (cond b (queued v item) item)) ≡ true
-    by true = queued_waits v item h
-    by false = h
-
-seen_own : (v : DataValue) (item : Item) → (seen v item).subscription ≡ item.subscription
-seen_own v item = by (takes item v)
-  where
-    by : (b : Bool) → (cond b (queued v item) item).subscription ≡ item.subscription
-    by true = refl
-    by false = refl
+seen_waits v item h = either (λ (x : Item). waits_in (Some x) ≡ true) (takes item v) (queued v item) item (queued_waits v item h) h
 
 -- a release makes no value wait less
 released_waits : (own : ℕ) (item : Item) → waits_in (Some item) ≡ true → waits_in (Some (released_in own item)) ≡ true
-released_waits own item h = by ((item.subscription == own && is_sampling item.mode) && nat_lt 0 (length item.queue.entries))
+released_waits own item h =
+    either (λ (x : Item). waits_in (Some x) ≡ true) ((item.subscription == own && is_sampling item.mode) && nat_lt 0 (length item.queue.entries)) (record item { released = true }) item (told (is_reporting item.mode) item.released h) h
   where
     told : (a b : Bool) → nat_lt 0 (cond (a || b) (length item.queue.entries) 0) ≡ true → nat_lt 0 (cond (a || true) (length item.queue.entries) 0) ≡ true
     told true b k = k
     told false true k = k
     told false false k = absurd (cc)
-
-    by : (b : Bool) → waits_in (Some (cond b (record item { released = true }) item)) ≡ true
-    by true = told (is_reporting item.mode) item.released h
-    by false = h
-
-released_own : (own : ℕ) (item : Item) → (released_in own item).subscription ≡ item.subscription
-released_own own item = by ((item.subscription == own && is_sampling item.mode) && nat_lt 0 (length item.queue.entries))
-  where
-    by : (b : Bool) → (cond b (record item { released = true }) item).subscription ≡ item.subscription
-    by true = refl
-    by false = refl
 
 -- something is done with one item that takes no value away
 module _ (at : ℕ) (change : Item → Item) (waits : (item : Item) → waits_in (Some item) ≡ true → waits_in (Some (change item)) ≡ true) (stays : (item : Item) → (change item).subscription ≡ item.subscription) where
@@ -233,20 +184,18 @@ module _ (at : ℕ) (change : Item → Item) (waits : (item : Item) → waits_in
       by (Some old) found = there old found (same_or_not at w.number)
 
 all_visits_wait : (items : NumberedItems) (subscription : ℕ) (visits : List Visit) → Waiting items subscription → Waiting (sampled_items items visits) subscription
-all_visits_wait items subscription [] w = w
-all_visits_wait items subscription (v ∷ vs) w = all_visits_wait (visited items v) subscription vs (change_waits v.number (seen v.value) (seen_waits v.value) (seen_own v.value) items subscription w)
+all_visits_wait items subscription visits =
+    fold_keeps (λ (es : NumberedItems). Waiting es subscription) visited (λ es v. change_waits v.number (seen v.value) (seen_waits v.value) (λ item. (there_seen v.value item).subscription) es subscription) visits items
 
 all_releases_wait : (items : NumberedItems) (subscription : ℕ) (releases : List Release) → Waiting items subscription → Waiting (all_released items releases) subscription
-all_releases_wait items subscription [] w = w
-all_releases_wait items subscription (r ∷ rs) w =
-    all_releases_wait (with_release items r) subscription rs (change_waits r.number (released_in r.subscription) (released_waits r.subscription) (released_own r.subscription) items subscription w)
+all_releases_wait items subscription releases =
+    fold_keeps (λ (es : NumberedItems). Waiting es subscription) with_release
+    (λ es r. change_waits r.number (released_in r.subscription) (released_waits r.subscription) (λ item. (there_released r.subscription item).subscription) es subscription) releases items
 
 all_shown_wait : (items : NumberedItems) (subscription : ℕ) (changed : List Change) → Waiting items subscription → Waiting (shown items changed) subscription
-all_shown_wait items subscription [] w = w
-all_shown_wait items subscription (c ∷ cs) w =
-    let visits = visits_of items c in
-    all_shown_wait (shown_one items c) subscription cs
-    (all_releases_wait (sampled_items items visits) subscription (sample_releases items visits) (all_visits_wait items subscription visits w))
+all_shown_wait items subscription changed =
+    fold_keeps (λ (es : NumberedItems). Waiting es subscription) shown_one
+    (λ es c w. let visits = visits_of es c in all_releases_wait (sampled_items es visits) subscription (sample_releases es visits) (all_visits_wait es subscription visits w)) changed items
 
 -- values that are shown take none away
 pub shown_available : (items : ItemsState) (changed : List Change) (subscription : ℕ) → AreRising items.items → is_available items subscription ≡ true → is_available (moved items (Show changed)).state subscription ≡ true

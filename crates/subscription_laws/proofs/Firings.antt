@@ -1,5 +1,6 @@
 -- What a live subscription meets is a step that keeps what every row keeps.
 use Rattle.std.proofs.Common.{◌≡◌, ◌⊎◌, inl, inr, ℕ, ◌+◌, Bool, true, false, cond, List, [], ◌∷◌, ◌++◌, Some, None, fold, refl, sym, ap, ◌∙◌, subst}
+use Rattle.std.proofs.lemmas.Bool.{cond-false}
 use Rattle.std.specs.BTreeMap.{is_at}
 use Rattle.std.specs.Ordering.{nat_cmp}
 use Rattle.std.specs.Set.{remove_key}
@@ -13,7 +14,6 @@ use Rattle.ua_state_table.specs.Steady.{IsSteady}
 use Rattle.ua_state_table.specs.declared.event.TableEvent.TheVariants as event
 use Rattle.ua_state_table.specs.declared.row.RowId.{RowId}
 use Rattle.ua_state_table.specs.declared.row.RowId.TheVariants.{G6}
-use Rattle.ua_state_table.specs.declared.state.State.TheVariants.{Closed}
 use Rattle.ua_state_table.specs.declared.vars.Vars.{Vars}
 use Rattle.ua_state_table.proofs.SteadyLemmas as table
 use Rattle.ua_subscriptions.specs.declared.session_part.SessionSubscriptions.{SessionSubscriptions}
@@ -92,11 +92,7 @@ fired_none c e h = row_none (row_of c) c e h
 -- the life counter after the row
 after_life : (c : Scene) → is_closed (fired c).subscription ≡ false → (firing c).after.lifetime ≡ (row_done (row_of c) c).subscription.lifetime
 unfolding fired
-after_life c live = by (is_closed (row_done (row_of c) c).subscription) live
-  where
-    by : (b : Bool) → b ≡ false → (cond b (record (before_of c) { state = Closed }) (vars_in (row_done (row_of c) c))).lifetime ≡ (row_done (row_of c) c).subscription.lifetime
-    by true e = absurd (cc)
-    by false e = refl
+after_life c live = ap (λ (v : Vars). v.lifetime) (cond-false (is_closed (row_done (row_of c) c).subscription) _ _ live)
 
 -- the counts after the row
 pub told_counts : (rows : List Fired) (c : Scene) → before_of c ≡ vars_in c → counts_at c.round.own (rows ++ firing c ∷ []) ≡ row_counts (row_of c) c (counts_at c.round.own rows)

@@ -1,5 +1,5 @@
 -- The items come by their calls.
-use Rattle.std.proofs.Common.{◌+◌, ◌≡◌, ℕ, Bool, true, false, cond, List, [], ◌∷◌, ◌++◌, append_assoc, append-nil, fold, refl, sym, ap, ◌∙◌}
+use Rattle.std.proofs.Common.{◌+◌, ◌≡◌, ℕ, Bool, true, false, cond, List, [], ◌∷◌, ◌++◌, append_assoc, append-nil, fold, refl, sym, ap, ◌∙◌, Some, None}
 use Rattle.std.proofs.lemmas.List.Sums.{fold-append}
 use Rattle.std.proofs.lemmas.List.Concat.{flat_map-append}
 use Rattle.std.specs.List.{flat_map}
@@ -83,7 +83,8 @@ ItemsCome w es v = v.items ≡ after_calls w.items (flat_map calls_at es)
 
 items_beside : (w : World) (b : Beside) → ItemsCome w (Does w b ∷ []) (beside w b)
 unfolding all_refused
-items_beside w (CallsItems number asked) = refl
+items_beside w (CallsItems number None) = refl
+items_beside w (CallsItems number (Some asked)) = refl
 items_beside w (ShowsItems changed) = refl
 items_beside w b = refl
 

@@ -11,13 +11,14 @@ use Rattle.ua_subscriptions.specs.declared.call.Call.{Call}
 use Rattle.ua_subscriptions.specs.declared.call.Call.TheVariants.{Create, Publish, Items}
 use Rattle.ua_subscriptions.specs.declared.subscription.Subscription.{Subscription}
 use Rattle.ua_subscriptions.specs.Calls.{event_of}
-use Rattle.subscription_laws.specs.Calm.{ListsItsOwn, AreLists, IsCalm}
+use Rattle.subscription_laws.specs.Calm.{is_listed, ListsItsOwn, AreLists, IsCalm}
 use Rattle.ua_subscriptions.specs.Firing.{vars_in, before_by, row_of, fired}
 use Rattle.ua_subscriptions.specs.Scenes.{Scene}
 use Rattle.subscription_laws.specs.Encounters.{scene_at}
 use Rattle.subscription_laws.specs.Standings.{IsAsked}
-use Rattle.ua_subscriptions.specs.Tables.{TableState, World, with_call, without_closed, met_found, met, all_met, subscription_at}
+use Rattle.ua_subscriptions.specs.Tables.{TableState, World, with_call, without_closed, met_found, met, part_at, subscription_at}
 use Rattle.subscription_laws.proofs.ChosenRows.{is_plain, is_end, plain_none, plain_stays, plain_creates, live_fits}
+use Rattle.subscription_laws.proofs.Entries.{some_same}
 use Rattle.subscription_laws.proofs.Firings.{firing, fired_rows, fired_session, step}
 use Rattle.subscription_laws.proofs.Remains.{leaves, row_session}
 use Rattle.subscription_laws.proofs.Settling.{IsStep, NoneWaits, table_after, settles, own_after, lists_after}
@@ -27,6 +28,13 @@ pub record IsKept (except : Option ℕ) (made : ℕ) (past : List Fired) (w : Wo
   pub calm : IsCalm (past ++ w.round.rows) w.table w.items
   pub own : (session : ℕ) → except ≢ Some session → ListsItsOwn w.table session
   pub within : AreLists made w.table
+
+-- of a number that a session lists
+pub its_own : (t : TableState) (session m : ℕ) (s : Subscription) → ListsItsOwn t session → is_listed m (part_at session t.sessions).numbers ≡ true → subscription_at m t.subscriptions ≡ Some s → s.session ≡ Some session
+its_own t session m s own listed found = by (own m listed)
+  where
+    by : (u : Subscription) × (subscription_at m t.subscriptions ≡ Some u) × (u.session ≡ Some session) → s.session ≡ Some session
+    by (u, there, mine) = ap (λ (x : Subscription). x.session) (some_same (sym found ∙ there)) ∙ mine
 
 -- ---- one step
 
@@ -67,7 +75,7 @@ plain_before Publish c e = refl
 plain_before (Items before) c e = absurd (cc)
 plain_before call c e = refl
 
-unasked : (c : Scene) (t : TableState) → enqueues (row_of c) ≡ false → enqueues (row_of c) ≡ true → IsAsked c × NoneWaits t c.subscription.session
+pub unasked : (c : Scene) (t : TableState) → enqueues (row_of c) ≡ false → enqueues (row_of c) ≡ true → IsAsked c × NoneWaits t c.subscription.session
 unasked c t none e = absurd (cc)
 
 -- none but one whose session ends leaves it
@@ -102,8 +110,14 @@ plain_row : (w : World) (n : ℕ) (call : Call) (s : Subscription) → is_plain 
 plain_row w n call s plain =
     ap (λ (v : Vars). enqueues (chosen v (event_of call))) (plain_before call (scene_at w n call s) plain) ∙ plain_none (vars_in (scene_at w n call s)) call plain
 
-is_live : (except : Option ℕ) (made : ℕ) (past : List Fired) (w : World) (n : ℕ) (s : Subscription) → subscription_at n w.table.subscriptions ≡ Some s → IsKept except made past w → s.state ≢ Closed
+pub is_live : (except : Option ℕ) (made : ℕ) (past : List Fired) (w : World) (n : ℕ) (s : Subscription) → subscription_at n w.table.subscriptions ≡ Some s → IsKept except made past w → s.state ≢ Closed
 is_live except made past w n s found k = (k.calm.steady n s found).live
+
+pub live_plain : (except : Option ℕ) (made : ℕ) (past : List Fired) (w : World) (n : ℕ) (call : Call) (s : Subscription) → is_plain call ≡ true → MayEnd except w n call → subscription_at n w.table.subscriptions ≡ Some s →
+    IsKept except made past w → IsKept except made past (world_after n s (fired (scene_at w n call s)) w.table)
+live_plain except made past w n call s plain may found k =
+    live_kept except made past w n call s found k (plain_before call (scene_at w n call s) plain) (live_fits s.state call (plain_creates call plain) (is_live except made past w n s found k))
+    (unasked (scene_at w n call s) w.table (plain_row w n call s plain)) (plain_session except w n call s found plain may)
 
 pub met_plain : (except : Option ℕ) (made : ℕ) (past : List Fired) (w : World) (n : ℕ) (call : Call) → is_plain call ≡ true → MayEnd except w n call → IsKept except made past w → IsKept except made past (met w n call)
 unfolding met
@@ -111,13 +125,4 @@ met_plain except made past w n call plain may k = by (subscription_at n w.table.
   where
     by : (o : Option Subscription) → subscription_at n w.table.subscriptions ≡ o → IsKept except made past (without_closed n (met_found (with_call w.round n call) w.table.subscriptions w.table.sessions w.items o))
     by None found = record { calm = k.calm; own = k.own; within = k.within }
-    by (Some s) found =
-        let kept = live_kept except made past w n call s found k (plain_before call (scene_at w n call s) plain)
-        (live_fits s.state call (plain_creates call plain) (is_live except made past w n s found k))
-        (unasked (scene_at w n call s) w.table (plain_row w n call s plain))
-        (plain_session except w n call s found plain may) in
-        record { calm = kept.calm; own = kept.own; within = kept.within }
-
-pub all_plain : (except : Option ℕ) (made : ℕ) (past : List Fired) (call : Call) → is_plain call ≡ true → is_end call ≡ false → (ns : List ℕ) (w : World) → IsKept except made past w → IsKept except made past (all_met call w ns)
-all_plain except made past call plain no_end [] w k = k
-all_plain except made past call plain no_end (n ∷ ns) w k = all_plain except made past call plain no_end ns (met w n call) (met_plain except made past w n call plain (inl no_end) k)
+    by (Some s) found = let kept = live_plain except made past w n call s plain may found k in record { calm = kept.calm; own = kept.own; within = kept.within }

@@ -19,8 +19,8 @@ use Rattle.ua_subscriptions.specs.declared.subscription.Subscription.{Subscripti
 use Rattle.subscription_laws.specs.Calm.{ListsItsOwn, AreLists, IsCalm}
 use Rattle.ua_subscriptions.specs.Firing.{fired}
 use Rattle.subscription_laws.specs.Histories.{counts_at, life_at}
-use Rattle.subscription_laws.specs.Runs.{ItemsCall, on_items}
-use Rattle.subscription_laws.specs.Runs.ItemsCall.{Create, Modify, SetMode, Link, Delete}
+use Rattle.subscription_laws.specs.Runs.{ItemsCall, on_items, items_asked}
+use Rattle.subscription_laws.specs.Runs.ItemsCall.{Create}
 use Rattle.ua_subscriptions.specs.Scenes.{Scene, row_done}
 use Rattle.subscription_laws.specs.Standings.{Counts, standing, standing_in, circumstances, counts_of}
 use Rattle.subscription_laws.specs.Encounters.{scene_at}
@@ -30,7 +30,7 @@ use Rattle.subscription_laws.proofs.Availability.{reached_rise, reached_on, reac
 use Rattle.subscription_laws.proofs.ChosenRows.{live_fits}
 use Rattle.subscription_laws.proofs.Firings.{lawful, firing, fired_rows, fired_number, fired_items, fired_numbers, fired_none, life_told}
 use Rattle.subscription_laws.proofs.Keeping.{IsKept, world_after, one_kept, fired_stays}
-use Rattle.subscription_laws.proofs.Remains.{AreApart, apart_then}
+use Rattle.subscription_laws.proofs.Remains.{AreApart, apart_then, apart_none}
 use Rattle.subscription_laws.proofs.RowCounts.{counts_own}
 use Rattle.subscription_laws.proofs.RowFairness.{fair}
 use Rattle.subscription_laws.proofs.Settling.{IsStep, still}
@@ -52,13 +52,11 @@ shown_calm rows t items changed h = record {
 
 its_own : (number : ℕ) (asked : ItemsCall) → IsOfSubscription number (on_items number asked)
 its_own number (Create nodes clock timestamps requests) = refl
-its_own number (Modify timestamps requests) = refl
-its_own number (SetMode nodes clock mode numbers) = refl
-its_own number (Link triggering add remove) = refl
-its_own number (Delete numbers) = refl
+its_own number asked = refl
 
-pub served_apart : (number : ℕ) (asked : ItemsCall) (items : ItemsState) → AreApart number items (item_moves.moved items (on_items number asked)).state
-served_apart number asked items = record {
+pub served_apart : (number : ℕ) (asked : Option ItemsCall) (items : ItemsState) → AreApart number items (items_asked items number asked)
+served_apart number None items = apart_none number items
+served_apart number (Some asked) items = record {
   reached = λ r. reached_on items (on_items number asked) r;
   stay = λ r. reached_stay number items (on_items number asked) (its_own number asked) r;
 }

@@ -1,16 +1,15 @@
 -- What every call keeps, while a subscription is made or refused.
-use Rattle.std.proofs.Common.{◌≡◌, ◌≢◌, ◌⊎◌, inl, inr, ℕ, ◌≤◌, ◌<◌, arith, Bool, true, false, ◌&&◌, cond, List, [], ◌∷◌, ◌++◌, Option, Some, None, unwrap_or, fold, refl, sym, ap, ◌∙◌, subst, append_assoc}
-use Rattle.std.proofs.lemmas.Bool.{false≢true}
+use Rattle.std.proofs.Common.{◌≡◌, ◌≢◌, ◌⊎◌, inl, inr, ℕ, ◌≤◌, ◌<◌, ◌==◌, arith, Bool, true, false, ◌&&◌, cond, List, [], ◌∷◌, ◌++◌, Option, Some, None, refl, sym, ap, ◌∙◌, subst, append_assoc}
+use Rattle.std.proofs.lemmas.List.Sums.{fold-append}
 use Rattle.std.specs.BTreeMap.{insert_entry, is_at}
 use Rattle.std.specs.Map.{remove_entry}
 use Rattle.std.specs.Option.{is_some}
 use Rattle.std.specs.Ordering.{nat_cmp}
 use Rattle.server_messages.specs.declared.fired.Fired.{Fired}
 use Rattle.ua_state_table.specs.Chosen.{chosen}
-use Rattle.ua_state_table.specs.Doing.{answerable_after}
 use Rattle.ua_state_table.specs.Events.{fits}
 use Rattle.ua_state_table.specs.Sound.{IsSound}
-use Rattle.ua_state_table.specs.StateTable.{actions_of, fires}
+use Rattle.ua_state_table.specs.StateTable.{fires}
 use Rattle.ua_state_table.specs.Steady.{IsSteady}
 use Rattle.ua_state_table.specs.declared.event.TableEvent.{TableEvent}
 use Rattle.ua_state_table.specs.declared.event.TableEvent.TheVariants as event
@@ -27,17 +26,19 @@ use Rattle.ua_subscriptions.specs.declared.session_part.SessionSubscriptions.{Se
 use Rattle.ua_subscriptions.specs.declared.settings.Settings.{Settings}
 use Rattle.ua_subscriptions.specs.declared.subscription.Subscription.{Subscription}
 use Rattle.subscription_laws.specs.Calm.{is_listed, IsListed, ListsItsOwn, AreLists, AreNumbersRising, standing_at, AreSteady, LivesAreSet, IsCalm}
-use Rattle.ua_subscriptions.specs.Firing.{is_closed, before_of, row_of, fired}
-use Rattle.subscription_laws.specs.Histories.{started_by, counts_after, counts_at, sets_life, life_after, life_at, IsLawful}
+use Rattle.ua_subscriptions.specs.Firing.{fired}
+use Rattle.subscription_laws.specs.Histories.{counted_for, no_counts, life_for, counts_after, counts_at, life_after, life_at, IsLawful}
 use Rattle.ua_subscriptions.specs.Making.{refused_scene, refused_one, with_number, added}
 use Rattle.ua_subscriptions.specs.Scenes.{Scene, scene, row_done}
 use Rattle.subscription_laws.specs.Standings.{Counts, standing, standing_in, circumstances, row_counts}
 use Rattle.ua_subscriptions.specs.Subscriptions.{unborn, no_part, is_any, no_vars, vars_of}
 use Rattle.ua_subscriptions.specs.Tables.{TableState, World, with_call, part_at, part_of, subscription_at}
-use Rattle.subscription_laws.proofs.Entries.{same_or_not, put_here, put_other, gone_other, rising_put, rising_gone, listed_put, listed_still, listed_before, numbers_rising_put}
-use Rattle.subscription_laws.proofs.Firings.{firing, fired_rows, fired_number, fired_numbers, life_told}
+use Rattle.ua_subscriptions.proofs.Choosing.{either}
+use Rattle.subscription_laws.proofs.Entries.{each_put, some_same, put_here, put_other, rising_put, rising_gone, listed_put, listed_still, listed_before, numbers_rising_put}
+use Rattle.subscription_laws.proofs.Firings.{firing, fired_rows, fired_number, life_told}
 use Rattle.subscription_laws.proofs.Keeping.{IsKept}
-use Rattle.subscription_laws.proofs.RowCounts.{counts_own, counts_other, life_own, life_other, counts_of_row}
+use Rattle.subscription_laws.proofs.KeepingParts.{of_put}
+use Rattle.subscription_laws.proofs.RowCounts.{counts_own, counts_other, life_other, counts_of_row}
 use Rattle.subscription_laws.proofs.RowFairness.{fair}
 use Rattle.subscription_laws.proofs.RowLinks.{link_C2}
 use Rattle.subscription_laws.proofs.Settling.{still, one_more_lawful}
@@ -66,24 +67,11 @@ created_lawful rows f full before comes is = record {
 
 -- the row changes no counts
 refused_counts : (m : ℕ) (rows : List Fired) (f : Fired) → f.row ≡ C1 → counts_at m (rows ++ f ∷ []) ≡ counts_at m rows
-refused_counts m rows f is = by (same_or_not m f.subscription)
-  where
-    same : counts_after (counts_at m rows) f ≡ counts_at m rows
-    same = rw is refl
-
-    by : (m ≡ f.subscription) ⊎ (m ≢ f.subscription) → counts_at m (rows ++ f ∷ []) ≡ counts_at m rows
-    by (inl e) = counts_own m rows f (sym e) ∙ same
-    by (inr other) = counts_other m rows f other
+refused_counts m rows f is =
+    fold-append (counted_for m) no_counts rows (f ∷ []) ∙ either (λ (k : Counts). k ≡ counts_at m rows) (f.subscription == m) (counts_after (counts_at m rows) f) (counts_at m rows) (rw is refl) refl
 
 refused_life : (m : ℕ) (rows : List Fired) (f : Fired) → f.row ≡ C1 → life_at m (rows ++ f ∷ []) ≡ life_at m rows
-refused_life m rows f is = by (same_or_not m f.subscription)
-  where
-    same : life_after (life_at m rows) f ≡ life_at m rows
-    same = rw is refl
-
-    by : (m ≡ f.subscription) ⊎ (m ≢ f.subscription) → life_at m (rows ++ f ∷ []) ≡ life_at m rows
-    by (inl e) = life_own m rows f (sym e) ∙ same
-    by (inr other) = life_other m rows f other
+refused_life m rows f is = fold-append (life_for m) 0 rows (f ∷ []) ∙ either (λ (k : ℕ). k ≡ life_at m rows) (f.subscription == m) (life_after (life_at m rows) f) (life_at m rows) (rw is refl) refl
 
 refused_calm : (rows : List Fired) (f : Fired) (t : TableState) (items : ItemsState) → f.row ≡ C1 → IsLawful rows f → IsCalm rows t items → IsCalm (rows ++ f ∷ []) t items
 refused_calm rows f t items is law h = record {
@@ -121,25 +109,8 @@ refused_one_kept made past session asked enabled w k =
 abbrev pub added_start : ℕ → ℕ → Settings → Bool → World → Scene
 added_start session number asked enabled w = scene (with_call w.round number (Create false asked enabled)) (unborn session) (part_at session w.table.sessions) w.items
 
--- what the row makes
-record RowMakes (r : RowId) (c : Scene) : Type 0 where
-  live : is_closed (row_done r c).subscription ≡ false
-  session : (row_done r c).subscription.session ≡ c.subscription.session
-  requests : (row_done r c).part.requests ≡ c.part.requests
-  numbers : (row_done r c).part.numbers ≡ c.part.numbers
-  items : (row_done r c).items ≡ c.items
-  steady : (counts : Counts) → IsSteady (standing_in c.round.own (row_done r c) (row_counts r c counts))
-  sets : sets_life r ≡ true
-
 begins_steady : (c : Scene) (counts : Counts) → IsSteady (standing_in c.round.own (row_done C2 c) (row_counts C2 c counts))
 begins_steady c counts = subst IsSteady (sym (link_C2 c counts)) (begins (circumstances C2 c (row_done C2 c)) (standing_in c.round.own c counts) (fair C2 c))
-
-row_begins : (c : Scene) → RowMakes C2 c
-unfolding row_done
-row_begins c = record { live = refl; session = refl; requests = refl; numbers = refl; items = refl; steady = begins_steady c; sets = refl }
-
-row_makes : (r : RowId) (c : Scene) → r ≡ C2 → RowMakes r c
-row_makes r c is = subst (λ (x : RowId). RowMakes x c) (sym is) (row_begins c)
 
 -- what is made
 record IsBegun (rows : List Fired) (c d : Scene) : Type 0 where
@@ -150,44 +121,24 @@ record IsBegun (rows : List Fired) (c d : Scene) : Type 0 where
   steady : IsSteady (standing_in c.round.own d (counts_at c.round.own (rows ++ firing c ∷ [])))
   lifetime : life_at c.round.own (rows ++ firing c ∷ []) ≡ d.subscription.lifetime_count
 
-begun_counts : (rows : List Fired) (c : Scene) → row_of c ≡ C2 → counts_after (counts_at c.round.own rows) (firing c) ≡ row_counts (row_of c) c (counts_at c.round.own rows)
-begun_counts rows c is = by (row_of c) is
-  where
-    by : (r : RowId) → r ≡ C2 → record { started = fold started_by (counts_at c.round.own rows).started (actions_of r); answerable = answerable_after r (before_of c).queued (counts_at c.round.own rows).answerable }
-        ≡ row_counts r c (counts_at c.round.own rows)
-    by r e = rw e (sym (counts_of_row C2 c (counts_at c.round.own rows)))
+pub begun_rest : (session number : ℕ) (asked : Settings) (enabled : Bool) (w : World) → let d = fired (added_start session number asked enabled w) in (d.subscription.session ≡ Some session) × (d.items ≡ w.items)
+unfolding fired row_done
+begun_rest session number asked enabled w = (refl, refl)
 
-open_numbers : (b : Bool) (ns other : List ℕ) → b ≡ false → cond b other ns ≡ ns
-open_numbers true ns other e = absurd (cc)
-open_numbers false ns other e = refl
-
-begun_steady : (rows : List Fired) (c : Scene) → row_of c ≡ C2 → IsSteady (standing_in c.round.own (fired c) (counts_at c.round.own (rows ++ firing c ∷ [])))
+begun_steady : (rows : List Fired) (session number : ℕ) (asked : Settings) (enabled : Bool) (w : World) → let c = added_start session number asked enabled w in
+    IsSteady (standing_in number (fired c) (counts_at number (rows ++ firing c ∷ [])))
 unfolding fired
-begun_steady rows c is =
-    subst (λ (k : Counts). IsSteady (standing_in c.round.own (row_done (row_of c) c) k))
-    (sym (counts_own c.round.own rows (firing c) (fired_number c) ∙ begun_counts rows c is)) ((row_makes (row_of c) c is).steady (counts_at c.round.own rows))
+begun_steady rows session number asked enabled w =
+    let c = added_start session number asked enabled w in
+    let counts = counts_at number rows in
+    subst (λ (k : Counts). IsSteady (standing_in number (row_done C2 c) k)) (sym (counts_own number rows (firing c) (fired_number c) ∙ sym (counts_of_row C2 c counts))) (begins_steady c counts)
 
-begun_live : (c : Scene) → row_of c ≡ C2 → is_closed (fired c).subscription ≡ false
-unfolding fired
-begun_live c is = (row_makes (row_of c) c is).live
-
-pub begun_rest : (c : Scene) → row_of c ≡ C2 → ((fired c).subscription.session ≡ c.subscription.session) × ((fired c).part.requests ≡ c.part.requests) × ((fired c).items ≡ c.items)
-unfolding fired
-begun_rest c is = let m = row_makes (row_of c) c is in (m.session, m.requests, m.items)
-
-begun : (rows : List Fired) (c : Scene) → row_of c ≡ C2 → IsBegun rows c (fired c)
-begun rows c is =
-    let steady = begun_steady rows c is in
-    let live = begun_live c is in
-    let rest = begun_rest c is in
-    record {
-      session = rest.0;
-      requests = rest.1;
-      numbers = fired_numbers c ∙ open_numbers (is_closed (fired c).subscription) c.part.numbers _ live;
-      items = rest.2;
-      steady = steady;
-      lifetime = life_told rows c live (λ e. absurd (false≢true (sym e ∙ (row_makes (row_of c) c is).sets))) (counts_own c.round.own rows (firing c) (fired_number c)) steady.life_counted;
-    }
+begun : (rows : List Fired) (session number : ℕ) (asked : Settings) (enabled : Bool) (w : World) → let c = added_start session number asked enabled w in IsBegun rows c (fired c)
+unfolding fired row_done
+begun rows session number asked enabled w =
+    let c = added_start session number asked enabled w in
+    let steady = begun_steady rows session number asked enabled w in
+    record { session = refl; requests = refl; numbers = refl; items = refl; steady = steady; lifetime = life_told rows c refl (λ e. absurd (cc)) (counts_own number rows (firing c) (fired_number c)) steady.life_counted }
 
 -- the table with it
 abbrev with_made : ℕ → ℕ → Subscription → SessionSubscriptions → TableState → TableState
@@ -198,81 +149,40 @@ with_made number session s part t = record {
 
 module _ (rows : List Fired) (t : TableState) (items : ItemsState) (number session : ℕ) (s : Subscription) (part : SessionSubscriptions) (f : Fired) (h : IsCalm rows t items) (is : f.subscription ≡ number) (own : s.session ≡ Some session)
     (numbers : part.numbers ≡ (part_at session t.sessions).numbers) (requests : part.requests ≡ (part_at session t.sessions).requests) where
-  made_part : part_at session (with_made number session s part t).sessions ≡ with_number number part
-  made_part = ap (λ (o : Option SessionSubscriptions). unwrap_or o no_part) (put_here session (with_number number part) (remove_entry (is_at (nat_cmp session)) t.sessions))
-
-  other_part : (k : ℕ) → k ≢ session → part_at k (with_made number session s part t).sessions ≡ part_at k t.sessions
-  other_part k other =
-      ap (λ (o : Option SessionSubscriptions). unwrap_or o no_part)
-      (put_other session k (with_number number part) other (remove_entry (is_at (nat_cmp session)) t.sessions) ∙ gone_other session k other t.sessions)
+  of_parts : (P : ℕ → SessionSubscriptions → Type 0) → P session (with_number number part) → ((k : ℕ) → k ≢ session → P k (part_at k t.sessions)) → (k : ℕ) → P k (part_at k (with_made number session s part t).sessions)
+  of_parts = of_put session (with_number number part) t.sessions
 
   same_requests : (k : ℕ) → is_any (part_at k (with_made number session s part t).sessions).requests ≡ is_any (part_at k t.sessions).requests
-  same_requests k = by (same_or_not k session)
-    where
-      by : (k ≡ session) ⊎ (k ≢ session) → is_any (part_at k (with_made number session s part t).sessions).requests ≡ is_any (part_at k t.sessions).requests
-      by (inl same) =
-          ap (λ (i : ℕ). is_any (part_at i (with_made number session s part t).sessions).requests) same ∙ ap (λ (p : SessionSubscriptions). is_any p.requests) made_part ∙ ap is_any requests
-          ∙ ap (λ (i : ℕ). is_any (part_at i t.sessions).requests) (sym same)
-      by (inr other) = ap (λ (p : SessionSubscriptions). is_any p.requests) (other_part k other)
+  same_requests = of_parts (λ (k : ℕ) (p : SessionSubscriptions). is_any p.requests ≡ is_any (part_at k t.sessions).requests) (ap is_any requests) (λ k other. refl)
 
   same_asks : (o : Option ℕ) → (is_some o && is_any (part_of o (with_made number session s part t).sessions).requests) ≡ (is_some o && is_any (part_of o t.sessions).requests)
   same_asks None = refl
   same_asks (Some k) = same_requests k
 
-  made_found : (m : ℕ) (u : Subscription) → subscription_at m (with_made number session s part t).subscriptions ≡ Some u → ((m ≡ number) × (u ≡ s)) ⊎ ((m ≢ number) × (subscription_at m t.subscriptions ≡ Some u))
-  made_found m u found = by (same_or_not m number)
-    where
-      same_some : Some s ≡ Some u → u ≡ s
-      same_some e = cc
-
-      by : (m ≡ number) ⊎ (m ≢ number) → ((m ≡ number) × (u ≡ s)) ⊎ ((m ≢ number) × (subscription_at m t.subscriptions ≡ Some u))
-      by (inl same) =
-          inl (same, same_some (sym (put_here number s t.subscriptions) ∙ ap (λ (i : ℕ). subscription_at i (insert_entry nat_cmp t.subscriptions number s)) (sym same) ∙ found))
-      by (inr other) = inr (other, sym (put_other number m s other t.subscriptions) ∙ found)
-
   lists_more : (m k : ℕ) → is_listed m (part_at k t.sessions).numbers ≡ true → is_listed m (part_at k (with_made number session s part t).sessions).numbers ≡ true
-  lists_more m k listed = by (same_or_not k session)
-    where
-      by : (k ≡ session) ⊎ (k ≢ session) → is_listed m (part_at k (with_made number session s part t).sessions).numbers ≡ true
-      by (inl same) =
-          ap (λ (i : ℕ). is_listed m (part_at i (with_made number session s part t).sessions).numbers) same ∙ ap (λ (p : SessionSubscriptions). is_listed m p.numbers) made_part
-          ∙ listed_still m number part.numbers (ap (is_listed m) numbers ∙ ap (λ (i : ℕ). is_listed m (part_at i t.sessions).numbers) (sym same) ∙ listed)
-      by (inr other) = ap (λ (p : SessionSubscriptions). is_listed m p.numbers) (other_part k other) ∙ listed
+  lists_more m = of_parts (λ (k : ℕ) (p : SessionSubscriptions). is_listed m (part_at k t.sessions).numbers ≡ true → is_listed m p.numbers ≡ true)
+      (λ listed. listed_still m number part.numbers (ap (is_listed m) numbers ∙ listed)) (λ k other listed. listed)
 
-  lists_it : is_listed number (part_at session (with_made number session s part t).sessions).numbers ≡ true
-  lists_it = ap (λ (p : SessionSubscriptions). is_listed number p.numbers) made_part ∙ listed_put number part.numbers
+  lists_it : (k : ℕ) → k ≡ session → is_listed number (part_at k (with_made number session s part t).sessions).numbers ≡ true
+  lists_it k is = of_parts (λ (j : ℕ) (p : SessionSubscriptions). j ≡ session → is_listed number p.numbers ≡ true) (λ same. listed_put number part.numbers) (λ j other same. absurd (other same)) k is
 
   -- and nothing else
   lists_less : (m k : ℕ) → is_listed m (part_at k (with_made number session s part t).sessions).numbers ≡ true → ((m ≡ number) × (k ≡ session)) ⊎ (is_listed m (part_at k t.sessions).numbers ≡ true)
-  lists_less m k listed = by (same_or_not k session)
+  lists_less m = of_parts (λ (k : ℕ) (p : SessionSubscriptions). is_listed m p.numbers ≡ true → ((m ≡ number) × (k ≡ session)) ⊎ (is_listed m (part_at k t.sessions).numbers ≡ true))
+      (λ listed. old (listed_before m number part.numbers listed)) (λ k other listed. inr listed)
     where
-      old : (k ≡ session) → (m ≡ number) ⊎ (is_listed m part.numbers ≡ true) → ((m ≡ number) × (k ≡ session)) ⊎ (is_listed m (part_at k t.sessions).numbers ≡ true)
-      old same (inl e) = inl (e, same)
-      old same (inr e) = inr (ap (λ (i : ℕ). is_listed m (part_at i t.sessions).numbers) same ∙ ap (is_listed m) (sym numbers) ∙ e)
-
-      by : (k ≡ session) ⊎ (k ≢ session) → ((m ≡ number) × (k ≡ session)) ⊎ (is_listed m (part_at k t.sessions).numbers ≡ true)
-      by (inl same) =
-          old same (listed_before m number part.numbers
-          (sym (ap (λ (i : ℕ). is_listed m (part_at i (with_made number session s part t).sessions).numbers) same ∙ ap (λ (p : SessionSubscriptions). is_listed m p.numbers) made_part) ∙ listed))
-      by (inr other) = inr (sym (ap (λ (p : SessionSubscriptions). is_listed m p.numbers) (other_part k other)) ∙ listed)
+      old : (m ≡ number) ⊎ (is_listed m part.numbers ≡ true) → ((m ≡ number) × (session ≡ session)) ⊎ (is_listed m (part_at session t.sessions).numbers ≡ true)
+      old (inl e) = inl (e, refl)
+      old (inr e) = inr (ap (is_listed m) (sym numbers) ∙ e)
 
   made_listed : IsListed (with_made number session s part t)
   made_listed = record {
     subscriptions = rising_put number s t.subscriptions h.listed.subscriptions;
     sessions = rising_put session (with_number number part) (remove_entry (is_at (nat_cmp session)) t.sessions) (rising_gone session t.sessions h.listed.sessions);
-    listed = λ m u k found mine. by m u k mine (made_found m u found);
+    listed = λ m u k found mine.
+        each_put number s t.subscriptions (λ (i : ℕ) (x : Subscription). x.session ≡ Some k → is_listed i (part_at k (with_made number session s part t).sessions).numbers ≡ true)
+        (λ here. lists_it k (some_same (sym here ∙ own))) (λ i x other before there. lists_more i k (h.listed.listed i x k before there)) m u found mine;
   }
-    where
-      some_is : (a b : ℕ) → Some a ≡ Some b → a ≡ b
-      some_is a b e = cc
-
-      by : (m : ℕ) (u : Subscription) (k : ℕ) → u.session ≡ Some k → ((m ≡ number) × (u ≡ s)) ⊎ ((m ≢ number) × (subscription_at m t.subscriptions ≡ Some u)) →
-          is_listed m (part_at k (with_made number session s part t).sessions).numbers ≡ true
-      by m u k mine (inl (same, it)) =
-          let where_is : session ≡ k = some_is session k (sym own ∙ ap (λ (x : Subscription). x.session) (sym it) ∙ mine) in
-          ap (λ (i : ℕ). is_listed i (part_at k (with_made number session s part t).sessions).numbers) same
-          ∙ ap (λ (i : ℕ). is_listed number (part_at i (with_made number session s part t).sessions).numbers) (sym where_is) ∙ lists_it
-      by m u k mine (inr (other, before)) = lists_more m k (h.listed.listed m u k before mine)
 
   made_own : (made : ℕ) → made < number → AreLists made t → (k : ℕ) → ListsItsOwn t k → ListsItsOwn (with_made number session s part t) k
   made_own made above lists k its m listed = by (lists_less m k listed)
@@ -289,17 +199,14 @@ module _ (rows : List Fired) (t : TableState) (items : ItemsState) (number sessi
       by (inr old) = still_there old (its m old)
 
   made_within : (made : ℕ) → made < number → AreLists made t → AreLists number (with_made number session s part t)
-  made_within made above lists = record { within = λ m k listed. within m k (lists_less m k listed); rising = λ k. rising k (same_or_not k session) }
+  made_within made above lists = record { within = λ m k listed. within m k (lists_less m k listed); rising = rising }
     where
       within : (m k : ℕ) → ((m ≡ number) × (k ≡ session)) ⊎ (is_listed m (part_at k t.sessions).numbers ≡ true) → m ≤ number
       within m k (inl (same, at)) = omega (arith, same)
       within m k (inr old) = let below : m ≤ made = lists.within m k old in omega (arith, above, below)
 
-      rising : (k : ℕ) → (k ≡ session) ⊎ (k ≢ session) → AreNumbersRising (part_at k (with_made number session s part t).sessions).numbers
-      rising k (inl same) =
-          subst (λ (i : ℕ). AreNumbersRising (part_at i (with_made number session s part t).sessions).numbers) (sym same)
-          (subst (λ (p : SessionSubscriptions). AreNumbersRising p.numbers) (sym made_part) (numbers_rising_put number part.numbers (subst AreNumbersRising (sym numbers) (lists.rising session))))
-      rising k (inr other) = subst (λ (p : SessionSubscriptions). AreNumbersRising p.numbers) (sym (other_part k other)) (lists.rising k)
+      rising : (k : ℕ) → AreNumbersRising (part_at k (with_made number session s part t).sessions).numbers
+      rising = of_parts (λ (k : ℕ) (p : SessionSubscriptions). AreNumbersRising p.numbers) (numbers_rising_put number part.numbers (subst AreNumbersRising (sym numbers) (lists.rising session))) (λ k other. lists.rising k)
 
   module _ (steady : IsSteady (standing (vars_of s part items number) s (counts_at number (rows ++ f ∷ [])))) (lifetime : life_at number (rows ++ f ∷ []) ≡ s.lifetime_count) (law : IsLawful rows f) where
     own_asks : (is_some s.session && is_any (part_of s.session (with_made number session s part t).sessions).requests) ≡ (is_some s.session && is_any part.requests)
@@ -316,20 +223,11 @@ module _ (rows : List Fired) (t : TableState) (items : ItemsState) (number sessi
         (counts_other m rows f (λ same. other (same ∙ is))) (λ e. e) (λ e. inl (sym (same_asks u.session) ∙ e)) (h.steady m u before)
 
     made_steady : AreSteady (with_made number session s part t) items (rows ++ f ∷ [])
-    made_steady m u found = by (made_found m u found)
-      where
-        by : ((m ≡ number) × (u ≡ s)) ⊎ ((m ≢ number) × (subscription_at m t.subscriptions ≡ Some u)) → IsSteady (standing_at (with_made number session s part t) items (rows ++ f ∷ []) m u)
-        by (inl (same, it)) =
-            subst (λ (x : Subscription). IsSteady (standing_at (with_made number session s part t) items (rows ++ f ∷ []) m x)) (sym it)
-            (subst (λ (i : ℕ). IsSteady (standing_at (with_made number session s part t) items (rows ++ f ∷ []) i s)) (sym same) own_steady)
-        by (inr (other, before)) = other_steady m u other before
+    made_steady = each_put number s t.subscriptions (λ (m : ℕ) (u : Subscription). IsSteady (standing_at (with_made number session s part t) items (rows ++ f ∷ []) m u)) own_steady other_steady
 
     made_lives : LivesAreSet (with_made number session s part t) (rows ++ f ∷ [])
-    made_lives m u found = by (made_found m u found)
-      where
-        by : ((m ≡ number) × (u ≡ s)) ⊎ ((m ≢ number) × (subscription_at m t.subscriptions ≡ Some u)) → life_at m (rows ++ f ∷ []) ≡ u.lifetime_count
-        by (inl (same, it)) = ap (λ (i : ℕ). life_at i (rows ++ f ∷ [])) same ∙ lifetime ∙ ap (λ (x : Subscription). x.lifetime_count) (sym it)
-        by (inr (other, before)) = life_other m rows f (λ same. other (same ∙ is)) ∙ h.lives m u before
+    made_lives =
+        each_put number s t.subscriptions (λ (m : ℕ) (u : Subscription). life_at m (rows ++ f ∷ []) ≡ u.lifetime_count) lifetime (λ m u other before. life_other m rows f (λ same. other (same ∙ is)) ∙ h.lives m u before)
 
     made_calm : IsCalm (rows ++ f ∷ []) (with_made number session s part t) items
     made_calm = record { listed = made_listed; steady = made_steady; lives = made_lives; lawful = one_more_lawful rows f h.lawful law; reached = h.reached }
@@ -338,7 +236,7 @@ pub added_kept : (made : ℕ) (past : List Fired) (session number : ℕ) (asked 
 unfolding added
 added_kept made past session number asked enabled w above k =
     let c = added_start session number asked enabled w in
-    let b = begun (past ++ w.round.rows) c refl in
+    let b = begun (past ++ w.round.rows) session number asked enabled w in
     let rows : (past ++ w.round.rows) ++ firing c ∷ [] ≡ past ++ (fired c).round.rows = append_assoc past w.round.rows (firing c ∷ []) ∙ ap (λ (fs : List Fired). past ++ fs) (sym (fired_rows c)) in
     let steady : IsSteady (standing (vars_of (fired c).subscription (fired c).part w.items number) (fired c).subscription (counts_at number ((past ++ w.round.rows) ++ firing c ∷ []))) =
     subst (λ (i : ItemsState). IsSteady (standing (vars_of (fired c).subscription (fired c).part i number) (fired c).subscription (counts_at number ((past ++ w.round.rows) ++ firing c ∷ [])))) b.items b.steady in

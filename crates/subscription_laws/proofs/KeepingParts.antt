@@ -1,8 +1,8 @@
 -- What every call keeps, while what sessions have of subscriptions changes, or messages are no longer kept.
-use Rattle.std.proofs.Common.{◌≡◌, ◌≢◌, ◌⊎◌, inl, inr, ℕ, Bool, true, false, ◌&&◌, cond, List, [], ◌∷◌, map, Option, Some, None, unwrap_or, refl, sym, ap, ◌∙◌, subst}
+use Rattle.std.proofs.Common.{◌≡◌, ◌≢◌, ◌⊎◌, inl, inr, ℕ, Bool, true, false, ◌&&◌, cond, List, [], ◌∷◌, ◌++◌, map, Option, Some, None, unwrap_or, refl, sym, ap, ◌∙◌, subst}
 use Rattle.std.specs.Prelude.{filter}
-use Rattle.std.specs.BTreeMap.{is_at}
-use Rattle.std.specs.Map.{lookup, set_value}
+use Rattle.std.specs.BTreeMap.{insert_entry, is_at}
+use Rattle.std.specs.Map.{lookup, set_value, remove_entry}
 use Rattle.std.specs.Option.{is_some}
 use Rattle.std.specs.Ordering.{nat_cmp}
 use Rattle.server_messages.specs.declared.fired.Fired.{Fired}
@@ -14,11 +14,12 @@ use Rattle.ua_subscriptions.specs.declared.session_part.SessionSubscriptions.{Se
 use Rattle.ua_subscriptions.specs.declared.subscription.Subscription.{Subscription}
 use Rattle.subscription_laws.specs.Calm.{AreAbove, AreRising, is_listed, ListsItsOwn, AreLists, AreNumbersRising, standing_at, IsCalm}
 use Rattle.ua_subscriptions.specs.Ending.{came_by_other, part_without_conn, entry_without_conn}
-use Rattle.subscription_laws.specs.Histories.{counts_at}
+use Rattle.subscription_laws.specs.Histories.{counts_at, life_at}
 use Rattle.ua_subscriptions.specs.Subscriptions.{no_part, is_any}
-use Rattle.ua_subscriptions.specs.Tables.{TableState, subscription_at, part_at, part_of}
-use Rattle.subscription_laws.proofs.Entries.{same_or_not, set_here, set_other, rising_set}
+use Rattle.ua_subscriptions.specs.Tables.{TableState, World, subscription_at, part_at, part_of}
+use Rattle.subscription_laws.proofs.Entries.{each_set, gone_here, gone_other, put_here, put_other, some_same, same_or_not, set_here, set_other, rising_set}
 use Rattle.ua_subscriptions.proofs.Meetings.{set_absent}
+use Rattle.subscription_laws.proofs.Keeping.{IsKept}
 use Rattle.subscription_laws.proofs.Settling.{still}
 
 abbrev pub with_sessions : TableState → List (ℕ × SessionSubscriptions) → TableState
@@ -50,55 +51,71 @@ pub record AreFewer (sessions sessions2 : List (ℕ × SessionSubscriptions)) : 
   pub requests : (k : ℕ) → is_any (part_at k sessions2).requests ≡ true → is_any (part_at k sessions).requests ≡ true
 
 module _ (rows : List Fired) (t : TableState) (items : ItemsState) (sessions : List (ℕ × SessionSubscriptions)) (f : AreFewer t.sessions sessions) where
-  pub parts_calm : IsCalm rows t items → IsCalm rows (with_sessions t sessions) items
+  parts_calm : IsCalm rows t items → IsCalm rows (with_sessions t sessions) items
   parts_calm h =
       fewer_calm rows t items sessions (f.rising h.listed.sessions) (λ m s k found own. ap (is_listed m) (f.numbers k) ∙ h.listed.listed m s k found own) f.requests h
 
-  pub parts_own : (k : ℕ) → ListsItsOwn t k → ListsItsOwn (with_sessions t sessions) k
+  parts_own : (k : ℕ) → ListsItsOwn t k → ListsItsOwn (with_sessions t sessions) k
   parts_own k own m listed = own m (sym (ap (is_listed m) (f.numbers k)) ∙ listed)
 
-  pub parts_within : (made : ℕ) → AreLists made t → AreLists made (with_sessions t sessions)
+  parts_within : (made : ℕ) → AreLists made t → AreLists made (with_sessions t sessions)
   parts_within made lists = record {
     within = λ m k listed. lists.within m k (sym (ap (is_listed m) (f.numbers k)) ∙ listed);
     rising = λ k. subst AreNumbersRising (sym (f.numbers k)) (lists.rising k);
   }
 
--- one session has another part
-pub set_part_is : (k j : ℕ) (part : SessionSubscriptions) (sessions : List (ℕ × SessionSubscriptions)) →
-    (part_at j (set_value (is_at (nat_cmp k)) sessions part) ≡ part_at j sessions) ⊎ ((j ≡ k) × (part_at j (set_value (is_at (nat_cmp k)) sessions part) ≡ part))
-set_part_is k j part sessions = by (same_or_not j k)
+pub parts_kept : (except : Option ℕ) (made : ℕ) (past : List Fired) (w : World) (sessions : List (ℕ × SessionSubscriptions)) → AreFewer w.table.sessions sessions → IsKept except made past w →
+    IsKept except made past (record { round = w.round; table = with_sessions w.table sessions; items = w.items })
+parts_kept except made past w sessions f k =
+    let rows = past ++ w.round.rows in
+    record {
+      calm = parts_calm rows w.table w.items sessions f k.calm;
+      own = λ j other. parts_own rows w.table w.items sessions f j (k.own j other);
+      within = parts_within rows w.table w.items sessions f made k.within;
+    }
+
+-- one session has another part: what holds of it, and of those that were, holds of each
+pub of_set : (k : ℕ) (part : SessionSubscriptions) (sessions : List (ℕ × SessionSubscriptions)) (P : ℕ → SessionSubscriptions → Type 0) → P k part → ((j : ℕ) → P j (part_at j sessions)) →
+    (j : ℕ) → P j (part_at j (set_value (is_at (nat_cmp k)) sessions part))
+of_set k part sessions P here others j = by (same_or_not j k)
   where
-    here : (o : Option SessionSubscriptions) → lookup (is_at (nat_cmp k)) sessions ≡ o →
-        (part_at k (set_value (is_at (nat_cmp k)) sessions part) ≡ part_at k sessions) ⊎ (part_at k (set_value (is_at (nat_cmp k)) sessions part) ≡ part)
-    here None none = inl (ap (part_at k) (set_absent (is_at (nat_cmp k)) sessions part none))
-    here (Some old) found = inr (ap (λ (o : Option SessionSubscriptions). unwrap_or o no_part) (set_here k old part sessions found))
+    at_k : (o : Option SessionSubscriptions) → lookup (is_at (nat_cmp k)) sessions ≡ o → P k (part_at k (set_value (is_at (nat_cmp k)) sessions part))
+    at_k None none = subst (λ (es : List (ℕ × SessionSubscriptions)). P k (part_at k es)) (sym (set_absent (is_at (nat_cmp k)) sessions part none)) (others k)
+    at_k (Some old) found = subst (λ (o : Option SessionSubscriptions). P k (unwrap_or o no_part)) (sym (set_here k old part sessions found)) here
 
-    at_k : (j ≡ k) → (part_at k (set_value (is_at (nat_cmp k)) sessions part) ≡ part_at k sessions) ⊎ (part_at k (set_value (is_at (nat_cmp k)) sessions part) ≡ part) →
-        (part_at j (set_value (is_at (nat_cmp k)) sessions part) ≡ part_at j sessions) ⊎ ((j ≡ k) × (part_at j (set_value (is_at (nat_cmp k)) sessions part) ≡ part))
-    at_k same (inl e) = inl (ap (λ (i : ℕ). part_at i (set_value (is_at (nat_cmp k)) sessions part)) same ∙ e ∙ ap (λ (i : ℕ). part_at i sessions) (sym same))
-    at_k same (inr e) = inr (same, ap (λ (i : ℕ). part_at i (set_value (is_at (nat_cmp k)) sessions part)) same ∙ e)
+    by : (j ≡ k) ⊎ (j ≢ k) → P j (part_at j (set_value (is_at (nat_cmp k)) sessions part))
+    by (inl same) = subst (λ (i : ℕ). P i (part_at i (set_value (is_at (nat_cmp k)) sessions part))) (sym same) (at_k (lookup (is_at (nat_cmp k)) sessions) refl)
+    by (inr other) = subst (λ (o : Option SessionSubscriptions). P j (unwrap_or o no_part)) (sym (set_other k j part other sessions)) (others j)
 
-    by : (j ≡ k) ⊎ (j ≢ k) → (part_at j (set_value (is_at (nat_cmp k)) sessions part) ≡ part_at j sessions) ⊎ ((j ≡ k) × (part_at j (set_value (is_at (nat_cmp k)) sessions part) ≡ part))
-    by (inl same) = at_k same (here (lookup (is_at (nat_cmp k)) sessions) refl)
-    by (inr other) = inl (ap (λ (o : Option SessionSubscriptions). unwrap_or o no_part) (set_other k j part other sessions))
+-- nothing of a session is left
+pub of_gone : (k : ℕ) (sessions : List (ℕ × SessionSubscriptions)) → AreRising sessions → (P : ℕ → SessionSubscriptions → Type 0) → P k no_part → ((j : ℕ) → j ≢ k → P j (part_at j sessions)) →
+    (j : ℕ) → P j (part_at j (remove_entry (is_at (nat_cmp k)) sessions))
+of_gone k sessions rising P here others j = by (same_or_not j k)
+  where
+    by : (j ≡ k) ⊎ (j ≢ k) → P j (part_at j (remove_entry (is_at (nat_cmp k)) sessions))
+    by (inl same) =
+        subst (λ (i : ℕ). P i (part_at i (remove_entry (is_at (nat_cmp k)) sessions))) (sym same) (subst (λ (o : Option SessionSubscriptions). P k (unwrap_or o no_part)) (sym (gone_here k sessions rising)) here)
+    by (inr other) = subst (λ (o : Option SessionSubscriptions). P j (unwrap_or o no_part)) (sym (gone_other k j other sessions)) (others j other)
+
+-- or a session has a part, where it may have had none
+pub of_put : (k : ℕ) (part : SessionSubscriptions) (sessions : List (ℕ × SessionSubscriptions)) (P : ℕ → SessionSubscriptions → Type 0) → P k part → ((j : ℕ) → j ≢ k → P j (part_at j sessions)) →
+    (j : ℕ) → P j (part_at j (insert_entry nat_cmp (remove_entry (is_at (nat_cmp k)) sessions) k part))
+of_put k part sessions P here others j = by (same_or_not j k)
+  where
+    rest : List (ℕ × SessionSubscriptions)
+    rest = remove_entry (is_at (nat_cmp k)) sessions
+
+    by : (j ≡ k) ⊎ (j ≢ k) → P j (part_at j (insert_entry nat_cmp (remove_entry (is_at (nat_cmp k)) sessions) k part))
+    by (inl same) = subst (λ (i : ℕ). P i (part_at i (insert_entry nat_cmp rest k part))) (sym same) (subst (λ (o : Option SessionSubscriptions). P k (unwrap_or o no_part)) (sym (put_here k part rest)) here)
+    by (inr other) = subst (λ (o : Option SessionSubscriptions). P j (unwrap_or o no_part)) (sym (put_other k j part other rest ∙ gone_other k j other sessions)) (others j other)
 
 pub set_fewer : (k : ℕ) (part : SessionSubscriptions) (sessions : List (ℕ × SessionSubscriptions)) → part.numbers ≡ (part_at k sessions).numbers → (is_any part.requests ≡ true → is_any (part_at k sessions).requests ≡ true) →
     AreFewer sessions (set_value (is_at (nat_cmp k)) sessions part)
 set_fewer k part sessions same fewer = record {
   rising = λ r. rising_set k part sessions r;
-  numbers = λ j. numbers j (set_part_is k j part sessions);
-  requests = λ j. requests j (set_part_is k j part sessions);
+  numbers = of_set k part sessions (λ (j : ℕ) (p : SessionSubscriptions). p.numbers ≡ (part_at j sessions).numbers) same (λ j. refl);
+  requests = of_set k part sessions (λ (j : ℕ) (p : SessionSubscriptions). is_any p.requests ≡ true → is_any (part_at j sessions).requests ≡ true) fewer (λ j e. e);
 }
-  where
-    numbers : (j : ℕ) → (part_at j (set_value (is_at (nat_cmp k)) sessions part) ≡ part_at j sessions) ⊎ ((j ≡ k) × (part_at j (set_value (is_at (nat_cmp k)) sessions part) ≡ part)) →
-        (part_at j (set_value (is_at (nat_cmp k)) sessions part)).numbers ≡ (part_at j sessions).numbers
-    numbers j (inl e) = ap (λ (p : SessionSubscriptions). p.numbers) e
-    numbers j (inr (is, e)) = ap (λ (p : SessionSubscriptions). p.numbers) e ∙ same ∙ ap (λ (i : ℕ). (part_at i sessions).numbers) (sym is)
-
-    requests : (j : ℕ) → (part_at j (set_value (is_at (nat_cmp k)) sessions part) ≡ part_at j sessions) ⊎ ((j ≡ k) × (part_at j (set_value (is_at (nat_cmp k)) sessions part) ≡ part)) →
-        is_any (part_at j (set_value (is_at (nat_cmp k)) sessions part)).requests ≡ true → is_any (part_at j sessions).requests ≡ true
-    requests j (inl e) any = sym (ap (λ (p : SessionSubscriptions). is_any p.requests) e) ∙ any
-    requests j (inr (is, e)) any = ap (λ (i : ℕ). is_any (part_at i sessions).requests) is ∙ fewer (sym (ap (λ (p : SessionSubscriptions). is_any p.requests) e) ∙ any)
 
 -- ---- the requests of a connection go
 
@@ -138,39 +155,20 @@ with_kept s kept = record s { kept = kept }
 abbrev pub kept_table : ℕ → Subscription → List KeptMessage → TableState → TableState
 kept_table n s kept t = record { subscriptions = set_value (is_at (nat_cmp n)) t.subscriptions (with_kept s kept); sessions = t.sessions }
 
--- one of them was another
-record WasKept (t : TableState) (m : ℕ) (u : Subscription) : Type 0 where
-  was : Subscription
-  kept : List KeptMessage
-  found : subscription_at m t.subscriptions ≡ Some was
-  is : u ≡ with_kept was kept
-
-was_kept : (n : ℕ) (s : Subscription) (kept : List KeptMessage) (t : TableState) → subscription_at n t.subscriptions ≡ Some s → (m : ℕ) (u : Subscription) →
-    subscription_at m (kept_table n s kept t).subscriptions ≡ Some u → WasKept t m u
-was_kept n s kept t found m u after = by (same_or_not m n)
-  where
-    same_some : (a b : Subscription) → Some a ≡ Some b → b ≡ a
-    same_some a b e = cc
-
-    by : (m ≡ n) ⊎ (m ≢ n) → WasKept t m u
-    by (inl is) =
-        let there : subscription_at m (kept_table n s kept t).subscriptions ≡ Some (with_kept s kept) =
-        ap (λ (i : ℕ). subscription_at i (kept_table n s kept t).subscriptions) is ∙ set_here n s (with_kept s kept) t.subscriptions found in
-        record { was = s; kept = kept; found = ap (λ (i : ℕ). subscription_at i t.subscriptions) is ∙ found; is = same_some (with_kept s kept) u (sym there ∙ after) }
-    by (inr other) = record { was = u; kept = u.kept; found = sym (set_other n m (with_kept s kept) other t.subscriptions) ∙ after; is = refl }
-
 module _ (rows : List Fired) (t : TableState) (items : ItemsState) (n : ℕ) (s : Subscription) (kept : List KeptMessage) (found : subscription_at n t.subscriptions ≡ Some s) where
+  each_kept : (P : ℕ → Subscription → Type 0) → P n (with_kept s kept) → ((m : ℕ) (u : Subscription) → subscription_at m t.subscriptions ≡ Some u → P m u) →
+      (m : ℕ) (u : Subscription) → subscription_at m (kept_table n s kept t).subscriptions ≡ Some u → P m u
+  each_kept = each_set n s (with_kept s kept) t.subscriptions found
+
   pub kept_calm : IsCalm rows t items → IsCalm rows (kept_table n s kept t) items
   kept_calm h = record {
     listed = record {
       subscriptions = rising_set n (with_kept s kept) t.subscriptions h.listed.subscriptions;
       sessions = h.listed.sessions;
-      listed = λ m u k after own. let w = was_kept n s kept t found m u after in h.listed.listed m w.was k w.found (sym (ap (λ (x : Subscription). x.session) w.is) ∙ own);
+      listed = λ m u k. each_kept (λ (i : ℕ) (x : Subscription). x.session ≡ Some k → is_listed i (part_at k t.sessions).numbers ≡ true) (λ own. h.listed.listed n s k found own) (λ i x before own. h.listed.listed i x k before own) m u;
     };
-    steady = λ m u after.
-        let w = was_kept n s kept t found m u after in
-        subst (λ (x : Subscription). IsSteady (standing_at (kept_table n s kept t) items rows m x)) (sym w.is) (h.steady m w.was w.found);
-    lives = λ m u after. let w = was_kept n s kept t found m u after in h.lives m w.was w.found ∙ sym (ap (λ (x : Subscription). x.lifetime_count) w.is);
+    steady = each_kept (λ (m : ℕ) (u : Subscription). IsSteady (standing_at (kept_table n s kept t) items rows m u)) (h.steady n s found) h.steady;
+    lives = each_kept (λ (m : ℕ) (u : Subscription). life_at m rows ≡ u.lifetime_count) (h.lives n s found) h.lives;
     lawful = h.lawful;
     reached = h.reached;
   }
@@ -178,18 +176,12 @@ module _ (rows : List Fired) (t : TableState) (items : ItemsState) (n : ℕ) (s 
   pub kept_own : (k : ℕ) → ListsItsOwn t k → ListsItsOwn (kept_table n s kept t) k
   kept_own k own m listed = by (own m listed) (same_or_not m n)
     where
-      same_some : (u : Subscription) → Some s ≡ Some u → u ≡ s
-      same_some u e = cc
-
       by : (u : Subscription) × (subscription_at m t.subscriptions ≡ Some u) × (u.session ≡ Some k) → (m ≡ n) ⊎ (m ≢ n) →
           (u : Subscription) × (subscription_at m (kept_table n s kept t).subscriptions ≡ Some u) × (u.session ≡ Some k)
       by (u, before, its) (inl is) =
-          let it : u ≡ s = same_some u (sym found ∙ ap (λ (j : ℕ). subscription_at j t.subscriptions) (sym is) ∙ before) in (
+          let it : u ≡ s = sym (some_same (sym found ∙ ap (λ (j : ℕ). subscription_at j t.subscriptions) (sym is) ∙ before)) in (
             with_kept s kept,
             ap (λ (j : ℕ). subscription_at j (kept_table n s kept t).subscriptions) is ∙ set_here n s (with_kept s kept) t.subscriptions found,
             ap (λ (x : Subscription). x.session) (sym it) ∙ its,
           )
       by (u, before, its) (inr other) = (u, set_other n m (with_kept s kept) other t.subscriptions ∙ before, its)
-
-  pub kept_lists : (made : ℕ) → AreLists made t → AreLists made (kept_table n s kept t)
-  kept_lists made lists = record { within = lists.within; rising = lists.rising }

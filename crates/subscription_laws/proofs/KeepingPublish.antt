@@ -1,5 +1,6 @@
 -- What every call keeps, while a Publish request is taken.
 use Rattle.std.proofs.Common.{◌≡◌, ◌≢◌, ◌⊎◌, inl, inr, ℕ, Bool, true, false, ◌||◌, ◌&&◌, cond, List, [], ◌∷◌, ◌++◌, fold, Option, Some, None, refl, sym, ap, ◌∙◌, subst}
+use Rattle.std.proofs.lemmas.Bool.{or_right}
 use Rattle.std.specs.BTreeMap.{is_at}
 use Rattle.std.specs.BTreeSet.{insert_key}
 use Rattle.std.specs.Map.{set_value}
@@ -7,7 +8,6 @@ use Rattle.std.specs.Option.{is_some}
 use Rattle.std.specs.Ordering.{nat_cmp, match_ordering}
 use Rattle.std.specs.declared.cmp.Ordering.{Ordering}
 use Rattle.std.specs.declared.cmp.Ordering.TheVariants.{Less, Equal, Greater}
-use Rattle.ua_types.specs.declared.status.TheConstants.Status as status
 use Rattle.server_messages.specs.declared.fired.Fired.{Fired}
 use Rattle.ua_subscription_messages.specs.declared.publishing.SubscriptionAcknowledgement.{SubscriptionAcknowledgement}
 use Rattle.ua_state_table.specs.Chosen.{answers, publish_row}
@@ -16,26 +16,29 @@ use Rattle.ua_state_table.specs.declared.row.RowId.{RowId}
 use Rattle.ua_state_table.specs.declared.row.RowId.TheVariants.{N1, K1}
 use Rattle.ua_state_table.specs.declared.state.State.{State}
 use Rattle.ua_state_table.specs.declared.state.State.TheVariants.{Closed, Normal, Late, KeepAlive}
+use Rattle.ua_subscriptions.specs.declared.call.Call.{Call}
 use Rattle.ua_subscriptions.specs.declared.call.Call.TheVariants.{Publish}
 use Rattle.ua_subscriptions.specs.declared.publish_call.PublishCall.{PublishCall}
 use Rattle.ua_subscriptions.specs.declared.ranks.Rank.{Rank}
 use Rattle.ua_subscriptions.specs.declared.session_part.SessionSubscriptions.{SessionSubscriptions}
-use Rattle.ua_subscriptions.specs.declared.session_part.TimeoutNote.{TimeoutNote}
 use Rattle.ua_subscriptions.specs.declared.subscription.Subscription.{Subscription}
 use Rattle.subscription_laws.specs.Calm.{is_listed}
 use Rattle.ua_subscriptions.specs.Firing.{vars_in, row_of, fired}
-use Rattle.ua_subscriptions.specs.Publishing.{forgotten, without_kept, Acknowledged, acknowledgement_status, acknowledged_by, acknowledged, AllAcknowledged, with_acknowledged, acknowledged_all, note_of, part_without_note, without_note, asked_by, met_by_best, answered_to, answered_by, with_results, published}
+use Rattle.ua_subscriptions.specs.Publishing.{forgotten, without_kept, acknowledged_all, part_without_note, asked_by, ready, best_or_all, asked_numbers}
 use Rattle.ua_subscriptions.specs.Queues.{first_of}
-use Rattle.ua_subscriptions.specs.Ranks.{rank_cmp, rank_of, with_rank, waits_in, is_waiting, waiting_by, with_waiting, waiting_of}
+use Rattle.ua_state_table.specs.Steady.{waits_in}
+use Rattle.ua_subscriptions.specs.Ranks.{rank_cmp, rank_of, with_rank, is_waiting, waiting_by, with_waiting, waiting_of}
 use Rattle.ua_subscriptions.specs.Scenes.{Scene, row_done}
 use Rattle.subscription_laws.specs.Standings.{IsAsked}
-use Rattle.subscription_laws.specs.Encounters.{scene_at, ready}
-use Rattle.ua_subscriptions.specs.Subscriptions.{is_any, is_of}
-use Rattle.ua_subscriptions.specs.Tables.{TableState, World, with_call, without_closed, met_found, met, all_met, part_at, part_of, set_part, subscription_at}
+use Rattle.subscription_laws.specs.Encounters.{scene_at, is_meant, met_if}
+use Rattle.ua_subscriptions.specs.Subscriptions.{is_any}
+use Rattle.ua_subscriptions.specs.Tables.{TableState, World, with_call, without_closed, met_found, met, part_at, part_of, set_part, subscription_at}
+use Rattle.subscription_laws.proofs.Acknowledgements.{all_acknowledged}
+use Rattle.subscription_laws.proofs.AskedNumbers.{first_is}
 use Rattle.subscription_laws.proofs.ChosenRows.{publish_stays, waiting_none, live_fits}
-use Rattle.subscription_laws.proofs.Entries.{same_or_not, at_itself, apart}
-use Rattle.subscription_laws.proofs.Keeping.{IsKept, world_after, live_kept, fired_stays}
-use Rattle.subscription_laws.proofs.KeepingParts.{parts_calm, parts_own, parts_within, set_fewer, kept_calm, kept_own}
+use Rattle.subscription_laws.proofs.Entries.{listed_first, behind_it, among, some_same, same_or_not}
+use Rattle.subscription_laws.proofs.Keeping.{IsKept, its_own, world_after, live_kept, unasked, is_live, fired_stays}
+use Rattle.subscription_laws.proofs.KeepingParts.{parts_kept, set_fewer, kept_calm, kept_own}
 use Rattle.subscription_laws.proofs.RowLinks.{enqueued_any}
 use Rattle.subscription_laws.proofs.Settling.{NoneWaits, IsPutBack, back_is, part_own}
 
@@ -44,155 +47,64 @@ use Rattle.subscription_laws.proofs.Settling.{NoneWaits, IsPutBack, back_is, par
 abbrev with_subscriptions : World → List (ℕ × Subscription) → World
 with_subscriptions w subscriptions = record { round = w.round; table = record { subscriptions = subscriptions; sessions = w.table.sessions }; items = w.items }
 
-one_acknowledged : (made : ℕ) (past : List Fired) (w : World) (session : ℕ) (subscriptions : List (ℕ × Subscription)) (a : SubscriptionAcknowledgement) →
-    IsKept None made past (with_subscriptions w subscriptions) → IsKept None made past (with_subscriptions w (acknowledged session subscriptions a).subscriptions)
-unfolding acknowledged
-one_acknowledged made past w session subscriptions a k = by (subscription_at a.subscription_id subscriptions) refl
-  where
-    by : (o : Option Subscription) → subscription_at a.subscription_id subscriptions ≡ o → IsKept None made past (with_subscriptions w (acknowledged_by session subscriptions a o).subscriptions)
-    by None found = k
-    by (Some s) found = own (is_of s.session session)
-      where
-        yes : IsKept None made past (with_subscriptions w (set_value (is_at (nat_cmp a.subscription_id)) subscriptions (without_kept a.sequence_number s)))
-        yes = record {
-          calm = kept_calm (past ++ w.round.rows) (record { subscriptions = subscriptions; sessions = w.table.sessions }) w.items a.subscription_id s (forgotten a.sequence_number s.kept) found k.calm;
-          own = λ j other. kept_own (past ++ w.round.rows) (record { subscriptions = subscriptions; sessions = w.table.sessions }) w.items a.subscription_id s (forgotten a.sequence_number s.kept) found j (k.own j other);
-          within = record { within = k.within.within; rising = k.within.rising };
-        }
-
-        own : (b : Bool) → IsKept None made past (with_subscriptions w (cond {A = Acknowledged} b (record { status = acknowledgement_status a.sequence_number s.kept; subscriptions = set_value (is_at (nat_cmp a.subscription_id)) subscriptions (without_kept a.sequence_number s) }) (record { status = status.BAD_SUBSCRIPTION_ID_INVALID; subscriptions = subscriptions })).subscriptions)
-        own true = yes
-        own false = k
-
-acknowledged_kept : (made : ℕ) (past : List Fired) (w : World) (session : ℕ) (acks : List SubscriptionAcknowledgement) (before : AllAcknowledged) →
-    IsKept None made past (with_subscriptions w before.subscriptions) → IsKept None made past (with_subscriptions w (fold (with_acknowledged session) before acks).subscriptions)
-acknowledged_kept made past w session [] before k = k
-acknowledged_kept made past w session (a ∷ acks) before k =
-    acknowledged_kept made past w session acks (with_acknowledged session before a) (one_acknowledged made past w session before.subscriptions a k)
-
-note_kept : (made : ℕ) (past : List Fired) (w : World) (session : ℕ) → IsKept None made past w →
-    IsKept None made past (record { round = w.round; table = record { subscriptions = w.table.subscriptions; sessions = without_note session w.table.sessions }; items = w.items })
-note_kept made past w session k =
-    let f = set_fewer session (part_without_note (part_at session w.table.sessions)) w.table.sessions refl (λ e. e) in
+message_forgotten : (made : ℕ) (past : List Fired) (w : World) (subscriptions : List (ℕ × Subscription)) (n number : ℕ) (s : Subscription) → subscription_at n subscriptions ≡ Some s →
+    IsKept None made past (with_subscriptions w subscriptions) → IsKept None made past (with_subscriptions w (set_value (is_at (nat_cmp n)) subscriptions (without_kept number s)))
+message_forgotten made past w subscriptions n number s found k =
+    let t : TableState = record { subscriptions = subscriptions; sessions = w.table.sessions } in
     record {
-      calm = parts_calm (past ++ w.round.rows) w.table w.items (without_note session w.table.sessions) f k.calm;
-      own = λ j other. parts_own (past ++ w.round.rows) w.table w.items (without_note session w.table.sessions) f j (k.own j other);
-      within = parts_within (past ++ w.round.rows) w.table w.items (without_note session w.table.sessions) f made k.within;
+      calm = kept_calm (past ++ w.round.rows) t w.items n s (forgotten number s.kept) found k.calm;
+      own = λ j other. kept_own (past ++ w.round.rows) t w.items n s (forgotten number s.kept) found j (k.own j other);
+      within = record { within = k.within.within; rising = k.within.rising };
     }
+
+pub ready_kept : (session made : ℕ) (past : List Fired) (acks : List SubscriptionAcknowledgement) (w : World) → IsKept None made past w → IsKept None made past (ready session acks w)
+ready_kept session made past acks w k =
+    let all = acknowledged_all session w.table.subscriptions acks in
+    parts_kept None made past (with_subscriptions w all.subscriptions) _ (set_fewer session (part_without_note (part_at session w.table.sessions)) w.table.sessions refl (λ e. e))
+    (all_acknowledged session (λ (subscriptions : List (ℕ × Subscription)). IsKept None made past (with_subscriptions w subscriptions))
+    (λ subscriptions n number s found its h. message_forgotten made past w subscriptions n number s found h) acks w.table.subscriptions (record { calm = k.calm; own = k.own; within = k.within }))
 
 -- ---- which subscription waits
 
-abbrev Waits : List (ℕ × Subscription) → Rank → Type 0
-Waits subscriptions rank = (s : Subscription) → subscription_at rank.number subscriptions ≡ Some s → is_waiting s ≡ true
+abbrev pub Waits : List (ℕ × Subscription) → ℕ → Type 0
+Waits subscriptions n = (s : Subscription) → subscription_at n subscriptions ≡ Some s → is_waiting s ≡ true
 
-abbrev AllWait : List (ℕ × Subscription) → List Rank → Type 0
-AllWait subscriptions [] = Unit {0}
-AllWait subscriptions (r ∷ rs) = Waits subscriptions r × AllWait subscriptions rs
+best_waits : (subscriptions : List (ℕ × Subscription)) (ns : List ℕ) (rank : Rank) → first_of (waiting_of subscriptions ns) ≡ Some rank → Waits subscriptions rank.number
+best_waits subscriptions ns rank is = first_is (Waits subscriptions) subscriptions ns rank (λ n s found waits u there. ap is_waiting (sym (some_same (sym found ∙ there))) ∙ waits) is
 
-put_waits : (subscriptions : List (ℕ × Subscription)) (ranks : List Rank) (rank : Rank) → AllWait subscriptions ranks → Waits subscriptions rank → AllWait subscriptions (insert_key rank_cmp ranks rank)
-put_waits subscriptions [] rank all one = (one, tt)
-put_waits subscriptions (r ∷ rs) rank all one = by (rank_cmp rank r) (put_waits subscriptions rs rank all.1 one)
+-- where none is first, none was put among them
+rank_none : (ranks : List Rank) (o : Option Rank) → first_of (with_rank ranks o) ≡ None → (o ≡ None) × (first_of ranks ≡ None)
+unfolding with_rank
+rank_none ranks None e = (refl, e)
+rank_none [] (Some rank) e = absurd (cc)
+rank_none (r ∷ rs) (Some rank) e = by (rank_cmp rank r) e
   where
-    by : (o : Ordering) → AllWait subscriptions (insert_key rank_cmp rs rank) → AllWait subscriptions (match_ordering o (rank ∷ r ∷ rs) (r ∷ rs) (r ∷ insert_key rank_cmp rs rank))
-    by Less rest = (one, (all.0, all.1))
-    by Equal rest = (all.0, all.1)
-    by Greater rest = (all.0, rest)
-
-one_waits : (subscriptions : List (ℕ × Subscription)) (ranks : List Rank) (n : ℕ) → AllWait subscriptions ranks → AllWait subscriptions (with_waiting subscriptions ranks n)
-unfolding with_rank waiting_by
-one_waits subscriptions ranks n all = by (subscription_at n subscriptions) refl
-  where
-    same_some : (a b : Subscription) → Some a ≡ Some b → b ≡ a
-    same_some a b e = cc
-
-    waits : (s : Subscription) → subscription_at n subscriptions ≡ Some s → (b : Bool) → is_waiting s ≡ b → AllWait subscriptions (with_rank ranks (cond b (Some (rank_of n s)) None))
-    waits s found true is = put_waits subscriptions ranks (rank_of n s) all (λ u there. ap is_waiting (same_some s u (sym found ∙ there)) ∙ is)
-    waits s found false is = all
-
-    by : (o : Option Subscription) → subscription_at n subscriptions ≡ o → AllWait subscriptions (with_rank ranks (waiting_by n o))
-    by None found = all
-    by (Some s) found = waits s found (is_waiting s) refl
-
-all_wait : (subscriptions : List (ℕ × Subscription)) (ns : List ℕ) (ranks : List Rank) → AllWait subscriptions ranks → AllWait subscriptions (fold (with_waiting subscriptions) ranks ns)
-all_wait subscriptions [] ranks all = all
-all_wait subscriptions (n ∷ ns) ranks all = all_wait subscriptions ns (with_waiting subscriptions ranks n) (one_waits subscriptions ranks n all)
-
-first_waits : (subscriptions : List (ℕ × Subscription)) (ranks : List Rank) (rank : Rank) → AllWait subscriptions ranks → first_of ranks ≡ Some rank → Waits subscriptions rank
-first_waits subscriptions [] rank all is = absurd (cc)
-first_waits subscriptions (r ∷ rs) rank all is = subst (Waits subscriptions) (same is) all.0
-  where
-    same : Some r ≡ Some rank → r ≡ rank
-    same e = cc
-
-best_waits : (subscriptions : List (ℕ × Subscription)) (ns : List ℕ) (rank : Rank) → first_of (waiting_of subscriptions ns) ≡ Some rank → Waits subscriptions rank
-best_waits subscriptions ns rank is = first_waits subscriptions (waiting_of subscriptions ns) rank (all_wait subscriptions ns [] tt) is
-
--- once one waits, one does
-put_some : (ranks : List Rank) (rank : Rank) → first_of (insert_key rank_cmp ranks rank) ≡ None → ⊥
-put_some [] rank e = absurd (cc)
-put_some (r ∷ rs) rank e = by (rank_cmp rank r) e
-  where
-    by : (o : Ordering) → first_of (match_ordering o (rank ∷ r ∷ rs) (r ∷ rs) (r ∷ insert_key rank_cmp rs rank)) ≡ None → ⊥
+    by : (o : Ordering) → first_of (match_ordering o (rank ∷ r ∷ rs) (r ∷ rs) (r ∷ insert_key rank_cmp rs rank)) ≡ None → (Some rank ≡ None) × (first_of (r ∷ rs) ≡ None)
     by Less f = absurd (cc)
     by Equal f = absurd (cc)
     by Greater f = absurd (cc)
 
-one_some : (subscriptions : List (ℕ × Subscription)) (ranks : List Rank) (n : ℕ) → first_of (with_waiting subscriptions ranks n) ≡ None → first_of ranks ≡ None
-unfolding with_rank
-one_some subscriptions ranks n e = by (waiting_by n (subscription_at n subscriptions)) e
+-- so none of those waits
+none_wait : (subscriptions : List (ℕ × Subscription)) (ns : List ℕ) (ranks : List Rank) → first_of (fold (with_waiting subscriptions) ranks ns) ≡ None →
+    (first_of ranks ≡ None) × ((m : ℕ) (s : Subscription) → is_listed m ns ≡ true → subscription_at m subscriptions ≡ Some s → is_waiting s ≡ false)
+unfolding waiting_by
+none_wait subscriptions [] ranks e = (e, λ m s listed found. absurd (cc))
+none_wait subscriptions (n ∷ ns) ranks e =
+    let rest = none_wait subscriptions ns (with_waiting subscriptions ranks n) e in
+    let here = rank_none ranks (waiting_by n (subscription_at n subscriptions)) rest.0 in
+    (here.1, λ m s listed found. by m s listed found here.0 rest.1 (same_or_not m n))
   where
-    by : (o : Option Rank) → first_of (with_rank ranks o) ≡ None → first_of ranks ≡ None
-    by None f = f
-    by (Some rank) f = absurd (put_some ranks rank f)
+    calm : (s : Subscription) (b : Bool) → cond b (Some (rank_of n s)) None ≡ None → b ≡ false
+    calm s true none = absurd (cc)
+    calm s false none = refl
 
-none_before : (subscriptions : List (ℕ × Subscription)) (ns : List ℕ) (ranks : List Rank) → first_of (fold (with_waiting subscriptions) ranks ns) ≡ None → first_of ranks ≡ None
-none_before subscriptions [] ranks e = e
-none_before subscriptions (n ∷ ns) ranks e = one_some subscriptions ranks n (none_before subscriptions ns (with_waiting subscriptions ranks n) e)
+    by : (m : ℕ) (s : Subscription) → is_listed m (n ∷ ns) ≡ true → subscription_at m subscriptions ≡ Some s → waiting_by n (subscription_at n subscriptions) ≡ None →
+        ((k : ℕ) (u : Subscription) → is_listed k ns ≡ true → subscription_at k subscriptions ≡ Some u → is_waiting u ≡ false) → (m ≡ n) ⊎ (m ≢ n) → is_waiting s ≡ false
+    by m s listed found none more (inl same) = calm s (is_waiting s) (ap (waiting_by n) (sym found ∙ ap (λ (k : ℕ). subscription_at k subscriptions) same) ∙ none)
+    by m s listed found none more (inr other) = more m s (behind_it m n ns other listed) found
 
-one_none : (subscriptions : List (ℕ × Subscription)) (ranks : List Rank) (n : ℕ) (s : Subscription) → first_of (with_waiting subscriptions ranks n) ≡ None → subscription_at n subscriptions ≡ Some s → is_waiting s ≡ false
-unfolding with_rank waiting_by
-one_none subscriptions ranks n s e found = by (is_waiting s) refl (ap (λ (o : Option Subscription). first_of (with_rank ranks (waiting_by n o))) (sym found) ∙ e)
-  where
-    by : (b : Bool) → is_waiting s ≡ b → first_of (with_rank ranks (cond b (Some (rank_of n s)) None)) ≡ None → is_waiting s ≡ false
-    by true is f = absurd (put_some ranks (rank_of n s) f)
-    by false is f = is
-
-none_wait : (subscriptions : List (ℕ × Subscription)) (ns : List ℕ) (ranks : List Rank) → first_of (fold (with_waiting subscriptions) ranks ns) ≡ None → (m : ℕ) (s : Subscription) → is_listed m ns ≡ true →
-    subscription_at m subscriptions ≡ Some s → is_waiting s ≡ false
-none_wait subscriptions [] ranks e m s listed found = absurd (cc)
-none_wait subscriptions (n ∷ ns) ranks e m s listed found = by (same_or_not m n) (λ rest. none_wait subscriptions ns (with_waiting subscriptions ranks n) e m s rest found)
-  where
-    later : (b : Bool) → b ≡ false → (b || is_listed m ns) ≡ true → is_listed m ns ≡ true
-    later true f l = absurd (cc)
-    later false f l = l
-
-    by : (m ≡ n) ⊎ (m ≢ n) → (is_listed m ns ≡ true → is_waiting s ≡ false) → is_waiting s ≡ false
-    by (inl same) more = one_none subscriptions ranks n s (none_before subscriptions ns (with_waiting subscriptions ranks n) e) (ap (λ (k : ℕ). subscription_at k subscriptions) (sym same) ∙ found)
-    by (inr other) more = more (later (is_at (nat_cmp m) n) (apart m n other) listed)
-
--- ---- one that waits is asked
-
-is_live : (except : Option ℕ) (made : ℕ) (past : List Fired) (w : World) (n : ℕ) (s : Subscription) → subscription_at n w.table.subscriptions ≡ Some s → IsKept except made past w → s.state ≢ Closed
-is_live except made past w n s found k = (k.calm.steady n s found).live
-
-publish_session : (w : World) (n : ℕ) (s : Subscription) → s.state ≢ Closed → (fired (scene_at w n Publish s)).subscription.session ≡ s.session
-publish_session w n s live = fired_stays (scene_at w n Publish s) (publish_stays s.state (answers (vars_in (scene_at w n Publish s))) live)
-
-no_ask : (c : Scene) (t : TableState) → enqueues (row_of c) ≡ false → enqueues (row_of c) ≡ true → IsAsked c × NoneWaits t c.subscription.session
-no_ask c t none e = absurd (cc)
-
-met_waiting : (made : ℕ) (past : List Fired) (w : World) (n : ℕ) → ((s : Subscription) → subscription_at n w.table.subscriptions ≡ Some s → is_waiting s ≡ true) → IsKept None made past w → IsKept None made past (met w n Publish)
-unfolding met
-met_waiting made past w n waits k = by (subscription_at n w.table.subscriptions) refl
-  where
-    by : (o : Option Subscription) → subscription_at n w.table.subscriptions ≡ o → IsKept None made past (without_closed n (met_found (with_call w.round n Publish) w.table.subscriptions w.table.sessions w.items o))
-    by None found = record { calm = k.calm; own = k.own; within = k.within }
-    by (Some s) found =
-        let live = is_live None made past w n s found k in
-        let kept = live_kept None made past w n Publish s found k refl (live_fits s.state Publish refl live)
-        (no_ask (scene_at w n Publish s) w.table (waiting_none s.state (answers (vars_in (scene_at w n Publish s))) (waits s found)))
-        (inl (publish_session w n s live)) in
-        record { calm = kept.calm; own = kept.own; within = kept.within }
+publish_session : (w : World) (n : ℕ) (s : Subscription) → (fired (scene_at w n Publish s)).subscription.session ≡ s.session
+publish_session w n s = fired_stays (scene_at w n Publish s) (publish_stays s.state (answers (vars_in (scene_at w n Publish s))))
 
 -- ---- all of a session, of which none waits, are asked
 
@@ -232,41 +144,35 @@ pub record IsAsking (session made : ℕ) (past : List Fired) (w : World) : Type 
 abbrev pub AreOf : ℕ → List ℕ → World → Type 0
 AreOf session ns w = (m : ℕ) (s : Subscription) → is_listed m ns ≡ true → subscription_at m w.table.subscriptions ≡ Some s → s.session ≡ Some session
 
-either : (a b : Bool) → b ≡ true → (a || b) ≡ true
-either true b h = refl
-either false b h = h
-
 pub record Asked (session made : ℕ) (past : List Fired) (ns : List ℕ) (v : World) : Type 0 where
   pub asking : IsAsking session made past v
   pub of : AreOf session ns v
 
 module _ (session made : ℕ) (past : List Fired) (w : World) (n : ℕ) (ns : List ℕ) (h : IsAsking session made past w) (of : AreOf session (n ∷ ns) w) where
-  is_asked : (s : Subscription) → s.session ≡ Some session → IsAsked (scene_at w n Publish s)
-  is_asked s own = record {
-    owned = ap is_some own;
-    asked = ap (λ (o : Option ℕ). is_some w.round.asked || is_any (part_of o w.table.sessions).requests) own ∙ h.asked;
-  }
-
-  later : (b c : Bool) → c ≡ true → (b || c) ≡ true
-  later b c e = either b c e
+  asks_for_all : (s : Subscription) → subscription_at n w.table.subscriptions ≡ Some s → IsAsked (scene_at w n Publish s) × NoneWaits w.table s.session
+  asks_for_all s found =
+      let own : s.session ≡ Some session = of n s (listed_first n ns) found in (
+        record { owned = ap is_some own; asked = ap (λ (o : Option ℕ). is_some w.round.asked || is_any (part_of o w.table.sessions).requests) own ∙ h.asked },
+        λ m u there same. h.none m u there (same ∙ own),
+      )
 
   one_asked : (s : Subscription) → subscription_at n w.table.subscriptions ≡ Some s → Asked session made past ns (world_after n s (fired (scene_at w n Publish s)) w.table)
   one_asked s found =
-      let own : s.session ≡ Some session = of n s (ap (λ (b : Bool). b || is_listed n ns) (at_itself n)) found in
+      let own : s.session ≡ Some session = of n s (listed_first n ns) found in
       let live = is_live None made past w n s found h.kept in
       let calm : is_waiting s ≡ false = h.none n s found own in
-      let is = is_asked s own in
+      let asks = asks_for_all s found in
+      let is = asks.0 in
       let queued = fired_queues (scene_at w n Publish s) (publish_queues (scene_at w n Publish s) s.state refl live calm is) in
-      let stays = publish_session w n s live in
-      let none : NoneWaits w.table s.session = λ m u there same. h.none m u there (same ∙ own) in
+      let stays = publish_session w n s in
       let part : part_at session (set_part s.session w.table.sessions (fired (scene_at w n Publish s)).part) ≡ (fired (scene_at w n Publish s)).part =
       ap (λ (o : Option ℕ). part_at session (set_part o w.table.sessions (fired (scene_at w n Publish s)).part)) own
       ∙ part_own session n (fired (scene_at w n Publish s)).part w.table.sessions (h.kept.calm.listed.listed n s session found own) in
       record {
         asking = record {
-          kept = live_kept None made past w n Publish s found h.kept refl (live_fits s.state Publish refl live) (λ e. (is, none)) (inl stays);
+          kept = live_kept None made past w n Publish s found h.kept refl (live_fits s.state Publish refl live) (λ e. asks) (inl stays);
           none = λ m u after same. none_after s found queued.calm own m u (back_is n s (fired (scene_at w n Publish s)).subscription w.table.subscriptions h.kept.calm.listed.subscriptions found m u after) same;
-          asked = either (is_some (fired (scene_at w n Publish s)).round.asked) _ (ap (λ (p : SessionSubscriptions). is_any p.requests) part ∙ queued.any);
+          asked = or_right (is_some (fired (scene_at w n Publish s)).round.asked) _ (ap (λ (p : SessionSubscriptions). is_any p.requests) part ∙ queued.any);
         };
         of = λ m u listed after. of_after s (stays ∙ own) m u listed (back_is n s (fired (scene_at w n Publish s)).subscription w.table.subscriptions h.kept.calm.listed.subscriptions found m u after);
       }
@@ -279,7 +185,7 @@ module _ (session made : ℕ) (past : List Fired) (w : World) (n : ℕ) (ns : Li
       of_after : (s : Subscription) → (fired (scene_at w n Publish s)).subscription.session ≡ Some session → (m : ℕ) (u : Subscription) → is_listed m ns ≡ true →
           IsPutBack n m (fired (scene_at w n Publish s)).subscription u ⊎ ((m ≢ n) × (subscription_at m w.table.subscriptions ≡ Some u)) → u.session ≡ Some session
       of_after s own m u listed (inl b) = ap (λ (x : Subscription). x.session) b.is ∙ own
-      of_after s own m u listed (inr (other, before)) = of m u (later (is_at (nat_cmp m) n) (is_listed m ns) listed) before
+      of_after s own m u listed (inr (other, before)) = of m u (among m n ns listed) before
 
   pub met_asked : Asked session made past ns (met w n Publish)
   unfolding met
@@ -288,7 +194,7 @@ module _ (session made : ℕ) (past : List Fired) (w : World) (n : ℕ) (ns : Li
       by : (o : Option Subscription) → subscription_at n w.table.subscriptions ≡ o → Asked session made past ns (without_closed n (met_found (with_call w.round n Publish) w.table.subscriptions w.table.sessions w.items o))
       by None found = record {
         asking = record { kept = record { calm = h.kept.calm; own = h.kept.own; within = h.kept.within }; none = h.none; asked = h.asked };
-        of = λ m u listed there. of m u (later (is_at (nat_cmp m) n) (is_listed m ns) listed) there;
+        of = λ m u listed there. of m u (among m n ns listed) there;
       }
       by (Some s) found =
           let a = one_asked s found in
@@ -297,58 +203,58 @@ module _ (session made : ℕ) (past : List Fired) (w : World) (n : ℕ) (ns : Li
             of = a.of;
           }
 
-all_asked : (session made : ℕ) (past : List Fired) (ns : List ℕ) (w : World) → IsAsking session made past w → AreOf session ns w → IsKept None made past (all_met Publish w ns)
-all_asked session made past [] w h of = h.kept
-all_asked session made past (n ∷ ns) w h of =
-    let a = met_asked session made past w n ns h of in
-    all_asked session made past ns (met w n Publish) a.asking a.of
-
--- ---- the whole
+-- ---- those that meet a Publish request
 
 -- where none waits, all are asked
-pub none_asked : (session made : ℕ) (past : List Fired) (w : World) (ns : List ℕ) (call : PublishCall) → (part_at session w.table.sessions).numbers ≡ ns → IsKept None made past w →
+none_asked : (session made : ℕ) (past : List Fired) (w : World) (ns : List ℕ) (call : PublishCall) → (part_at session w.table.sessions).numbers ≡ ns → IsKept None made past w →
     first_of (waiting_of w.table.subscriptions ns) ≡ None → Asked session made past ns (asked_by w call)
 none_asked session made past w ns call are k is = record {
   asking = record {
     kept = record { calm = k.calm; own = k.own; within = k.within };
     none = λ m s found own.
-        none_wait w.table.subscriptions ns [] is m s (ap (is_listed m) (sym are) ∙ k.calm.listed.listed m s session found own) found;
+        (none_wait w.table.subscriptions ns [] is).1 m s (ap (is_listed m) (sym are) ∙ k.calm.listed.listed m s session found own) found;
     asked = refl;
   };
-  of = λ m s listed found. its_own m s found (k.own session (λ e. absurd (cc)) m (ap (is_listed m) are ∙ listed));
+  of = λ m s listed found. its_own w.table session m s (k.own session (λ e. absurd (cc))) (ap (is_listed m) are ∙ listed) found;
 }
+
+-- one that waits meets a request alone; or those of a session do, of which none waits
+abbrev pub Answerable : World → List ℕ → Type 0
+Answerable w [] = Unit {0}
+Answerable w (n ∷ ns) =
+    ((ns ≡ []) × Waits w.table.subscriptions n × ((call : PublishCall) × (w.round.asked ≡ Some call))) ⊎ ((session : ℕ) × (made : ℕ) × (past : List Fired) × Asked session made past (n ∷ ns) w)
+
+abbrev pub CanAnswer : Option ℕ → Call → World → List ℕ → Type 0
+CanAnswer whose asked w ns = asked ≡ Publish → (whose ≡ None) × Answerable w ns
+
+rest_answerable : (w : World) (n : ℕ) (ns : List ℕ) → Answerable w (n ∷ ns) → Answerable (met w n Publish) ns
+rest_answerable w n [] h = tt
+rest_answerable w n (m ∷ ns) (inl (alone, waits, x)) = absurd (cc)
+rest_answerable w n (m ∷ ns) (inr (session, made, past, a)) = inr (session, made, past, met_asked session made past w n (m ∷ ns) a.asking a.of)
+
+pub rest_can : (whose : Option ℕ) (asked : Call) (w : World) (n : ℕ) (ns : List ℕ) → CanAnswer whose asked w (n ∷ ns) → CanAnswer whose asked (met_if (is_meant whose w n) w n asked) ns
+rest_can None asked w n ns h = λ is. (refl, subst (λ (c : Call). Answerable (met w n c) ns) (sym is) (rest_answerable w n ns (h is).1))
+rest_can (Some session) asked w n ns h = λ is. let clash : Some session ≡ None = (h is).0 in absurd (cc)
+
+best_answerable : (session made : ℕ) (past : List Fired) (w : World) (asked : PublishCall) (ns : List ℕ) → (part_at session w.table.sessions).numbers ≡ ns → IsKept None made past w →
+    (o : Option Rank) → first_of (waiting_of w.table.subscriptions ns) ≡ o → Answerable (asked_by w asked) (best_or_all o ns)
+best_answerable session made past w asked ns are k (Some rank) is = inl (refl, best_waits w.table.subscriptions ns rank is, (asked, refl))
+best_answerable session made past w asked [] are k None is = tt
+best_answerable session made past w asked (n ∷ ns) are k None is = inr (session, made, past, none_asked session made past w (n ∷ ns) asked are k is)
+
+-- where a Publish request is there
+pub publish_begins : (session made : ℕ) (past : List Fired) (asked : PublishCall) (acks : List SubscriptionAcknowledgement) (w : World) → IsKept None made past w →
+    let v = ready session acks w in Answerable (asked_by v asked) (asked_numbers v (part_at session v.table.sessions).numbers)
+publish_begins session made past asked acks w k =
+    let v = ready session acks w in
+    let ns = (part_at session v.table.sessions).numbers in
+    best_answerable session made past v asked ns refl (ready_kept session made past acks w k) (first_of (waiting_of v.table.subscriptions ns)) refl
+
+pub live_publish : (made : ℕ) (past : List Fired) (w : World) (n : ℕ) (ns : List ℕ) (s : Subscription) → Answerable w (n ∷ ns) → subscription_at n w.table.subscriptions ≡ Some s → IsKept None made past w →
+    IsKept None made past (world_after n s (fired (scene_at w n Publish s)) w.table)
+live_publish made past w n ns s given found k =
+    live_kept None made past w n Publish s found k refl (live_fits s.state Publish refl (is_live None made past w n s found k)) (asks given) (inl (publish_session w n s))
   where
-    same_some : (a b : Subscription) → Some a ≡ Some b → b ≡ a
-    same_some a b e = cc
-
-    its_own : (m : ℕ) (s : Subscription) → subscription_at m w.table.subscriptions ≡ Some s → (u : Subscription) × (subscription_at m w.table.subscriptions ≡ Some u) × (u.session ≡ Some session) → s.session ≡ Some session
-    its_own m s found (u, there, own) = ap (λ (x : Subscription). x.session) (same_some u s (sym there ∙ found)) ∙ own
-
-best_kept : (session made : ℕ) (past : List Fired) (w : World) (n : ℕ) (ns : List ℕ) (call : PublishCall) → (part_at session w.table.sessions).numbers ≡ n ∷ ns → IsKept None made past w →
-    (o : Option Rank) → first_of (waiting_of w.table.subscriptions (n ∷ ns)) ≡ o → IsKept None made past (met_by_best o (n ∷ ns) (asked_by w call))
-best_kept session made past w n ns call are k (Some rank) is =
-    met_waiting made past (asked_by w call) rank.number (best_waits w.table.subscriptions (n ∷ ns) rank is) (record { calm = k.calm; own = k.own; within = k.within })
-best_kept session made past w n ns call are k None is =
-    let a = none_asked session made past w (n ∷ ns) call are k is in
-    all_asked session made past (n ∷ ns) (asked_by w call) a.asking a.of
-
-answered_to_kept : (session made : ℕ) (past : List Fired) (w : World) (call : PublishCall) (ns : List ℕ) → (part_at session w.table.sessions).numbers ≡ ns → IsKept None made past w → IsKept None made past (answered_to ns call w)
-unfolding answered_to
-answered_to_kept session made past w call [] are k = record { calm = k.calm; own = k.own; within = k.within }
-answered_to_kept session made past w call (n ∷ ns) are k = best_kept session made past w n ns call are k (first_of (waiting_of w.table.subscriptions (n ∷ ns))) refl
-
-answered_kept : (session made : ℕ) (past : List Fired) (w : World) (call : PublishCall) (note : Option TimeoutNote) → IsKept None made past w → IsKept None made past (answered_by note session call w)
-answered_kept session made past w call (Some note) k = record { calm = k.calm; own = k.own; within = k.within }
-answered_kept session made past w call None k = answered_to_kept session made past w call (part_at session w.table.sessions).numbers refl k
-
-pub ready_kept : (session made : ℕ) (past : List Fired) (acks : List SubscriptionAcknowledgement) (w : World) → IsKept None made past w → IsKept None made past (ready session acks w)
-ready_kept session made past acks w k =
-    let all = acknowledged_all session w.table.subscriptions acks in
-    note_kept made past (with_subscriptions w all.subscriptions) session
-    (acknowledged_kept made past w session acks (record { results = []; subscriptions = w.table.subscriptions }) (record { calm = k.calm; own = k.own; within = k.within }))
-
-pub published_kept : (session made : ℕ) (past : List Fired) (call : PublishCall) (acks : List SubscriptionAcknowledgement) (w : World) → IsKept None made past w → IsKept None made past (published session call acks w)
-unfolding published
-published_kept session made past call acks w k =
-    let all = acknowledged_all session w.table.subscriptions acks in
-    answered_kept session made past (ready session acks w) (with_results call all.results) (note_of session w.table.sessions) (ready_kept session made past acks w k)
+    asks : Answerable w (n ∷ ns) → enqueues (row_of (scene_at w n Publish s)) ≡ true → IsAsked (scene_at w n Publish s) × NoneWaits w.table s.session
+    asks (inl (alone, waits, x)) = unasked (scene_at w n Publish s) w.table (waiting_none s.state (answers (vars_in (scene_at w n Publish s))) (waits s found))
+    asks (inr (own, so_many, fired_yet, a)) = λ e. asks_for_all own so_many fired_yet w n ns a.asking a.of s found

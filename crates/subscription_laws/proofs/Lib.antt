@@ -1,3 +1,4 @@
+pub mod Folds
 pub mod Room
 pub mod Owners
 pub mod RowLinks
@@ -11,12 +12,13 @@ pub mod Availability
 pub mod Remains
 pub mod RowCounts
 pub mod Settling
+pub mod Acknowledgements
 pub mod ChosenRows
 pub mod Firings
 pub mod Keeping
 pub mod KeepingParts
 pub mod KeepingPublish
-pub mod KeepingNamed
+pub mod KeepingEnds
 pub mod KeepingMade
 pub mod KeepingItems
 pub mod RunsKept
@@ -36,7 +38,7 @@ pub mod TablesWithin
 pub mod WithinBounds
 pub mod TellingRows
 pub mod TellingRuns
-pub mod DueFirst
+pub mod BestFirst
 pub mod Walks
 pub mod AskedNumbers
 pub mod CallRows

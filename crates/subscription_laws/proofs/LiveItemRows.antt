@@ -1,16 +1,14 @@
 -- Each monitored item is of a live subscription.
-use Rattle.std.proofs.Common.{◌+◌, ◌≡◌, ◌≢◌, ◌⊎◌, inl, inr, ℕ, ◌==◌, Bool, true, false, not, cond, List, [], ◌∷◌, fold, Option, Some, None, refl, sym, ap, ◌∙◌, subst}
-use Rattle.std.proofs.lemmas.Bool.{eqb-true, eq-eqb}
+use Rattle.std.proofs.Common.{◌+◌, ◌≡◌, ◌≢◌, ◌⊎◌, inl, inr, ℕ, Bool, true, false, not, cond, List, [], ◌∷◌, Option, Some, None, refl, sym, ap, ◌∙◌, subst}
+use Rattle.std.proofs.lemmas.Bool.{ne_eqb, eq-eqb}
 use Rattle.std.specs.BTreeMap.{is_at, insert_entry}
 use Rattle.std.specs.Map.{set_value, remove_entry}
 use Rattle.std.specs.Option.{is_some}
 use Rattle.std.specs.Ordering.{nat_cmp}
 use Rattle.ua_types.specs.Configuration.{Configuration}
 use Rattle.ua_types.specs.declared.moment.Moment.{Moment}
-use Rattle.ua_types.specs.declared.status.TheConstants.Status as status
 use Rattle.ua_read_write.specs.declared.writing.Change.{Change}
-use Rattle.ua_subscription_messages.specs.declared.publishing.SubscriptionAcknowledgement.{SubscriptionAcknowledgement}
-use Rattle.ua_state_table.specs.Chosen.{Answers, answers, timer_row, publish_row, chosen}
+use Rattle.ua_state_table.specs.Chosen.{Answers, answers, publish_row, chosen}
 use Rattle.ua_state_table.specs.declared.row.RowId.{RowId}
 use Rattle.ua_state_table.specs.declared.row.RowId.TheVariants.{C1, N1, N2, L1, L2, G5, G6, G8, G10}
 use Rattle.ua_state_table.specs.declared.state.State.{State}
@@ -33,19 +31,21 @@ use Rattle.ua_subscriptions.specs.Calls.{event_of}
 use Rattle.ua_subscriptions.specs.Firing.{is_closed, vars_in, before_by, row_of, fired}
 use Rattle.ua_subscriptions.specs.Making.{refused_one, added}
 use Rattle.ua_subscriptions.specs.Named.{all_refused}
-use Rattle.ua_subscriptions.specs.Publishing.{without_kept, Acknowledged, acknowledgement_status, acknowledged_by, acknowledged, AllAcknowledged, with_acknowledged}
+use Rattle.ua_subscriptions.specs.Publishing.{without_kept}
 use Rattle.ua_subscriptions.specs.Scenes.{Scene, row_done}
-use Rattle.ua_subscriptions.specs.Subscriptions.{is_of as is_of_session}
 use Rattle.ua_subscriptions.specs.Tables.{TableState, World, subscription_at}
 use Rattle.ua_subscriptions.specs.SubscriptionCalls.{world_of}
 use Rattle.subscription_laws.specs.Calm.{AreRising, AreReached}
 use Rattle.subscription_laws.specs.Encounters.{Beside, CallsItems, ShowsItems, Acknowledges, beside, Encounter, Meets, scene_at, made_scene}
 use Rattle.subscription_laws.specs.LiveItems.{AreOfLive}
-use Rattle.subscription_laws.specs.Runs.{ItemsCall, on_items, Move, Ran, start, moved, run}
+use Rattle.subscription_laws.specs.Runs.{ItemsCall, Move, Ran, start, moved, run, items_asked}
+use Rattle.ua_subscriptions.proofs.Choosing.{either}
+use Rattle.subscription_laws.proofs.Acknowledgements.{all_acknowledged}
 use Rattle.subscription_laws.proofs.Availability.{reached_on}
 use Rattle.subscription_laws.proofs.ChosenRows.{is_create, timer_is_none}
-use Rattle.subscription_laws.proofs.Entries.{same_or_not, set_here, set_other, put_here, put_other, rising_set, rising_put}
+use Rattle.subscription_laws.proofs.Entries.{each_set, each_put, some_same, same_or_not, set_here, set_other, put_here, put_other, rising_set, rising_put}
 use Rattle.subscription_laws.proofs.Firings.{fired_items}
+use Rattle.subscription_laws.proofs.Folds.{fold_keeps}
 use Rattle.subscription_laws.proofs.KeepingItems.{served_apart}
 use Rattle.subscription_laws.proofs.RunsKept.{run_kept}
 use Rattle.subscription_laws.proofs.Settling.{put_back, back_other, IsPutBack, back_is, back_rises}
@@ -57,18 +57,9 @@ use Rattle.subscription_laws.proofs.Walks.{left, left_is, Fits, Follows, Follows
 abbrev AllOf : (ℕ → Type 0) → NumberedItems → Type 0
 AllOf P items = (m : ℕ) (item : Item) → item_at m items ≡ Some item → P item.subscription
 
-some_same : {X : Type 0} (a b : X) → Some a ≡ Some b → a ≡ b
-some_same a b e = cc
-
 module _ (P : ℕ → Type 0) where
   set_of : (k : ℕ) (v w : Item) (items : NumberedItems) → item_at k items ≡ Some v → w.subscription ≡ v.subscription → AllOf P items → AllOf P (set_value (is_at (nat_cmp k)) items w)
-  set_of k v w items found same all m item at_m = by (same_or_not m k)
-    where
-      by : (m ≡ k) ⊎ (m ≢ k) → P item.subscription
-      by (inl is) =
-          let it : w ≡ item = some_same w item (sym (set_here k v w items found) ∙ ap (λ (j : ℕ). item_at j (set_value (is_at (nat_cmp k)) items w)) (sym is) ∙ at_m) in
-          subst (λ (x : Item). P x.subscription) it (subst P (sym same) (all k v found))
-      by (inr other) = all m item (sym (set_other k m w other items) ∙ at_m)
+  set_of k v w items found same all = each_set k v w items found (λ (m : ℕ) (item : Item). P item.subscription) (subst P (sym same) (all k v found)) all
 
   changed_of : (k : ℕ) (change : Item → Item) (items : NumberedItems) → ((item : Item) → IsThere item (change item)) → AllOf P items → AllOf P (with_item k change items)
   changed_of k change items there all = by (item_at k items) refl
@@ -78,18 +69,13 @@ module _ (P : ℕ → Type 0) where
       by (Some v) found = set_of k v (change v) items found (there v).subscription all
 
   released_of : (rs : List Release) (items : NumberedItems) → AllOf P items → AllOf P (all_released items rs)
-  released_of [] items all = all
-  released_of (r ∷ rs) items all = released_of rs (with_release items r) (changed_of r.number (released_in r.subscription) items (there_released r.subscription) all)
+  released_of = fold_keeps (AllOf P) with_release (λ items r. changed_of r.number (released_in r.subscription) items (there_released r.subscription))
 
   sampled_of : (vs : List Visit) (items : NumberedItems) → AllOf P items → AllOf P (sampled_items items vs)
-  sampled_of [] items all = all
-  sampled_of (v ∷ vs) items all = sampled_of vs (visited items v) (changed_of v.number (seen v.value) items (there_seen v.value) all)
+  sampled_of = fold_keeps (AllOf P) visited (λ items v. changed_of v.number (seen v.value) items (there_seen v.value))
 
   shown_of : (cs : List Change) (items : NumberedItems) → AllOf P items → AllOf P (shown items cs)
-  shown_of [] items all = all
-  shown_of (c ∷ cs) items all =
-      let vs = visits_of items c in
-      shown_of cs (shown_one items c) (released_of (sample_releases items vs) (sampled_items items vs) (sampled_of vs items all))
+  shown_of = fold_keeps (AllOf P) shown_one (λ items c all. let vs = visits_of items c in released_of (sample_releases items vs) (sampled_items items vs) (sampled_of vs items all))
 
 -- ---- a row that closes its subscription deletes its items
 
@@ -98,7 +84,7 @@ none_of n m [] item found own = absurd (cc)
 none_of n m (e ∷ es) item found own = by (is_of n e.1) refl found (none_of n m es item)
   where
     here : (a b : Bool) → is_of n e.1 ≡ false → cond a (Some e.1) (item_at m (without_all n es)) ≡ Some item → (item_at m (without_all n es) ≡ Some item → is_of n item ≡ true → ⊥) → ⊥
-    here true b its e1 more = let it : e.1 ≡ item = some_same e.1 item e1 in let clash : false ≡ true = sym its ∙ ap (is_of n) it ∙ own in absurd (cc)
+    here true b its e1 more = let it : e.1 ≡ item = some_same e1 in let clash : false ≡ true = sym its ∙ ap (is_of n) it ∙ own in absurd (cc)
     here false b its e1 more = more e1 own
 
     by : (b : Bool) → is_of n e.1 ≡ b → item_at m (cond (not b) (e ∷ without_all n es) (without_all n es)) ≡ Some item → (item_at m (without_all n es) ≡ Some item → is_of n item ≡ true → ⊥) → ⊥
@@ -122,32 +108,16 @@ live_row (call.Create full settings enabled) c live plain = absurd (cc)
 live_row call.Publish c live plain = by c.subscription.state (answers (vars_in c)) live
   where
     by : (s : State) (a : Answers) → events.is_closed s ≡ false → is_C1 (publish_row s a) ≡ false
-    by Normal a alive = if_more a.enabled_more
-      where
-        if_more : (b : Bool) → is_C1 (cond b N2 N1) ≡ false
-        if_more true = refl
-        if_more false = refl
-    by Late a alive = if_more a.enabled_available
-      where
-        if_more : (b : Bool) → is_C1 (cond b L1 L2) ≡ false
-        if_more true = refl
-        if_more false = refl
+    by Normal a alive = either (λ (r : RowId). is_C1 r ≡ false) a.enabled_more N2 N1 refl refl
+    by Late a alive = either (λ (r : RowId). is_C1 r ≡ false) a.enabled_available L1 L2 refl refl
     by KeepAlive a alive = refl
     by Closed a alive = absurd (cc)
-live_row call.Timer c live plain = by (answers (vars_in c)).last_life
-  where
-    by : (l : Bool) → is_C1 (cond l G6 (timer_row c.subscription.state (answers (vars_in c)))) ≡ false
-    by true = refl
-    by false = timer_is_none is_C1 (record { n3 = refl; n4 = refl; n5 = refl; n6 = refl; l3 = refl; k2 = refl; k3 = refl; k4 = refl; k5 = refl; g6 = refl }) c.subscription.state (answers (vars_in c))
-live_row (call.Modify settings) c live plain = refl
-live_row (call.SetMode enabled) c live plain = refl
+live_row call.Timer c live plain = timer_is_none is_C1 (record { n3 = refl; n4 = refl; n5 = refl; n6 = refl; l3 = refl; k2 = refl; k3 = refl; k4 = refl; k5 = refl; g6 = refl }) (vars_in c)
 live_row (call.Republish true) c live plain = refl
 live_row (call.Republish false) c live plain = refl
-live_row call.Delete c live plain = refl
-live_row (call.Items before) c live plain = refl
 live_row (call.SessionEnd true) c live plain = refl
 live_row (call.SessionEnd false) c live plain = refl
-live_row call.Shutdown c live plain = refl
+live_row asked c live plain = refl
 
 fired_closes : (c : Scene) → is_closed c.subscription ≡ false → is_create c.round.call ≡ false → is_closed (fired c).subscription ≡ true → (fired c).items ≡ ended c.items c.round.own
 unfolding fired
@@ -165,49 +135,17 @@ pub record IsLively (subscriptions : List (ℕ × Subscription)) (items : ItemsS
 set_lively : (k : ℕ) (s u : Subscription) (subscriptions : List (ℕ × Subscription)) (items : ItemsState) → subscription_at k subscriptions ≡ Some s → is_closed u ≡ false →
     IsLively subscriptions items → IsLively (set_value (is_at (nat_cmp k)) subscriptions u) items
 set_lively k s u subscriptions items found alive h = record {
-  live = λ n t at_n. live n t at_n (same_or_not n k);
+  live = each_set k s u subscriptions found (λ (n : ℕ) (t : Subscription). is_closed t ≡ false) alive h.live;
   rising = rising_set k u subscriptions h.rising;
   reached = h.reached;
   owned = λ m item at_m. there item.subscription (same_or_not item.subscription k) (h.owned m item at_m);
 }
   where
-    after : List (ℕ × Subscription)
-    after = set_value (is_at (nat_cmp k)) subscriptions u
-
-    live : (n : ℕ) (t : Subscription) → subscription_at n (set_value (is_at (nat_cmp k)) subscriptions u) ≡ Some t → (n ≡ k) ⊎ (n ≢ k) → is_closed t ≡ false
-    live n t at_n (inl is) =
-        let it : u ≡ t = some_same u t (sym (set_here k s u subscriptions found) ∙ ap (λ (j : ℕ). subscription_at j (set_value (is_at (nat_cmp k)) subscriptions u)) (sym is) ∙ at_n) in
-        ap is_closed (sym it) ∙ alive
-    live n t at_n (inr other) = h.live n t (sym (set_other k n u other subscriptions) ∙ at_n)
-
     there : (n : ℕ) → (n ≡ k) ⊎ (n ≢ k) → is_some (subscription_at n subscriptions) ≡ true → is_some (subscription_at n (set_value (is_at (nat_cmp k)) subscriptions u)) ≡ true
     there n (inl is) was = ap (λ (j : ℕ). is_some (subscription_at j (set_value (is_at (nat_cmp k)) subscriptions u))) is ∙ ap is_some (set_here k s u subscriptions found)
     there n (inr other) was = ap is_some (set_other k n u other subscriptions) ∙ was
 
-one_acknowledged : (session : ℕ) (subscriptions : List (ℕ × Subscription)) (items : ItemsState) (a : SubscriptionAcknowledgement) → IsLively subscriptions items → IsLively (acknowledged session subscriptions a).subscriptions items
-unfolding acknowledged
-one_acknowledged session subscriptions items a h = by (subscription_at a.subscription_id subscriptions) refl
-  where
-    by : (o : Option Subscription) → subscription_at a.subscription_id subscriptions ≡ o → IsLively (acknowledged_by session subscriptions a o).subscriptions items
-    by None found = h
-    by (Some s) found = own (is_of_session s.session session)
-      where
-        own : (b : Bool) → IsLively (cond {A = Acknowledged} b (record { status = acknowledgement_status a.sequence_number s.kept; subscriptions = set_value (is_at (nat_cmp a.subscription_id)) subscriptions (without_kept a.sequence_number s) }) (record { status = status.BAD_SUBSCRIPTION_ID_INVALID; subscriptions = subscriptions })).subscriptions items
-        own true = set_lively a.subscription_id s (without_kept a.sequence_number s) subscriptions items found (h.live a.subscription_id s found) h
-        own false = h
-
-all_acknowledged : (session : ℕ) (items : ItemsState) (acks : List SubscriptionAcknowledgement) (before : AllAcknowledged) → IsLively before.subscriptions items → IsLively (fold (with_acknowledged session) before acks).subscriptions items
-all_acknowledged session items [] before h = h
-all_acknowledged session items (a ∷ acks) before h = all_acknowledged session items acks (with_acknowledged session before a) (one_acknowledged session before.subscriptions items a h)
-
 -- ---- one encounter
-
-not_its : (n : ℕ) (item : Item) → item.subscription ≢ n → is_of n item ≡ false
-not_its n item other = by (item.subscription == n) refl
-  where
-    by : (b : Bool) → (item.subscription == n) ≡ b → b ≡ false
-    by false e = refl
-    by true e = absurd (other (eqb-true item.subscription n e))
 
 module _ (w : World) (n : ℕ) (asked : Call) (s : Subscription) (plain : is_create asked ≡ false) (found : subscription_at n w.table.subscriptions ≡ Some s) (h : IsLively w.table.subscriptions w.items) where
   abbrev d : Scene
@@ -236,7 +174,7 @@ module _ (w : World) (n : ℕ) (asked : Call) (s : Subscription) (plain : is_cre
       there m item at_m (inl own) = ap (λ (k : ℕ). is_some (subscription_at k (put_back n d.subscription w.table.subscriptions))) own ∙ own_item m item at_m own (is_closed d.subscription) refl
       there m item at_m (inr other) =
           ap is_some (back_other n item.subscription d.subscription w.table.subscriptions other)
-          ∙ h.owned m item (((fired_items (scene_at w n asked s)).stay h.reached).1 m item at_m (not_its n item other))
+          ∙ h.owned m item (((fired_items (scene_at w n asked s)).stay h.reached).1 m item at_m (ne_eqb item.subscription n other))
 
 -- ---- any call
 
@@ -247,7 +185,7 @@ abbrev StaysLively : World → List Encounter → World → Type 0
 StaysLively w es v = Lively w → Lively v
 
 -- the items of a live subscription were called
-served_lively : (w : World) (number : ℕ) (asked : ItemsCall) → is_some (subscription_at number w.table.subscriptions) ≡ true → Lively w → Lively (beside w (CallsItems number asked))
+served_lively : (w : World) (number : ℕ) (asked : Option ItemsCall) → is_some (subscription_at number w.table.subscriptions) ≡ true → Lively w → Lively (beside w (CallsItems number asked))
 served_lively w number asked lives h = record {
   live = h.live;
   rising = h.rising;
@@ -255,9 +193,9 @@ served_lively w number asked lives h = record {
   owned = λ m item at_m. there m item at_m (same_or_not item.subscription number);
 }
   where
-    there : (m : ℕ) (item : Item) → item_at m (item_moves.moved w.items (on_items number asked)).state.items ≡ Some item → (item.subscription ≡ number) ⊎ (item.subscription ≢ number) → is_some (subscription_at item.subscription w.table.subscriptions) ≡ true
+    there : (m : ℕ) (item : Item) → item_at m (items_asked w.items number asked).items ≡ Some item → (item.subscription ≡ number) ⊎ (item.subscription ≢ number) → is_some (subscription_at item.subscription w.table.subscriptions) ≡ true
     there m item at_m (inl own) = ap (λ (k : ℕ). is_some (subscription_at k w.table.subscriptions)) own ∙ lives
-    there m item at_m (inr other) = h.owned m item (((served_apart number asked w.items).stay h.reached).1 m item at_m (not_its number item other))
+    there m item at_m (inr other) = h.owned m item (((served_apart number asked w.items).stay h.reached).1 m item at_m (ne_eqb item.subscription number other))
 
 lively_beside : (w : World) (b : Beside) → Fits w b → Lively w → Lively (beside w b)
 unfolding all_refused
@@ -268,7 +206,9 @@ lively_beside w (ShowsItems changed) fits h = record {
   reached = reached_on w.items (item_moves.Move.Show changed) h.reached;
   owned = shown_of (λ n. is_some (subscription_at n w.table.subscriptions) ≡ true) changed w.items.items h.owned;
 }
-lively_beside w (Acknowledges session acks) fits h = all_acknowledged session w.items acks (record { results = []; subscriptions = w.table.subscriptions }) h
+lively_beside w (Acknowledges session acks) fits h =
+    all_acknowledged session (λ (subscriptions : List (ℕ × Subscription)). IsLively subscriptions w.items)
+    (λ subscriptions n number s found its k. set_lively n s (without_kept number s) subscriptions w.items found (k.live n s found) k) acks w.table.subscriptions h
 lively_beside w b fits h = h
 
 refused_lively : (session number : ℕ) (settings : Settings) (enabled : Bool) (w : World) → StaysLively w (Meets (made_scene true number session settings enabled w) ∷ []) (refused_one session settings enabled w)
@@ -277,18 +217,12 @@ refused_lively session number settings enabled w h = record { live = h.live; ris
 
 put_lively : (n : ℕ) (s : Subscription) (subscriptions : List (ℕ × Subscription)) (items : ItemsState) → is_closed s ≡ false → IsLively subscriptions items → IsLively (insert_entry nat_cmp subscriptions n s) items
 put_lively n s subscriptions items alive h = record {
-  live = λ m u at_m. live m u at_m (same_or_not m n);
+  live = each_put n s subscriptions (λ (m : ℕ) (u : Subscription). is_closed u ≡ false) alive (λ m u other. h.live m u);
   rising = rising_put n s subscriptions h.rising;
   reached = h.reached;
   owned = λ m item at_m. there item.subscription (same_or_not item.subscription n) (h.owned m item at_m);
 }
   where
-    live : (m : ℕ) (u : Subscription) → subscription_at m (insert_entry nat_cmp subscriptions n s) ≡ Some u → (m ≡ n) ⊎ (m ≢ n) → is_closed u ≡ false
-    live m u at_m (inl is) =
-        let it : s ≡ u = some_same s u (sym (put_here n s subscriptions) ∙ ap (λ (j : ℕ). subscription_at j (insert_entry nat_cmp subscriptions n s)) (sym is) ∙ at_m) in
-        ap is_closed (sym it) ∙ alive
-    live m u at_m (inr other) = h.live m u (sym (put_other n m s other subscriptions) ∙ at_m)
-
     there : (m : ℕ) → (m ≡ n) ⊎ (m ≢ n) → is_some (subscription_at m subscriptions) ≡ true → is_some (subscription_at m (insert_entry nat_cmp subscriptions n s)) ≡ true
     there m (inl is) was = ap (λ (j : ℕ). is_some (subscription_at j (insert_entry nat_cmp subscriptions n s))) is ∙ ap is_some (put_here n s subscriptions)
     there m (inr other) was = ap is_some (put_other n m s other subscriptions) ∙ was
@@ -316,12 +250,8 @@ one_call r m h =
     subst (λ (t : TableState). IsLively t.subscriptions (moved r m).items) (sym is.table)
     (subst (IsLively (left r m).table.subscriptions) (sym is.items) (walked Any StaysLively follows_lively lively_making r m (any_begins r m) h))
 
-all_calls : (moves : List Move) (r : Ran) → IsLively r.subs.table.subscriptions r.items → IsLively (fold moved r moves).subs.table.subscriptions (fold moved r moves).items
-all_calls [] r h = h
-all_calls (m ∷ ms) r h = all_calls ms (moved r m) (one_call r m h)
-
 run_lively : (config : Configuration) (moves : List Move) → IsLively (run config moves).subs.table.subscriptions (run config moves).items
-run_lively config moves = all_calls moves (start config) (record {
+run_lively config moves = fold_keeps (λ (r : Ran). IsLively r.subs.table.subscriptions r.items) moved one_call moves (start config) (record {
   live = λ n s at_n. absurd (cc);
   rising = tt;
   reached = (run_kept config []).calm.reached;

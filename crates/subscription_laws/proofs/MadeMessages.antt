@@ -1,7 +1,7 @@
 -- Messages are numbered without a gap, and what is kept is what was made.
 use Rattle.std.proofs.Common.{◌≡◌, Bool, true, false, List, [], ◌∷◌, drop, refl, cond, ap, ◌∙◌, subst}
 use Rattle.ua_state_table.specs.declared.row.RowId.{RowId}
-use Rattle.ua_state_table.specs.declared.row.RowId.TheVariants.{C1, C2, N1, N2, N3, N4, N5, N6, L1, L2, L3, K1, K2, K3, K4, K5, G1, G2, G3, G4, G5, G6, G7, G8, G9, G10}
+use Rattle.ua_state_table.specs.declared.row.RowId.TheVariants.{C2, N2, N3, L1, K2, G5, G6, G8, G10}
 use Rattle.ua_subscriptions.specs.declared.publish_call.PublishCall.{PublishCall}
 use Rattle.subscription_laws.specs.Numbering.{note_made, rest_made, notes_made, AreNumbered, last_number, all_kept, IsMade, messages_of, begins_or_ends}
 use Rattle.ua_subscriptions.specs.Scenes.{Scene, Noting, sending, noting, note_sent, rest_sent, notes_sent, with_asked, kept_with, dequeued, started, life_reset, row_done}
@@ -54,43 +54,19 @@ makes_N2 : (c : Scene) → Makes N2 c
 unfolding row_done
 makes_N2 c = let h = notes_follow c.part.requests (noting c.round (life_reset c.subscription) c.items) in record { numbered = h.numbered; number = h.number; kept = h.kept }
 
-makes_L1 : (c : Scene) → Makes L1 c
-unfolding row_done
-makes_L1 c = let h = notes_follow c.part.requests (noting c.round (life_reset c.subscription) c.items) in record { numbered = h.numbered; number = h.number; kept = h.kept }
-
 makes_N3 : (c : Scene) → Makes N3 c
 unfolding row_done
 makes_N3 c = let h = notes_follow (drop 1 c.part.requests) (noting (dequeued c.round c.part).round (started c.round (life_reset c.subscription)) c.items) in record { numbered = h.numbered; number = h.number; kept = h.kept }
-
-makes_K2 : (c : Scene) → Makes K2 c
-unfolding row_done
-makes_K2 c = let h = notes_follow (drop 1 c.part.requests) (noting (dequeued c.round c.part).round (started c.round (life_reset c.subscription)) c.items) in record { numbered = h.numbered; number = h.number; kept = h.kept }
 
 pub row_makes : (r : RowId) (c : Scene) → begins_or_ends r ≡ false → Makes r c
 unfolding row_done
 row_makes N2 c h = makes_N2 c
 row_makes N3 c h = makes_N3 c
-row_makes L1 c h = makes_L1 c
-row_makes K2 c h = makes_K2 c
+row_makes L1 c h = makes_N2 c
+row_makes K2 c h = makes_N3 c
 row_makes C2 c h = absurd (cc)
 row_makes G5 c h = absurd (cc)
 row_makes G6 c h = absurd (cc)
 row_makes G8 c h = absurd (cc)
-row_makes C1 c h = record { numbered = tt; number = refl; kept = refl }
-row_makes N1 c h = record { numbered = tt; number = refl; kept = refl }
-row_makes N4 c h = record { numbered = tt; number = refl; kept = refl }
-row_makes N5 c h = record { numbered = tt; number = refl; kept = refl }
-row_makes N6 c h = record { numbered = tt; number = refl; kept = refl }
-row_makes L2 c h = record { numbered = tt; number = refl; kept = refl }
-row_makes L3 c h = record { numbered = tt; number = refl; kept = refl }
-row_makes K1 c h = record { numbered = tt; number = refl; kept = refl }
-row_makes K3 c h = record { numbered = tt; number = refl; kept = refl }
-row_makes K4 c h = record { numbered = tt; number = refl; kept = refl }
-row_makes K5 c h = record { numbered = tt; number = refl; kept = refl }
-row_makes G1 c h = record { numbered = tt; number = refl; kept = refl }
-row_makes G2 c h = record { numbered = tt; number = refl; kept = refl }
-row_makes G3 c h = record { numbered = tt; number = refl; kept = refl }
-row_makes G4 c h = record { numbered = tt; number = refl; kept = refl }
-row_makes G7 c h = record { numbered = tt; number = refl; kept = refl }
-row_makes G9 c h = record { numbered = tt; number = refl; kept = refl }
 row_makes G10 c h = absurd (cc)
+row_makes r c h = record { numbered = tt; number = refl; kept = refl }

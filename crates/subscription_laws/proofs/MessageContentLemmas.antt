@@ -1,5 +1,5 @@
 -- Each value that was sent stands in one message that a row made.
-use Rattle.std.proofs.Common.{◌≡◌, ℕ, Bool, true, false, cond, List, [], ◌∷◌, ◌++◌, append_assoc, append-nil, drop, refl, sym, ap, ◌∙◌, subst}
+use Rattle.std.proofs.Common.{◌≡◌, ℕ, Bool, true, false, cond, List, [], ◌∷◌, ◌++◌, append_assoc, append-nil, drop, refl, sym, ap, ◌∙◌, subst, Some}
 use Rattle.ua_types.specs.Configuration.{Configuration}
 use Rattle.ua_values.specs.declared.data_value.DataValue.{DataValue}
 use Rattle.ua_subscription_messages.specs.DataChangeMessages.{data_change_message}
@@ -29,7 +29,7 @@ use Rattle.subscription_laws.specs.Runs.{ItemsCall, Move, Ran, start, moved}
 use Rattle.subscription_laws.specs.MessageContents.{Taken, taken_by, taken_from, all_taken, IsMadeOf, AreMadeOf, entries_sent}
 use Rattle.subscription_laws.proofs.ItemsCalled.{after_call, after_calls, note_is, one_is, ItemsCome, follows_items, items_making}
 use Rattle.subscription_laws.proofs.Walks.{Follows, FollowsMaking, Any, any_begins, walked}
-use Rattle.subscription_laws.proofs.Remains.{note_own}
+use Rattle.subscription_laws.proofs.Owners.{note_own}
 
 -- ---- takings behind others
 
@@ -113,11 +113,11 @@ next_tells w v u es fs h k = (
 
 -- what is asked of the items beside the rows takes no values
 beside_takes : (w : World) (b : Beside) → AreMadeOf [] (taken_from w.items (flat_map calls_at (Does w b ∷ [])))
-beside_takes w (CallsItems number (ItemsCall.Create nodes clock timestamps requests)) = tt
-beside_takes w (CallsItems number (ItemsCall.Modify timestamps requests)) = tt
-beside_takes w (CallsItems number (ItemsCall.SetMode nodes clock mode numbers)) = tt
-beside_takes w (CallsItems number (ItemsCall.Link triggering add remove)) = tt
-beside_takes w (CallsItems number (ItemsCall.Delete numbers)) = tt
+beside_takes w (CallsItems number (Some (ItemsCall.Create nodes clock timestamps requests))) = tt
+beside_takes w (CallsItems number (Some (ItemsCall.Modify timestamps requests))) = tt
+beside_takes w (CallsItems number (Some (ItemsCall.SetMode nodes clock mode numbers))) = tt
+beside_takes w (CallsItems number (Some (ItemsCall.Link triggering add remove))) = tt
+beside_takes w (CallsItems number (Some (ItemsCall.Delete numbers))) = tt
 beside_takes w b = tt
 
 follows_tell : Follows Any Tell

@@ -1,6 +1,6 @@
 -- Messages one after the other, and among others.
 use Rattle.std.proofs.Common.{◌≡◌, ◌≢◌, inl, inr, ℕ, zero, suc, ◌+◌, Bool, true, false, cond, List, [], ◌∷◌, ◌++◌, take, drop, length, Option, Some, None, refl, ap, ◌∙◌, append-nil}
-use Rattle.std.proofs.lemmas.Bool.{eq-eqb, eqb-true}
+use Rattle.std.proofs.lemmas.Bool.{ne_eqb, eq-eqb}
 use Rattle.std.specs.List.{position}
 use Rattle.std.specs.Prelude.{◌==◌, nat_lt}
 use Rattle.ua_subscriptions.specs.declared.messages.KeptMessage.{KeptMessage}
@@ -38,16 +38,9 @@ skipped : (b : Bool) (m : KeptMessage) (xs : List KeptMessage) → b ≡ false �
 skipped true m xs e f = absurd (cc)
 skipped false m xs e f = f
 
-apart_is : (a b : ℕ) → a ≢ b → (a == b) ≡ false
-apart_is a b other = by (a == b) refl
-  where
-    by : (c : Bool) → (a == b) ≡ c → c ≡ false
-    by false e = refl
-    by true e = absurd (other (eqb-true a b e))
-
 for_other : (n k : ℕ) (ms : List KeptMessage) → k ≢ n → messages_for n (made_of k ms) ≡ []
 for_other n k [] other = refl
-for_other n k (m ∷ ms) other = skipped (k == n) m (messages_for n (made_of k ms)) (apart_is k n other) (for_other n k ms other)
+for_other n k (m ∷ ms) other = skipped (k == n) m (messages_for n (made_of k ms)) (ne_eqb k n other) (for_other n k ms other)
 
 pub more_own : (n : ℕ) (ms : List Made) (made : List KeptMessage) → messages_for n (ms ++ made_of n made) ≡ messages_for n ms ++ made
 more_own n ms made = for_append n ms (made_of n made) ∙ ap (λ (l : List KeptMessage). messages_for n ms ++ l) (for_own n made)

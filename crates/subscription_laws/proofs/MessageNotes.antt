@@ -1,8 +1,9 @@
 -- The notes of time-outs have the numbers of the messages that would have come next.
-use Rattle.std.proofs.Common.{◌≡◌, ◌≢◌, ◌⊎◌, inl, inr, ℕ, ◌≤◌, Bool, true, false, ◌||◌, cond, List, [], ◌∷◌, ◌++◌, drop, append-nil, nat_le, length, Option, Some, None, refl, sym, ap, ◌∙◌, subst}
+use Rattle.std.proofs.Common.{◌≡◌, ◌≢◌, ◌⊎◌, inl, inr, ℕ, ◌≤◌, Bool, true, false, List, [], ◌∷◌, ◌++◌, append-nil, Option, Some, None, refl, sym, ap, ◌∙◌, subst}
+use Rattle.std.proofs.lemmas.Bool.{cond-true}
 use Rattle.std.specs.BTreeMap.{is_at}
-use Rattle.std.specs.List.{list_any}
-use Rattle.std.specs.Map.{set_value, remove_entry}
+use Rattle.std.specs.List.{AllByRecursion, list_any}
+use Rattle.std.specs.Map.{set_value}
 use Rattle.std.specs.Ordering.{nat_cmp}
 use Rattle.ua_state_table.specs.StateTable.{actions_of}
 use Rattle.ua_state_table.specs.declared.action.Action.{Action}
@@ -11,25 +12,27 @@ use Rattle.ua_state_table.specs.declared.row.RowId.{RowId}
 use Rattle.ua_state_table.specs.declared.row.RowId.TheVariants.{G6}
 use Rattle.ua_subscriptions.specs.declared.call.Call.{Call}
 use Rattle.ua_subscriptions.specs.declared.messages.KeptMessage.{KeptMessage}
-use Rattle.ua_subscriptions.specs.declared.publish_call.PublishCall.{PublishCall}
 use Rattle.ua_subscriptions.specs.declared.session_part.SessionSubscriptions.{SessionSubscriptions}
 use Rattle.ua_subscriptions.specs.declared.session_part.TimeoutNote.{TimeoutNote}
 use Rattle.ua_subscriptions.specs.declared.subscription.Subscription.{Subscription}
-use Rattle.ua_subscriptions.specs.declared.round.Round.{Round}
 use Rattle.subscription_laws.specs.Calm.{AreRising}
 use Rattle.ua_subscriptions.specs.Firing.{is_closed, row_of, fired}
 use Rattle.ua_subscriptions.specs.Messages.{number_after}
 use Rattle.subscription_laws.specs.Messaging.{Made, made_of, made_at, messages_for, AreNotes}
 use Rattle.subscription_laws.specs.Encounters.{Meets, scene_at}
 use Rattle.subscription_laws.specs.Numbering.{last_number, messages_of}
-use Rattle.ua_subscriptions.specs.Scenes.{Scene, Queueing, enqueued, enqueued_by, done, all_done, row_done}
+use Rattle.ua_subscriptions.specs.Scenes.{Scene, done, row_done}
 use Rattle.ua_subscriptions.specs.Tables.{TableState, World, part_at, part_of, set_part, subscription_at}
+use Rattle.ua_subscriptions.proofs.OwingRows.{all_append}
 use Rattle.subscription_laws.proofs.ChosenRows.{is_create}
 use Rattle.subscription_laws.proofs.Entries.{gone_here, rising_set}
+use Rattle.subscription_laws.proofs.Folds.{all_so}
 use Rattle.subscription_laws.proofs.Keeping.{world_after}
-use Rattle.subscription_laws.proofs.KeepingParts.{set_part_is}
+use Rattle.subscription_laws.proofs.KeepingParts.{of_set}
 use Rattle.subscription_laws.proofs.MessageLists.{more_own, more_other}
 use Rattle.subscription_laws.proofs.MessagesKept.{IsNumbered, live_numbered}
+use Rattle.subscription_laws.proofs.Owners.{actions_keep}
+use Rattle.subscription_laws.proofs.Remains.{enqueued_without}
 use Rattle.subscription_laws.proofs.Settling.{put_back, back_other, part_rises}
 
 -- ---- notes of subscriptions that are over
@@ -40,8 +43,7 @@ pub record IsNote (made : ℕ) (ms : List Made) (subscriptions : List (ℕ × Su
   pub given : note.subscription ≤ made
 
 abbrev pub AllNotes : ℕ → List Made → List (ℕ × Subscription) → List TimeoutNote → Type 0
-AllNotes made ms subscriptions [] = Unit {0}
-AllNotes made ms subscriptions (note ∷ notes) = IsNote made ms subscriptions note × AllNotes made ms subscriptions notes
+AllNotes made ms subscriptions notes = AllByRecursion (IsNote made ms subscriptions) notes
 
 -- messages, and the notes of all sessions
 pub record IsMessaged (made : ℕ) (ms : List Made) (t : TableState) : Type 0 where
@@ -52,20 +54,6 @@ pub record IsMessaged (made : ℕ) (ms : List Made) (t : TableState) : Type 0 wh
 pub all_notes : (made : ℕ) (ms : List Made) (subscriptions : List (ℕ × Subscription)) (notes : List TimeoutNote) → AllNotes made ms subscriptions notes → AreNotes ms notes
 all_notes made ms subscriptions [] h = tt
 all_notes made ms subscriptions (note ∷ notes) h = (h.0.number, all_notes made ms subscriptions notes h.1)
-
--- what holds of each note of one state holds in another
-pub notes_map : (made made2 : ℕ) (ms ms2 : List Made) (subscriptions subscriptions2 : List (ℕ × Subscription)) → ((note : TimeoutNote) → IsNote made ms subscriptions note → IsNote made2 ms2 subscriptions2 note) → (notes : List TimeoutNote) →
-    AllNotes made ms subscriptions notes → AllNotes made2 ms2 subscriptions2 notes
-notes_map made made2 ms ms2 subscriptions subscriptions2 f [] h = tt
-notes_map made made2 ms ms2 subscriptions subscriptions2 f (note ∷ notes) h = (f note h.0, notes_map made made2 ms ms2 subscriptions subscriptions2 f notes h.1)
-
-notes_append : (made : ℕ) (ms : List Made) (subscriptions : List (ℕ × Subscription)) (xs ys : List TimeoutNote) → AllNotes made ms subscriptions xs → AllNotes made ms subscriptions ys → AllNotes made ms subscriptions (xs ++ ys)
-notes_append made ms subscriptions [] ys h k = k
-notes_append made ms subscriptions (x ∷ xs) ys h k = (h.0, notes_append made ms subscriptions xs ys h.1 k)
-
-pub notes_rest : (made : ℕ) (ms : List Made) (subscriptions : List (ℕ × Subscription)) (notes : List TimeoutNote) → AllNotes made ms subscriptions notes → AllNotes made ms subscriptions (drop 1 notes)
-notes_rest made ms subscriptions [] h = tt
-notes_rest made ms subscriptions (note ∷ notes) h = h.1
 
 -- the subscription of a note isn't one that lives
 pub note_apart : (made : ℕ) (ms : List Made) (subscriptions : List (ℕ × Subscription)) (note : TimeoutNote) (n : ℕ) (s : Subscription) → IsNote made ms subscriptions note → subscription_at n subscriptions ≡ Some s → note.subscription ≢ n
@@ -87,36 +75,14 @@ abbrev pub is_noting : Action → Bool
 is_noting NoteTimeout = true
 is_noting action = false
 
-enqueued_notes_if : (full : Bool) (part : SessionSubscriptions) (a b : Queueing) → a.part.notes ≡ part.notes → b.part.notes ≡ part.notes → (cond full a b).part.notes ≡ part.notes
-enqueued_notes_if true part a b g h = g
-enqueued_notes_if false part a b g h = h
-
-enqueued_notes_by : (asked : Option PublishCall) (round : Round) (part : SessionSubscriptions) → (enqueued_by asked round part).part.notes ≡ part.notes
-enqueued_notes_by None round part = refl
-enqueued_notes_by (Some call) round part = enqueued_notes_if (nat_le round.bounds.publish_queue (length part.requests)) part _ _ refl refl
-
-enqueued_notes : (round : Round) (part : SessionSubscriptions) → (enqueued round part).part.notes ≡ part.notes
-unfolding enqueued
-enqueued_notes round part = enqueued_notes_by round.asked round part
-
 done_notes : (c : Scene) (action : Action) → is_noting action ≡ false → (done c action).part.notes ≡ c.part.notes
-done_notes c Enqueue e = enqueued_notes c.round c.part
+done_notes c Enqueue e = ap (λ (p : SessionSubscriptions). p.notes) (enqueued_without c.round c.part)
 done_notes c NoteTimeout e = absurd (cc)
 done_notes c action e = refl
 
-neither : (a b : Bool) → (a || b) ≡ false → (a ≡ false) × (b ≡ false)
-neither true b h = absurd (cc)
-neither false b h = (refl, h)
-
-same_notes : (actions : List Action) (c : Scene) → list_any is_noting actions ≡ false → (all_done c actions).part.notes ≡ c.part.notes
-same_notes [] c e = refl
-same_notes (action ∷ actions) c e =
-    let split = neither (is_noting action) (list_any is_noting actions) e in
-    same_notes actions (done c action) split.1 ∙ done_notes c action split.0
-
 row_notes : (r : RowId) (c : Scene) → list_any is_noting (actions_of r) ≡ false → (row_done r c).part.notes ≡ c.part.notes
 unfolding row_done
-row_notes r c e = same_notes (actions_of r) c e
+row_notes r c e = actions_keep (λ (d : Scene). d.part.notes ≡ c.part.notes) is_noting (λ d action f h. done_notes d action f ∙ h) (actions_of r) c e refl
 
 only_G6 : (r : RowId) → list_any is_noting (actions_of r) ≡ true → r ≡ G6
 only_G6 G6 e = refl
@@ -155,11 +121,7 @@ fired_notes c = by (list_any is_noting (actions_of (row_of c))) refl
 -- ---- what a live subscription meets
 
 back_gone : (n : ℕ) (d : Subscription) (subscriptions : List (ℕ × Subscription)) → AreRising subscriptions → is_closed d ≡ true → subscription_at n (put_back n d subscriptions) ≡ None
-back_gone n d subscriptions rising closed = by (is_closed d) closed
-  where
-    by : (b : Bool) → b ≡ true → subscription_at n (cond b (remove_entry (is_at (nat_cmp n)) (set_value (is_at (nat_cmp n)) subscriptions d)) (set_value (is_at (nat_cmp n)) subscriptions d)) ≡ None
-    by true e = gone_here n (set_value (is_at (nat_cmp n)) subscriptions d) (rising_set n d subscriptions rising)
-    by false e = absurd (cc)
+back_gone n d subscriptions rising closed = ap (subscription_at n) (cond-true (is_closed d) _ _ closed) ∙ gone_here n (set_value (is_at (nat_cmp n)) subscriptions d) (rising_set n d subscriptions rising)
 
 module _ (made : ℕ) (ms : List Made) (w : World) (n : ℕ) (call : Call) (s : Subscription) (h : IsMessaged made ms w.table) (found : subscription_at n w.table.subscriptions ≡ Some s) where
   abbrev here : Scene
@@ -173,7 +135,7 @@ module _ (made : ℕ) (ms : List Made) (w : World) (n : ℕ) (call : Call) (s : 
 
   notes_before : (k : ℕ) → AllNotes made after left (part_at k w.table.sessions).notes
   notes_before k =
-      notes_map made made ms after w.table.subscriptions left (note_on made ms w.table.subscriptions n s (fired here).subscription (messages_of (row_of here) here) found)
+      all_so (IsNote made ms w.table.subscriptions) (IsNote made after left) (note_on made ms w.table.subscriptions n s (fired here).subscription (messages_of (row_of here) here) found)
       (part_at k w.table.sessions).notes (h.notes k)
 
   part_before : (o : Option ℕ) → AllNotes made after left (part_of o w.table.sessions).notes
@@ -196,16 +158,11 @@ module _ (made : ℕ) (ms : List Made) (w : World) (n : ℕ) (call : Call) (s : 
       by (inl same) = subst (AllNotes made after left) (sym same) (part_before s.session)
       by (inr (more, closed, none)) =
           subst (AllNotes made after left) (sym more)
-          (notes_append made after left (part_of s.session w.table.sessions).notes (note_left here ∷ []) (part_before s.session) (new_note closed none, tt))
+          (all_append (IsNote made after left) (part_of s.session w.table.sessions).notes (note_left here ∷ []) (part_before s.session) (new_note closed none, tt))
 
   notes_after : (o : Option ℕ) (k : ℕ) → AllNotes made after left (part_at k (set_part o w.table.sessions (fired here).part)).notes
   notes_after None k = notes_before k
-  notes_after (Some j) k = by (set_part_is j k (fired here).part w.table.sessions)
-    where
-      by : (part_at k (set_value (is_at (nat_cmp j)) w.table.sessions (fired here).part) ≡ part_at k w.table.sessions) ⊎ ((k ≡ j) × (part_at k (set_value (is_at (nat_cmp j)) w.table.sessions (fired here).part) ≡ (fired here).part)) →
-          AllNotes made after left (part_at k (set_value (is_at (nat_cmp j)) w.table.sessions (fired here).part)).notes
-      by (inl same) = subst (λ (p : SessionSubscriptions). AllNotes made after left p.notes) (sym same) (notes_before k)
-      by (inr (at, is)) = subst (λ (p : SessionSubscriptions). AllNotes made after left p.notes) (sym is) own_notes
+  notes_after (Some j) k = of_set j (fired here).part w.table.sessions (λ (i : ℕ) (p : SessionSubscriptions). AllNotes made after left p.notes) own_notes notes_before k
 
 pub one_messaged : (made : ℕ) (ms : List Made) (w : World) (n : ℕ) (call : Call) (s : Subscription) → is_create call ≡ false → subscription_at n w.table.subscriptions ≡ Some s → IsMessaged made ms w.table →
     IsMessaged made (ms ++ made_at (Meets (scene_at w n call s))) (world_after n s (fired (scene_at w n call s)) w.table).table

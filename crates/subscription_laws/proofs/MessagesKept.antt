@@ -1,14 +1,12 @@
 -- Messages stay numbered without a gap, and what is kept stays what was made, whatever is called.
-use Rattle.std.proofs.Common.{◌≡◌, ◌≢◌, ◌⊎◌, inl, inr, ℕ, ◌<◌, ◌≤◌, arith, Bool, true, false, cond, List, [], ◌++◌, Some, refl, sym, ap, ◌∙◌, subst}
+use Rattle.std.proofs.Common.{◌≡◌, ◌≢◌, ◌⊎◌, inl, inr, ℕ, ◌<◌, ◌≤◌, arith, Bool, true, false, List, [], ◌++◌, Some, refl, sym, ap, ◌∙◌, subst}
 use Rattle.std.proofs.lemmas.Bool.{false≢true}
-use Rattle.ua_state_table.specs.Chosen.{Answers, answers, timer_row, publish_row, chosen}
+use Rattle.ua_state_table.specs.Chosen.{answers, chosen}
 use Rattle.ua_state_table.specs.declared.row.RowId.{RowId}
-use Rattle.ua_state_table.specs.declared.row.RowId.TheVariants.{C2, N1, N2, L1, L2, G5, G6, G8, G10}
-use Rattle.ua_state_table.specs.declared.state.State.{State}
-use Rattle.ua_state_table.specs.declared.state.State.TheVariants.{Closed, Normal, Late, KeepAlive}
+use Rattle.ua_state_table.specs.declared.row.RowId.TheVariants.{C2, G5, G6, G8, G10}
 use Rattle.ua_state_table.specs.declared.vars.Vars.{Vars}
 use Rattle.ua_subscriptions.specs.declared.call.Call.{Call}
-use Rattle.ua_subscriptions.specs.declared.call.Call.TheVariants.{Create, Publish, Timer, Modify, SetMode, Republish, Delete, Items, SessionEnd, Shutdown}
+use Rattle.ua_subscriptions.specs.declared.call.Call.TheVariants.{Create, Publish, Timer, Republish, SessionEnd}
 use Rattle.ua_subscriptions.specs.declared.messages.KeptMessage.{KeptMessage}
 use Rattle.ua_subscriptions.specs.declared.subscription.Subscription.{Subscription}
 use Rattle.ua_subscriptions.specs.Calls.{event_of}
@@ -19,7 +17,7 @@ use Rattle.subscription_laws.specs.Numbering.{AreNumbered, last_number, IsMade, 
 use Rattle.subscription_laws.specs.Encounters.{scene_at}
 use Rattle.ua_subscriptions.specs.Scenes.{Scene, row_done}
 use Rattle.ua_subscriptions.specs.Tables.{World, subscription_at}
-use Rattle.subscription_laws.proofs.ChosenRows.{is_create, timer_is_none}
+use Rattle.subscription_laws.proofs.ChosenRows.{publish_is_none, is_create, timer_is_none}
 use Rattle.subscription_laws.proofs.Entries.{same_or_not}
 use Rattle.subscription_laws.proofs.Firings.{fired_subscription}
 use Rattle.subscription_laws.proofs.MadeMessages.{row_makes}
@@ -40,41 +38,15 @@ abbrev is_C2 : RowId → Bool
 is_C2 C2 = true
 is_C2 r = false
 
-timer_begins_none : (s : State) (a : Answers) → is_C2 (timer_row s a) ≡ false
-timer_begins_none = timer_is_none is_C2
-    (record { n3 = refl; n4 = refl; n5 = refl; n6 = refl; l3 = refl; k2 = refl; k3 = refl; k4 = refl; k5 = refl; g6 = refl })
-
-publish_begins_none : (s : State) (a : Answers) → is_C2 (publish_row s a) ≡ false
-publish_begins_none Normal a = by a.enabled_more
-  where
-    by : (b : Bool) → is_C2 (cond b N2 N1) ≡ false
-    by true = refl
-    by false = refl
-publish_begins_none Late a = by a.enabled_available
-  where
-    by : (b : Bool) → is_C2 (cond b L1 L2) ≡ false
-    by true = refl
-    by false = refl
-publish_begins_none KeepAlive a = refl
-publish_begins_none Closed a = refl
-
 begins_none : (v : Vars) (call : Call) → is_create call ≡ false → is_C2 (chosen v (event_of call)) ≡ false
 begins_none v (Create full settings enabled) e = absurd (cc)
-begins_none v Publish e = publish_begins_none v.state (answers v)
-begins_none v Timer e = by (answers v).last_life
-  where
-    by : (l : Bool) → is_C2 (cond l G6 (timer_row v.state (answers v))) ≡ false
-    by true = refl
-    by false = timer_begins_none v.state (answers v)
-begins_none v (Modify settings) e = refl
-begins_none v (SetMode enabled) e = refl
+begins_none v Publish e = publish_is_none is_C2 refl refl refl refl refl refl v.state (answers v)
+begins_none v Timer e = timer_is_none is_C2 (record { n3 = refl; n4 = refl; n5 = refl; n6 = refl; l3 = refl; k2 = refl; k3 = refl; k4 = refl; k5 = refl; g6 = refl }) v
 begins_none v (Republish true) e = refl
 begins_none v (Republish false) e = refl
-begins_none v Delete e = refl
-begins_none v (Items before) e = refl
 begins_none v (SessionEnd true) e = refl
 begins_none v (SessionEnd false) e = refl
-begins_none v Shutdown e = refl
+begins_none v call e = refl
 
 -- a row that ends its subscription makes no message
 record Ends (r : RowId) (c : Scene) : Type 0 where

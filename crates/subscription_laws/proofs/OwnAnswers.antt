@@ -1,26 +1,25 @@
 -- Each answer about a subscription is given to a request that came in its own session.
-use Rattle.std.proofs.Common.{◌+◌, ◌≡◌, ◌≢◌, ◌⊎◌, inl, inr, ℕ, ◌||◌, Bool, true, false, cond, nat_le, length, List, [], ◌∷◌, ◌++◌, map, filter, drop, fold, append_assoc, Option, Some, None, refl, sym, ap, ◌∙◌, subst}
+use Rattle.std.proofs.Common.{◌+◌, ◌≡◌, ◌≢◌, ◌⊎◌, inl, inr, ℕ, Bool, true, false, cond, nat_le, length, List, [], ◌∷◌, ◌++◌, map, filter, drop, fold, append_assoc, Option, Some, None, refl, sym, ap, ◌∙◌, subst}
 use Rattle.std.proofs.lemmas.Bool.{false≢true}
 use Rattle.std.specs.BTreeMap.{is_at}
-use Rattle.std.specs.List.{AllByRecursion, list_any}
+use Rattle.std.specs.List.{AllByRecursion}
 use Rattle.std.specs.Map.{remove_entry}
 use Rattle.std.specs.Ordering.{nat_cmp}
 use Rattle.ua_types.specs.Configuration.{Configuration}
 use Rattle.ua_types.specs.declared.moment.Moment.{Moment}
 use Rattle.ua_types.specs.declared.status.Status.{Status}
 use Rattle.ua_subscription_messages.specs.declared.publishing.SubscriptionAcknowledgement.{SubscriptionAcknowledgement}
-use Rattle.ua_state_table.specs.Chosen.{Answers, answers, timer_row, publish_row, chosen}
+use Rattle.ua_state_table.specs.Chosen.{answers, chosen}
 use Rattle.ua_state_table.specs.Doing.{is_enqueueing}
 use Rattle.ua_state_table.specs.StateTable.{actions_of}
 use Rattle.ua_state_table.specs.declared.action.Action.{Action}
 use Rattle.ua_state_table.specs.declared.action.Action.TheVariants.{Enqueue, Dequeue, SendNotifications, SendKeepAlive}
 use Rattle.ua_state_table.specs.declared.row.RowId.{RowId}
-use Rattle.ua_state_table.specs.declared.row.RowId.TheVariants.{N1, N2, N3, N4, L1, L2, K1, K2, K3, G6}
-use Rattle.ua_state_table.specs.declared.state.State.{State}
-use Rattle.ua_state_table.specs.declared.state.State.TheVariants.{Closed, Normal, Late, KeepAlive}
+use Rattle.ua_state_table.specs.declared.row.RowId.TheVariants.{N1, N2, N3, N4, L1, L2, K1, K2, K3}
 use Rattle.ua_state_table.specs.declared.vars.Vars.{Vars}
 use Rattle.ua_subscriptions.specs.declared.call.Call.{Call}
 use Rattle.ua_subscriptions.specs.declared.call.Call.TheVariants as call
+use Rattle.ua_subscriptions.specs.declared.messages.KeptMessage.{KeptMessage}
 use Rattle.ua_subscriptions.specs.declared.publish_call.PublishCall.{PublishCall}
 use Rattle.ua_subscriptions.specs.declared.round.Round.{Round}
 use Rattle.ua_subscriptions.specs.declared.session_part.SessionSubscriptions.{SessionSubscriptions}
@@ -32,61 +31,46 @@ use Rattle.ua_subscriptions.specs.Ending.{came_by_other, entry_without_conn}
 use Rattle.ua_subscriptions.specs.Firing.{is_closed, before_by, vars_in, row_of, fired}
 use Rattle.ua_subscriptions.specs.Making.{refused_one, added}
 use Rattle.ua_subscriptions.specs.Named.{all_refused, without_requests}
-use Rattle.ua_subscriptions.specs.Publishing.{acknowledged_all, part_without_note, asked_by, with_results}
+use Rattle.ua_subscriptions.specs.Publishing.{acknowledged_all, part_without_note, asked_by, with_results, ready, asked_numbers}
 use Rattle.ua_subscriptions.specs.Queues.{first_of}
-use Rattle.ua_subscriptions.specs.Scenes.{Scene, Noting, noting, sending, Queueing, with_refused, enqueued_by, enqueued, answered_by, note_sent, rest_sent, notes_sent, with_asked, done, all_done, row_done}
+use Rattle.ua_subscriptions.specs.Scenes.{Sending, Scene, Noting, noting, sending, Queueing, with_refused, enqueued_by, enqueued, answered_by, note_sent, rest_sent, notes_sent, with_asked, done, row_done}
 use Rattle.ua_subscriptions.specs.SubscriptionCalls.{world_of}
 use Rattle.ua_subscriptions.specs.Subscriptions.{no_part}
 use Rattle.ua_subscriptions.specs.Tables.{TableState, World, with_call, without_closed, met_found, met, part_at, part_of, set_part, subscription_at}
+use Rattle.ua_subscriptions.proofs.Choosing.{either}
 use Rattle.ua_subscriptions.proofs.MapEntries.{entries_found, entries_set, entries_removed, entries_inserted}
 use Rattle.ua_subscriptions.proofs.OwingRows.{all_append, all_dropped}
 use Rattle.subscription_laws.specs.Answering.{is_dequeueing, dequeues}
 use Rattle.subscription_laws.specs.Calm.{AreRising}
-use Rattle.subscription_laws.specs.Encounters.{Beside, Acknowledges, TellsNote, Refuses, Leaves, LeavesAll, Loses, ready, beside, Encounter, Meets, Does, scene_at, is_meant, met_if, asked_numbers, made_scene, encounters, encounters_from, all_encounters}
+use Rattle.subscription_laws.specs.Encounters.{Beside, Acknowledges, TellsNote, Refuses, Leaves, LeavesAll, Loses, beside, Encounter, Meets, Does, scene_at, is_meant, met_if, made_scene, encounters, encounters_from, all_encounters}
 use Rattle.subscription_laws.specs.OwnRequests.{CameIn, WasOf, AnswersItsOwn, AreOwnAnswers}
 use Rattle.subscription_laws.specs.Numbering.{messages_of}
 use Rattle.subscription_laws.specs.Requests.{name_of}
 use Rattle.subscription_laws.specs.Runs.{Move, Ran, start, moved, run}
-use Rattle.subscription_laws.specs.Tellings.{Telling, told_at, too_many_told, queued_told, note_told, rest_told, notes_told, alive_told, row_told}
-use Rattle.subscription_laws.proofs.Room.{either_false}
+use Rattle.subscription_laws.specs.Tellings.{Told, Telling, told_at, if_asked, queued_told, note_told, rest_told, notes_told, row_told}
+use Rattle.subscription_laws.proofs.Entries.{some_same}
 use Rattle.subscription_laws.proofs.AskedNumbers.{asked_are, listed_are}
-use Rattle.subscription_laws.proofs.ChosenRows.{timer_is_none}
-use Rattle.subscription_laws.proofs.Keeping.{IsKept, world_after, fired_stays}
+use Rattle.subscription_laws.proofs.ChosenRows.{publish_stays, timer_is_none}
+use Rattle.subscription_laws.proofs.Folds.{all_so}
+use Rattle.subscription_laws.proofs.Keeping.{its_own, world_after, fired_stays}
 use Rattle.subscription_laws.proofs.KeepingPublish.{ready_kept}
 use Rattle.subscription_laws.proofs.MessageNotes.{note_left, fired_notes}
-use Rattle.subscription_laws.proofs.Remains.{leaves}
 use Rattle.subscription_laws.proofs.RowRequests.{publish_takes_none}
+use Rattle.subscription_laws.proofs.Owners.{rest_keeps, actions_keep}
 use Rattle.subscription_laws.proofs.RunsKept.{IsRunKept, enter, one_run, started_run}
 use Rattle.subscription_laws.proofs.Settling.{IsPutBack, back_is, back_rises}
 use Rattle.subscription_laws.proofs.Walks.{left_is, Fits, Follows, FollowsMaking, Begins, walked, DoneBy, OnBeside, all_split, each_done}
-
-one_session : (a b : ℕ) → Some a ≡ Some b → a ≡ b
-one_session a b e = cc
-
-one_subscription : (a b : Subscription) → Some a ≡ Some b → a ≡ b
-one_subscription a b e = cc
-
-one_request : (a b : PublishCall) → Some a ≡ Some b → a ≡ b
-one_request a b e = cc
 
 -- ---- lists
 
 module _ {X : Type 0} (Q : X → Type 0) where
   all_kept : (p : X → Bool) (xs : List X) → AllByRecursion Q xs → AllByRecursion Q (filter p xs)
   all_kept p [] h = h
-  all_kept p (x ∷ xs) h = by (p x) (all_kept p xs h.1)
-    where
-      by : (b : Bool) → AllByRecursion Q (filter p xs) → AllByRecursion Q (cond b (x ∷ filter p xs) (filter p xs))
-      by true k = (h.0, k)
-      by false k = k
+  all_kept p (x ∷ xs) h = let k = all_kept p xs h.1 in either (AllByRecursion Q) (p x) (x ∷ filter p xs) (filter p xs) (h.0, k) k
 
   first_is : (xs : List X) (x : X) → AllByRecursion Q xs → first_of xs ≡ Some x → Q x
   first_is [] x h e = absurd (cc)
   first_is (y ∷ ys) x h e = let it : y ≡ x = cc in subst Q it h.0
-
-all_so : {X : Type 0} (Q S : X → Type 0) → ((x : X) → Q x → S x) → (xs : List X) → AllByRecursion Q xs → AllByRecursion S xs
-all_so Q S so [] h = tt
-all_so Q S so (x ∷ xs) h = (so x h.0, all_so Q S so xs h.1)
 
 both_so : {X : Type 0} (P Q S : X → Type 0) → ((x : X) → P x → Q x → S x) → (xs : List X) → AllByRecursion P xs → AllByRecursion Q xs → AllByRecursion S xs
 both_so P Q S so [] h k = tt
@@ -110,30 +94,24 @@ module _ (Q : PublishCall → Type 0) where
   abbrev Came : Option PublishCall → Type 0
   Came o = (asked : PublishCall) → o ≡ Some asked → Q asked
 
+  if_asked_of : (clock : Moment) (kept : List KeptMessage) (told : Told) (o : Option PublishCall) → Came o → AllByRecursion Of (if_asked clock kept told o)
+  if_asked_of clock kept told None k = tt
+  if_asked_of clock kept told (Some asked) k = (k asked refl, tt)
+
   queued_of : (o : Option PublishCall) (round : Round) (part : SessionSubscriptions) → AllByRecursion Q part.requests → AllByRecursion Of (queued_told o round part)
   queued_of None round part h = tt
-  queued_of (Some asked) round part h = by (nat_le round.bounds.publish_queue (length part.requests)) (first_of part.requests) (λ x e. first_is Q part.requests x h e)
-    where
-      by : (b : Bool) (o : Option PublishCall) → Came o → AllByRecursion Of (cond b (too_many_told round.clock o) [])
-      by true None k = tt
-      by true (Some x) k = (k x refl, tt)
-      by false o k = tt
+  queued_of (Some asked) round part h =
+      either (AllByRecursion Of) (nat_le round.bounds.publish_queue (length part.requests)) _ [] (if_asked_of round.clock [] _ (first_of part.requests) (λ x e. first_is Q part.requests x h e)) tt
 
   rest_of : (calls : List PublishCall) (n : Noting) → AllByRecursion Q calls → AllByRecursion Of (rest_told calls n)
   rest_of [] n h = tt
-  rest_of (asked ∷ calls) n h = by n.subscription.more (rest_of calls (note_sent (with_asked n asked)) h.1)
-    where
-      by : (b : Bool) → AllByRecursion Of (rest_told calls (note_sent (with_asked n asked))) → AllByRecursion Of (cond b (note_told asked (with_asked n asked) ∷ rest_told calls (note_sent (with_asked n asked))) [])
-      by true k = (h.0, k)
-      by false k = tt
+  rest_of (asked ∷ calls) n h =
+      let m = with_asked n asked in
+      either (AllByRecursion Of) n.subscription.more (note_told asked m ∷ rest_told calls (note_sent m)) [] (h.0, rest_of calls (note_sent m) h.1) tt
 
   notes_of : (o : Option PublishCall) (calls : List PublishCall) (n : Noting) → Came o → AllByRecursion Q calls → AllByRecursion Of (notes_told o calls n)
   notes_of None calls n k h = tt
   notes_of (Some asked) calls n k h = (k asked refl, rest_of calls (note_sent n) h)
-
-  alive_of : (o : Option PublishCall) (c : Scene) → Came o → AllByRecursion Of (alive_told o c)
-  alive_of None c k = tt
-  alive_of (Some asked) c k = (k asked refl, tt)
 
   row_tells : (r : RowId) (c : Scene) → AllByRecursion Q c.part.requests → (uses_asked r ≡ true → Came c.round.asked) → AllByRecursion Of (row_told r c)
   row_tells N1 c h k = queued_of c.round.asked c.round c.part h
@@ -142,19 +120,17 @@ module _ (Q : PublishCall → Type 0) where
   row_tells L1 c h k = notes_of c.round.asked c.part.requests _ (k refl) h
   row_tells N3 c h k = notes_of (first_of c.part.requests) (drop 1 c.part.requests) _ (λ x e. first_is Q c.part.requests x h e) (all_dropped Q c.part.requests h)
   row_tells K2 c h k = notes_of (first_of c.part.requests) (drop 1 c.part.requests) _ (λ x e. first_is Q c.part.requests x h e) (all_dropped Q c.part.requests h)
-  row_tells N4 c h k = alive_of (first_of c.part.requests) c (λ x e. first_is Q c.part.requests x h e)
-  row_tells K3 c h k = alive_of (first_of c.part.requests) c (λ x e. first_is Q c.part.requests x h e)
-  row_tells L2 c h k = alive_of c.round.asked c (k refl)
+  row_tells N4 c h k = if_asked_of _ _ _ (first_of c.part.requests) (λ x e. first_is Q c.part.requests x h e)
+  row_tells K3 c h k = if_asked_of _ _ _ (first_of c.part.requests) (λ x e. first_is Q c.part.requests x h e)
+  row_tells L2 c h k = if_asked_of _ _ _ c.round.asked (k refl)
   row_tells r c h k = tt
 
   -- and what waits afterwards is what waited, or the request that came
   rest_waits : (calls : List PublishCall) (n : Noting) → AllByRecursion Q calls → AllByRecursion Q (rest_sent calls n).requests
   rest_waits [] n h = tt
-  rest_waits (asked ∷ calls) n h = by n.subscription.more (rest_waits calls (note_sent (with_asked n asked)) h.1)
-    where
-      by : (b : Bool) → AllByRecursion Q (rest_sent calls (note_sent (with_asked n asked))).requests → AllByRecursion Q (cond b (rest_sent calls (note_sent (with_asked n asked))) (sending n (asked ∷ calls))).requests
-      by true k = k
-      by false k = h
+  rest_waits (asked ∷ calls) n h =
+      let next = note_sent (with_asked n asked) in
+      either (λ (sent : Sending). AllByRecursion Q sent.requests) n.subscription.more (rest_sent calls next) (sending n (asked ∷ calls)) (rest_waits calls next h.1) h
 
   notes_wait : (calls : List PublishCall) (n : Noting) → AllByRecursion Q calls → AllByRecursion Q (notes_sent calls n).requests
   unfolding notes_sent
@@ -165,16 +141,6 @@ module _ (Q : PublishCall → Type 0) where
   done_waits c Dequeue e h = all_dropped Q c.part.requests h
   done_waits c SendNotifications e h = notes_wait c.part.requests (noting c.round c.subscription c.items) h
   done_waits c action e h = h
-
-  neither : (a b : Bool) → (a || b) ≡ false → (a ≡ false) × (b ≡ false)
-  neither true b e = absurd (cc)
-  neither false b e = (refl, e)
-
-  all_wait : (actions : List Action) (c : Scene) → list_any is_enqueueing actions ≡ false → AllByRecursion Q c.part.requests → AllByRecursion Q (all_done c actions).part.requests
-  all_wait [] c e h = h
-  all_wait (action ∷ actions) c e h =
-      let split = neither (is_enqueueing action) (list_any is_enqueueing actions) e in
-      all_wait actions (done c action) split.1 (done_waits c action split.0 h)
 
   enqueued_waits : (round : Round) (part : SessionSubscriptions) → AllByRecursion Q part.requests → Came round.asked → AllByRecursion Q (enqueued round part).part.requests
   unfolding enqueued
@@ -193,7 +159,7 @@ module _ (Q : PublishCall → Type 0) where
   unfolding row_done
   row_waits N1 c h k = enqueued_waits c.round c.part h (k refl)
   row_waits K1 c h k = enqueued_waits c.round c.part h (k refl)
-  row_waits r c h k = all_wait (actions_of r) c refl h
+  row_waits r c h k = actions_keep (λ (d : Scene). AllByRecursion Q d.part.requests) is_enqueueing done_waits (actions_of r) c refl h
 
   fired_waits : (c : Scene) → AllByRecursion Q c.part.requests → (uses_asked (row_of c) ≡ true → Came c.round.asked) → AllByRecursion Q (fired c).part.requests
   unfolding fired
@@ -222,17 +188,7 @@ unfolding note_sent
 note_gone n asked = refl
 
 rest_left : (calls : List PublishCall) (n : Noting) → IsLeft n.round.asked (rest_sent calls n).noting.round.asked
-rest_left [] n = inr refl
-rest_left (asked ∷ calls) n = by n.subscription.more (rest_left calls (note_sent (with_asked n asked)))
-  where
-    all_gone : (after : Option PublishCall) → IsLeft (note_sent (with_asked n asked)).round.asked after → IsLeft n.round.asked after
-    all_gone after (inl none) = inl none
-    all_gone after (inr same) = inl (same ∙ note_gone n asked)
-
-    by : (b : Bool) → IsLeft (note_sent (with_asked n asked)).round.asked (rest_sent calls (note_sent (with_asked n asked))).noting.round.asked →
-        IsLeft n.round.asked (cond b (rest_sent calls (note_sent (with_asked n asked))) (sending n (asked ∷ calls))).noting.round.asked
-    by true h = all_gone _ h
-    by false h = inr refl
+rest_left calls n = rest_keeps (λ (m : Noting). IsLeft n.round.asked m.round.asked) (λ m call h. inl (note_gone m call)) calls n (inr refl)
 
 notes_left : (calls : List PublishCall) (n : Noting) → IsLeft n.round.asked (notes_sent calls n).noting.round.asked
 unfolding notes_sent
@@ -246,13 +202,9 @@ enqueued_left round part = by round.asked refl
     refused_none None = refl
     refused_none (Some x) = refl
 
-    full : (b : Bool) (x y : Queueing) → x.round.asked ≡ None → y.round.asked ≡ None → (cond b x y).round.asked ≡ None
-    full true x y h k = h
-    full false x y h k = k
-
     by : (o : Option PublishCall) → round.asked ≡ o → IsLeft o (enqueued_by o round part).round.asked
     by None is = inr is
-    by (Some asked) is = inl (full (nat_le round.bounds.publish_queue (length part.requests)) _ _ (refused_none (first_of part.requests)) refl)
+    by (Some asked) is = inl (either (λ (q : Queueing). q.round.asked ≡ None) (nat_le round.bounds.publish_queue (length part.requests)) _ _ (refused_none (first_of part.requests)) refl)
 
 done_left : (c : Scene) (action : Action) → is_dequeueing action ≡ false → IsLeft c.round.asked (done c action).round.asked
 done_left c Enqueue e = enqueued_left c.round c.part
@@ -261,29 +213,10 @@ done_left c SendNotifications e = notes_left c.part.requests (noting c.round c.s
 done_left c SendKeepAlive e = answered_left c.round.asked _ _ _ _ refl
 done_left c action e = inr refl
 
-all_left : (actions : List Action) (c : Scene) → list_any is_dequeueing actions ≡ false → IsLeft c.round.asked (all_done c actions).round.asked
-all_left [] c e = inr refl
-all_left (action ∷ actions) c e =
-    let split = either_false (is_dequeueing action) (list_any is_dequeueing actions) e in
-    left_then c.round.asked (done c action).round.asked _ (done_left c action split.0) (all_left actions (done c action) split.1)
-
 fired_left : (c : Scene) → dequeues (row_of c) ≡ false → IsLeft c.round.asked (fired c).round.asked
 unfolding fired row_done
-fired_left c e = all_left (actions_of (row_of c)) c e
-
-publish_leaves : (s : State) (a : Answers) → leaves (publish_row s a) ≡ false
-publish_leaves Normal a = by a.enabled_more
-  where
-    by : (b : Bool) → leaves (cond b N2 N1) ≡ false
-    by true = refl
-    by false = refl
-publish_leaves Late a = by a.enabled_available
-  where
-    by : (b : Bool) → leaves (cond b L1 L2) ≡ false
-    by true = refl
-    by false = refl
-publish_leaves KeepAlive a = refl
-publish_leaves Closed a = refl
+fired_left c e =
+    actions_keep (λ (d : Scene). IsLeft c.round.asked d.round.asked) is_dequeueing (λ d action f h. left_then c.round.asked d.round.asked (done d action).round.asked h (done_left d action f)) (actions_of (row_of c)) c e (inr refl)
 
 -- no other call uses the request that came
 abbrev is_publish : Call → Bool
@@ -298,20 +231,12 @@ others_use_none : (asked : Call) (v : Vars) → is_publish asked ≡ false → u
 others_use_none call.Publish v e = absurd (cc)
 others_use_none (call.Create true settings enabled) v e = refl
 others_use_none (call.Create false settings enabled) v e = refl
-others_use_none call.Timer v e = by (answers v).last_life
-  where
-    by : (l : Bool) → uses_asked (cond l G6 (timer_row v.state (answers v))) ≡ false
-    by true = refl
-    by false = timer_is_none uses_asked (record { n3 = refl; n4 = refl; n5 = refl; n6 = refl; l3 = refl; k2 = refl; k3 = refl; k4 = refl; k5 = refl; g6 = refl }) v.state (answers v)
-others_use_none (call.Modify settings) v e = refl
-others_use_none (call.SetMode enabled) v e = refl
+others_use_none call.Timer v e = timer_is_none uses_asked (record { n3 = refl; n4 = refl; n5 = refl; n6 = refl; l3 = refl; k2 = refl; k3 = refl; k4 = refl; k5 = refl; g6 = refl }) v
 others_use_none (call.Republish true) v e = refl
 others_use_none (call.Republish false) v e = refl
-others_use_none call.Delete v e = refl
-others_use_none (call.Items before) v e = refl
 others_use_none (call.SessionEnd true) v e = refl
 others_use_none (call.SessionEnd false) v e = refl
-others_use_none call.Shutdown v e = refl
+others_use_none asked v e = refl
 
 -- ---- requests wait under the sessions in which they came, and notes under those that their subscriptions had
 
@@ -371,7 +296,7 @@ module _ (P : ℕ → PublishCall → Type 0) (Q : ℕ → ℕ → Type 0) where
           d = fired (scene_at w n call.Publish s)
 
           stays : d.subscription.session ≡ s.session
-          stays = fired_stays (scene_at w n call.Publish s) (publish_leaves s.state (answers (vars_in (scene_at w n call.Publish s))))
+          stays = fired_stays (scene_at w n call.Publish s) (publish_stays s.state (answers (vars_in (scene_at w n call.Publish s))))
 
           gone : IsLeft w.round.asked d.round.asked
           gone = fired_left (scene_at w n call.Publish s) (publish_takes_none s.state (answers (vars_in (scene_at w n call.Publish s))))
@@ -400,8 +325,8 @@ module _ (P : ℕ → PublishCall → Type 0) (Q : ℕ → ℕ → Type 0) where
       by true is = (may (it asked is)).1 s found
       by false is = absurd (false≢true (sym (others_use_none asked (before_by asked (scene_at w n asked s)) is) ∙ e))
 
-  its_own : (w : World) (s : Subscription) (j : ℕ) → s.session ≡ Some j → (k : ℕ) × (s.session ≡ Some k) × Came (P k) w.round.asked → Came (P j) w.round.asked
-  its_own w s j is y = let same : y.0 ≡ j = one_session y.0 j (sym y.1 ∙ is) in subst (λ (i : ℕ). Came (P i) w.round.asked) same y.2
+  came_to_it : (w : World) (s : Subscription) (j : ℕ) → s.session ≡ Some j → (k : ℕ) × (s.session ≡ Some k) × Came (P k) w.round.asked → Came (P j) w.round.asked
+  came_to_it w s j is y = let same : y.0 ≡ j = some_same (sym y.1 ∙ is) in subst (λ (i : ℕ). Came (P i) w.round.asked) same y.2
 
   -- the requests of one that is of no session are none
   scene_own : (w : World) (n : ℕ) (asked : Call) (s : Subscription) (o : Option ℕ) → s.session ≡ o → AreOwn w.table.sessions → Uses w n asked s → Own (Meets (scene_at w n asked s))
@@ -412,11 +337,11 @@ module _ (P : ℕ → PublishCall → Type 0) (Q : ℕ → ℕ → Type 0) where
   scene_own w n asked s (Some j) is h u =
       all_so (Of (P j)) (OwnTelling (scene_at w n asked s)) (λ t q. (j, is, q)) (told_at (Meets (scene_at w n asked s)))
       (row_tells (P j) (row_of (scene_at w n asked s)) (scene_at w n asked s) (subst (λ (p : Option ℕ). AllByRecursion (P j) (part_of p w.table.sessions).requests) (sym is) (own_part j w.table.sessions h).0)
-      (λ e. its_own w s j is (u e)))
+      (λ e. came_to_it w s j is (u e)))
 
   part_own : (w : World) (n : ℕ) (asked : Call) (s : Subscription) (j : ℕ) → s.session ≡ Some j → AreOwn w.table.sessions → Uses w n asked s → Q j n → IsOwn (j, (fired (scene_at w n asked s)).part)
   part_own w n asked s j is h u its = (
-    fired_waits (P j) c was.0 (λ e. its_own w s j is (u e)),
+    fired_waits (P j) c was.0 (λ e. came_to_it w s j is (u e)),
     by (fired_notes c),
   )
     where
@@ -497,41 +422,25 @@ module _ (P : ℕ → PublishCall → Type 0) (Q : ℕ → ℕ → Type 0) where
       let v = ready session acks (world_of r.subs r.items clock) in
       AllByRecursion (MayAsk (asked_by v (with_results asked (acknowledged_all session r.subs.table.subscriptions acks).results))) (asked_numbers v (part_at session v.table.sessions).numbers)
   publish_begins r clock session asked acks kept good =
-      asked_are (MayAsk u) v (part_at session v.table.sessions).numbers
-      (listed_are (MayAsk u) (part_at session v.table.sessions).numbers (λ m listed. (k.calm.listed.subscriptions, λ s found. its m s found (k.own session (λ e. absurd (cc)) m listed))))
-    where
-      v : World
-      v = ready session acks (world_of r.subs r.items clock)
-
-      results : List Status
-      results = (acknowledged_all session r.subs.table.subscriptions acks).results
-
-      u : World
-      u = asked_by (ready session acks (world_of r.subs r.items clock)) (with_results asked (acknowledged_all session r.subs.table.subscriptions acks).results)
-
-      k : IsKept None r.subs.made r.rows (ready session acks (world_of r.subs r.items clock))
-      k = ready_kept session r.subs.made r.rows acks (world_of r.subs r.items clock) (enter r clock kept)
-
-      its : (m : ℕ) (s : Subscription) → subscription_at m (ready session acks (world_of r.subs r.items clock)).table.subscriptions ≡ Some s →
-          (u : Subscription) × (subscription_at m (ready session acks (world_of r.subs r.items clock)).table.subscriptions ≡ Some u) × (u.session ≡ Some session) →
-          (j : ℕ) × (s.session ≡ Some j) × Came (P j) (Some (with_results asked (acknowledged_all session r.subs.table.subscriptions acks).results))
-      its m s found (u, there, mine) =
-          let same : u ≡ s = one_subscription u s (sym there ∙ found) in
-          (session, ap (λ (x : Subscription). x.session) (sym same) ∙ mine, λ x e. subst (P session) (one_request _ x e) (good (acknowledged_all session r.subs.table.subscriptions acks).results))
+      let w = world_of r.subs r.items clock in
+      let v = ready session acks w in
+      let results = (acknowledged_all session r.subs.table.subscriptions acks).results in
+      let u = asked_by v (with_results asked results) in
+      let ns = (part_at session v.table.sessions).numbers in
+      let k = ready_kept session r.subs.made r.rows acks w (enter r clock kept) in
+      asked_are (MayAsk u) v ns
+      (listed_are (MayAsk u) ns (λ m listed. (
+        k.calm.listed.subscriptions,
+        λ s found. (session, its_own v.table session m s (k.own session (λ e. absurd (cc))) listed found, λ x e. subst (P session) (some_same e) (good results)),
+      )))
 
   begins : (r : Ran) (m : Move) → IsRunKept r → Asks m → Begins May r m
-  begins r (Move.Create clock session settings enabled) kept good = tt
-  begins r (Move.Modify clock session number settings) kept good = λ is. absurd (cc)
-  begins r (Move.SetMode clock session numbers enabled) kept good = λ is. absurd (cc)
-  begins r (Move.Delete clock session numbers) kept good = λ is. absurd (cc)
   begins r (Move.Publish clock session asked acks) kept good = λ none is. (refl, publish_begins r clock session asked acks kept good)
-  begins r (Move.Republish clock session number wanted) kept good = λ is. absurd (cc)
-  begins r (Move.Timers clock) kept good = λ is. absurd (cc)
-  begins r (Move.EndSession clock session deleting) kept good = λ is. absurd (cc)
-  begins r (Move.Shutdown clock) kept good = λ is. absurd (cc)
+  begins r (Move.Create clock session settings enabled) kept good = tt
   begins r (Move.Gone conn) kept good = tt
-  begins r (Move.Items clock number asked) kept good = λ vars is. absurd (cc)
   begins r (Move.Show changed) kept good = tt
+  begins r (Move.Items clock number asked) kept good = λ vars is. absurd (cc)
+  begins r m kept good = λ is. absurd (cc)
 
   abbrev IsTold : Beside → Type 0
   IsTold (TellsNote session asked note) = P session asked
@@ -539,12 +448,7 @@ module _ (P : ℕ → PublishCall → Type 0) (Q : ℕ → ℕ → Type 0) where
 
   told_good : (m : Move) → Asks m → DoneBy IsTold m
   told_good (Move.Publish clock session asked acks) good = (tt, λ results. ((λ note. good results), tt, tt))
-  told_good (Move.Delete clock session numbers) good = tt
   told_good (Move.EndSession clock session deleting) good = (tt, tt)
-  told_good (Move.Shutdown clock) good = tt
-  told_good (Move.Gone conn) good = tt
-  told_good (Move.Items clock number asked) good = tt
-  told_good (Move.Show changed) good = tt
   told_good m good = tt
 
   -- those that are met are of the sessions that they have
@@ -593,31 +497,11 @@ came_here (m ∷ front) clock session asked acks rest x is = by m (came_here fro
   where
     by : (m : Move) → CameIn session (name_of x) (front ++ Move.Publish clock session asked acks ∷ rest) → CameIn session (name_of x) (m ∷ front ++ Move.Publish clock session asked acks ∷ rest)
     by (Move.Publish c own y a) h = inr h
-    by (Move.Create c o st en) h = h
-    by (Move.Modify c o nu st) h = h
-    by (Move.SetMode c o ns en) h = h
-    by (Move.Delete c o ns) h = h
-    by (Move.Republish c o nu wa) h = h
-    by (Move.Timers c) h = h
-    by (Move.EndSession c o de) h = h
-    by (Move.Shutdown c) h = h
-    by (Move.Gone conn) h = h
-    by (Move.Items c nu a) h = h
-    by (Move.Show changed) h = h
+    by m h = h
 
 good_here : (Q : ℕ → ℕ → Type 0) (front rest : List Move) (m : Move) → Asks (CameAmong (front ++ m ∷ rest)) Q m
 good_here Q front rest (Move.Publish clock session asked acks) = λ results. came_here front clock session asked acks rest (with_results asked results) refl
-good_here Q front rest (Move.Create c o st en) = tt
-good_here Q front rest (Move.Modify c o nu st) = tt
-good_here Q front rest (Move.SetMode c o ns en) = tt
-good_here Q front rest (Move.Delete c o ns) = tt
-good_here Q front rest (Move.Republish c o nu wa) = tt
-good_here Q front rest (Move.Timers c) = tt
-good_here Q front rest (Move.EndSession c o de) = tt
-good_here Q front rest (Move.Shutdown c) = tt
-good_here Q front rest (Move.Gone conn) = tt
-good_here Q front rest (Move.Items c nu a) = tt
-good_here Q front rest (Move.Show changed) = tt
+good_here Q front rest m = tt
 
 all_good : (Q : ℕ → ℕ → Type 0) (front ms : List Move) (whole : List Move) → whole ≡ front ++ ms → AllByRecursion (Asks (CameAmong whole) Q) ms
 all_good Q front [] whole is = tt

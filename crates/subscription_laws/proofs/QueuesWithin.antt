@@ -1,6 +1,6 @@
 -- Items keep within the sizes of their queues, and subscriptions within the number of their items, whatever is called.
 use Rattle.std.proofs.Common.{◌≡◌, ◌≤◌, ℕ, ◌+◌, ◌-◌, arith, Bool, true, false, cond, List, [], ◌∷◌, ◌++◌, length, take, drop, fold, Option, Some, None, Result, Ok, Err, refl, sym, ◌∙◌, subst, length-append, length-drop}
-use Rattle.std.proofs.lemmas.Bool.{eqb-true, eq-eqb}
+use Rattle.std.proofs.lemmas.Bool.{eqb-true, eq-eqb, or_parts}
 use Rattle.std.proofs.lemmas.List.{length-take}
 use Rattle.std.proofs.lemmas.Map.{length-set_value}
 use Rattle.std.specs.Prelude.{◌==◌, ◌&&◌, filter, nat_lt, nat_le}
@@ -38,13 +38,15 @@ use Rattle.ua_monitored_items.specs.declared.kinds.Kind.{Kind}
 use Rattle.ua_monitored_items.specs.declared.kinds.Mode.{Mode}
 use Rattle.ua_monitored_items.specs.declared.kinds.Trigger.{Trigger}
 use Rattle.ua_monitored_items.specs.declared.releases.Release.{Release}
-use Rattle.ua_monitored_items.proofs.Tables.{where_set}
+use Rattle.ua_monitored_items.proofs.Releasing.{there_released}
+use Rattle.ua_monitored_items.proofs.Tables.{same_of, there_seen, where_set}
 use Rattle.ua_read_write.specs.Attributes.{Attributed}
 use Rattle.ua_read_write.specs.Reading.{readable}
 use Rattle.ua_subscriptions.proofs.Choosing.{either}
 use Rattle.ua_subscriptions.proofs.MapEntries.{entries_removed, entries_changed, entries_inserted}
 use Rattle.subscription_laws.specs.Bounds.{KeepsWithinSize}
-use Rattle.subscription_laws.proofs.Room.{either_false, room, length_inserted, length_removed, length_filtered}
+use Rattle.subscription_laws.proofs.Folds.{fold_keeps}
+use Rattle.subscription_laws.proofs.Room.{room, length_inserted, length_removed, length_filtered}
 
 -- ---- one queue
 
@@ -137,7 +139,7 @@ module _ (longest : ℕ) where
 -- ---- how many items there are
 
 module _ (p : Item → Bool) where
-  counted_here : (b : Bool) (number : ℕ) (rest : List ℕ) → length (cond b (number ∷ rest) rest) ≤ length rest + 1
+  counted_here : (b : Bool) (number : ℕ) (rest : List ℕ) → length (cond b (number ∷ rest) rest) ≤ length rest + cond b 1 0
   counted_here true number rest = omega arith
   counted_here false number rest = omega arith
 
@@ -149,42 +151,31 @@ module _ (p : Item → Bool) where
   counted_both true number k xs ys h = omega (arith, h)
   counted_both false number k xs ys h = h
 
-  -- one more is at most one more
-  put_count : (k : ℕ) (v : Item) (es : NumberedItems) → length (numbers_where p (insert_entry nat_cmp es k v)) ≤ length (numbers_where p es) + 1
+  -- one more is at most one more, and none where it doesn't count
+  put_count : (k : ℕ) (v : Item) (es : NumberedItems) → length (numbers_where p (insert_entry nat_cmp es k v)) ≤ length (numbers_where p es) + cond (p v) 1 0
   put_count k v [] = counted_here (p v) k []
   put_count k v (e ∷ es) = by (nat_cmp k e.0) (put_count k v es)
     where
-      by : (o : Ordering) → length (numbers_where p (insert_entry nat_cmp es k v)) ≤ length (numbers_where p es) + 1 →
-          length (numbers_where p (match_ordering o ((k, v) ∷ e ∷ es) ((e.0, v) ∷ es) (e ∷ insert_entry nat_cmp es k v))) ≤ length (numbers_where p (e ∷ es)) + 1
+      by : (o : Ordering) → length (numbers_where p (insert_entry nat_cmp es k v)) ≤ length (numbers_where p es) + cond (p v) 1 0 →
+          length (numbers_where p (match_ordering o ((k, v) ∷ e ∷ es) ((e.0, v) ∷ es) (e ∷ insert_entry nat_cmp es k v))) ≤ length (numbers_where p (e ∷ es)) + cond (p v) 1 0
       by Less h = counted_here (p v) k (numbers_where p (e ∷ es))
       by Equal h = let a = counted_here (p v) e.0 (numbers_where p es) in let b = counted_more (p e.1) e.0 (numbers_where p es) in omega (arith, a, b)
-      by Greater h = counted_both (p e.1) e.0 1 (numbers_where p (insert_entry nat_cmp es k v)) (numbers_where p es) h
-
-  put_count_none : (k : ℕ) (v : Item) → p v ≡ false → (es : NumberedItems) → length (numbers_where p (insert_entry nat_cmp es k v)) ≤ length (numbers_where p es) + 0
-  put_count_none k v is [] = rw is (omega arith)
-  put_count_none k v is (e ∷ es) = by (nat_cmp k e.0) (put_count_none k v is es)
-    where
-      by : (o : Ordering) → length (numbers_where p (insert_entry nat_cmp es k v)) ≤ length (numbers_where p es) + 0 →
-          length (numbers_where p (match_ordering o ((k, v) ∷ e ∷ es) ((e.0, v) ∷ es) (e ∷ insert_entry nat_cmp es k v))) ≤ length (numbers_where p (e ∷ es)) + 0
-      by Less h = rw is (omega arith)
-      by Equal h = let b = counted_more (p e.1) e.0 (numbers_where p es) in rw is (omega (arith, b))
-      by Greater h = counted_both (p e.1) e.0 0 (numbers_where p (insert_entry nat_cmp es k v)) (numbers_where p es) h
+      by Greater h = counted_both (p e.1) e.0 (cond (p v) 1 0) (numbers_where p (insert_entry nat_cmp es k v)) (numbers_where p es) h
 
   gone_count : (test : ℕ → Bool) (es : NumberedItems) → length (numbers_where p (remove_entry test es)) ≤ length (numbers_where p es) + 0
   gone_count test [] = omega arith
-  gone_count test (e ∷ es) = by (test e.0) (gone_count test es)
-    where
-      by : (b : Bool) → length (numbers_where p (remove_entry test es)) ≤ length (numbers_where p es) + 0 → length (numbers_where p (cond b es (e ∷ remove_entry test es))) ≤ length (numbers_where p (e ∷ es)) + 0
-      by true h = let more = counted_more (p e.1) e.0 (numbers_where p es) in omega (arith, more)
-      by false h = counted_both (p e.1) e.0 0 (numbers_where p (remove_entry test es)) (numbers_where p es) h
+  gone_count test (e ∷ es) =
+      let more = counted_more (p e.1) e.0 (numbers_where p es) in
+      either (λ (fs : NumberedItems). length (numbers_where p fs) ≤ length (numbers_where p (e ∷ es)) + 0) (test e.0) es (e ∷ remove_entry test es) (omega (arith, more))
+      (counted_both (p e.1) e.0 0 (numbers_where p (remove_entry test es)) (numbers_where p es) (gone_count test es))
 
   filtered_count : (test : ℕ × Item → Bool) (es : NumberedItems) → length (numbers_where p (filter test es)) ≤ length (numbers_where p es) + 0
   filtered_count test [] = omega arith
-  filtered_count test (e ∷ es) = by (test e) (filtered_count test es)
-    where
-      by : (b : Bool) → length (numbers_where p (filter test es)) ≤ length (numbers_where p es) + 0 → length (numbers_where p (cond b (e ∷ filter test es) (filter test es))) ≤ length (numbers_where p (e ∷ es)) + 0
-      by true h = counted_both (p e.1) e.0 0 (numbers_where p (filter test es)) (numbers_where p es) h
-      by false h = let more = counted_more (p e.1) e.0 (numbers_where p es) in omega (arith, more, h)
+  filtered_count test (e ∷ es) =
+      let more = counted_more (p e.1) e.0 (numbers_where p es) in
+      let h = filtered_count test es in
+      either (λ (fs : NumberedItems). length (numbers_where p fs) ≤ length (numbers_where p (e ∷ es)) + 0) (test e) (e ∷ filter test es) (filter test es)
+      (counted_both (p e.1) e.0 0 (numbers_where p (filter test es)) (numbers_where p es) h) (omega (arith, more, h))
 
 -- ---- all items
 
@@ -192,77 +183,59 @@ abbrev EachKeeps : ℕ → ℕ × Item → Type 0
 EachKeeps longest e = KeepsWithinSize longest e.1
 
 -- what every call keeps
+pub record AreFew (most in_all longest : ℕ) (items : NumberedItems) : Type 0 where
+  pub keep : AllByRecursion (EachKeeps longest) items
+  pub few : (subscription : ℕ) → length (numbers_of subscription items) ≤ most
+  pub few_in_all : length items ≤ in_all
+
 pub record AreBounded (most in_all longest : ℕ) (s : ItemsState) : Type 0 where
-  pub most_is : s.most ≡ most
-  pub most_in_all_is : s.most_in_all ≡ in_all
-  pub longest_is : s.longest ≡ longest
-  pub keep : AllByRecursion (EachKeeps longest) s.items
-  pub few : (subscription : ℕ) → length (numbers_of subscription s.items) ≤ most
-  pub few_in_all : length s.items ≤ in_all
+  limits : (s.most ≡ most) × (s.most_in_all ≡ in_all) × (s.longest ≡ longest)
+  pub items : AreFew most in_all longest s.items
 
 filtered_keep : (longest : ℕ) (test : ℕ × Item → Bool) (es : NumberedItems) → AllByRecursion (EachKeeps longest) es → AllByRecursion (EachKeeps longest) (filter test es)
 filtered_keep longest test [] h = tt
 filtered_keep longest test (e ∷ es) h = either (AllByRecursion (EachKeeps longest)) (test e) (e ∷ filter test es) (filter test es) (h.0, filtered_keep longest test es h.1) (filtered_keep longest test es h.1)
 
-abbrev with_items : ItemsState → NumberedItems → ItemsState
-with_items s items = record { most = s.most; most_in_all = s.most_in_all; longest = s.longest; interval = s.interval; made = s.made; items = items }
-
 module _ (most in_all longest : ℕ) (some : 1 ≤ longest) where
+  abbrev Few : NumberedItems → Type 0
+  Few items = AreFew most in_all longest items
+
   abbrev Bounded : ItemsState → Type 0
   Bounded s = AreBounded most in_all longest s
 
   -- something is done with one item
-  changed_bounded : (number : ℕ) (f : Item → Item) → ((item : Item) → KeepsWithinSize longest item → KeepsWithinSize longest (f item)) → ((q : ℕ) (item : Item) → is_of q (f item) ≡ is_of q item) →
-      (s : ItemsState) → Bounded s → Bounded (with_items s (with_item number f s.items))
-  changed_bounded number f keeps same s h = by (item_at number s.items) refl
+  changed_few : (number : ℕ) (f : Item → Item) → ((item : Item) → KeepsWithinSize longest item → KeepsWithinSize longest (f item)) → ((q : ℕ) (item : Item) → is_of q (f item) ≡ is_of q item) →
+      (items : NumberedItems) → Few items → Few (with_item number f items)
+  changed_few number f keeps same items h = by (item_at number items) refl
     where
-      by : (o : Option Item) → item_at number s.items ≡ o → Bounded (with_items s (with_found number f s.items o))
-      by None e = record { most_is = h.most_is; most_in_all_is = h.most_in_all_is; longest_is = h.longest_is; keep = h.keep; few = h.few; few_in_all = h.few_in_all }
+      by : (o : Option Item) → item_at number items ≡ o → Few (with_found number f items o)
+      by None e = h
       by (Some v) e = record {
-        most_is = h.most_is;
-        most_in_all_is = h.most_in_all_is;
-        longest_is = h.longest_is;
-        keep = entries_changed (EachKeeps longest) (is_at (nat_cmp number)) v (f v) (λ key k. keeps v k) s.items e h.keep;
-        few = λ q. subst (λ (ns : List ℕ). length ns ≤ most) (sym (where_set (is_of q) number v (f v) (same q v) s.items e)) (h.few q);
-        few_in_all = let kept = length-set_value (is_at (nat_cmp number)) s.items (f v) in let before = h.few_in_all in omega (arith, kept, before);
+        keep = entries_changed (EachKeeps longest) (is_at (nat_cmp number)) v (f v) (λ key k. keeps v k) items e h.keep;
+        few = λ q. subst (λ (ns : List ℕ). length ns ≤ most) (sym (where_set (is_of q) number v (f v) (same q v) items e)) (h.few q);
+        few_in_all = let kept = length-set_value (is_at (nat_cmp number)) items (f v) in let before = h.few_in_all in omega (arith, kept, before);
       }
 
   -- ---- values that were written, and those that a message takes
 
-  seen_same : (v : DataValue) (q : ℕ) (item : Item) → is_of q (seen v item) ≡ is_of q item
-  seen_same v q item = either (λ (x : Item). is_of q x ≡ is_of q item) (takes item v) (queued v item) item refl refl
+  visits_few : (visits : List Visit) (items : NumberedItems) → Few items → Few (sampled_items items visits)
+  visits_few = fold_keeps Few visited (λ items v h. changed_few v.number (seen v.value) (seen_keeps longest v.value) (λ q item. same_of item (seen v.value item) (there_seen v.value item) q) items h)
 
-  visits_bounded : (visits : List Visit) (s : ItemsState) → Bounded s → Bounded (with_items s (sampled_items s.items visits))
-  visits_bounded [] s h = record { most_is = h.most_is; most_in_all_is = h.most_in_all_is; longest_is = h.longest_is; keep = h.keep; few = h.few; few_in_all = h.few_in_all }
-  visits_bounded (v ∷ vs) s h =
-      visits_bounded vs (with_items s (visited s.items v)) (changed_bounded v.number (seen v.value) (seen_keeps longest v.value) (seen_same v.value) s h)
+  releases_few : (releases : List Release) (items : NumberedItems) → Few items → Few (all_released items releases)
+  releases_few =
+      fold_keeps Few with_release
+      (λ items r h. changed_few r.number (released_in r.subscription) (released_keeps longest r.subscription) (λ q item. same_of item (released_in r.subscription item) (there_released r.subscription item) q) items h)
 
-  released_same : (own q : ℕ) (item : Item) → is_of q (released_in own item) ≡ is_of q item
-  released_same own q item =
-      either (λ (x : Item). is_of q x ≡ is_of q item) ((item.subscription == own && is_sampling item.mode) && nat_lt 0 (length item.queue.entries)) (record item { released = true }) item refl refl
+  shown_few : (changes : List Change) (items : NumberedItems) → Few items → Few (shown items changes)
+  shown_few = fold_keeps Few shown_one (λ items c h. let visits = visits_of items c in releases_few (sample_releases items visits) (sampled_items items visits) (visits_few visits items h))
 
-  releases_bounded : (releases : List Release) (s : ItemsState) → Bounded s → Bounded (with_items s (all_released s.items releases))
-  releases_bounded [] s h = record { most_is = h.most_is; most_in_all_is = h.most_in_all_is; longest_is = h.longest_is; keep = h.keep; few = h.few; few_in_all = h.few_in_all }
-  releases_bounded (r ∷ rs) s h =
-      releases_bounded rs (with_items s (with_release s.items r))
-      (changed_bounded r.number (released_in r.subscription) (released_keeps longest r.subscription) (released_same r.subscription) s h)
-
-  shown_bounded : (changes : List Change) (s : ItemsState) → Bounded s → Bounded (with_items s (shown s.items changes))
-  shown_bounded [] s h = record { most_is = h.most_is; most_in_all_is = h.most_in_all_is; longest_is = h.longest_is; keep = h.keep; few = h.few; few_in_all = h.few_in_all }
-  shown_bounded (c ∷ cs) s h =
-      let visits = visits_of s.items c in
-      shown_bounded cs (with_items s (shown_one s.items c))
-      (releases_bounded (sample_releases s.items visits) (with_items s (sampled_items s.items visits)) (visits_bounded visits s h))
-
-  taken_bounded : (numbers : List ℕ) (t : Taking) (s : ItemsState) → Bounded (with_items s t.items) → Bounded (with_items s (fold with_taken t numbers).items)
-  taken_bounded [] t s h = h
-  taken_bounded (n ∷ ns) t s h = taken_bounded ns (with_taken t n) s (by (item_at n t.items))
+  taken_few : (numbers : List ℕ) (t : Taking) → Few t.items → Few (fold with_taken t numbers).items
+  taken_few [] t h = h
+  taken_few (n ∷ ns) t h = taken_few ns (with_taken t n) (by (item_at n t.items))
     where
-      by : (o : Option Item) → Bounded (with_items s (taken_from t n o).items)
+      by : (o : Option Item) → Few (taken_from t n o).items
       by None = h
-      by (Some item) =
-          let m = nat_least t.left (waiting_in item) in
-          changed_bounded n (gave m) (gave_keeps longest m) (λ q x. refl) (with_items s t.items) h
+      by (Some item) = let m = nat_least t.left (waiting_in item) in changed_few n (gave m) (gave_keeps longest m) (λ q x. refl) t.items h
 
   -- ---- entries of requests
 
@@ -281,6 +254,10 @@ module _ (most in_all longest : ℕ) (some : 1 ≤ longest) where
 
   begun_same : (nodes : Nodes) (clock : Moment) (q : ℕ) (item : Item) → is_of q (begun nodes clock item) ≡ is_of q item
   begun_same nodes clock q item = either (λ (x : Item). is_of q x ≡ is_of q item) (is_enabled item.mode) (queued (reading nodes clock item) item) item refl refl
+
+  changed_bounded : (number : ℕ) (f : Item → Item) → ((item : Item) → KeepsWithinSize longest item → KeepsWithinSize longest (f item)) → ((q : ℕ) (item : Item) → is_of q (f item) ≡ is_of q item) →
+      (s : ItemsState) → Bounded s → Bounded (record s { items = with_item number f s.items })
+  changed_bounded number f keeps same s h = record { limits = h.limits; items = changed_few number f keeps same s.items h.items }
 
   -- one that may be made is not one too many
   room_filter : (full : Bool) (mode : Mode) (trigger : Option Trigger) (kind : Kind) → filter_judged full mode trigger ≡ Ok kind → full ≡ false
@@ -303,25 +280,25 @@ module _ (most in_all longest : ℕ) (some : 1 ≤ longest) where
       room_reading (is_full s subscription) (mode_numbered request.monitoring_mode) (trigger_of request.requested_parameters.filter) (readable nodes what.node_id what.attribute_id what.index_range) kind e
 
   below : (s : ItemsState) (subscription : ℕ) → is_full s subscription ≡ false → length (numbers_of subscription s.items) + 1 ≤ s.most
-  below s subscription e = room s.most (length (numbers_of subscription s.items)) (either_false _ _ e).0
+  below s subscription e = room s.most (length (numbers_of subscription s.items)) (or_parts _ _ e).0
 
   below_in_all : (s : ItemsState) (subscription : ℕ) → is_full s subscription ≡ false → length s.items + 1 ≤ s.most_in_all
-  below_in_all s subscription e = room s.most_in_all (length s.items) (either_false _ _ (either_false _ _ e).1).0
+  below_in_all s subscription e = room s.most_in_all (length s.items) (or_parts _ _ (or_parts _ _ e).1).0
 
   new_bounded : (subscription : ℕ) (item : Item) (s : ItemsState) → KeepsWithinSize longest item → is_of subscription item ≡ true → length (numbers_of subscription s.items) + 1 ≤ most → length s.items + 1 ≤ in_all → Bounded s → Bounded (with_new_item s item)
   new_bounded subscription item s k its left left_in_all h = record {
-    most_is = h.most_is;
-    most_in_all_is = h.most_in_all_is;
-    longest_is = h.longest_is;
-    keep = entries_inserted (EachKeeps longest) (s.made + 1) item s.items k h.keep;
-    few = λ q. few q (is_of q item) refl;
-    few_in_all = let one = length_inserted (s.made + 1) item s.items in omega (arith, one, left_in_all);
+    limits = h.limits;
+    items = record {
+      keep = entries_inserted (EachKeeps longest) (s.made + 1) item s.items k h.items.keep;
+      few = λ q. few q (is_of q item) refl (put_count (is_of q) (s.made + 1) item s.items);
+      few_in_all = let one = length_inserted (s.made + 1) item s.items in omega (arith, one, left_in_all);
+    };
   }
     where
-      few : (q : ℕ) (b : Bool) → is_of q item ≡ b → length (numbers_of q (insert_entry nat_cmp s.items (s.made + 1) item)) ≤ most
-      few q false is = let none = put_count_none (is_of q) (s.made + 1) item is s.items in let before = h.few q in omega (arith, none, before)
-      few q true is =
-          let one = put_count (is_of q) (s.made + 1) item s.items in
+      few : (q : ℕ) (b : Bool) → is_of q item ≡ b → length (numbers_of q (insert_entry nat_cmp s.items (s.made + 1) item)) ≤ length (numbers_of q s.items) + cond b 1 0 →
+          length (numbers_of q (insert_entry nat_cmp s.items (s.made + 1) item)) ≤ most
+      few q false is one = let before = h.items.few q in omega (arith, one, before)
+      few q true is one =
           let same : subscription ≡ q = sym (eqb-true item.subscription subscription its) ∙ eqb-true item.subscription q is in
           let here : length (numbers_of q s.items) + 1 ≤ most = subst (λ (i : ℕ). length (numbers_of i s.items) + 1 ≤ most) same left in
           omega (arith, one, here)
@@ -334,10 +311,10 @@ module _ (most in_all longest : ℕ) (some : 1 ≤ longest) where
       by (Err code) e = h
       by (Ok kind) e =
           let item = new_item s subscription timestamps request kind in
-          new_bounded subscription (begun nodes clock item) s (begun_keeps nodes clock item (new_keeps s subscription timestamps request kind h.longest_is))
+          new_bounded subscription (begun nodes clock item) s (begun_keeps nodes clock item (new_keeps s subscription timestamps request kind h.limits.2))
           (begun_same nodes clock subscription item ∙ eq-eqb subscription subscription refl)
-          (subst (λ (m : ℕ). length (numbers_of subscription s.items) + 1 ≤ m) h.most_is (below s subscription (room_judged s nodes subscription request kind e)))
-          (subst (λ (m : ℕ). length s.items + 1 ≤ m) h.most_in_all_is (below_in_all s subscription (room_judged s nodes subscription request kind e))) h
+          (subst (λ (m : ℕ). length (numbers_of subscription s.items) + 1 ≤ m) h.limits.0 (below s subscription (room_judged s nodes subscription request kind e)))
+          (subst (λ (m : ℕ). length s.items + 1 ≤ m) h.limits.1 (below_in_all s subscription (room_judged s nodes subscription request kind e))) h
 
   modified_bounded : (subscription : ℕ) (timestamps : Timestamps) (s : ItemsState) (request : MonitoredItemModifyRequest) → Bounded s → OneBounded (modify_one subscription timestamps s request)
   unfolding modify_one
@@ -348,16 +325,13 @@ module _ (most in_all longest : ℕ) (some : 1 ≤ longest) where
       by (Some item) None = h
       by (Some item) (Some trigger) =
           changed_bounded request.monitored_item_id (modified s.longest timestamps trigger request.requested_parameters)
-          (λ x k. subst (λ (l : ℕ). KeepsWithinSize longest (modified l timestamps trigger request.requested_parameters x)) (sym h.longest_is) (modified_keeps longest some timestamps trigger request.requested_parameters x))
+          (λ x k. subst (λ (l : ℕ). KeepsWithinSize longest (modified l timestamps trigger request.requested_parameters x)) (sym h.limits.2) (modified_keeps longest some timestamps trigger request.requested_parameters x))
           (λ q x. refl) s h
 
   moded_same : (nodes : Nodes) (clock : Moment) (mode : Mode) (q : ℕ) (item : Item) → is_of q (moded nodes clock mode item) ≡ is_of q item
-  moded_same nodes clock mode q item = by (is_enabled mode) (is_enabled item.mode)
-    where
-      by : (a b : Bool) → is_of q (cond a (with_mode mode (cond b item (queued (reading nodes clock item) item))) (disabled item)) ≡ is_of q item
-      by true true = refl
-      by true false = refl
-      by false b = refl
+  moded_same nodes clock mode q item =
+      either (λ (x : Item). is_of q x ≡ is_of q item) (is_enabled mode) (with_mode mode (enabled nodes clock item)) (disabled item)
+      (either (λ (x : Item). is_of q (with_mode mode x) ≡ is_of q item) (is_enabled item.mode) item (queued (reading nodes clock item) item) refl refl) refl
 
   moded_bounded : (nodes : Nodes) (clock : Moment) (subscription : ℕ) (mode : Mode) (s : ItemsState) (number : ℕ) → Bounded s → OneBounded (mode_one nodes clock subscription mode s number)
   unfolding mode_one
@@ -382,12 +356,12 @@ module _ (most in_all longest : ℕ) (some : 1 ≤ longest) where
       by : (o : Option Item) → OneBounded (deleted_by s number o)
       by None = h
       by (Some item) = record {
-        most_is = h.most_is;
-        most_in_all_is = h.most_in_all_is;
-        longest_is = h.longest_is;
-        keep = entries_removed (EachKeeps longest) (is_at (nat_cmp number)) s.items h.keep;
-        few = λ q. let less = gone_count (is_of q) (is_at (nat_cmp number)) s.items in let before = h.few q in omega (arith, less, before);
-        few_in_all = let less = length_removed (is_at (nat_cmp number)) s.items in let before = h.few_in_all in omega (arith, less, before);
+        limits = h.limits;
+        items = record {
+          keep = entries_removed (EachKeeps longest) (is_at (nat_cmp number)) s.items h.items.keep;
+          few = λ q. let less = gone_count (is_of q) (is_at (nat_cmp number)) s.items in let before = h.items.few q in omega (arith, less, before);
+          few_in_all = let less = length_removed (is_at (nat_cmp number)) s.items in let before = h.items.few_in_all in omega (arith, less, before);
+        };
       }
 
   served_bounded : {A R : Type 0} → (serve : ItemsState → A → One R) → ((s : ItemsState) (x : A) → Bounded s → Bounded (serve s x).state) → (xs : List A) (before : Served R) → Bounded before.state → Bounded (fold (with_one serve) before xs).state
@@ -396,32 +370,27 @@ module _ (most in_all longest : ℕ) (some : 1 ≤ longest) where
 
   -- ---- any calls
 
-  pub move_bounded : (s : ItemsState) (m : Move) → Bounded s → Bounded (moved s m).state
+  move_bounded : (s : ItemsState) (m : Move) → Bounded s → Bounded (moved s m).state
   move_bounded s (Create nodes clock subscription timestamps requests) h =
       served_bounded (create_one nodes clock subscription timestamps) (λ t x k. created_bounded nodes clock subscription timestamps t x k) requests (nothing_served s) h
   move_bounded s (Modify subscription timestamps requests) h = served_bounded (modify_one subscription timestamps) (λ t x k. modified_bounded subscription timestamps t x k) requests (nothing_served s) h
   move_bounded s (SetMode nodes clock subscription mode numbers) h =
-      releases_bounded (modes_release s subscription mode numbers) (all_served (mode_one nodes clock subscription mode) s numbers).state
-      (served_bounded (mode_one nodes clock subscription mode) (λ t x k. moded_bounded nodes clock subscription mode t x k) numbers (nothing_served s) h)
+      let moded = served_bounded (mode_one nodes clock subscription mode) (λ t x k. moded_bounded nodes clock subscription mode t x k) numbers (nothing_served s) h in
+      record { limits = moded.limits; items = releases_few (modes_release s subscription mode numbers) (all_served (mode_one nodes clock subscription mode) s numbers).state.items moded.items }
   move_bounded s (Link subscription triggering add remove) h = linked_bounded subscription triggering add remove s h
   move_bounded s (Delete subscription numbers) h = served_bounded (delete_one subscription) (λ t x k. deleted_bounded subscription t x k) numbers (nothing_served s) h
   move_bounded s (End subscription) h = record {
-    most_is = h.most_is;
-    most_in_all_is = h.most_in_all_is;
-    longest_is = h.longest_is;
-    keep = filtered_keep longest (is_of_other subscription) s.items h.keep;
-    few = λ q. let less = filtered_count (is_of q) (is_of_other subscription) s.items in let before = h.few q in omega (arith, less, before);
-    few_in_all = let less = length_filtered (is_of_other subscription) s.items in let before = h.few_in_all in omega (arith, less, before);
+    limits = h.limits;
+    items = record {
+      keep = filtered_keep longest (is_of_other subscription) s.items h.items.keep;
+      few = λ q. let less = filtered_count (is_of q) (is_of_other subscription) s.items in let before = h.items.few q in omega (arith, less, before);
+      few_in_all = let less = length_filtered (is_of_other subscription) s.items in let before = h.items.few_in_all in omega (arith, less, before);
+    };
   }
-  move_bounded s (Show changes) h = shown_bounded changes s h
-  move_bounded s (TakeNotes subscription n) h =
-      taken_bounded (numbers_of subscription s.items) (nothing_taken s.items n) s (record { most_is = h.most_is; most_in_all_is = h.most_in_all_is; longest_is = h.longest_is; keep = h.keep; few = h.few; few_in_all = h.few_in_all })
-
-  pub moves_bounded : (moves : List Move) (before : item_moves.Moved) → Bounded before.state → Bounded (fold moved_on before moves).state
-  moves_bounded [] before h = h
-  moves_bounded (m ∷ ms) before h = moves_bounded ms (moved_on before m) (move_bounded before.state m h)
+  move_bounded s (Show changes) h = record { limits = h.limits; items = shown_few changes s.items h.items }
+  move_bounded s (TakeNotes subscription n) h = record { limits = h.limits; items = taken_few (numbers_of subscription s.items) (nothing_taken s.items n) h.items }
 
 pub items_bounded : (config : Configuration) → IsConfigured config → (moves : List Move) → AreBounded config.items config.items_in_all config.queue (item_moves.run config moves).state
 items_bounded config is moves =
-    moves_bounded config.items config.items_in_all config.queue is.queue.0 moves (record { state = no_items config; queue_moves = [] })
-    (record { most_is = refl; most_in_all_is = refl; longest_is = refl; keep = tt; few = λ q. omega arith; few_in_all = omega arith })
+    fold_keeps (λ (before : item_moves.Moved). AreBounded config.items config.items_in_all config.queue before.state) moved_on (λ before m h. move_bounded config.items config.items_in_all config.queue is.queue.0 before.state m h) moves (record { state = no_items config; queue_moves = [] })
+    (record { limits = (refl, refl, refl); items = record { keep = tt; few = λ q. omega arith; few_in_all = omega arith } })

@@ -1,6 +1,6 @@
 -- What holds after any calls.
-use Rattle.std.proofs.Common.{◌≡◌, ◌<◌, ◌+◌, ℕ, Bool, true, false, ◌&&◌, List, [], ◌∷◌, Option, Some, refl, sym, ap, ◌∙◌}
-use Rattle.std.proofs.lemmas.Bool.{false≢true}
+use Rattle.std.proofs.Common.{◌≡◌, ◌<◌, ◌+◌, ℕ, true, false, ◌&&◌, List, [], ◌∷◌, Option, Some, refl, sym, ap, ◌∙◌}
+use Rattle.std.proofs.lemmas.Bool.{false_from_ne_true, false≢true}
 use Rattle.std.specs.Option.{is_some}
 use Rattle.ua_types.specs.Configuration.{Configuration}
 use Rattle.ua_state_table.proofs.SteadyLemmas.{patient}
@@ -39,16 +39,10 @@ none_left (call ∷ calls) e = absurd (cc)
 pub none_beside : (config : Configuration) (moves : List Move) (number session : ℕ) (s : Subscription) → let r = run config moves in subscription_at number r.subs.table.subscriptions ≡ Some s → s.session ≡ Some session →
     is_waiting s ≡ true → (part_at session r.subs.table.sessions).requests ≡ []
 none_beside config moves number session s found own waits =
-    none_left (part_at session (run config moves).subs.table.sessions).requests (by (is_any (part_at session (run config moves).subs.table.sessions).requests) refl)
-  where
-    queued : is_any (part_at session (run config moves).subs.table.sessions).requests ≡ true → (is_some s.session && is_any (part_of s.session (run config moves).subs.table.sessions).requests) ≡ true
-    queued e = ap (λ (o : Option ℕ). is_some o && is_any (part_of o (run config moves).subs.table.sessions).requests) own ∙ e
-
-    by : (b : Bool) → is_any (part_at session (run config moves).subs.table.sessions).requests ≡ b → b ≡ false
-    by false e = refl
-    by true e =
-        let calm = (all_steady config moves number s found).calm (queued e) in
-        absurd (false≢true (sym calm ∙ waits_same s.state (s.enabled && s.more) ∙ waits))
+    let t = (run config moves).subs.table in
+    none_left (part_at session t.sessions).requests (false_from_ne_true (is_any (part_at session t.sessions).requests) (λ e.
+    let queued : (is_some s.session && is_any (part_of s.session t.sessions).requests) ≡ true = ap (λ (o : Option ℕ). is_some o && is_any (part_of o t.sessions).requests) own ∙ e in
+    false≢true (sym ((all_steady config moves number s found).calm queued) ∙ waits_same s.state (s.enabled && s.more) ∙ waits)))
 
 -- ---- the counts
 

@@ -1,11 +1,11 @@
 -- What a row leaves alone: the rows that fired before, the numbers of its session's part, whose subscription it is, and the
 -- items of others.
-use Rattle.std.proofs.Common.{◌≡◌, ◌⊎◌, inl, inr, ℕ, Bool, true, false, ◌||◌, List, [], ◌∷◌, drop, nat_le, length, Option, Some, None, refl, cond, ap, ◌∙◌, subst}
+use Rattle.std.proofs.Common.{◌≡◌, ◌⊎◌, inl, inr, ℕ, Bool, true, false, List, [], ◌∷◌, drop, nat_le, length, Option, Some, None, refl, ap, ◌∙◌, subst}
 use Rattle.std.specs.List.{list_any}
 use Rattle.ua_state_table.specs.Doing.{is_enqueueing, enqueues}
 use Rattle.ua_state_table.specs.StateTable.{actions_of}
 use Rattle.ua_state_table.specs.declared.action.Action.{Action}
-use Rattle.ua_state_table.specs.declared.action.Action.TheVariants.{Enqueue, Dequeue, SendNotifications, SendKeepAlive, DeleteItems, LeaveSession}
+use Rattle.ua_state_table.specs.declared.action.Action.TheVariants.{Enqueue, Dequeue, SendNotifications, DeleteItems, LeaveSession}
 use Rattle.ua_state_table.specs.declared.row.RowId.{RowId}
 use Rattle.ua_monitored_items.specs.Items.{ItemsState, ended}
 use Rattle.ua_monitored_items.specs.Moves.{OthersStay}
@@ -16,73 +16,29 @@ use Rattle.ua_subscriptions.specs.declared.session_part.SessionSubscriptions.{Se
 use Rattle.ua_subscriptions.specs.declared.subscription.Subscription.{Subscription}
 use Rattle.ua_subscriptions.specs.declared.round.Round.{Round}
 use Rattle.subscription_laws.specs.Calm.{AreReached}
-use Rattle.ua_subscriptions.specs.Queues.{first_of}
-use Rattle.ua_subscriptions.specs.Scenes.{Scene, Noting, sending, with_asked, with_refused, Queueing, enqueued, enqueued_by, answered_by, note_sent, rest_sent, notes_sent, noting, done, all_done, row_done}
+use Rattle.ua_subscriptions.specs.Scenes.{Scene, Noting, with_asked, Queueing, enqueued, enqueued_by, note_sent, rest_sent, notes_sent, noting, done, all_done, row_done}
 use Rattle.ua_subscriptions.specs.Subscriptions.{is_any}
+use Rattle.ua_subscriptions.proofs.Choosing.{either}
 use Rattle.subscription_laws.proofs.Availability.{reached_on, reached_stay}
-use Rattle.subscription_laws.proofs.Owners.{Frame, done_frame, note_frame}
+use Rattle.subscription_laws.proofs.Owners.{Frame, done_frame, note_own, rest_keeps, actions_keep}
 use Rattle.subscription_laws.proofs.RowLinks.{notes_fixed}
-
--- ---- the rows that fired
-
-refused_rows : (round : Round) (call : Option PublishCall) → (with_refused round call).rows ≡ round.rows
-refused_rows round None = refl
-refused_rows round (Some call) = refl
-
-enqueued_rows_if : (full : Bool) (round : Round) (a b : Queueing) → a.round.rows ≡ round.rows → b.round.rows ≡ round.rows → (cond full a b).round.rows ≡ round.rows
-enqueued_rows_if true round a b g h = g
-enqueued_rows_if false round a b g h = h
-
-enqueued_rows_by : (asked : Option PublishCall) (round : Round) (part : SessionSubscriptions) → (enqueued_by asked round part).round.rows ≡ round.rows
-enqueued_rows_by None round part = refl
-enqueued_rows_by (Some call) round part = enqueued_rows_if (nat_le round.bounds.publish_queue (length part.requests)) round _ _ (refused_rows (record round { asked = None }) (first_of part.requests)) refl
-
-enqueued_rows : (round : Round) (part : SessionSubscriptions) → (enqueued round part).round.rows ≡ round.rows
-unfolding enqueued
-enqueued_rows round part = enqueued_rows_by round.asked round part
-
-answered_rows : (asked : Option PublishCall) (round : Round) (s : Subscription) (more : Bool) (message : List ℕ) → (answered_by asked round s more message).rows ≡ round.rows
-answered_rows None round s more message = refl
-answered_rows (Some call) round s more message = refl
-
-note_rows : (n : Noting) → (note_sent n).round.rows ≡ n.round.rows
-unfolding note_sent
-note_rows n = answered_rows n.round.asked _ _ _ _
-
-rest_rows_if : (more : Bool) (call : PublishCall) (calls : List PublishCall) (n : Noting) → (rest_sent calls (note_sent (with_asked n call))).noting.round.rows ≡ n.round.rows → (cond more (rest_sent calls (note_sent (with_asked n call))) (sending n (call ∷ calls))).noting.round.rows ≡ n.round.rows
-rest_rows_if true call calls n h = h
-rest_rows_if false call calls n h = refl
-
-rest_rows : (calls : List PublishCall) (n : Noting) → (rest_sent calls n).noting.round.rows ≡ n.round.rows
-rest_rows [] n = refl
-rest_rows (call ∷ calls) n = rest_rows_if n.subscription.more call calls n (rest_rows calls (note_sent (with_asked n call)) ∙ note_rows (with_asked n call))
-
-notes_rows : (calls : List PublishCall) (n : Noting) → (notes_sent calls n).noting.round.rows ≡ n.round.rows
-unfolding notes_sent
-notes_rows calls n = rest_rows calls (note_sent n) ∙ note_rows n
-
-done_rows : (c : Scene) (action : Action) → (done c action).round.rows ≡ c.round.rows
-done_rows c Enqueue = enqueued_rows c.round c.part
-done_rows c SendNotifications = notes_rows c.part.requests (noting c.round c.subscription c.items)
-done_rows c SendKeepAlive = answered_rows c.round.asked _ _ _ _
-done_rows c action = refl
 
 -- ---- the numbers of the session's part
 
-enqueued_numbers_if : (full : Bool) (part : SessionSubscriptions) (a b : Queueing) → a.part.numbers ≡ part.numbers → b.part.numbers ≡ part.numbers → (cond full a b).part.numbers ≡ part.numbers
-enqueued_numbers_if true part a b g h = g
-enqueued_numbers_if false part a b g h = h
+-- all of a part but its requests
+abbrev pub without : SessionSubscriptions → SessionSubscriptions
+without part = record part { requests = [] }
 
-enqueued_numbers_by : (asked : Option PublishCall) (round : Round) (part : SessionSubscriptions) → (enqueued_by asked round part).part.numbers ≡ part.numbers
-enqueued_numbers_by None round part = refl
-enqueued_numbers_by (Some call) round part = enqueued_numbers_if (nat_le round.bounds.publish_queue (length part.requests)) part _ _ refl refl
+enqueued_by_without : (asked : Option PublishCall) (round : Round) (part : SessionSubscriptions) → without (enqueued_by asked round part).part ≡ without part
+enqueued_by_without None round part = refl
+enqueued_by_without (Some call) round part = either (λ (q : Queueing). without q.part ≡ without part) (nat_le round.bounds.publish_queue (length part.requests)) _ _ refl refl
 
-enqueued_numbers : (round : Round) (part : SessionSubscriptions) → (enqueued round part).part.numbers ≡ part.numbers
+pub enqueued_without : (round : Round) (part : SessionSubscriptions) → without (enqueued round part).part ≡ without part
 unfolding enqueued
-enqueued_numbers round part = enqueued_numbers_by round.asked round part
+enqueued_without round part = enqueued_by_without round.asked round part
 
 done_numbers : (c : Scene) (action : Action) → (done c action).part.numbers ≡ c.part.numbers
-done_numbers c Enqueue = enqueued_numbers c.round c.part
+done_numbers c Enqueue = ap (λ (p : SessionSubscriptions). p.numbers) (enqueued_without c.round c.part)
 done_numbers c action = refl
 
 -- ---- whose it is
@@ -111,7 +67,7 @@ pub record AreApart (own : ℕ) (before after : ItemsState) : Type 0 where
   pub reached : AreReached before → AreReached after
   pub stay : AreReached before → OthersStay own before.items after.items
 
-apart_none : (own : ℕ) (items : ItemsState) → AreApart own items items
+pub apart_none : (own : ℕ) (items : ItemsState) → AreApart own items items
 apart_none own items = record { reached = λ r. r; stay = λ r. stays_none own items.items }
 
 pub apart_then : (own : ℕ) (a b c : ItemsState) → AreApart own a b → AreApart own b c → AreApart own a c
@@ -127,22 +83,13 @@ note_apart n = record {
   stay = λ r. reached_stay n.round.own n.items (TakeNotes n.round.own n.subscription.notifications) refl r;
 }
 
-pub note_own : (n : Noting) → (note_sent n).round.own ≡ n.round.own
-note_own n = ap (λ (f : Frame). f.own) (note_frame n)
-
-rest_apart_if : (more : Bool) (call : PublishCall) (calls : List PublishCall) (n : Noting) (own : ℕ) → AreApart own n.items (rest_sent calls (note_sent (with_asked n call))).noting.items →
-    AreApart own n.items (cond more (rest_sent calls (note_sent (with_asked n call))) (sending n (call ∷ calls))).noting.items
-rest_apart_if true call calls n own h = h
-rest_apart_if false call calls n own h = apart_none own n.items
-
 rest_apart : (calls : List PublishCall) (n : Noting) (own : ℕ) → n.round.own ≡ own → AreApart own n.items (rest_sent calls n).noting.items
-rest_apart [] n own is = apart_none own n.items
-rest_apart (call ∷ calls) n own is =
-    let next = note_sent (with_asked n call) in
-    rest_apart_if n.subscription.more call calls n own
-    (apart_then own n.items next.items (rest_sent calls next).noting.items
-    (subst (λ (o : ℕ). AreApart o n.items next.items) is (note_apart (with_asked n call)))
-    (rest_apart calls next own (note_own (with_asked n call) ∙ is)))
+rest_apart calls n own is =
+    (rest_keeps (λ (m : Noting). (m.round.own ≡ own) × AreApart own n.items m.items)
+    (λ m call h.
+    let next = note_sent (with_asked m call) in
+    (note_own (with_asked m call) ∙ h.0, apart_then own n.items m.items next.items h.1 (subst (λ (o : ℕ). AreApart o m.items next.items) h.0 (note_apart (with_asked m call)))))
+    calls n (is, apart_none own n.items)).1
 
 notes_apart : (calls : List PublishCall) (n : Noting) → AreApart n.round.own n.items (notes_sent calls n).noting.items
 unfolding notes_sent
@@ -188,7 +135,7 @@ pub record Remains (c d : Scene) : Type 0 where
 done_remains : (c : Scene) (action : Action) → Remains c (done c action)
 done_remains c action = record {
   own = ap (λ (f : Frame). f.own) (done_frame c action);
-  rows = done_rows c action;
+  rows = ap (λ (f : Frame). f.rows) (done_frame c action);
   numbers = done_numbers c action;
   items = done_apart c action;
 }
@@ -209,34 +156,18 @@ pub row_remains : (r : RowId) (c : Scene) → Remains c (row_done r c)
 unfolding row_done
 row_remains r c = let h = all_remains (actions_of r) c in record { own = h.own; rows = h.rows; numbers = h.numbers; items = h.items }
 
-neither : (a b : Bool) → (a || b) ≡ false → (a ≡ false) × (b ≡ false)
-neither true b h = absurd (cc)
-neither false b h = (refl, h)
-
-all_none : (actions : List Action) (c : Scene) → list_any is_enqueueing actions ≡ false → is_any c.part.requests ≡ false → is_any (all_done c actions).part.requests ≡ false
-all_none [] c e h = h
-all_none (action ∷ actions) c e h =
-    let split = neither (is_enqueueing action) (list_any is_enqueueing actions) e in
-    all_none actions (done c action) split.1 (done_none c action split.0 h)
-
 -- no row but the two that queue a request brings one
 pub row_none : (r : RowId) (c : Scene) → enqueues r ≡ false → is_any c.part.requests ≡ false → is_any (row_done r c).part.requests ≡ false
 unfolding row_done
-row_none r c e h = all_none (actions_of r) c e h
+row_none r c e h = actions_keep (λ (d : Scene). is_any d.part.requests ≡ false) is_enqueueing done_none (actions_of r) c e h
 
 -- a row that leaves its session
 abbrev pub leaves : RowId → Bool
 leaves r = list_any is_leaving (actions_of r)
 
-all_session : (actions : List Action) (c : Scene) → list_any is_leaving actions ≡ false → (all_done c actions).subscription.session ≡ c.subscription.session
-all_session [] c e = refl
-all_session (action ∷ actions) c e =
-    let split = neither (is_leaving action) (list_any is_leaving actions) e in
-    all_session actions (done c action) split.1 ∙ done_session c action split.0
-
 pub row_session : (r : RowId) (c : Scene) → leaves r ≡ false → (row_done r c).subscription.session ≡ c.subscription.session
 unfolding row_done
-row_session r c e = all_session (actions_of r) c e
+row_session r c e = actions_keep (λ (d : Scene). d.subscription.session ≡ c.subscription.session) is_leaving (λ d action f h. done_session d action f ∙ h) (actions_of r) c e refl
 
 all_session_or : (actions : List Action) (c : Scene) → ((all_done c actions).subscription.session ≡ c.subscription.session) ⊎ ((all_done c actions).subscription.session ≡ None)
 all_session_or [] c = inl refl

@@ -1,22 +1,19 @@
 -- No Publish request is answered that didn't come, and none twice.
 use Rattle.std.proofs.Common.{◌≡◌, ℕ, ◌+◌, ◌≤◌, arith, Bool, true, false, cond, List, [], ◌∷◌, ◌++◌, map, filter, drop, fold, nat_le, length, Option, Some, None, unwrap_or, refl, ap, ◌∙◌}
 use Rattle.std.specs.BTreeMap.{insert_entry, is_at}
-use Rattle.std.specs.Map.{keys_of, values_of, lookup, set_value, remove_entry}
-use Rattle.std.specs.Option.{is_some}
+use Rattle.std.specs.List.{AllByRecursion}
+use Rattle.std.specs.Map.{values_of, lookup, set_value, remove_entry}
 use Rattle.std.specs.Ordering.{nat_cmp, match_ordering}
 use Rattle.std.specs.declared.cmp.Ordering.{Ordering}
 use Rattle.std.specs.declared.cmp.Ordering.TheVariants.{Less, Equal, Greater}
 use Rattle.ua_types.specs.Configuration.{Configuration}
 use Rattle.ua_types.specs.declared.moment.Moment.{Moment}
 use Rattle.ua_types.specs.declared.status.Status.{Status}
-use Rattle.ua_types.specs.declared.status.TheConstants.Status as status
 use Rattle.server_messages.specs.declared.reply.Reply.{Reply}
 use Rattle.ua_subscription_messages.specs.declared.publishing.SubscriptionAcknowledgement.{SubscriptionAcknowledgement}
 use Rattle.ua_state_table.specs.StateTable.{actions_of}
 use Rattle.ua_state_table.specs.declared.action.Action.{Action}
 use Rattle.ua_state_table.specs.declared.action.Action.TheVariants.{Enqueue, Dequeue, SendNotifications, SendKeepAlive}
-use Rattle.ua_state_table.specs.declared.row.RowId.{RowId}
-use Rattle.ua_state_table.specs.declared.vars.Vars.{Vars}
 use Rattle.ua_subscriptions.specs.declared.call.Call.{Call}
 use Rattle.ua_subscriptions.specs.declared.call.Call.TheVariants as call
 use Rattle.ua_subscriptions.specs.declared.publish_call.PublishCall.{PublishCall}
@@ -28,21 +25,21 @@ use Rattle.ua_subscriptions.specs.declared.round.Round.{Round}
 use Rattle.ua_subscriptions.specs.Answers.{refused_of}
 use Rattle.ua_subscriptions.specs.Ending.{came_by_other, all_requests, all_left, entry_without_conn}
 use Rattle.ua_subscriptions.specs.Firing.{row_of, fired}
-use Rattle.ua_subscriptions.specs.Making.{kept_at, refused_one, refused_scene, added, added_scene, with_number}
-use Rattle.ua_subscriptions.specs.Named.{all_refused, has_none, without_requests}
-use Rattle.ua_subscriptions.specs.Publishing.{acknowledged_all, note_of, part_without_note, asked_by, with_results}
+use Rattle.ua_subscriptions.specs.Making.{refused_one, refused_scene, added, added_scene, with_number}
+use Rattle.ua_subscriptions.specs.Named.{all_refused, without_requests}
+use Rattle.ua_subscriptions.specs.Publishing.{acknowledged_all, note_of, part_without_note, asked_by, with_results, ready, asked_numbers}
 use Rattle.ua_subscriptions.specs.Queues.{first_of}
-use Rattle.ua_subscriptions.specs.Ranks.{due_numbers}
 use Rattle.ua_subscriptions.specs.Scenes as scenes
 use Rattle.ua_subscriptions.specs.Scenes.{Scene, Noting, Queueing, Sending, noting, sending, note_sent, rest_sent, notes_sent, with_asked, with_refused, enqueued, enqueued_by, counted, subscription_noted, message_made, done, all_done, row_done}
 use Rattle.ua_subscriptions.specs.SubscriptionCalls.{world_of}
 use Rattle.ua_subscriptions.specs.Subscriptions.{no_part}
-use Rattle.ua_subscriptions.specs.Tables.{TableState, World, part_at, part_of, set_part, subscription_at, vars_found}
+use Rattle.ua_subscriptions.specs.Tables.{TableState, World, part_at, part_of, set_part}
 use Rattle.subscription_laws.specs.Requests.{Name, name_of, one_if, such_calls, such_waiting, such_answers, came_by, such_came}
+use Rattle.ua_subscriptions.proofs.Choosing.{either}
 use Rattle.subscription_laws.proofs.Keeping.{world_after}
-use Rattle.subscription_laws.proofs.Walks.{left, left_is, Follows, FollowsMaking, Any, any_begins, walked}
-use Rattle.subscription_laws.specs.Runs.{ItemsCall, Move, Ran, start, moved, run}
-use Rattle.subscription_laws.specs.Encounters.{Beside, CallsItems, Acknowledges, Asks, TellsNote, TellsNone, Refuses, Leaves, LeavesAll, Loses, ready, beside, Encounter, Meets, Does, scene_at, meets_by, meets, is_meant, met_if, all_meet, world_met, asked_numbers, asked_encounters, noted_encounters, served_encounters, if_none_left, encounters}
+use Rattle.subscription_laws.proofs.Walks.{left, left_is, Follows, FollowsMaking, Any, any_begins, walked, DoneBy, OnBeside, meet_done, each_done}
+use Rattle.subscription_laws.specs.Runs.{Move, Ran, start, moved, run}
+use Rattle.subscription_laws.specs.Encounters.{Beside, Acknowledges, Asks, TellsNote, TellsNone, Refuses, Leaves, LeavesAll, Loses, beside, Encounter, Meets, Does, scene_at, all_meet, asked_encounters, noted_encounters, encounters}
 
 module _ (such : Name → Bool) where
   -- ---- lists
@@ -128,13 +125,9 @@ module _ (such : Name → Bool) where
           let queue : such_calls such (part.requests ++ asked ∷ []) ≡ such_calls such part.requests + (one_if (such (name_of asked)) + 0) = calls-append part.requests (asked ∷ []) in
           omega (arith, one, queue)
 
-      either : (b : Bool) (x y : Queueing) (n : ℕ) → of_queueing x ≤ n → of_queueing y ≤ n → of_queueing (cond b x y) ≤ n
-      either true x y n h k = h
-      either false x y n h k = k
-
       by : (o : Option PublishCall) → round.asked ≡ o → of_queueing (enqueued_by o round part) ≤ of_round round + such_calls such part.requests
       by None is = omega arith
-      by (Some asked) is = either (nat_le round.bounds.publish_queue (length part.requests)) _ _ (of_round round + such_calls such part.requests) (full asked part.requests is) (room asked is)
+      by (Some asked) is = either (λ (q : Queueing). of_queueing q ≤ of_round round + such_calls such part.requests) (nat_le round.bounds.publish_queue (length part.requests)) _ _ (full asked part.requests is) (room asked is)
 
   dequeued_less : (calls : List PublishCall) → asked_one (first_of calls) + such_calls such (drop 1 calls) ≤ such_calls such calls
   dequeued_less [] = omega arith
@@ -156,13 +149,9 @@ module _ (such : Name → Bool) where
       let k : of_scene (done c action) ≤ of_scene c = done_less c action in
       omega (arith, h, k)
 
-  row_less : (r : RowId) (c : Scene) → of_scene (row_done r c) ≤ of_scene c
-  unfolding row_done
-  row_less r c = all_less (actions_of r) c
-
   fired_less : (c : Scene) → of_scene (fired c) ≤ of_scene c
-  unfolding fired
-  fired_less c = row_less (row_of c) c
+  unfolding fired row_done
+  fired_less c = all_less (actions_of (row_of c)) c
 
   -- ---- what a subscription meets
 
@@ -229,11 +218,9 @@ module _ (such : Name → Bool) where
 
   fewer_calls : (conn : ℕ) (calls : List PublishCall) → such_calls such (filter (came_by_other conn) calls) ≤ such_calls such calls
   fewer_calls conn [] = omega arith
-  fewer_calls conn (x ∷ xs) = by (came_by_other conn x) (fewer_calls conn xs)
-    where
-      by : (b : Bool) → such_calls such (filter (came_by_other conn) xs) ≤ such_calls such xs → such_calls such (cond b (x ∷ filter (came_by_other conn) xs) (filter (came_by_other conn) xs)) ≤ one_if (such (name_of x)) + such_calls such xs
-      by true h = omega (arith, h)
-      by false h = omega (arith, h)
+  fewer_calls conn (x ∷ xs) =
+      let h = fewer_calls conn xs in
+      either (λ (calls : List PublishCall). such_calls such calls ≤ one_if (such (name_of x)) + such_calls such xs) (came_by_other conn x) (x ∷ filter (came_by_other conn) xs) (filter (came_by_other conn) xs) (omega (arith, h)) (omega (arith, h))
 
   gone_less : (conn : ℕ) (sessions : List (ℕ × SessionSubscriptions)) → such_waiting such (map (entry_without_conn conn) sessions) ≤ such_waiting such sessions
   gone_less conn [] = omega arith
@@ -291,73 +278,39 @@ module _ (such : Name → Bool) where
   asked-append [] fs = omega arith
   asked-append (e ∷ es) fs = let h : such_asked (es ++ fs) ≡ such_asked es + such_asked fs = asked-append es fs in omega (arith, h)
 
-  meets_none : (w : World) (n : ℕ) (asked : Call) (b : Bool) → such_asked (cond b (meets w n asked) []) ≡ 0
-  meets_none w n asked false = refl
-  meets_none w n asked true = by (subscription_at n w.table.subscriptions)
-    where
-      by : (o : Option Subscription) → such_asked (meets_by w n asked o) ≡ 0
-      by None = refl
-      by (Some s) = refl
+  abbrev AsksNone : Beside → Type 0
+  AsksNone b = asked_beside b ≡ 0
 
-  meet_none : (whose : Option ℕ) (asked : Call) (ns : List ℕ) (w : World) → such_asked (all_meet whose asked w ns) ≡ 0
-  meet_none whose asked [] w = refl
-  meet_none whose asked (n ∷ ns) w =
-      let b = is_meant whose w n in
-      let rest = all_meet whose asked (met_if b w n asked) ns in
-      let sum : such_asked (cond b (meets w n asked) [] ++ rest) ≡ such_asked (cond b (meets w n asked) []) + such_asked rest = asked-append (cond b (meets w n asked) []) rest in
-      let first : such_asked (cond b (meets w n asked) []) ≡ 0 = meets_none w n asked b in
-      let more : such_asked rest ≡ 0 = meet_none whose asked ns (met_if b w n asked) in
-      omega (arith, sum, first, more)
-
-  behind_none : (whose : Option ℕ) (asked : Call) (ns : List ℕ) (w : World) (es : List Encounter) → such_asked es ≡ 0 → such_asked (all_meet whose asked w ns ++ es) ≡ 0
-  behind_none whose asked ns w es h =
-      let sum : such_asked (all_meet whose asked w ns ++ es) ≡ such_asked (all_meet whose asked w ns) + such_asked es = asked-append (all_meet whose asked w ns) es in
-      let first : such_asked (all_meet whose asked w ns) ≡ 0 = meet_none whose asked ns w in
-      omega (arith, sum, first, h)
+  none_asked : (es : List Encounter) → AllByRecursion (OnBeside AsksNone) es → such_asked es ≡ 0
+  none_asked [] h = refl
+  none_asked (Meets c ∷ es) h = let rest : such_asked es ≡ 0 = none_asked es h.1 in omega (arith, rest)
+  none_asked (Does w b ∷ es) h = let first : asked_beside b ≡ 0 = h.0 in let rest : such_asked es ≡ 0 = none_asked es h.1 in omega (arith, first, rest)
 
   asked_once : (ns : List ℕ) (asked : PublishCall) (w : World) → such_asked (asked_encounters ns asked w) ≤ one_if (such (name_of asked))
   asked_once [] asked w = omega arith
-  asked_once (n ∷ ns) asked w = let h : such_asked (all_meet None call.Publish (asked_by w asked) (asked_numbers w (n ∷ ns))) ≡ 0 = meet_none None call.Publish (asked_numbers w (n ∷ ns)) (asked_by w asked) in omega (arith, h)
+  asked_once (n ∷ ns) asked w =
+      let met = all_meet None call.Publish (asked_by w asked) (asked_numbers w (n ∷ ns)) in
+      let h : such_asked met ≡ 0 = none_asked met (meet_done AsksNone None call.Publish (asked_numbers w (n ∷ ns)) (asked_by w asked)) in
+      omega (arith, h)
 
   noted_once : (note : Option TimeoutNote) (session : ℕ) (asked : PublishCall) (acks : List SubscriptionAcknowledgement) (w : World) → such_asked (noted_encounters note session asked acks w) ≤ one_if (such (name_of asked))
   noted_once (Some note) session asked acks w = omega arith
   noted_once None session asked acks w = let v = ready session acks w in let h : such_asked (asked_encounters (part_at session v.table.sessions).numbers asked v) ≤ one_if (such (name_of asked)) = asked_once (part_at session v.table.sessions).numbers asked v in omega (arith, h)
 
-  none_left : (session : ℕ) (w : World) → such_asked (if_none_left session w) ≡ 0
-  none_left session w = by (has_none session w.table)
-    where
-      by : (b : Bool) → such_asked (cond b (Does w (Refuses session status.BAD_NO_SUBSCRIPTION) ∷ []) []) ≡ 0
-      by true = refl
-      by false = refl
-
-  served_none : (number : ℕ) (asked : ItemsCall) (w : World) (o : Option Vars) → such_asked (served_encounters number asked w o) ≡ 0
-  served_none number asked w None = refl
-  served_none number asked w (Some vars) =
-      let v = beside w (CallsItems number asked) in
-      let h : such_asked (meets v number (call.Items vars)) ≡ 0 = meets_none v number (call.Items vars) true in
-      omega (arith, h)
-
-  none_comes : (n k : ℕ) → n ≡ 0 → n ≤ k
-  none_comes n k h = omega (arith, h)
+  none_comes : (r : Ran) (m : Move) → DoneBy AsksNone m → such_asked (encounters r m) ≤ came_by such m
+  none_comes r m done = let h : such_asked (encounters r m) ≡ 0 = none_asked (encounters r m) (each_done AsksNone r m done) in omega (arith, h)
 
   as_came : (r : Ran) (m : Move) → such_asked (encounters r m) ≤ came_by such m
-  as_came r (Move.Create clock session settings enabled) = omega arith
-  as_came r (Move.Modify clock session number settings) = none_comes _ 0 (meet_none (Some session) (call.Modify settings) (number ∷ []) (world_of r.subs r.items clock))
-  as_came r (Move.SetMode clock session numbers enabled) = none_comes _ 0 (meet_none (Some session) (call.SetMode enabled) numbers (world_of r.subs r.items clock))
-  as_came r (Move.Delete clock session numbers) =
-      let w = world_of r.subs r.items clock in
-      let v = world_met (Some session) call.Delete w numbers in
-      none_comes _ 0 (behind_none (Some session) call.Delete numbers w (if_none_left session v) (none_left session v))
   as_came r (Move.Publish clock session asked acks) =
       let w = world_of r.subs r.items clock in
       noted_once (note_of session w.table.sessions) session (with_results asked (acknowledged_all session w.table.subscriptions acks).results) acks w
-  as_came r (Move.Republish clock session number wanted) = none_comes _ 0 (meet_none (Some session) (call.Republish (is_some (kept_at number wanted r.subs.table))) (number ∷ []) (world_of r.subs r.items clock))
-  as_came r (Move.Timers clock) = none_comes _ 0 (meet_none None call.Timer (due_numbers clock r.subs.table.subscriptions) (world_of r.subs r.items clock))
-  as_came r (Move.EndSession clock session deleting) = none_comes _ 0 (behind_none None (call.SessionEnd deleting) (part_at session r.subs.table.sessions).numbers (world_of r.subs r.items clock) _ refl)
-  as_came r (Move.Shutdown clock) = none_comes _ 0 (behind_none None call.Shutdown (keys_of r.subs.table.subscriptions) (world_of r.subs r.items clock) _ refl)
-  as_came r (Move.Gone conn) = omega arith
-  as_came r (Move.Items clock number asked) = none_comes _ 0 (served_none number asked (world_of r.subs r.items clock) (vars_found number r.items r.subs.table))
-  as_came r (Move.Show changed) = omega arith
+  as_came r (Move.Delete clock session numbers) = none_comes r (Move.Delete clock session numbers) refl
+  as_came r (Move.EndSession clock session deleting) = none_comes r (Move.EndSession clock session deleting) (refl, refl)
+  as_came r (Move.Shutdown clock) = none_comes r (Move.Shutdown clock) refl
+  as_came r (Move.Gone conn) = none_comes r (Move.Gone conn) refl
+  as_came r (Move.Items clock number asked) = none_comes r (Move.Items clock number asked) refl
+  as_came r (Move.Show changed) = none_comes r (Move.Show changed) refl
+  as_came r m = none_comes r m tt
 
   -- ---- any calls
 

@@ -1,15 +1,12 @@
 -- What isn't full has room for one more, and a map has at most one entry more once one was put.
-use Rattle.std.proofs.Common.{◌≡◌, ◌≤◌, ℕ, ◌+◌, arith, Bool, true, false, ◌||◌, cond, List, [], ◌∷◌, length, refl}
+use Rattle.std.proofs.Common.{◌≡◌, ◌≤◌, ℕ, ◌+◌, arith, Bool, false, List, [], ◌∷◌, length}
 use Rattle.std.specs.Prelude.{filter, nat_le}
 use Rattle.std.specs.BTreeMap.{insert_entry}
 use Rattle.std.specs.Map.{remove_entry}
 use Rattle.std.specs.Ordering.{nat_cmp, match_ordering}
 use Rattle.std.specs.declared.cmp.Ordering.{Ordering}
 use Rattle.std.specs.declared.cmp.Ordering.TheVariants.{Less, Equal, Greater}
-
-pub either_false : (a b : Bool) → (a || b) ≡ false → (a ≡ false) × (b ≡ false)
-either_false true b e = absurd (cc)
-either_false false b e = (refl, e)
+use Rattle.ua_subscriptions.proofs.Choosing.{either}
 
 pub room : (most n : ℕ) → nat_le most n ≡ false → n + 1 ≤ most
 room most n is = grind (arith, is)
@@ -26,16 +23,12 @@ module _ {X : Type 0} where
 
   pub length_removed : (test : ℕ → Bool) (es : List (ℕ × X)) → length (remove_entry test es) ≤ length es
   length_removed test [] = omega arith
-  length_removed test (e ∷ es) = by (test e.0) (length_removed test es)
-    where
-      by : (b : Bool) → length (remove_entry test es) ≤ length es → length (cond b es (e ∷ remove_entry test es)) ≤ length (e ∷ es)
-      by true h = omega arith
-      by false h = omega (arith, h)
+  length_removed test (e ∷ es) =
+      let h = length_removed test es in
+      either (λ (fs : List (ℕ × X)). length fs ≤ length (e ∷ es)) (test e.0) es (e ∷ remove_entry test es) (omega arith) (omega (arith, h))
 
   pub length_filtered : (test : X → Bool) (xs : List X) → length (filter test xs) ≤ length xs
   length_filtered test [] = omega arith
-  length_filtered test (x ∷ xs) = by (test x) (length_filtered test xs)
-    where
-      by : (b : Bool) → length (filter test xs) ≤ length xs → length (cond b (x ∷ filter test xs) (filter test xs)) ≤ length (x ∷ xs)
-      by true h = omega (arith, h)
-      by false h = omega (arith, h)
+  length_filtered test (x ∷ xs) =
+      let h = length_filtered test xs in
+      either (λ (ys : List X). length ys ≤ length (x ∷ xs)) (test x) (x ∷ filter test xs) (filter test xs) (omega (arith, h)) (omega (arith, h))

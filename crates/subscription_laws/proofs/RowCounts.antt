@@ -1,6 +1,6 @@
 -- What a row leaves of the counts that the rows tell.
 use Rattle.std.proofs.Common.{◌≡◌, ◌≢◌, ℕ, ◌+◌, Bool, true, false, cond, List, [], ◌∷◌, ◌++◌, fold, refl, sym, ap, ◌∙◌}
-use Rattle.std.proofs.lemmas.Bool.{eq-eqb, eqb-true}
+use Rattle.std.proofs.lemmas.Bool.{ne_eqb, eq-eqb, cond-true, cond-false}
 use Rattle.std.proofs.lemmas.List.Sums.{fold-append}
 use Rattle.std.specs.Prelude.{◌==◌}
 use Rattle.server_messages.specs.declared.fired.Fired.{Fired}
@@ -18,40 +18,17 @@ use Rattle.subscription_laws.specs.Standings.{Counts, standing_in, circumstances
 
 -- ---- one row more
 
-counted_by : (b : Bool) (x y : Counts) → b ≡ true → cond b x y ≡ x
-counted_by true x y e = refl
-counted_by false x y e = absurd (cc)
-
-uncounted_by : (b : Bool) (x y : Counts) → b ≡ false → cond b x y ≡ y
-uncounted_by false x y e = refl
-uncounted_by true x y e = absurd (cc)
-
-lived_by : (b : Bool) (x y : ℕ) → b ≡ true → cond b x y ≡ x
-lived_by true x y e = refl
-lived_by false x y e = absurd (cc)
-
-unlived_by : (b : Bool) (x y : ℕ) → b ≡ false → cond b x y ≡ y
-unlived_by false x y e = refl
-unlived_by true x y e = absurd (cc)
-
-other_number : (a b : ℕ) → b ≢ a → (a == b) ≡ false
-other_number a b other = by (a == b) refl
-  where
-    by : (c : Bool) → (a == b) ≡ c → c ≡ false
-    by false e = refl
-    by true e = absurd (other (sym (eqb-true a b e)))
-
 pub counts_own : (n : ℕ) (rows : List Fired) (f : Fired) → f.subscription ≡ n → counts_at n (rows ++ f ∷ []) ≡ counts_after (counts_at n rows) f
-counts_own n rows f is = fold-append (counted_for n) no_counts rows (f ∷ []) ∙ counted_by (f.subscription == n) _ _ (eq-eqb f.subscription n is)
+counts_own n rows f is = fold-append (counted_for n) no_counts rows (f ∷ []) ∙ cond-true (f.subscription == n) _ _ (eq-eqb f.subscription n is)
 
 pub counts_other : (n : ℕ) (rows : List Fired) (f : Fired) → n ≢ f.subscription → counts_at n (rows ++ f ∷ []) ≡ counts_at n rows
-counts_other n rows f other = fold-append (counted_for n) no_counts rows (f ∷ []) ∙ uncounted_by (f.subscription == n) _ _ (other_number f.subscription n other)
+counts_other n rows f other = fold-append (counted_for n) no_counts rows (f ∷ []) ∙ cond-false (f.subscription == n) _ _ (ne_eqb f.subscription n (λ e. other (sym e)))
 
 pub life_own : (n : ℕ) (rows : List Fired) (f : Fired) → f.subscription ≡ n → life_at n (rows ++ f ∷ []) ≡ life_after (life_at n rows) f
-life_own n rows f is = fold-append (life_for n) 0 rows (f ∷ []) ∙ lived_by (f.subscription == n) _ _ (eq-eqb f.subscription n is)
+life_own n rows f is = fold-append (life_for n) 0 rows (f ∷ []) ∙ cond-true (f.subscription == n) _ _ (eq-eqb f.subscription n is)
 
 pub life_other : (n : ℕ) (rows : List Fired) (f : Fired) → n ≢ f.subscription → life_at n (rows ++ f ∷ []) ≡ life_at n rows
-life_other n rows f other = fold-append (life_for n) 0 rows (f ∷ []) ∙ unlived_by (f.subscription == n) _ _ (other_number f.subscription n other)
+life_other n rows f other = fold-append (life_for n) 0 rows (f ∷ []) ∙ cond-false (f.subscription == n) _ _ (ne_eqb f.subscription n (λ e. other (sym e)))
 
 -- ---- the counts are those that the table tells
 

@@ -1,67 +1,26 @@
 -- What a row does to a subscription is what the state table sees of it.
-use Rattle.std.proofs.Common.{◌≡◌, ◌&&◌, ◌||◌, Bool, true, false, List, [], ◌∷◌, ◌++◌, drop, nat_le, length, Option, Some, None, refl, cond, sym, ap, ◌∙◌}
+use Rattle.std.proofs.Common.{◌≡◌, ◌&&◌, ◌||◌, Bool, true, false, List, [], ◌∷◌, ◌++◌, drop, nat_le, length, Option, Some, None, refl, sym, ap, ◌∙◌}
+use Rattle.std.proofs.lemmas.Bool.{and_from}
 use Rattle.std.specs.Option.{is_some}
 use Rattle.ua_state_table.specs.Doing.{Standing, after}
 use Rattle.ua_state_table.specs.Laws.{with_queued}
 use Rattle.ua_state_table.specs.declared.state.State.TheVariants.{Normal}
 use Rattle.ua_state_table.specs.declared.row.RowId.{RowId}
-use Rattle.ua_state_table.specs.declared.row.RowId.TheVariants.{C2, N1, N2, N3, N4, N5, N6, L1, L2, L3, K1, K2, K3, K4, K5, G1, G2, G3, G4, G7, G9}
+use Rattle.ua_state_table.specs.declared.row.RowId.TheVariants.{C2, N1, N2, N3, N4, K1, K3}
 use Rattle.ua_monitored_items.specs.Items.{is_available}
 use Rattle.ua_subscriptions.specs.declared.publish_call.PublishCall.{PublishCall}
 use Rattle.ua_subscriptions.specs.declared.session_part.SessionSubscriptions.{SessionSubscriptions}
 use Rattle.ua_subscriptions.specs.declared.subscription.Subscription.{Subscription}
 use Rattle.ua_subscriptions.specs.declared.round.Round.{Round}
-use Rattle.ua_subscriptions.specs.Scenes.{Scene, Noting, sending, noting, note_sent, rest_sent, notes_sent, with_asked, Queueing, enqueued, enqueued_by, dequeued, started, life_reset, row_done}
+use Rattle.ua_subscriptions.specs.Scenes.{Scene, Noting, noting, note_sent, rest_sent, notes_sent, with_asked, Queueing, enqueued, enqueued_by, dequeued, started, life_reset, row_done}
 use Rattle.subscription_laws.specs.Standings.{Counts, standing_in, circumstances, counts_of, IsAsked}
 use Rattle.ua_subscriptions.specs.Subscriptions.{is_any}
+use Rattle.ua_subscriptions.proofs.Choosing.{either}
+use Rattle.subscription_laws.proofs.Owners.{rest_keeps}
 
 -- how a subscription stands after a row is how the table says
 abbrev pub Links : RowId → Scene → Scene → Type 0
 Links r c d = (counts : Counts) → let s = after (circumstances r c d) r (standing_in c.round.own c counts) in standing_in c.round.own d (counts_of s) ≡ s
-
-pub link_N5 : (c : Scene) → Links N5 c (row_done N5 c)
-unfolding row_done
-link_N5 c counts = refl
-
-pub link_N6 : (c : Scene) → Links N6 c (row_done N6 c)
-unfolding row_done
-link_N6 c counts = refl
-
-pub link_L2 : (c : Scene) → Links L2 c (row_done L2 c)
-unfolding row_done
-link_L2 c counts = refl
-
-pub link_L3 : (c : Scene) → Links L3 c (row_done L3 c)
-unfolding row_done
-link_L3 c counts = refl
-
-pub link_K4 : (c : Scene) → Links K4 c (row_done K4 c)
-unfolding row_done
-link_K4 c counts = refl
-
-pub link_K5 : (c : Scene) → Links K5 c (row_done K5 c)
-unfolding row_done
-link_K5 c counts = refl
-
-pub link_G1 : (c : Scene) → Links G1 c (row_done G1 c)
-unfolding row_done
-link_G1 c counts = refl
-
-pub link_G2 : (c : Scene) → Links G2 c (row_done G2 c)
-unfolding row_done
-link_G2 c counts = refl
-
-pub link_G3 : (c : Scene) → Links G3 c (row_done G3 c)
-unfolding row_done
-link_G3 c counts = refl
-
-pub link_G4 : (c : Scene) → Links G4 c (row_done G4 c)
-unfolding row_done
-link_G4 c counts = refl
-
-pub link_G9 : (c : Scene) → Links G9 c (row_done G9 c)
-unfolding row_done
-link_G9 c counts = refl
 
 -- ---- a request that was taken out
 
@@ -98,14 +57,8 @@ note_fixed : (n : Noting) → fixed (note_sent n).subscription ≡ fixed n.subsc
 unfolding note_sent
 note_fixed n = refl
 
-rest_fixed_if : (more : Bool) (call : PublishCall) (calls : List PublishCall) (n : Noting) → fixed (rest_sent calls (note_sent (with_asked n call))).noting.subscription ≡ fixed n.subscription →
-    fixed (cond more (rest_sent calls (note_sent (with_asked n call))) (sending n (call ∷ calls))).noting.subscription ≡ fixed n.subscription
-rest_fixed_if true call calls n h = h
-rest_fixed_if false call calls n h = refl
-
 rest_fixed : (calls : List PublishCall) (n : Noting) → fixed (rest_sent calls n).noting.subscription ≡ fixed n.subscription
-rest_fixed [] n = refl
-rest_fixed (call ∷ calls) n = rest_fixed_if n.subscription.more call calls n (rest_fixed calls (note_sent (with_asked n call)) ∙ note_fixed (with_asked n call))
+rest_fixed calls n = rest_keeps (λ (m : Noting). fixed m.subscription ≡ fixed n.subscription) (λ m call h. note_fixed (with_asked m call) ∙ h) calls n refl
 
 pub notes_fixed : (calls : List PublishCall) (n : Noting) → fixed (notes_sent calls n).noting.subscription ≡ fixed n.subscription
 unfolding notes_sent
@@ -148,13 +101,6 @@ link_N2 c counts =
     let left = notes_sent c.part.requests n in
     sent_link c.part.requests n left.noting.subscription.more (is_available left.noting.items c.round.own) (is_any c.part.requests) (record { started = 0; answerable = 0 }) (notes_any c.part.requests n)
 
-pub link_L1 : (c : Scene) → Links L1 c (row_done L1 c)
-unfolding row_done
-link_L1 c counts =
-    let n = noting c.round (life_reset c.subscription) c.items in
-    let left = notes_sent c.part.requests n in
-    sent_link c.part.requests n left.noting.subscription.more (is_available left.noting.items c.round.own) (is_any c.part.requests) (record { started = 0; answerable = 0 }) (notes_any c.part.requests n)
-
 any_sent_dropped : (calls : List PublishCall) (n : Noting) → is_any (notes_sent (drop 1 calls) n).requests ≡ true → is_any calls ≡ true
 any_sent_dropped calls n h = any_dropped calls (notes_any (drop 1 calls) n h)
 
@@ -180,47 +126,28 @@ link_N3 c counts =
     let left = notes_sent (drop 1 c.part.requests) n in
     sent_link_again (drop 1 c.part.requests) n left.noting.subscription.more (is_available left.noting.items c.round.own) (is_any c.part.requests) (record { started = 1; answerable = 0 }) (any_sent_dropped c.part.requests n)
 
-pub link_K2 : (c : Scene) → Links K2 c (row_done K2 c)
-unfolding row_done
-link_K2 c counts =
-    let n = noting (dequeued c.round c.part).round (started c.round (life_reset c.subscription)) c.items in
-    let left = notes_sent (drop 1 c.part.requests) n in
-    sent_link_again (drop 1 c.part.requests) n left.noting.subscription.more (is_available left.noting.items c.round.own) (is_any c.part.requests) (record { started = 1; answerable = 0 }) (any_sent_dropped c.part.requests n)
-
 -- ---- a request that is queued
 
 any_more : (calls : List PublishCall) (call : PublishCall) → is_any (calls ++ call ∷ []) ≡ true
 any_more [] call = refl
 any_more (c ∷ calls) call = refl
 
-any_if : (full : Bool) (a b : Queueing) → is_any a.part.requests ≡ true → is_any b.part.requests ≡ true → is_any (cond full a b).part.requests ≡ true
-any_if true a b g h = g
-any_if false a b g h = h
-
 enqueued_any_by : (asked : Option PublishCall) (round : Round) (part : SessionSubscriptions) → (is_some asked || is_any part.requests) ≡ true → is_any (enqueued_by asked round part).part.requests ≡ true
 enqueued_any_by None round part h = h
-enqueued_any_by (Some call) round part h = any_if (nat_le round.bounds.publish_queue (length part.requests)) _ _ (any_more (drop 1 part.requests) call) (any_more part.requests call)
+enqueued_any_by (Some call) round part h = either (λ (q : Queueing). is_any q.part.requests ≡ true) (nat_le round.bounds.publish_queue (length part.requests)) _ _ (any_more (drop 1 part.requests) call) (any_more part.requests call)
 
 pub enqueued_any : (c : Scene) → (is_some c.round.asked || is_any c.part.requests) ≡ true → is_any (enqueued c.round c.part).part.requests ≡ true
 unfolding enqueued
 enqueued_any c h = enqueued_any_by c.round.asked c.round c.part h
 
-both : (a b : Bool) → a ≡ true → b ≡ true → (a && b) ≡ true
-both true b g h = h
-both false b g h = absurd (cc)
-
 pub link_N1 : (c : Scene) → IsAsked c → Links N1 c (row_done N1 c)
 unfolding row_done
-link_N1 c is counts = ap (with_queued (standing_in c.round.own (row_done N1 c) counts)) (both _ _ is.owned (enqueued_any c is.asked))
+link_N1 c is counts = ap (with_queued (standing_in c.round.own (row_done N1 c) counts)) (and_from _ _ is.owned (enqueued_any c is.asked))
 
 pub link_K1 : (c : Scene) → IsAsked c → Links K1 c (row_done K1 c)
 unfolding row_done
-link_K1 c is counts = ap (with_queued (standing_in c.round.own (row_done K1 c) counts)) (both _ _ is.owned (enqueued_any c is.asked))
+link_K1 c is counts = ap (with_queued (standing_in c.round.own (row_done K1 c) counts)) (and_from _ _ is.owned (enqueued_any c is.asked))
 
 pub link_C2 : (c : Scene) → Links C2 c (row_done C2 c)
 unfolding row_done
 link_C2 c counts = refl
-
-pub link_G7 : (c : Scene) → Links G7 c (row_done G7 c)
-unfolding row_done
-link_G7 c counts = refl

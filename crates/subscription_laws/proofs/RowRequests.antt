@@ -1,11 +1,11 @@
 -- A row that sends has a request to answer.
-use Rattle.std.proofs.Common.{◌≡◌, Bool, true, false, ◌&&◌, ◌||◌, not, cond, List, [], ◌∷◌, Option, Some, None, refl, sym, ap, ◌∙◌}
-use Rattle.std.proofs.lemmas.Bool.{false≢true}
+use Rattle.std.proofs.Common.{◌≡◌, Bool, true, false, ◌||◌, not, cond, List, [], ◌∷◌, Option, Some, None, refl, sym, ap, ◌∙◌}
+use Rattle.std.proofs.lemmas.Bool.{false≢true, and_parts}
 use Rattle.std.specs.Prelude.{ℕ}
 use Rattle.std.specs.Option.{is_some}
 use Rattle.ua_state_table.specs.Chosen.{Answers, answers, timer_row, publish_row, chosen}
 use Rattle.ua_state_table.specs.declared.row.RowId.{RowId}
-use Rattle.ua_state_table.specs.declared.row.RowId.TheVariants.{N1, N2, N3, N4, N5, N6, L1, L2, K2, K3, K4, K5, G6}
+use Rattle.ua_state_table.specs.declared.row.RowId.TheVariants.{N3, N4, N5, N6, K2, K3, K4, K5, G6}
 use Rattle.ua_state_table.specs.declared.state.State.{State}
 use Rattle.ua_state_table.specs.declared.state.State.TheVariants.{Closed, Normal, Late, KeepAlive}
 use Rattle.ua_subscriptions.specs.declared.call.Call.{Call}
@@ -15,12 +15,14 @@ use Rattle.ua_subscriptions.specs.declared.subscription.Subscription.{Subscripti
 use Rattle.ua_subscriptions.specs.Calls.{event_of}
 use Rattle.ua_subscriptions.specs.Firing.{vars_in, before_by, row_of}
 use Rattle.ua_subscriptions.specs.Queues.{first_of}
-use Rattle.ua_subscriptions.specs.Ranks.{waits_in, is_waiting}
+use Rattle.ua_state_table.specs.Steady.{waits_in}
+use Rattle.ua_subscriptions.specs.Ranks.{is_waiting}
 use Rattle.ua_subscriptions.specs.Scenes.{Scene}
 use Rattle.ua_subscriptions.specs.Subscriptions.{is_any}
 use Rattle.ua_subscriptions.specs.Tables.{World}
 use Rattle.subscription_laws.specs.Answering.{sends, dequeues, answering}
 use Rattle.subscription_laws.specs.Encounters.{scene_at}
+use Rattle.subscription_laws.proofs.ChosenRows.{publish_is_none}
 
 -- a row that sends has a request to answer
 abbrev pub IsGiven : RowId → Scene → Type 0
@@ -52,10 +54,6 @@ timer_takes KeepAlive a h = by a.queued a.enabled_available a.last_keep h
     by false false false h = absurd (cc)
 timer_takes Closed a h = absurd (cc)
 
-right_of : (a b : Bool) → (a && b) ≡ true → b ≡ true
-right_of true b h = h
-right_of false b h = absurd (cc)
-
 first_is : (calls : List PublishCall) → is_any calls ≡ true → (call : PublishCall) × (first_of calls ≡ Some call)
 first_is [] h = absurd (cc)
 first_is (call ∷ calls) h = (call, refl)
@@ -70,24 +68,13 @@ timer_gives c = by (answers (vars_in c)).last_life
     by true h = absurd (cc)
     by false h =
         let takes = timer_takes c.subscription.state (answers (vars_in c)) h in
-        let first = first_is c.part.requests (right_of (is_some c.subscription.session) (is_any c.part.requests) takes.0) in
+        let first = first_is c.part.requests (and_parts (is_some c.subscription.session) (is_any c.part.requests) takes.0).1 in
         (first.0, ap (λ (b : Bool). cond b (first_of c.part.requests) c.round.asked) takes.1 ∙ first.1)
 
 -- ---- a Publish request: what sends answers the one that came
 
 pub publish_takes_none : (s : State) (a : Answers) → dequeues (publish_row s a) ≡ false
-publish_takes_none Normal a = by a.enabled_more
-  where
-    by : (b : Bool) → dequeues (cond b N2 N1) ≡ false
-    by true = refl
-    by false = refl
-publish_takes_none Late a = by a.enabled_available
-  where
-    by : (b : Bool) → dequeues (cond b L1 L2) ≡ false
-    by true = refl
-    by false = refl
-publish_takes_none KeepAlive a = refl
-publish_takes_none Closed a = refl
+publish_takes_none = publish_is_none dequeues refl refl refl refl refl refl
 
 pub asked_given : (w : World) (n : ℕ) (call : PublishCall) → w.round.asked ≡ Some call → (s : Subscription) → IsGiven (row_of (scene_at w n Publish s)) (scene_at w n Publish s)
 asked_given w n call is s h =

@@ -7,7 +7,7 @@ use Rattle.ua_state_table.specs.StateTable.{fires, next_of}
 use Rattle.ua_state_table.specs.Steady.{IsSteady}
 use Rattle.ua_state_table.specs.declared.event.TableEvent.{TableEvent}
 use Rattle.ua_state_table.specs.declared.row.RowId.{RowId}
-use Rattle.ua_state_table.specs.declared.row.RowId.TheVariants.{C1, C2, N1, N2, N3, N4, N5, N6, L1, L2, L3, K1, K2, K3, K4, K5, G1, G2, G3, G4, G5, G6, G7, G8, G9, G10}
+use Rattle.ua_state_table.specs.declared.row.RowId.TheVariants.{C1, N1, N2, N3, N4, L1, K1, K2, K3, G5, G6, G8, G10}
 use Rattle.ua_state_table.specs.declared.state.State.{State}
 use Rattle.ua_state_table.specs.declared.state.State.TheVariants.{Closed, Normal, Late, KeepAlive}
 use Rattle.ua_state_table.proofs.OneRow.{one_row}
@@ -17,36 +17,25 @@ use Rattle.ua_subscriptions.specs.Firing.{fired, before_of, vars_in, row_of}
 use Rattle.ua_subscriptions.specs.Scenes.{Scene, row_done}
 use Rattle.subscription_laws.specs.Standings.{Counts, standing_in, circumstances, row_counts, IsAsked}
 use Rattle.subscription_laws.proofs.RowFairness.{fair}
-use Rattle.subscription_laws.proofs.RowLinks.{Links, link_C2, link_N1, link_N2, link_N3, link_N4, link_N5, link_N6, link_L1, link_L2, link_L3, link_K1, link_K2, link_K3, link_K4, link_K5, link_G1, link_G2, link_G3, link_G4, link_G7, link_G9}
+use Rattle.subscription_laws.proofs.RowLinks.{Links, link_N1, link_N2, link_N3, link_N4, link_K1, link_K3}
 
 -- the links of all rows after which the subscription lives
 row_link : (r : RowId) (c : Scene) → next_of r c.subscription.state ≢ Closed → (enqueues r ≡ true → IsAsked c) → Links r c (row_done r c)
+unfolding row_done
 row_link C1 c live asked = absurd (live refl)
-row_link C2 c live asked = link_C2 c
-row_link N1 c live asked = link_N1 c (asked refl)
-row_link N2 c live asked = link_N2 c
-row_link N3 c live asked = link_N3 c
-row_link N4 c live asked = link_N4 c
-row_link N5 c live asked = link_N5 c
-row_link N6 c live asked = link_N6 c
-row_link L1 c live asked = link_L1 c
-row_link L2 c live asked = link_L2 c
-row_link L3 c live asked = link_L3 c
-row_link K1 c live asked = link_K1 c (asked refl)
-row_link K2 c live asked = link_K2 c
-row_link K3 c live asked = link_K3 c
-row_link K4 c live asked = link_K4 c
-row_link K5 c live asked = link_K5 c
-row_link G1 c live asked = link_G1 c
-row_link G2 c live asked = link_G2 c
-row_link G3 c live asked = link_G3 c
-row_link G4 c live asked = link_G4 c
 row_link G5 c live asked = absurd (live refl)
 row_link G6 c live asked = absurd (live refl)
-row_link G7 c live asked = link_G7 c
 row_link G8 c live asked = absurd (live refl)
-row_link G9 c live asked = link_G9 c
 row_link G10 c live asked = absurd (live refl)
+row_link N1 c live asked = link_N1 c (asked refl)
+row_link K1 c live asked = link_K1 c (asked refl)
+row_link N2 c live asked = link_N2 c
+row_link L1 c live asked = link_N2 c
+row_link N3 c live asked = link_N3 c
+row_link K2 c live asked = link_N3 c
+row_link N4 c live asked = link_N4 c
+row_link K3 c live asked = link_K3 c
+row_link r c live asked = λ counts. refl
 
 pub row_stays_steady : (c : Scene) (counts : Counts) (e : TableEvent) (r : RowId) → IsSteady (standing_in c.round.own c counts) → fits c.subscription.state e ≡ true → fires (standing_in c.round.own c counts).vars e ≡ r ∷ [] →
     next_of r c.subscription.state ≢ Closed → (enqueues r ≡ true → IsAsked c) → IsSteady (standing_in c.round.own (row_done r c) (row_counts r c counts))

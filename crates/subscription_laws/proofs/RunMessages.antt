@@ -1,5 +1,5 @@
 -- The messages of any calls are numbered without a gap.
-use Rattle.std.proofs.Common.{◌≡◌, ◌≢◌, ◌⊎◌, inl, inr, ℕ, ◌+◌, ◌≤◌, arith, Bool, true, false, cond, List, [], ◌∷◌, ◌++◌, append-nil, append_assoc, fold, Option, Some, None, Result, Ok, Err, refl, sym, ap, ◌∙◌, subst, unwrap_or}
+use Rattle.std.proofs.Common.{◌≡◌, ℕ, ◌+◌, ◌≤◌, arith, Bool, true, false, cond, List, [], ◌∷◌, ◌++◌, append-nil, append_assoc, fold, Option, Some, None, Ok, Err, refl, sym, ap, ◌∙◌, subst}
 use Rattle.std.proofs.lemmas.Bool.{eqb-true}
 use Rattle.std.proofs.lemmas.List.Concat.{flat_map-append}
 use Rattle.std.specs.List.{flat_map}
@@ -12,40 +12,37 @@ use Rattle.ua_types.specs.Configuration.{Configuration}
 use Rattle.ua_types.specs.declared.moment.Moment.{Moment}
 use Rattle.ua_types.specs.declared.status.Status.{Status}
 use Rattle.ua_types.specs.declared.status.TheConstants.Status as status
-use Rattle.ua_subscription_messages.specs.declared.publishing.SubscriptionAcknowledgement.{SubscriptionAcknowledgement}
-use Rattle.ua_state_table.specs.declared.row.RowId.{RowId}
-use Rattle.ua_state_table.specs.declared.row.RowId.TheVariants.{C2}
 use Rattle.ua_subscriptions.specs.declared.call.Call.{Call}
 use Rattle.ua_subscriptions.specs.declared.call.Call.TheVariants as call
 use Rattle.ua_subscriptions.specs.declared.messages.KeptMessage.{KeptMessage}
 use Rattle.ua_subscriptions.specs.declared.session_part.TimeoutNote.{TimeoutNote}
 use Rattle.ua_subscriptions.specs.declared.settings.Settings.{Settings}
-use Rattle.ua_subscriptions.specs.declared.subscriptions.Created.{Created}
 use Rattle.ua_subscriptions.specs.declared.subscription.Subscription.{Subscription}
 use Rattle.ua_subscriptions.specs.Ending.{without_session, without_conn}
-use Rattle.ua_subscriptions.specs.Firing.{row_of, fired}
+use Rattle.ua_subscriptions.specs.Firing.{fired}
 use Rattle.ua_subscriptions.specs.Messages.{has_number}
 use Rattle.ua_subscriptions.specs.Making.{kept_at, republished, refused_one, added, bytes_of, kept_by, with_number}
 use Rattle.subscription_laws.specs.Messaging.{Made, made_at, moved_made, run_made, messages_for, AreAmong, AreItsMessages, IsAmong, AreNotes}
 use Rattle.ua_subscriptions.specs.Named.{outcome, is_own, all_refused, without_requests}
 use Rattle.subscription_laws.specs.Numbering.{AreNumbered}
-use Rattle.ua_subscriptions.specs.Publishing.{without_kept, Acknowledged, acknowledgement_status, acknowledged_by, acknowledged, AllAcknowledged, with_acknowledged, acknowledged_all, without_note, part_without_note}
+use Rattle.ua_subscriptions.specs.Publishing.{without_kept, acknowledged_all, without_note, part_without_note}
 use Rattle.subscription_laws.specs.Encounters.{Beside, Acknowledges, Refuses, Leaves, LeavesAll, Loses, beside, Encounter, Meets, Does, scene_at, made_scene}
 use Rattle.subscription_laws.specs.Runs.{Move, Ran, start, ran_by, moved, run}
-use Rattle.ua_subscriptions.specs.Scenes.{Scene, row_done}
-use Rattle.ua_subscriptions.specs.SubscriptionCalls.{world_of, Said, is_full, refused, created_one, created}
-use Rattle.ua_subscriptions.specs.Subscriptions.{is_of, no_part}
+use Rattle.ua_subscriptions.specs.Scenes.{row_done}
+use Rattle.ua_subscriptions.specs.SubscriptionCalls.{world_of, is_full, refused, created_one, created}
 use Rattle.ua_subscriptions.specs.Tables.{World, met, part_at, subscription_at, TableState}
 use Rattle.ua_subscriptions.specs.declared.session_part.SessionSubscriptions.{SessionSubscriptions}
-use Rattle.subscription_laws.proofs.KeepingParts.{set_part_is, conn_fewer, conn_part}
-use Rattle.subscription_laws.proofs.KeepingNamed.{part_gone, part_stays}
+use Rattle.ua_subscriptions.proofs.Choosing.{either}
+use Rattle.ua_subscriptions.proofs.OwingRows.{all_dropped}
+use Rattle.subscription_laws.proofs.Acknowledgements.{all_acknowledged}
+use Rattle.subscription_laws.proofs.Folds.{all_so}
+use Rattle.subscription_laws.proofs.KeepingParts.{of_set, of_gone, of_put, conn_fewer, conn_part}
 use Rattle.subscription_laws.proofs.ChosenRows.{is_create}
-use Rattle.subscription_laws.proofs.Entries.{same_or_not, set_here, set_other, rising_set, put_here, put_other, rising_put, gone_other, rising_gone}
-use Rattle.subscription_laws.proofs.Firings.{fired_subscription}
+use Rattle.subscription_laws.proofs.Entries.{each_set, each_put, some_same, set_other, rising_set, put_other, rising_put, rising_gone}
 use Rattle.subscription_laws.proofs.Keeping.{world_after}
 use Rattle.subscription_laws.proofs.KeepingMade.{added_start}
 use Rattle.subscription_laws.proofs.MessageLists.{forgotten_among}
-use Rattle.subscription_laws.proofs.MessageNotes.{IsNote, AllNotes, IsMessaged, all_notes, notes_map, notes_rest, note_apart, fired_same_notes, one_messaged}
+use Rattle.subscription_laws.proofs.MessageNotes.{IsNote, AllNotes, IsMessaged, all_notes, note_apart, fired_same_notes, one_messaged}
 use Rattle.subscription_laws.proofs.MessagesKept.{IsNumbered}
 use Rattle.subscription_laws.proofs.Walks.{makes, left_is, made_stays, Follows, Any, any_begins, walked_on}
 
@@ -57,13 +54,8 @@ part_messaged : (made : ℕ) (ms : List Made) (t : TableState) (session : ℕ) (
 part_messaged made ms t session part notes h = record {
   rising = rising_set session part t.sessions h.rising;
   numbered = h.numbered;
-  notes = λ k. by k (set_part_is session k part t.sessions);
+  notes = of_set session part t.sessions (λ (k : ℕ) (p : SessionSubscriptions). AllNotes made ms t.subscriptions p.notes) notes h.notes;
 }
-  where
-    by : (k : ℕ) → (part_at k (set_value (is_at (nat_cmp session)) t.sessions part) ≡ part_at k t.sessions) ⊎ ((k ≡ session) × (part_at k (set_value (is_at (nat_cmp session)) t.sessions part) ≡ part)) →
-        AllNotes made ms t.subscriptions (part_at k (set_value (is_at (nat_cmp session)) t.sessions part)).notes
-    by k (inl same) = subst (λ (p : SessionSubscriptions). AllNotes made ms t.subscriptions p.notes) (sym same) (h.notes k)
-    by k (inr (at, is)) = subst (λ (p : SessionSubscriptions). AllNotes made ms t.subscriptions p.notes) (sym is) notes
 
 refused_numbered : (made : ℕ) (ms : List Made) (session : ℕ) (code : Status) (w : World) → IsMessaged made ms w.table → IsMessaged made ms (all_refused session code w).table
 unfolding all_refused
@@ -71,13 +63,11 @@ refused_numbered made ms session code w h = part_messaged made ms w.table sessio
 
 -- nothing of a session is left
 without_numbered : (made : ℕ) (ms : List Made) (session : ℕ) (w : World) → IsMessaged made ms w.table → IsMessaged made ms (without_session session w).table
-without_numbered made ms session w h = record { rising = rising_gone session w.table.sessions h.rising; numbered = h.numbered; notes = λ k. by k (same_or_not k session) }
-  where
-    by : (k : ℕ) → (k ≡ session) ⊎ (k ≢ session) → AllNotes made ms w.table.subscriptions (part_at k (remove_entry (is_at (nat_cmp session)) w.table.sessions)).notes
-    by k (inl same) =
-        subst (λ (i : ℕ). AllNotes made ms w.table.subscriptions (part_at i (remove_entry (is_at (nat_cmp session)) w.table.sessions)).notes) (sym same)
-        (subst (λ (p : SessionSubscriptions). AllNotes made ms w.table.subscriptions p.notes) (sym (part_gone session w.table.sessions h.rising)) tt)
-    by k (inr other) = subst (λ (p : SessionSubscriptions). AllNotes made ms w.table.subscriptions p.notes) (sym (part_stays session k w.table.sessions other)) (h.notes k)
+without_numbered made ms session w h = record {
+  rising = rising_gone session w.table.sessions h.rising;
+  numbered = h.numbered;
+  notes = of_gone session w.table.sessions h.rising (λ (k : ℕ) (p : SessionSubscriptions). AllNotes made ms w.table.subscriptions p.notes) tt (λ k other. h.notes k);
+}
 
 -- the requests that came by a connection wait no more
 gone_numbered : (made : ℕ) (ms : List Made) (conn : ℕ) (t : TableState) → IsMessaged made ms t → IsMessaged made ms (without_conn conn t)
@@ -89,38 +79,22 @@ gone_numbered made ms conn t h = record {
 
 -- ---- one that is made
 
-begun_here : (c : Scene) → ((row_done C2 c).subscription.number ≡ 0) × ((row_done C2 c).subscription.kept ≡ [])
-unfolding row_done
-begun_here c = (refl, refl)
-
-begun_number : (r : RowId) (c : Scene) → r ≡ C2 → ((row_done r c).subscription.number ≡ 0) × ((row_done r c).subscription.kept ≡ [])
-begun_number r c is = subst (λ (x : RowId). ((row_done x c).subscription.number ≡ 0) × ((row_done x c).subscription.kept ≡ [])) (sym is) (begun_here c)
+begun_number : (session number : ℕ) (asked : Settings) (enabled : Bool) (w : World) → let s = (fired (added_start session number asked enabled w)).subscription in (s.number ≡ 0) × (s.kept ≡ [])
+unfolding fired row_done
+begun_number session number asked enabled w = (refl, refl)
 
 made_numbered : (made : ℕ) (ms : List Made) (subscriptions : List (ℕ × Subscription)) (s : Subscription) → s.number ≡ 0 → s.kept ≡ [] → IsNumbered made ms subscriptions →
     IsNumbered (made + 1) ms (insert_entry nat_cmp subscriptions (made + 1) s)
 made_numbered made ms subscriptions s first none h = record {
   rising = rising_put (made + 1) s subscriptions h.rising;
-  given = λ n u found. given n u (same_or_not n (made + 1)) found;
+  given = each_put (made + 1) s subscriptions (λ (n : ℕ) (u : Subscription). n ≤ made + 1) (omega arith) (λ n u other found. let most : n ≤ made = h.given n u found in omega (arith, most));
   fresh = λ n above. h.fresh n (omega (arith, above));
   numbered = h.numbered;
-  live = λ n u found. live n u (same_or_not n (made + 1)) found;
+  live = each_put (made + 1) s subscriptions (λ (n : ℕ) (u : Subscription). AreItsMessages u (messages_for n ms)) its (λ n u other. h.live n u);
 }
   where
-    same_some : (u : Subscription) → Some s ≡ Some u → u ≡ s
-    same_some u e = cc
-
-    given : (n : ℕ) (u : Subscription) → (n ≡ made + 1) ⊎ (n ≢ made + 1) → subscription_at n (insert_entry nat_cmp subscriptions (made + 1) s) ≡ Some u → n ≤ made + 1
-    given n u (inl same) found = omega (arith, same)
-    given n u (inr other) found = let most : n ≤ made = h.given n u (sym (put_other (made + 1) n s other subscriptions) ∙ found) in omega (arith, most)
-
     its : AreItsMessages s (messages_for (made + 1) ms)
     its = subst (AreItsMessages s) (sym (h.fresh (made + 1) (omega arith))) (record { last = sym first; kept = subst (λ (ks : List KeptMessage). AreAmong ks []) (sym none) tt })
-
-    live : (n : ℕ) (u : Subscription) → (n ≡ made + 1) ⊎ (n ≢ made + 1) → subscription_at n (insert_entry nat_cmp subscriptions (made + 1) s) ≡ Some u → AreItsMessages u (messages_for n ms)
-    live n u (inl same) found =
-        let it : u ≡ s = same_some u (sym (put_here (made + 1) s subscriptions) ∙ ap (λ (i : ℕ). subscription_at i (insert_entry nat_cmp subscriptions (made + 1) s)) (sym same) ∙ found) in
-        subst (λ (i : ℕ). AreItsMessages u (messages_for i ms)) (sym same) (subst (λ (x : Subscription). AreItsMessages x (messages_for (made + 1) ms)) (sym it) its)
-    live n u (inr other) found = h.live n u (sym (put_other (made + 1) n s other subscriptions) ∙ found)
 
 note_stays : (made : ℕ) (ms : List Made) (subscriptions : List (ℕ × Subscription)) (s : Subscription) (note : TimeoutNote) → IsNote made ms subscriptions note →
     IsNote (made + 1) ms (insert_entry nat_cmp subscriptions (made + 1) s) note
@@ -128,40 +102,20 @@ note_stays made ms subscriptions s note h =
     let most : note.subscription ≤ made = h.given in
     record { number = h.number; over = put_other (made + 1) note.subscription s (λ same. absurd (omega (arith, most, same))) subscriptions ∙ h.over; given = omega (arith, most) }
 
-added_notes : (made : ℕ) (ms : List Made) (t : TableState) (session : ℕ) (s : Subscription) (part : SessionSubscriptions) → part.notes ≡ (part_at session t.sessions).notes → IsMessaged made ms t → (k : ℕ) → (k ≡ session) ⊎ (k ≢ session) →
-    AllNotes (made + 1) ms (insert_entry nat_cmp t.subscriptions (made + 1) s) (part_at k (insert_entry nat_cmp (remove_entry (is_at (nat_cmp session)) t.sessions) session (with_number (made + 1) part))).notes
-added_notes made ms t session s part same h k at = by at
-  where
-    old : (j : ℕ) → AllNotes (made + 1) ms (insert_entry nat_cmp t.subscriptions (made + 1) s) (part_at j t.sessions).notes
-    old j =
-        notes_map made (made + 1) ms ms t.subscriptions (insert_entry nat_cmp t.subscriptions (made + 1) s) (note_stays made ms t.subscriptions s) (part_at j t.sessions).notes (h.notes j)
-
-    here : part_at session (insert_entry nat_cmp (remove_entry (is_at (nat_cmp session)) t.sessions) session (with_number (made + 1) part)) ≡ with_number (made + 1) part
-    here = ap (λ (o : Option SessionSubscriptions). unwrap_or o no_part) (put_here session (with_number (made + 1) part) (remove_entry (is_at (nat_cmp session)) t.sessions))
-
-    there : k ≢ session → part_at k (insert_entry nat_cmp (remove_entry (is_at (nat_cmp session)) t.sessions) session (with_number (made + 1) part)) ≡ part_at k t.sessions
-    there other =
-        ap (λ (o : Option SessionSubscriptions). unwrap_or o no_part)
-        (put_other session k (with_number (made + 1) part) other (remove_entry (is_at (nat_cmp session)) t.sessions) ∙ gone_other session k other t.sessions)
-
-    by : (k ≡ session) ⊎ (k ≢ session) →
-        AllNotes (made + 1) ms (insert_entry nat_cmp t.subscriptions (made + 1) s) (part_at k (insert_entry nat_cmp (remove_entry (is_at (nat_cmp session)) t.sessions) session (with_number (made + 1) part))).notes
-    by (inl is) =
-        subst (λ (i : ℕ). AllNotes (made + 1) ms (insert_entry nat_cmp t.subscriptions (made + 1) s) (part_at i (insert_entry nat_cmp (remove_entry (is_at (nat_cmp session)) t.sessions) session (with_number (made + 1) part))).notes) (sym is)
-        (subst (λ (p : SessionSubscriptions). AllNotes (made + 1) ms (insert_entry nat_cmp t.subscriptions (made + 1) s) p.notes) (sym here)
-        (subst (AllNotes (made + 1) ms (insert_entry nat_cmp t.subscriptions (made + 1) s)) (sym same) (old session)))
-    by (inr other) = subst (λ (p : SessionSubscriptions). AllNotes (made + 1) ms (insert_entry nat_cmp t.subscriptions (made + 1) s) p.notes) (sym (there other)) (old k)
-
 added_numbered : (made : ℕ) (ms : List Made) (session : ℕ) (asked : Settings) (enabled : Bool) (w : World) → IsMessaged made ms w.table →
     IsMessaged (made + 1) ms (added session (made + 1) asked enabled w).table
 unfolding added
 added_numbered made ms session asked enabled w h =
     let c = added_start session (made + 1) asked enabled w in
-    let b = begun_number (row_of c) c refl in
+    let b = begun_number session (made + 1) asked enabled w in
+    let after = insert_entry nat_cmp w.table.subscriptions (made + 1) (fired c).subscription in
+    let old : (k : ℕ) → AllNotes (made + 1) ms after (part_at k w.table.sessions).notes = λ k.
+    all_so (IsNote made ms w.table.subscriptions) (IsNote (made + 1) ms after) (note_stays made ms w.table.subscriptions (fired c).subscription) (part_at k w.table.sessions).notes (h.notes k) in
     record {
       rising = rising_put session (with_number (made + 1) (fired c).part) (remove_entry (is_at (nat_cmp session)) w.table.sessions) (rising_gone session w.table.sessions h.rising);
-      numbered = made_numbered made ms w.table.subscriptions (fired c).subscription (ap (λ (s : Subscription). s.number) (fired_subscription c) ∙ b.0) (ap (λ (s : Subscription). s.kept) (fired_subscription c) ∙ b.1) h.numbered;
-      notes = λ k. added_notes made ms w.table session (fired c).subscription (fired c).part (fired_same_notes c refl) h k (same_or_not k session);
+      numbered = made_numbered made ms w.table.subscriptions (fired c).subscription b.0 b.1 h.numbered;
+      notes = of_put session (with_number (made + 1) (fired c).part) w.table.sessions (λ (k : ℕ) (p : SessionSubscriptions). AllNotes (made + 1) ms after p.notes)
+          (subst (AllNotes (made + 1) ms after) (sym (fired_same_notes c refl)) (old session)) (λ k other. old k);
     }
 
 refused_one_same : (session : ℕ) (asked : Settings) (enabled : Bool) (w : World) → (refused_one session asked enabled w).table ≡ w.table
@@ -172,24 +126,10 @@ refused_one_same session asked enabled w = refl
 
 module _ (made : ℕ) (ms : List Made) (subscriptions : List (ℕ × Subscription)) (n : ℕ) (s : Subscription) (number : ℕ) (h : IsNumbered made ms subscriptions) (found : subscription_at n subscriptions ≡ Some s) where
   was_live : (k : ℕ) (u : Subscription) → subscription_at k (set_value (is_at (nat_cmp n)) subscriptions (without_kept number s)) ≡ Some u → (k ≤ made) × AreItsMessages u (messages_for k ms)
-  was_live k u after = by (same_or_not k n)
-    where
-      same_some : Some (without_kept number s) ≡ Some u → u ≡ without_kept number s
-      same_some e = cc
-
-      its : AreItsMessages (without_kept number s) (messages_for n ms)
-      its = let was = h.live n s found in record { last = was.last; kept = forgotten_among number s.kept (messages_for n ms) was.kept }
-
-      by : (k ≡ n) ⊎ (k ≢ n) → (k ≤ made) × AreItsMessages u (messages_for k ms)
-      by (inl same) =
-          let it : u ≡ without_kept number s =
-          same_some (sym (set_here n s (without_kept number s) subscriptions found)
-          ∙ ap (λ (i : ℕ). subscription_at i (set_value (is_at (nat_cmp n)) subscriptions (without_kept number s))) (sym same) ∙ after) in
-          let most : n ≤ made = h.given n s found in (
-            omega (arith, same, most),
-            subst (λ (i : ℕ). AreItsMessages u (messages_for i ms)) (sym same) (subst (λ (x : Subscription). AreItsMessages x (messages_for n ms)) (sym it) its),
-          )
-      by (inr other) = let before = sym (set_other n k (without_kept number s) other subscriptions) ∙ after in (h.given k u before, h.live k u before)
+  was_live =
+      let was = h.live n s found in
+      each_set n s (without_kept number s) subscriptions found (λ (k : ℕ) (u : Subscription). (k ≤ made) × AreItsMessages u (messages_for k ms))
+      (h.given n s found, record { last = was.last; kept = forgotten_among number s.kept (messages_for n ms) was.kept }) (λ k u before. (h.given k u before, h.live k u before))
 
   acknowledged_one : IsNumbered made ms (set_value (is_at (nat_cmp n)) subscriptions (without_kept number s))
   acknowledged_one = record {
@@ -211,38 +151,18 @@ note_acknowledged made ms subscriptions n s number found note h = record {
   given = h.given;
 }
 
-acknowledged_numbered : (made : ℕ) (ms : List Made) (session : ℕ) (sessions : List (ℕ × SessionSubscriptions)) (subscriptions : List (ℕ × Subscription)) (a : SubscriptionAcknowledgement) → IsMessaged made ms (with_table sessions subscriptions) →
-    IsMessaged made ms (with_table sessions (acknowledged session subscriptions a).subscriptions)
-unfolding acknowledged
-acknowledged_numbered made ms session sessions subscriptions a h = by (subscription_at a.subscription_id subscriptions) refl
-  where
-    yes : (s : Subscription) → subscription_at a.subscription_id subscriptions ≡ Some s → IsMessaged made ms (with_table sessions (set_value (is_at (nat_cmp a.subscription_id)) subscriptions (without_kept a.sequence_number s)))
-    yes s found = record {
-      rising = h.rising;
-      numbered = acknowledged_one made ms subscriptions a.subscription_id s a.sequence_number h.numbered found;
-      notes = λ k. notes_map made made ms ms subscriptions (set_value (is_at (nat_cmp a.subscription_id)) subscriptions (without_kept a.sequence_number s))
-          (note_acknowledged made ms subscriptions a.subscription_id s a.sequence_number found) (part_at k sessions).notes (h.notes k);
-    }
-
-    own : (s : Subscription) → subscription_at a.subscription_id subscriptions ≡ Some s → (b : Bool) → IsMessaged made ms (with_table sessions (cond {A = Acknowledged} b
-        (record { status = acknowledgement_status a.sequence_number s.kept; subscriptions = set_value (is_at (nat_cmp a.subscription_id)) subscriptions (without_kept a.sequence_number s) })
-        (record { status = status.BAD_SUBSCRIPTION_ID_INVALID; subscriptions = subscriptions })).subscriptions)
-    own s found true = yes s found
-    own s found false = h
-
-    by : (o : Option Subscription) → subscription_at a.subscription_id subscriptions ≡ o → IsMessaged made ms (with_table sessions (acknowledged_by session subscriptions a o).subscriptions)
-    by None found = h
-    by (Some s) found = own s found (is_of s.session session)
-
-pub all_acknowledged : (made : ℕ) (ms : List Made) (session : ℕ) (sessions : List (ℕ × SessionSubscriptions)) (acks : List SubscriptionAcknowledgement) (before : AllAcknowledged) → IsMessaged made ms (with_table sessions before.subscriptions) →
-    IsMessaged made ms (with_table sessions (fold (with_acknowledged session) before acks).subscriptions)
-all_acknowledged made ms session sessions [] before h = h
-all_acknowledged made ms session sessions (a ∷ acks) before h =
-    all_acknowledged made ms session sessions acks (with_acknowledged session before a) (acknowledged_numbered made ms session sessions before.subscriptions a h)
+message_forgotten : (made : ℕ) (ms : List Made) (sessions : List (ℕ × SessionSubscriptions)) (subscriptions : List (ℕ × Subscription)) (n number : ℕ) (s : Subscription) → subscription_at n subscriptions ≡ Some s →
+    IsMessaged made ms (with_table sessions subscriptions) → IsMessaged made ms (with_table sessions (set_value (is_at (nat_cmp n)) subscriptions (without_kept number s)))
+message_forgotten made ms sessions subscriptions n number s found h = record {
+  rising = h.rising;
+  numbered = acknowledged_one made ms subscriptions n s number h.numbered found;
+  notes = λ k. all_so (IsNote made ms subscriptions) (IsNote made ms (set_value (is_at (nat_cmp n)) subscriptions (without_kept number s)))
+      (note_acknowledged made ms subscriptions n s number found) (part_at k sessions).notes (h.notes k);
+}
 
 pub note_removed : (made : ℕ) (ms : List Made) (session : ℕ) (t : TableState) → IsMessaged made ms t → IsMessaged made ms (with_table (without_note session t.sessions) t.subscriptions)
 note_removed made ms session t h =
-    part_messaged made ms t session (part_without_note (part_at session t.sessions)) (notes_rest made ms t.subscriptions (part_at session t.sessions).notes (h.notes session)) h
+    part_messaged made ms t session (part_without_note (part_at session t.sessions)) (all_dropped (IsNote made ms t.subscriptions) (part_at session t.sessions).notes (h.notes session)) h
 
 -- ---- any call but one that makes a subscription
 
@@ -254,8 +174,9 @@ Numbers w es v = (made : ℕ) (ms : List Made) → IsMessaged made ms w.table �
 
 beside_numbers : (w : World) (b : Beside) → Numbers w (Does w b ∷ []) (beside w b)
 beside_numbers w (Acknowledges session acks) made ms h =
-    let all = acknowledged_all session w.table.subscriptions acks in
-    none_more made ms _ (note_removed made ms session (with_table w.table.sessions all.subscriptions) (all_acknowledged made ms session w.table.sessions acks (record { results = []; subscriptions = w.table.subscriptions }) h))
+    let numbered = all_acknowledged session (λ (subscriptions : List (ℕ × Subscription)). IsMessaged made ms (with_table w.table.sessions subscriptions))
+    (λ subscriptions n number s found its k. message_forgotten made ms w.table.sessions subscriptions n number s found k) acks w.table.subscriptions h in
+    none_more made ms _ (note_removed made ms session (with_table w.table.sessions (acknowledged_all session w.table.subscriptions acks).subscriptions) numbered)
 beside_numbers w (Refuses session code) made ms h = none_more made ms _ (refused_numbered made ms session code w h)
 beside_numbers w (Leaves session) made ms h = none_more made ms _ (without_numbered made ms session w h)
 beside_numbers w (LeavesAll code) made ms h = none_more made ms _ (record { rising = tt; numbered = h.numbered; notes = λ k. tt })
@@ -287,23 +208,12 @@ follows_numbers = record {
 abbrev pub IsRunNumbered : List Made → Ran → Type 0
 IsRunNumbered ms r = IsMessaged r.subs.made ms r.subs.table
 
-either_numbered : (b : Bool) (ms : List Made) (r : Ran) (x y : Said (Result Created Status)) → IsRunNumbered ms (ran_by r x) → IsRunNumbered ms (ran_by r y) → IsRunNumbered ms (ran_by r (cond b x y))
-either_numbered true ms r x y h k = h
-either_numbered false ms r x y h k = k
-
-refused_run : (ms : List Made) (r : Ran) (session : ℕ) (settings : Settings) (enabled : Bool) (w : World) → IsMessaged r.subs.made ms w.table → IsRunNumbered ms (ran_by r (refused session settings enabled r.subs w))
-unfolding refused
-refused_run ms r session settings enabled w h = subst (IsMessaged r.subs.made ms) (sym (refused_one_same session settings enabled w)) h
-
-added_run : (ms : List Made) (r : Ran) (session : ℕ) (settings : Settings) (enabled : Bool) (w : World) → IsMessaged r.subs.made ms w.table → IsRunNumbered ms (ran_by r (created_one session settings enabled r.subs w))
-unfolding created_one
-added_run ms r session settings enabled w h = added_numbered r.subs.made ms session settings enabled w h
-
 created_run : (ms : List Made) (r : Ran) (clock : Moment) (session : ℕ) (settings : Settings) (enabled : Bool) → IsRunNumbered ms r → IsRunNumbered ms (ran_by r (created session settings enabled r.subs r.items clock))
-unfolding created
+unfolding created refused created_one
 created_run ms r clock session settings enabled h =
     let w = world_of r.subs r.items clock in
-    either_numbered (is_full r.subs session) ms r (refused session settings enabled r.subs w) (created_one session settings enabled r.subs w) (refused_run ms r session settings enabled w h) (added_run ms r session settings enabled w h)
+    either (λ s. IsRunNumbered ms (ran_by r s)) (is_full r.subs session) (refused session settings enabled r.subs w) (created_one session settings enabled r.subs w)
+    (subst (IsMessaged r.subs.made ms) (sym (refused_one_same session settings enabled w)) h) (added_numbered r.subs.made ms session settings enabled w h)
 
 pub created_none : (b : Bool) (number session : ℕ) (settings : Settings) (enabled : Bool) (w : World) → flat_map made_at (Meets (made_scene b number session settings enabled w) ∷ []) ≡ []
 created_none true number session settings enabled w = refl
@@ -351,11 +261,8 @@ found_among : (wanted : ℕ) (kept messages : List KeptMessage) (m : KeptMessage
 found_among wanted [] messages m found h = absurd (cc)
 found_among wanted (k ∷ ks) messages m found h = by (has_number wanted k) refl found (λ e. found_among wanted ks messages m e h.1)
   where
-    same_some : Some k ≡ Some m → k ≡ m
-    same_some e = cc
-
     by : (b : Bool) → has_number wanted k ≡ b → cond b (Some k) (find (has_number wanted) ks) ≡ Some m → (find (has_number wanted) ks ≡ Some m → (m.number ≡ wanted) × IsAmong m messages) → (m.number ≡ wanted) × IsAmong m messages
-    by true is e more = subst (λ (x : KeptMessage). (x.number ≡ wanted) × IsAmong x messages) (same_some e) (eqb-true k.number wanted is, h.0)
+    by true is e more = subst (λ (x : KeptMessage). (x.number ≡ wanted) × IsAmong x messages) (some_same e) (eqb-true k.number wanted is, h.0)
     by false is e more = more e
 
 message_is : (m : KeptMessage) (wanted : ℕ) (bytes : List ℕ) → m.number ≡ wanted → m.bytes ≡ bytes → m ≡ record { number = wanted; bytes = bytes }
@@ -364,14 +271,11 @@ message_is m wanted bytes e f = rw (sym e, sym f) refl
 bytes_among : (wanted : ℕ) (kept messages : List KeptMessage) (bytes : List ℕ) → bytes_of (find (has_number wanted) kept) ≡ Some bytes → AreAmong kept messages → IsAmong (record { number = wanted; bytes = bytes }) messages
 bytes_among wanted kept messages bytes given h = by (find (has_number wanted) kept) refl given
   where
-    same_some : (m : KeptMessage) → Some m.bytes ≡ Some bytes → m.bytes ≡ bytes
-    same_some m e = cc
-
     by : (o : Option KeptMessage) → find (has_number wanted) kept ≡ o → bytes_of o ≡ Some bytes → IsAmong (record { number = wanted; bytes = bytes }) messages
     by None found e = absurd (cc)
     by (Some m) found e =
         let f = found_among wanted kept messages m found h in
-        subst (λ (x : KeptMessage). IsAmong x messages) (message_is m wanted bytes f.0 (same_some m e)) f.1
+        subst (λ (x : KeptMessage). IsAmong x messages) (message_is m wanted bytes f.0 (some_same e)) f.1
 
 pub messages_kept : (config : Configuration) (moves : List Move) (number wanted : ℕ) (bytes : List ℕ) → kept_at number wanted (run config moves).subs.table ≡ Some bytes →
     IsAmong (record { number = wanted; bytes = bytes }) (messages_for number (run_made (start config) moves))

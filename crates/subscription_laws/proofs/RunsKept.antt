@@ -1,42 +1,33 @@
 -- Any calls keep what every call keeps.
-use Rattle.std.proofs.Common.{◌≡◌, ℕ, ◌+◌, arith, Bool, true, false, cond, List, [], ◌∷◌, ◌++◌, append-nil, fold, Option, Some, None, Result, refl, sym, subst}
-use Rattle.std.specs.Map.{keys_of}
+use Rattle.std.proofs.Common.{◌≡◌, ℕ, ◌+◌, arith, Bool, true, false, List, [], ◌∷◌, ◌++◌, append-nil, Option, Some, None, refl, sym, ap, ◌∙◌, inl, subst}
+use Rattle.std.specs.List.{AllByRecursion}
 use Rattle.ua_types.specs.Configuration.{Configuration}
 use Rattle.ua_types.specs.declared.moment.Moment.{Moment}
 use Rattle.ua_types.specs.declared.status.Status.{Status}
 use Rattle.server_messages.specs.declared.fired.Fired.{Fired}
-use Rattle.ua_state_table.specs.declared.vars.Vars.{Vars}
-use Rattle.ua_monitored_items.specs.Items.{ItemsState}
-use Rattle.ua_monitored_items.specs.Moves as item_moves
+use Rattle.ua_subscriptions.specs.declared.call.Call.{Call}
 use Rattle.ua_subscriptions.specs.declared.call.Call.TheVariants as call
 use Rattle.ua_subscriptions.specs.declared.settings.Settings.{Settings}
-use Rattle.ua_subscriptions.specs.declared.subscriptions.Created.{Created}
 use Rattle.ua_subscriptions.specs.declared.subscription.Subscription.{Subscription}
-use Rattle.subscription_laws.specs.Calm.{ListsItsOwn, AreLists, AreReached, IsCalm}
-use Rattle.ua_subscriptions.specs.Ending.{session_ended, shut_down}
-use Rattle.ua_subscriptions.specs.Making.{modified, republished, timed}
-use Rattle.ua_subscriptions.specs.Named.{Outcome, named_all, deleted}
-use Rattle.ua_subscriptions.specs.Publishing.{published}
-use Rattle.ua_subscriptions.specs.Ranks.{due_numbers}
-use Rattle.subscription_laws.specs.Runs.{ItemsCall, on_items, Move, Ran, start, ran_by, items_ran, moved, run}
-use Rattle.ua_subscriptions.specs.SubscriptionCalls.{world_of, Said, said, told, is_full, refused, created_one, created}
-use Rattle.ua_subscriptions.specs.Tables.{TableState, no_table, World, all_met, vars_by, part_of, subscription_at}
+use Rattle.subscription_laws.specs.Calm.{ListsItsOwn, AreLists, IsCalm}
+use Rattle.ua_subscriptions.specs.Ending.{session_ended}
+use Rattle.ua_subscriptions.specs.Firing.{fired}
+use Rattle.ua_subscriptions.specs.Publishing.{acknowledged_all, with_results}
+use Rattle.subscription_laws.specs.Encounters.{Beside, CallsItems, ShowsItems, Acknowledges, Refuses, Leaves, LeavesAll, Loses, beside, Encounter, scene_at}
+use Rattle.subscription_laws.specs.Runs.{ItemsCall, Move, Ran, start, ran_by, items_ran, moved, run, items_asked}
+use Rattle.ua_subscriptions.specs.SubscriptionCalls.{world_of, told, is_full, refused, created_one, created}
+use Rattle.ua_subscriptions.specs.Tables.{World, vars_by, part_of, subscription_at}
 use Rattle.ua_subscriptions.specs.Subscriptions.{vars_of}
-use Rattle.ua_subscriptions.proofs.Shutdowns.{nothing_left}
-use Rattle.subscription_laws.specs.Histories.{AreLawful}
-use Rattle.subscription_laws.proofs.Keeping.{IsKept, all_plain}
+use Rattle.ua_subscriptions.proofs.Choosing.{either}
+use Rattle.subscription_laws.proofs.Folds.{fold_keeps}
+use Rattle.subscription_laws.proofs.Keeping.{IsKept, world_after, live_plain}
 use Rattle.subscription_laws.proofs.KeepingItems.{shown_calm, served_apart, served_kept}
 use Rattle.subscription_laws.proofs.KeepingMade.{refused_one_kept, added_kept}
-use Rattle.subscription_laws.proofs.KeepingNamed.{all_named_kept, modified_kept, republished_kept, deleted_kept, ended_kept}
-use Rattle.subscription_laws.proofs.KeepingParts.{parts_calm, parts_own, parts_within, conn_fewer}
-use Rattle.subscription_laws.proofs.KeepingPublish.{published_kept}
+use Rattle.subscription_laws.proofs.KeepingEnds.{refused_kept, ended_kept}
+use Rattle.subscription_laws.proofs.KeepingParts.{fewer_calm, parts_kept, conn_fewer}
+use Rattle.subscription_laws.proofs.KeepingPublish.{CanAnswer, rest_can, publish_begins, ready_kept, live_publish}
 use Rattle.subscription_laws.proofs.Settling.{none_behind}
-
--- what holds of a table, where so many were made
-record IsTableKept (made : ℕ) (rows : List Fired) (items : ItemsState) (t : TableState) : Type 0 where
-  calm : IsCalm rows t items
-  own : (session : ℕ) → ListsItsOwn t session
-  within : AreLists made t
+use Rattle.subscription_laws.proofs.Walks.{clock_of, left_is, makes, made_stays, Fits, Follows, Begins, walked_on, DoneBy, OnBeside, all_split, each_done}
 
 -- what holds after any calls
 pub record IsRunKept (r : Ran) : Type 0 where
@@ -53,114 +44,112 @@ enter r clock k = record {
   within = k.within;
 }
 
-leave : {A : Type 0} → (r : Ran) (o : Outcome A) → IsKept None r.subs.made r.rows o.world → IsRunKept (ran_by r (said r.subs o))
-leave r o k = record { calm = k.calm; own = λ j. k.own j (λ e. absurd (cc)); within = k.within }
-
-leave_told : (r : Ran) (w : World) → IsKept None r.subs.made r.rows w → IsRunKept (ran_by r (told r.subs w))
-leave_told r w k = record { calm = k.calm; own = λ j. k.own j (λ e. absurd (cc)); within = k.within }
+leave : (r : Ran) (w : World) → IsKept None r.subs.made r.rows w → IsRunKept (ran_by r (told r.subs w))
+leave r w k = record { calm = k.calm; own = λ j. k.own j (λ e. absurd (cc)); within = k.within }
 
 -- CreateSubscription
-refused_run : (r : Ran) (session : ℕ) (settings : Settings) (enabled : Bool) (w : World) → IsKept None r.subs.made r.rows w → IsRunKept (ran_by r (refused session settings enabled r.subs w))
-unfolding refused
-refused_run r session settings enabled w k =
-    let kept = refused_one_kept r.subs.made r.rows session settings enabled w k in
-    record { calm = kept.calm; own = λ j. kept.own j (λ e. absurd (cc)); within = kept.within }
-
-added_run : (r : Ran) (session : ℕ) (settings : Settings) (enabled : Bool) (w : World) → IsKept None r.subs.made r.rows w → IsRunKept (ran_by r (created_one session settings enabled r.subs w))
-unfolding created_one
-added_run r session settings enabled w k =
-    let kept = added_kept r.subs.made r.rows session (r.subs.made + 1) settings enabled w (omega arith) k in
-    record { calm = kept.calm; own = λ j. kept.own j (λ e. absurd (cc)); within = kept.within }
-
-either_run : (b : Bool) (r : Ran) (x y : Said (Result Created Status)) → IsRunKept (ran_by r x) → IsRunKept (ran_by r y) → IsRunKept (ran_by r (cond b x y))
-either_run true r x y h k = h
-either_run false r x y h k = k
-
 created_run : (r : Ran) (clock : Moment) (session : ℕ) (settings : Settings) (enabled : Bool) → IsRunKept r → IsRunKept (ran_by r (created session settings enabled r.subs r.items clock))
-unfolding created
+unfolding created refused created_one
 created_run r clock session settings enabled k =
     let w = world_of r.subs r.items clock in
-    either_run (is_full r.subs session) r (refused session settings enabled r.subs w) (created_one session settings enabled r.subs w)
-    (refused_run r session settings enabled w (enter r clock k)) (added_run r session settings enabled w (enter r clock k))
+    let none = refused_one_kept r.subs.made r.rows session settings enabled w (enter r clock k) in
+    let one = added_kept r.subs.made r.rows session (r.subs.made + 1) settings enabled w (omega arith) (enter r clock k) in
+    either (λ s. IsRunKept (ran_by r s)) (is_full r.subs session) (refused session settings enabled r.subs w) (created_one session settings enabled r.subs w)
+    (record { calm = none.calm; own = λ j. none.own j (λ e. absurd (cc)); within = none.within }) (record { calm = one.calm; own = λ j. one.own j (λ e. absurd (cc)); within = one.within })
 
 -- the items of a subscription are served
-same_some : (a b : Vars) → Some a ≡ Some b → b ≡ a
-same_some a b e = cc
-
-items_run : (r : Ran) (clock : Moment) (number : ℕ) (asked : ItemsCall) (s : Subscription) → subscription_at number r.subs.table.subscriptions ≡ Some s → IsRunKept r →
+items_run : (r : Ran) (clock : Moment) (number : ℕ) (asked : Option ItemsCall) (s : Subscription) → subscription_at number r.subs.table.subscriptions ≡ Some s → IsRunKept r →
     IsRunKept (items_ran clock number asked r (Some (vars_of s (part_of s.session r.subs.table.sessions) r.items number)))
 items_run r clock number asked s found k =
-    let after = (item_moves.moved r.items (on_items number asked)).state in
-    leave_told r _
+    let after = items_asked r.items number asked in
+    leave r _
     (served_kept r.subs.made r.rows (world_of r.subs after clock) r.items number s (subst (λ (rows : List Fired). IsCalm rows r.subs.table r.items) (sym (append-nil r.rows)) k.calm)
     (λ j other. k.own j) k.within (served_apart number asked r.items) found)
 
-items_found : (r : Ran) (clock : Moment) (number : ℕ) (asked : ItemsCall) → IsRunKept r → (o : Option Subscription) → subscription_at number r.subs.table.subscriptions ≡ o →
+items_found : (r : Ran) (clock : Moment) (number : ℕ) (asked : Option ItemsCall) → IsRunKept r → (o : Option Subscription) → subscription_at number r.subs.table.subscriptions ≡ o →
     IsRunKept (items_ran clock number asked r (vars_by number r.items r.subs.table.sessions o))
 items_found r clock number asked k None found = k
 items_found r clock number asked k (Some s) found = items_run r clock number asked s found k
 
--- a connection is gone
-gone_run : (r : Ran) (conn : ℕ) → IsRunKept r → IsRunKept (moved r (Move.Gone conn))
-gone_run r conn k =
-    let f = conn_fewer conn r.subs.table.sessions in
+-- ---- calls that end no session and serve no items
+
+abbrev is_quiet : Call → Bool
+is_quiet (call.Create full settings enabled) = false
+is_quiet (call.Items before) = false
+is_quiet (call.SessionEnd deleting) = false
+is_quiet asked = true
+
+abbrev Quiet : Option ℕ → Call → World → List ℕ → Type 0
+Quiet whose asked w ns = (is_quiet asked ≡ true) × CanAnswer whose asked w ns
+
+abbrev IsQuiet : Beside → Type 0
+IsQuiet (CallsItems number asked) = ⊥
+IsQuiet (Leaves session) = ⊥
+IsQuiet b = Unit {0}
+
+module _ (made : ℕ) (past : List Fired) where
+  one_quiet : (whose : Option ℕ) (asked : Call) (w : World) (n : ℕ) (ns : List ℕ) (s : Subscription) → is_quiet asked ≡ true → CanAnswer whose asked w (n ∷ ns) → subscription_at n w.table.subscriptions ≡ Some s →
+      IsKept None made past w → IsKept None made past (world_after n s (fired (scene_at w n asked s)) w.table)
+  one_quiet whose (call.Create full settings enabled) w n ns s quiet can found k = absurd (cc)
+  one_quiet whose (call.Items before) w n ns s quiet can found k = absurd (cc)
+  one_quiet whose (call.SessionEnd deleting) w n ns s quiet can found k = absurd (cc)
+  one_quiet whose call.Publish w n ns s quiet can found k = live_publish made past w n ns s (can refl).1 found k
+  one_quiet whose asked w n ns s quiet can found k = live_plain None made past w n asked s refl (inl refl) found k
+
+  none_left : (code : Status) (w : World) → w.table.subscriptions ≡ [] → IsKept None made past w → IsKept None made past (beside w (LeavesAll code))
+  none_left code w none k = record {
+    calm = fewer_calm (past ++ w.round.rows) w.table w.items [] tt (λ m s j found own. let clash : None ≡ Some s = sym (ap (subscription_at m) none) ∙ found in absurd (cc)) (λ j any. absurd (cc)) k.calm;
+    own = λ j other m listed. absurd (cc);
+    within = record { within = λ m j listed. absurd (cc); rising = λ j. tt };
+  }
+
+  beside_quiet : (w : World) (b : Beside) → Fits w b → IsQuiet b → IsKept None made past w → IsKept None made past (beside w b)
+  beside_quiet w (CallsItems number asked) fits quiet k = absurd quiet
+  beside_quiet w (ShowsItems changed) fits quiet k = record { calm = shown_calm (past ++ w.round.rows) w.table w.items changed k.calm; own = k.own; within = k.within }
+  beside_quiet w (Acknowledges session acks) fits quiet k = ready_kept session made past acks w k
+  beside_quiet w (Refuses session code) fits quiet k = refused_kept None made past session code w k
+  beside_quiet w (Leaves session) fits quiet k = absurd quiet
+  beside_quiet w (LeavesAll code) fits quiet k = none_left code w fits k
+  beside_quiet w (Loses conn) fits quiet k = parts_kept None made past w _ (conn_fewer conn w.table.sessions) k
+  beside_quiet w b fits quiet k = record { calm = k.calm; own = k.own; within = k.within }
+
+  abbrev StaysKept : World → List Encounter → World → Type 0
+  StaysKept w es v = AllByRecursion (OnBeside IsQuiet) es → IsKept None made past w → IsKept None made past v
+
+  follows_kept : Follows Quiet StaysKept
+  follows_kept = record {
+    rest = λ whose asked w n ns given. (given.0, rest_can whose asked w n ns given.1);
+    none = λ w quiet k. k;
+    next = λ w v u es fs p q quiet k. let both = all_split (OnBeside IsQuiet) es fs quiet in q both.1 (p both.0 k);
+    passes = λ w n asked quiet k. record { calm = k.calm; own = k.own; within = k.within };
+    aside = λ w b fits quiet k. beside_quiet w b fits quiet.0 k;
+    one = λ whose asked w n ns s plain given meant found quiet k. one_quiet whose asked w n ns s given.0 given.1 found k;
+  }
+
+quiet_run : (r : Ran) (m : Move) → makes m ≡ false → DoneBy IsQuiet m → Begins Quiet r m → IsRunKept r → IsRunKept (moved r m)
+quiet_run r m plain done given k =
+    let v = walked_on Quiet (StaysKept r.subs.made r.rows) (follows_kept r.subs.made r.rows) r m plain given (each_done IsQuiet r m done) (enter r (clock_of m) k) in
+    let is = left_is r m in
     record {
-      calm = parts_calm r.rows r.subs.table r.items _ f k.calm;
-      own = λ j. parts_own r.rows r.subs.table r.items _ f j (k.own j);
-      within = parts_within r.rows r.subs.table r.items _ f r.subs.made k.within;
+      calm = rw (is.rows, is.table, is.items) v.calm;
+      own = λ j. rw is.table (v.own j (λ e. absurd (cc)));
+      within = rw (is.table, made_stays r m plain) v.within;
     }
-
--- where nothing is left, there is nothing to keep but what was done
-no_table_kept : (made : ℕ) (rows : List Fired) (items : ItemsState) → AreLawful rows → AreReached items → IsTableKept made rows items no_table
-no_table_kept made rows items lawful reached = record {
-  calm = record {
-    listed = record { subscriptions = tt; sessions = tt; listed = λ n s k found own. absurd (cc) };
-    steady = λ n s found. absurd (cc);
-    lives = λ n s found. absurd (cc);
-    lawful = lawful;
-    reached = reached;
-  };
-  own = λ k n listed. absurd (cc);
-  within = record { within = λ n k listed. absurd (cc); rising = λ k. tt };
-}
-
--- the server shuts down
-shut_down_done : (made : ℕ) (past : List Fired) (w : World) → IsKept None made past (all_met call.Shutdown w (keys_of w.table.subscriptions)) → IsTableKept made (past ++ (shut_down w).round.rows) (shut_down w).items no_table
-unfolding shut_down
-shut_down_done made past w v = no_table_kept made _ _ v.calm.lawful v.calm.reached
-
-shut_down_kept : (made : ℕ) (past : List Fired) (w : World) → IsKept None made past w → IsTableKept made (past ++ (shut_down w).round.rows) (shut_down w).items (shut_down w).table
-shut_down_kept made past w k =
-    subst (IsTableKept made (past ++ (shut_down w).round.rows) (shut_down w).items) (sym (nothing_left w))
-    (shut_down_done made past w (all_plain None made past call.Shutdown refl refl (keys_of w.table.subscriptions) w k))
-
-shut_down_run : (r : Ran) (clock : Moment) → IsRunKept r → IsRunKept (moved r (Move.Shutdown clock))
-shut_down_run r clock k =
-    let after = shut_down_kept r.subs.made r.rows (world_of r.subs r.items clock) (enter r clock k) in
-    record { calm = after.calm; own = after.own; within = after.within }
 
 pub one_run : (r : Ran) (m : Move) → IsRunKept r → IsRunKept (moved r m)
 one_run r (Move.Create clock session settings enabled) k = created_run r clock session settings enabled k
-one_run r (Move.Modify clock session number settings) k =
-    leave r (modified session number settings (world_of r.subs r.items clock)) (modified_kept r.subs.made r.rows session number settings (world_of r.subs r.items clock) (enter r clock k))
-one_run r (Move.SetMode clock session numbers enabled) k =
-    leave r (named_all session (call.SetMode enabled) (world_of r.subs r.items clock) numbers)
-    (all_named_kept r.subs.made r.rows session (call.SetMode enabled) refl refl numbers (world_of r.subs r.items clock) (enter r clock k))
-one_run r (Move.Delete clock session numbers) k =
-    leave r (deleted session (world_of r.subs r.items clock) numbers) (deleted_kept r.subs.made r.rows session numbers (world_of r.subs r.items clock) (enter r clock k))
+one_run r (Move.Delete clock session numbers) k = quiet_run r (Move.Delete clock session numbers) refl tt (refl, λ is. absurd (cc)) k
 one_run r (Move.Publish clock session asked acks) k =
-    leave_told r (published session asked acks (world_of r.subs r.items clock)) (published_kept session r.subs.made r.rows asked acks (world_of r.subs r.items clock) (enter r clock k))
-one_run r (Move.Republish clock session number wanted) k =
-    leave r (republished session number wanted (world_of r.subs r.items clock)) (republished_kept r.subs.made r.rows session number wanted (world_of r.subs r.items clock) (enter r clock k))
-one_run r (Move.Timers clock) k =
-    leave_told r (timed (world_of r.subs r.items clock))
-    (all_plain None r.subs.made r.rows call.Timer refl refl (due_numbers clock r.subs.table.subscriptions) (world_of r.subs r.items clock) (enter r clock k))
+    let request = with_results asked (acknowledged_all session r.subs.table.subscriptions acks).results in
+    quiet_run r (Move.Publish clock session asked acks) refl (tt, λ results. ((λ note. tt), tt, tt))
+    (λ none. (refl, λ is. (refl, publish_begins session r.subs.made r.rows request acks (world_of r.subs r.items clock) (enter r clock k)))) k
 one_run r (Move.EndSession clock session deleting) k =
-    leave_told r (session_ended session deleting (world_of r.subs r.items clock)) (ended_kept session r.subs.made r.rows deleting (world_of r.subs r.items clock) (enter r clock k))
-one_run r (Move.Shutdown clock) k = shut_down_run r clock k
-one_run r (Move.Gone conn) k = gone_run r conn k
+    leave r (session_ended session deleting (world_of r.subs r.items clock)) (ended_kept session r.subs.made r.rows deleting (world_of r.subs r.items clock) (enter r clock k))
+one_run r (Move.Shutdown clock) k = quiet_run r (Move.Shutdown clock) refl tt (refl, λ is. absurd (cc)) k
+one_run r (Move.Gone conn) k = quiet_run r (Move.Gone conn) refl tt tt k
 one_run r (Move.Items clock number asked) k = items_found r clock number asked k (subscription_at number r.subs.table.subscriptions) refl
-one_run r (Move.Show changed) k = record { calm = shown_calm r.rows r.subs.table r.items changed k.calm; own = k.own; within = k.within }
+one_run r (Move.Show changed) k = quiet_run r (Move.Show changed) refl tt tt k
+one_run r m k = quiet_run r m refl tt (refl, λ is. absurd (cc)) k
 
 -- ---- all calls
 
@@ -177,9 +166,5 @@ started_run config = record {
   within = record { within = λ n k listed. absurd (cc); rising = λ k. tt };
 }
 
-all_run : (moves : List Move) (r : Ran) → IsRunKept r → IsRunKept (fold moved r moves)
-all_run [] r k = k
-all_run (m ∷ ms) r k = all_run ms (moved r m) (one_run r m k)
-
 pub run_kept : (config : Configuration) (moves : List Move) → IsRunKept (run config moves)
-run_kept config moves = all_run moves (start config) (started_run config)
+run_kept config moves = fold_keeps IsRunKept moved one_run moves (start config) (started_run config)

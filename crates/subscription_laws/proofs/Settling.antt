@@ -1,6 +1,6 @@
 -- Where one subscription met something, what every row keeps holds of all.
 use Rattle.std.proofs.Common.{◌≡◌, ◌≢◌, ◌⊎◌, inl, inr, ℕ, Bool, true, false, ◌&&◌, cond, List, [], ◌∷◌, ◌++◌, Option, Some, None, unwrap_or, refl, sym, ap, ◌∙◌, subst}
-use Rattle.std.proofs.lemmas.Bool.{false≢true}
+use Rattle.std.proofs.lemmas.Bool.{false≢true, cond-true, cond-false, cond_both}
 use Rattle.std.specs.BTreeMap.{is_at}
 use Rattle.std.specs.Map.{lookup, set_value, remove_entry}
 use Rattle.std.specs.Option.{is_some}
@@ -8,7 +8,7 @@ use Rattle.std.specs.Ordering.{nat_cmp}
 use Rattle.std.specs.Set.{remove_key}
 use Rattle.server_messages.specs.declared.fired.Fired.{Fired}
 use Rattle.ua_state_table.specs.Steady as table
-use Rattle.ua_state_table.specs.Steady.{IsSteady}
+use Rattle.ua_state_table.specs.Steady.{IsSteady, waits_in}
 use Rattle.ua_state_table.specs.declared.state.State.{State}
 use Rattle.ua_state_table.specs.declared.state.State.TheVariants.{Closed, Normal, Late, KeepAlive}
 use Rattle.ua_monitored_items.specs.Items.{ItemsState, is_available}
@@ -17,12 +17,13 @@ use Rattle.ua_subscriptions.specs.declared.subscription.Subscription.{Subscripti
 use Rattle.subscription_laws.specs.Calm.{AreRising, is_listed, IsListed, ListsItsOwn, AreLists, AreNumbersRising, standing_at, AreSteady, LivesAreSet, IsCalm}
 use Rattle.ua_subscriptions.specs.Firing.{is_closed}
 use Rattle.subscription_laws.specs.Histories.{counts_at, life_at, IsLawful, AreLawful}
-use Rattle.ua_subscriptions.specs.Ranks.{waits_in, is_waiting}
+use Rattle.ua_subscriptions.specs.Ranks.{is_waiting}
 use Rattle.subscription_laws.specs.Standings.{Counts, standing}
 use Rattle.ua_subscriptions.specs.Subscriptions.{no_part, is_any, vars_of}
 use Rattle.ua_subscriptions.specs.Tables.{TableState, subscription_at, part_at, part_of, set_part}
+use Rattle.ua_subscriptions.proofs.Choosing.{either}
 use Rattle.subscription_laws.proofs.Availability.{reached_rise, stays_available}
-use Rattle.subscription_laws.proofs.Entries.{same_or_not, set_here, set_other, gone_here, gone_other, rising_set, rising_gone, listed_stays, listed_gone, numbers_gone_here, numbers_rising_gone}
+use Rattle.subscription_laws.proofs.Entries.{some_same, same_or_not, set_here, set_other, gone_here, gone_other, rising_set, rising_gone, listed_stays, listed_gone, numbers_gone_here, numbers_rising_gone}
 use Rattle.subscription_laws.proofs.Remains.{AreApart}
 use Rattle.subscription_laws.proofs.RowCounts.{counts_other, life_other}
 
@@ -68,28 +69,9 @@ abbrev pub put_back : ℕ → Subscription → List (ℕ × Subscription) → Li
 put_back n d subscriptions = cond (is_closed d) (remove_entry (is_at (nat_cmp n)) (set_value (is_at (nat_cmp n)) subscriptions d)) (set_value (is_at (nat_cmp n)) subscriptions d)
 
 pub back_other : (n m : ℕ) (d : Subscription) (subscriptions : List (ℕ × Subscription)) → m ≢ n → subscription_at m (put_back n d subscriptions) ≡ subscription_at m subscriptions
-back_other n m d subscriptions other = by (is_closed d)
-  where
-    set : subscription_at m (set_value (is_at (nat_cmp n)) subscriptions d) ≡ subscription_at m subscriptions
-    set = set_other n m d other subscriptions
-
-    by : (b : Bool) → subscription_at m (cond b (remove_entry (is_at (nat_cmp n)) (set_value (is_at (nat_cmp n)) subscriptions d)) (set_value (is_at (nat_cmp n)) subscriptions d)) ≡ subscription_at m subscriptions
-    by true = gone_other n m other (set_value (is_at (nat_cmp n)) subscriptions d) ∙ set
-    by false = set
-
-record IsBack (d t : Subscription) : Type 0 where
-  is : t ≡ d
-  live : is_closed d ≡ false
-
-back_own : (n : ℕ) (s d t : Subscription) (subscriptions : List (ℕ × Subscription)) → AreRising subscriptions → subscription_at n subscriptions ≡ Some s → subscription_at n (put_back n d subscriptions) ≡ Some t → IsBack d t
-back_own n s d t subscriptions rising found after = by (is_closed d) refl after
-  where
-    same : Some d ≡ Some t → t ≡ d
-    same e = cc
-
-    by : (b : Bool) → is_closed d ≡ b → subscription_at n (cond b (remove_entry (is_at (nat_cmp n)) (set_value (is_at (nat_cmp n)) subscriptions d)) (set_value (is_at (nat_cmp n)) subscriptions d)) ≡ Some t → IsBack d t
-    by true e h = let none = gone_here n (set_value (is_at (nat_cmp n)) subscriptions d) (rising_set n d subscriptions rising) in absurd (cc)
-    by false e h = record { is = same (sym (set_here n s d subscriptions found) ∙ h); live = e }
+back_other n m d subscriptions other =
+    let set = set_other n m d other subscriptions in
+    either (λ (es : List (ℕ × Subscription)). subscription_at m es ≡ subscription_at m subscriptions) (is_closed d) _ _ (gone_other n m other (set_value (is_at (nat_cmp n)) subscriptions d) ∙ set) set
 
 -- what is found after one was put back
 pub record IsPutBack (n m : ℕ) (d u : Subscription) : Type 0 where
@@ -103,16 +85,16 @@ back_is n s d subscriptions rising found m u after = by (same_or_not m n)
   where
     by : (m ≡ n) ⊎ (m ≢ n) → IsPutBack n m d u ⊎ ((m ≢ n) × (subscription_at m subscriptions ≡ Some u))
     by (inl same) =
-        let b = back_own n s d u subscriptions rising found (ap (λ (k : ℕ). subscription_at k (put_back n d subscriptions)) (sym same) ∙ after) in
-        inl (record { at = same; is = b.is; live = b.live })
+        inl
+        (cond_both (is_closed d) _ _ (λ (es : List (ℕ × Subscription)). subscription_at n es ≡ Some u → IsPutBack n m d u)
+        (λ closed h. let none = gone_here n (set_value (is_at (nat_cmp n)) subscriptions d) (rising_set n d subscriptions rising) in absurd (cc))
+        (λ live h. record { at = same; is = sym (some_same (sym (set_here n s d subscriptions found) ∙ h)); live = live }) (ap (λ (k : ℕ). subscription_at k (put_back n d subscriptions)) (sym same) ∙ after))
     by (inr other) = inr (other, sym (back_other n m d subscriptions other) ∙ after)
 
 pub back_rises : (n : ℕ) (d : Subscription) (subscriptions : List (ℕ × Subscription)) → AreRising subscriptions → AreRising (put_back n d subscriptions)
-back_rises n d subscriptions rising = by (is_closed d)
-  where
-    by : (b : Bool) → AreRising (cond b (remove_entry (is_at (nat_cmp n)) (set_value (is_at (nat_cmp n)) subscriptions d)) (set_value (is_at (nat_cmp n)) subscriptions d))
-    by true = rising_gone n (set_value (is_at (nat_cmp n)) subscriptions d) (rising_set n d subscriptions rising)
-    by false = rising_set n d subscriptions rising
+back_rises n d subscriptions rising =
+    let set = rising_set n d subscriptions rising in
+    either AreRising (is_closed d) _ _ (rising_gone n (set_value (is_at (nat_cmp n)) subscriptions d) set) set
 
 pub part_rises : (o : Option ℕ) (part : SessionSubscriptions) (sessions : List (ℕ × SessionSubscriptions)) → AreRising sessions → AreRising (set_part o sessions part)
 part_rises None part sessions rising = rising
@@ -130,16 +112,13 @@ part_own k n part sessions listed = by (lookup (is_at (nat_cmp k)) sessions) ref
     by None e h = absurd (cc)
     by (Some old) e h = ap (λ (o : Option SessionSubscriptions). unwrap_or o no_part) (set_here k old part sessions e)
 
-pub some_same : (j k : ℕ) → Some j ≡ Some k → j ≡ k
-some_same j k e = cc
-
 pub same_session : (o : Option ℕ) (k : ℕ) → (o ≡ Some k) ⊎ (o ≢ Some k)
 same_session None k = inr (λ e. absurd (cc))
 same_session (Some j) k = by (same_or_not j k)
   where
     by : (j ≡ k) ⊎ (j ≢ k) → (Some j ≡ Some k) ⊎ (Some j ≢ Some k)
     by (inl e) = inl (ap Some e)
-    by (inr e) = inr (λ same. e (some_same j k same))
+    by (inr e) = inr (λ same. e (some_same same))
 
 -- ---- the rows before
 
@@ -214,50 +193,43 @@ module _ (rows : List Fired) (t : TableState) (items : ItemsState) (n : ℕ) (s 
 
   -- ---- numbers
 
-  kept_numbers : (b : Bool) (m : ℕ) (ns : List ℕ) → m ≢ n → is_listed m ns ≡ true → is_listed m (cond b (remove_key (is_at (nat_cmp n)) ns) ns) ≡ true
-  kept_numbers true m ns other e = listed_stays m n ns other e
-  kept_numbers false m ns other e = e
+  -- what a session lists is what it listed, or without the one that is closed
+  after_numbers : (P : List ℕ → List ℕ → Type 0) → ((ns : List ℕ) → P ns ns) → ((ns : List ℕ) → is_closed d ≡ true → P ns (remove_key (is_at (nat_cmp n)) ns)) →
+      (k : ℕ) → P (part_at k t.sessions).numbers (part_at k (set_part s.session t.sessions part)).numbers
+  after_numbers P same gone k = by (same_session s.session k)
+    where
+      cut : (b : Bool) (ns : List ℕ) → is_closed d ≡ b → P ns (cond b (remove_key (is_at (nat_cmp n)) ns) ns)
+      cut true ns e = gone ns e
+      cut false ns e = same ns
 
-  open_numbers : (b : Bool) (ns : List ℕ) → b ≡ false → cond b (remove_key (is_at (nat_cmp n)) ns) ns ≡ ns
-  open_numbers true ns e = absurd (cc)
-  open_numbers false ns e = refl
+      by : (s.session ≡ Some k) ⊎ (s.session ≢ Some k) → P (part_at k t.sessions).numbers (part_at k (set_part s.session t.sessions part)).numbers
+      by (inl own) =
+          subst (P (part_at k t.sessions).numbers)
+          (sym (ap (λ (p : SessionSubscriptions). p.numbers) (here k own) ∙ step.numbers ∙ ap (λ (p : SessionSubscriptions). cond (is_closed d) (remove_key (is_at (nat_cmp n)) p.numbers) p.numbers) (old_part k own)))
+          (cut (is_closed d) (part_at k t.sessions).numbers refl)
+      by (inr apart) = subst (λ (p : SessionSubscriptions). P (part_at k t.sessions).numbers p.numbers) (sym (there k apart)) (same (part_at k t.sessions).numbers)
 
   lists_still : (m k : ℕ) → m ≢ n → is_listed m (part_at k t.sessions).numbers ≡ true → is_listed m (part_at k (set_part s.session t.sessions part)).numbers ≡ true
-  lists_still m k other e = by (same_session s.session k)
-    where
-      by : (s.session ≡ Some k) ⊎ (s.session ≢ Some k) → is_listed m (part_at k (set_part s.session t.sessions part)).numbers ≡ true
-      by (inl own) =
-          ap (λ (p : SessionSubscriptions). is_listed m p.numbers) (here k own) ∙ ap (is_listed m) step.numbers
-          ∙ kept_numbers (is_closed d) m (part_of s.session t.sessions).numbers other (ap (λ (p : SessionSubscriptions). is_listed m p.numbers) (old_part k own) ∙ e)
-      by (inr apart) = ap (λ (p : SessionSubscriptions). is_listed m p.numbers) (there k apart) ∙ e
+  lists_still m k other = after_numbers (λ (ns ms : List ℕ). is_listed m ns ≡ true → is_listed m ms ≡ true) (λ ns e. e) (λ ns closed e. listed_stays m n ns other e) k
 
   lists_own : (k : ℕ) → is_closed d ≡ false → s.session ≡ Some k → is_listed n (part_at k (set_part s.session t.sessions part)).numbers ≡ true
   lists_own k live own =
-      ap (λ (p : SessionSubscriptions). is_listed n p.numbers) (here k own)
-      ∙ ap (is_listed n) (step.numbers ∙ open_numbers (is_closed d) (part_of s.session t.sessions).numbers live)
-      ∙ ap (λ (p : SessionSubscriptions). is_listed n p.numbers) (old_part k own) ∙ h.listed.listed n s k step.found own
+      after_numbers (λ (ns ms : List ℕ). is_listed n ns ≡ true → is_listed n ms ≡ true) (λ ns e. e) (λ ns closed. absurd (false≢true (sym live ∙ closed))) k (h.listed.listed n s k step.found own)
 
-  before : (m : ℕ) (u : Subscription) → m ≢ n → subscription_at m (put_back n d t.subscriptions) ≡ Some u → subscription_at m t.subscriptions ≡ Some u
-  before m u other found = sym (back_other n m d t.subscriptions other) ∙ found
-
-  own_back : (m : ℕ) (u : Subscription) → m ≡ n → subscription_at m (put_back n d t.subscriptions) ≡ Some u → IsBack d u
-  own_back m u same found =
-      back_own n s d u t.subscriptions h.listed.subscriptions step.found (ap (λ (k : ℕ). subscription_at k (put_back n d t.subscriptions)) (sym same) ∙ found)
+  found_after : (m : ℕ) (u : Subscription) → subscription_at m (put_back n d t.subscriptions) ≡ Some u → IsPutBack n m d u ⊎ ((m ≢ n) × (subscription_at m t.subscriptions ≡ Some u))
+  found_after = back_is n s d t.subscriptions h.listed.subscriptions step.found
 
   listed_after : IsListed (table_after n s d part t)
   listed_after = record {
     subscriptions = back_rises n d t.subscriptions h.listed.subscriptions;
     sessions = part_rises s.session part t.sessions h.listed.sessions;
-    listed = λ m u k found own. by m u k found own (same_or_not m n);
+    listed = λ m u k found own. by m u k own (found_after m u found);
   }
     where
-      by : (m : ℕ) (u : Subscription) (k : ℕ) → subscription_at m (put_back n d t.subscriptions) ≡ Some u → u.session ≡ Some k → (m ≡ n) ⊎ (m ≢ n)
-          → is_listed m (part_at k (set_part s.session t.sessions part)).numbers ≡ true
-      by m u k found own (inl same) =
-          let b = own_back m u same found in
-          let mine : s.session ≡ Some k = own_session k (ap (λ (x : Subscription). x.session) (sym b.is) ∙ own) in
-          ap (λ (j : ℕ). is_listed j (part_at k (set_part s.session t.sessions part)).numbers) same ∙ lists_own k b.live mine
-      by m u k found own (inr other) = lists_still m k other (h.listed.listed m u k (before m u other found) own)
+      by : (m : ℕ) (u : Subscription) (k : ℕ) → u.session ≡ Some k → IsPutBack n m d u ⊎ ((m ≢ n) × (subscription_at m t.subscriptions ≡ Some u)) → is_listed m (part_at k (set_part s.session t.sessions part)).numbers ≡ true
+      by m u k own (inl b) =
+          ap (λ (j : ℕ). is_listed j (part_at k (set_part s.session t.sessions part)).numbers) b.at ∙ lists_own k b.live (own_session k (ap (λ (x : Subscription). x.session) (sym b.is) ∙ own))
+      by m u k own (inr (other, before)) = lists_still m k other (h.listed.listed m u k before own)
 
   -- ---- steadiness
 
@@ -295,23 +267,20 @@ module _ (rows : List Fired) (t : TableState) (items : ItemsState) (n : ℕ) (s 
       (fewer m u found u.session refl) (h.steady m u found)
 
   steady_after : AreSteady (table_after n s d part t) after (rows ++ f ∷ [])
-  steady_after m u found = by (same_or_not m n)
+  steady_after m u found = by (found_after m u found)
     where
-      by : (m ≡ n) ⊎ (m ≢ n) → IsSteady (standing_at (table_after n s d part t) after (rows ++ f ∷ []) m u)
-      by (inl same) =
-          let b = own_back m u same found in
+      by : IsPutBack n m d u ⊎ ((m ≢ n) × (subscription_at m t.subscriptions ≡ Some u)) → IsSteady (standing_at (table_after n s d part t) after (rows ++ f ∷ []) m u)
+      by (inl b) =
           subst (λ (x : Subscription). IsSteady (standing_at (table_after n s d part t) after (rows ++ f ∷ []) m x)) (sym b.is)
-          (subst (λ (k : ℕ). IsSteady (standing_at (table_after n s d part t) after (rows ++ f ∷ []) k d)) (sym same) (own_steady b.live))
-      by (inr other) = other_steady m u other (before m u other found)
+          (subst (λ (k : ℕ). IsSteady (standing_at (table_after n s d part t) after (rows ++ f ∷ []) k d)) (sym b.at) (own_steady b.live))
+      by (inr (other, before)) = other_steady m u other before
 
   lives_after : LivesAreSet (table_after n s d part t) (rows ++ f ∷ [])
-  lives_after m u found = by (same_or_not m n)
+  lives_after m u found = by (found_after m u found)
     where
-      by : (m ≡ n) ⊎ (m ≢ n) → life_at m (rows ++ f ∷ []) ≡ u.lifetime_count
-      by (inl same) =
-          let b = own_back m u same found in
-          ap (λ (k : ℕ). life_at k (rows ++ f ∷ [])) same ∙ step.lifetime b.live ∙ ap (λ (x : Subscription). x.lifetime_count) (sym b.is)
-      by (inr other) = life_other m rows f (λ same. other (same ∙ step.number)) ∙ h.lives m u (before m u other found)
+      by : IsPutBack n m d u ⊎ ((m ≢ n) × (subscription_at m t.subscriptions ≡ Some u)) → life_at m (rows ++ f ∷ []) ≡ u.lifetime_count
+      by (inl b) = ap (λ (k : ℕ). life_at k (rows ++ f ∷ [])) b.at ∙ step.lifetime b.live ∙ ap (λ (x : Subscription). x.lifetime_count) (sym b.is)
+      by (inr (other, before)) = life_other m rows f (λ same. other (same ∙ step.number)) ∙ h.lives m u before
 
   pub settles : IsCalm (rows ++ f ∷ []) (table_after n s d part t) after
   settles = record {
@@ -325,37 +294,16 @@ module _ (rows : List Fired) (t : TableState) (items : ItemsState) (n : ℕ) (s 
   -- ---- what its session lists
 
   lists_before : (m k : ℕ) → is_listed m (part_at k (set_part s.session t.sessions part)).numbers ≡ true → is_listed m (part_at k t.sessions).numbers ≡ true
-  lists_before m k e = by (same_session s.session k)
-    where
-      shrunk : (b : Bool) (ns : List ℕ) → is_listed m (cond b (remove_key (is_at (nat_cmp n)) ns) ns) ≡ true → is_listed m ns ≡ true
-      shrunk true ns l = listed_gone m n ns l
-      shrunk false ns l = l
-
-      by : (s.session ≡ Some k) ⊎ (s.session ≢ Some k) → is_listed m (part_at k t.sessions).numbers ≡ true
-      by (inl own) =
-          ap (λ (p : SessionSubscriptions). is_listed m p.numbers) (sym (old_part k own))
-          ∙ shrunk (is_closed d) (part_of s.session t.sessions).numbers (sym (ap (is_listed m) step.numbers) ∙ sym (ap (λ (p : SessionSubscriptions). is_listed m p.numbers) (here k own)) ∙ e)
-      by (inr apart) = sym (ap (λ (p : SessionSubscriptions). is_listed m p.numbers) (there k apart)) ∙ e
+  lists_before m k = after_numbers (λ (ns ms : List ℕ). is_listed m ms ≡ true → is_listed m ns ≡ true) (λ ns e. e) (λ ns closed e. listed_gone m n ns e) k
 
   own_live : is_closed d ≡ false → subscription_at n (put_back n d t.subscriptions) ≡ Some d
-  own_live live = by (is_closed d) live
-    where
-      by : (b : Bool) → b ≡ false → subscription_at n (cond b (remove_entry (is_at (nat_cmp n)) (set_value (is_at (nat_cmp n)) t.subscriptions d)) (set_value (is_at (nat_cmp n)) t.subscriptions d)) ≡ Some d
-      by true e = absurd (cc)
-      by false e = set_here n s d t.subscriptions step.found
-
-  same_some : (u : Subscription) → Some s ≡ Some u → u ≡ s
-  same_some u e = cc
+  own_live live = ap (subscription_at n) (cond-false (is_closed d) _ _ live) ∙ set_here n s d t.subscriptions step.found
 
   -- one that is closed is listed no more
   not_listed : (k : ℕ) → AreNumbersRising (part_at k t.sessions).numbers → s.session ≡ Some k → is_closed d ≡ true → is_listed n (part_at k (set_part s.session t.sessions part)).numbers ≡ false
   not_listed k rising own closed =
-      ap (λ (p : SessionSubscriptions). is_listed n p.numbers) (here k own) ∙ ap (is_listed n) (step.numbers ∙ closed_numbers (is_closed d) (part_of s.session t.sessions).numbers closed)
+      ap (λ (p : SessionSubscriptions). is_listed n p.numbers) (here k own) ∙ ap (is_listed n) (step.numbers ∙ cond-true (is_closed d) _ _ closed)
       ∙ numbers_gone_here n (part_of s.session t.sessions).numbers (subst (λ (p : SessionSubscriptions). AreNumbersRising p.numbers) (sym (old_part k own)) rising)
-    where
-      closed_numbers : (b : Bool) (ns : List ℕ) → b ≡ true → cond b (remove_key (is_at (nat_cmp n)) ns) ns ≡ remove_key (is_at (nat_cmp n)) ns
-      closed_numbers true ns e = refl
-      closed_numbers false ns e = absurd (cc)
 
   pub own_after : (k : ℕ) → (d.session ≡ s.session) ⊎ (s.session ≢ Some k) → AreNumbersRising (part_at k t.sessions).numbers → ListsItsOwn t k → ListsItsOwn (table_after n s d part t) k
   own_after k same rising own m listed = by (own m (lists_before m k listed)) (same_or_not m n)
@@ -371,20 +319,12 @@ module _ (rows : List Fired) (t : TableState) (items : ItemsState) (n : ℕ) (s 
 
       by : (u : Subscription) × (subscription_at m t.subscriptions ≡ Some u) × (u.session ≡ Some k) → (m ≡ n) ⊎ (m ≢ n) → (u : Subscription) × (subscription_at m (put_back n d t.subscriptions) ≡ Some u) × (u.session ≡ Some k)
       by (u, found, its) (inl is) =
-          let it : u ≡ s = same_some u (sym step.found ∙ ap (λ (j : ℕ). subscription_at j t.subscriptions) (sym is) ∙ found) in
+          let it : u ≡ s = sym (some_same (sym step.found ∙ ap (λ (j : ℕ). subscription_at j t.subscriptions) (sym is) ∙ found)) in
           closed_or is (ap (λ (x : Subscription). x.session) (sym it) ∙ its) (is_closed d) refl
       by (u, found, its) (inr other) = (u, back_other n m d t.subscriptions other ∙ found, its)
 
   pub lists_after : (made : ℕ) → AreLists made t → AreLists made (table_after n s d part t)
-  lists_after made lists = record { within = λ m k listed. lists.within m k (lists_before m k listed); rising = λ k. rising k (same_session s.session k) }
-    where
-      shrunk : (b : Bool) (ns : List ℕ) → AreNumbersRising ns → AreNumbersRising (cond b (remove_key (is_at (nat_cmp n)) ns) ns)
-      shrunk true ns r = numbers_rising_gone n ns r
-      shrunk false ns r = r
-
-      rising : (k : ℕ) → (s.session ≡ Some k) ⊎ (s.session ≢ Some k) → AreNumbersRising (part_at k (set_part s.session t.sessions part)).numbers
-      rising k (inl own) =
-          subst (λ (p : SessionSubscriptions). AreNumbersRising p.numbers) (sym (here k own))
-          (subst AreNumbersRising (sym step.numbers)
-          (shrunk (is_closed d) (part_of s.session t.sessions).numbers (subst (λ (p : SessionSubscriptions). AreNumbersRising p.numbers) (sym (old_part k own)) (lists.rising k))))
-      rising k (inr apart) = subst (λ (p : SessionSubscriptions). AreNumbersRising p.numbers) (sym (there k apart)) (lists.rising k)
+  lists_after made lists = record {
+    within = λ m k listed. lists.within m k (lists_before m k listed);
+    rising = λ k. after_numbers (λ (ns ms : List ℕ). AreNumbersRising ns → AreNumbersRising ms) (λ ns r. r) (λ ns closed r. numbers_rising_gone n ns r) k (lists.rising k);
+  }

@@ -7,7 +7,6 @@ use Rattle.std.specs.Ordering.{nat_cmp}
 use Rattle.ua_types.specs.Configuration.{Configuration}
 use Rattle.ua_types.specs.declared.moment.Moment.{Moment}
 use Rattle.ua_types.specs.declared.status.TheConstants.Status as status
-use Rattle.ua_subscription_messages.specs.declared.publishing.SubscriptionAcknowledgement.{SubscriptionAcknowledgement}
 use Rattle.server_messages.specs.declared.reply.Reply.{Reply}
 use Rattle.ua_subscriptions.specs.declared.call.Call.TheVariants as call
 use Rattle.ua_subscriptions.specs.declared.publish_call.PublishCall.{PublishCall}
@@ -17,7 +16,6 @@ use Rattle.ua_subscriptions.specs.Answers.{refused_of}
 use Rattle.ua_subscriptions.specs.Ending.{all_requests, shut_down}
 use Rattle.ua_subscriptions.specs.Firing.{fired}
 use Rattle.ua_subscriptions.specs.Named as named
-use Rattle.ua_subscriptions.specs.Publishing.{acknowledged_by, acknowledged, AllAcknowledged, with_acknowledged}
 use Rattle.ua_subscriptions.specs.Scenes.{Scene, row_done}
 use Rattle.ua_subscriptions.specs.SubscriptionCalls.{world_of}
 use Rattle.ua_subscriptions.specs.Subscriptions.{no_part}
@@ -26,6 +24,7 @@ use Rattle.ua_subscriptions.proofs.Shutdowns.{nothing_left, first_found, first_g
 use Rattle.subscription_laws.specs.Concern.{number_of, concerns_at, concerned}
 use Rattle.subscription_laws.specs.Encounters.{Beside, Acknowledges, beside, Encounter, Meets, scene_at, meets_by, meets, all_meet}
 use Rattle.subscription_laws.specs.Runs.{Move, Ran, moved, run}
+use Rattle.subscription_laws.proofs.Acknowledgements.{all_acknowledged}
 use Rattle.subscription_laws.proofs.Walks.{makes, left_is, Follows, Any, any_begins, walked_on}
 
 -- ---- its row answers nothing, and takes no request
@@ -131,17 +130,11 @@ all_are_concerned config moves clock = let r = run config moves in each_is r.sub
 abbrev StaysNone : World → List Encounter → World → Type 0
 StaysNone w es v = w.table.subscriptions ≡ [] → v.table.subscriptions ≡ []
 
-one_acknowledged : (session : ℕ) (subscriptions : List (ℕ × Subscription)) (a : SubscriptionAcknowledgement) → subscriptions ≡ [] → (acknowledged session subscriptions a).subscriptions ≡ []
-unfolding acknowledged
-one_acknowledged session subscriptions a none = ap (λ (xs : List (ℕ × Subscription)). (acknowledged_by session xs a (subscription_at a.subscription_id xs)).subscriptions) none
-
-none_acknowledged : (session : ℕ) (acks : List SubscriptionAcknowledgement) (before : AllAcknowledged) → before.subscriptions ≡ [] → (fold (with_acknowledged session) before acks).subscriptions ≡ []
-none_acknowledged session [] before none = none
-none_acknowledged session (a ∷ acks) before none = none_acknowledged session acks (with_acknowledged session before a) (one_acknowledged session before.subscriptions a none)
-
 beside_none : (w : World) (b : Beside) → w.table.subscriptions ≡ [] → (beside w b).table.subscriptions ≡ []
 unfolding named.all_refused
-beside_none w (Acknowledges session acks) none = none_acknowledged session acks (record { results = []; subscriptions = w.table.subscriptions }) none
+beside_none w (Acknowledges session acks) none =
+    all_acknowledged session (λ (subscriptions : List (ℕ × Subscription)). subscriptions ≡ [])
+    (λ subscriptions n number s found its is. let clash : None ≡ Some s = sym (ap (subscription_at n) is) ∙ found in absurd (cc)) acks w.table.subscriptions none
 beside_none w b none = none
 
 follows_none : Follows Any StaysNone

@@ -1,5 +1,6 @@
 -- Queued requests, subscriptions of a session and kept messages stay within their bounds, whatever is called.
-use Rattle.std.proofs.Common.{◌≡◌, ◌≤◌, ℕ, suc, ◌+◌, ◌-◌, arith, Bool, true, false, cond, List, [], ◌∷◌, ◌++◌, length, take, drop, fold, Option, Some, None, unwrap_or, refl, sym, ◌∙◌, subst, length-append, length-drop}
+use Rattle.std.proofs.Common.{◌≡◌, ◌≤◌, ℕ, suc, ◌+◌, arith, Bool, true, false, cond, List, [], ◌∷◌, ◌++◌, length, take, drop, Option, Some, None, unwrap_or, refl, sym, ◌∙◌, subst, length-append, length-drop, ap}
+use Rattle.std.proofs.lemmas.Bool.{or_parts, cond_both}
 use Rattle.std.proofs.lemmas.List.{length-take}
 use Rattle.std.proofs.lemmas.Map.{length-set_value}
 use Rattle.std.specs.Prelude.{map, nat_lt, nat_le}
@@ -13,8 +14,6 @@ use Rattle.std.specs.declared.cmp.Ordering.{Ordering}
 use Rattle.std.specs.declared.cmp.Ordering.TheVariants.{Less, Equal, Greater}
 use Rattle.ua_types.specs.Configuration.{Configuration, IsConfigured}
 use Rattle.ua_types.specs.declared.status.Status.{Status}
-use Rattle.ua_types.specs.declared.status.TheConstants.Status as status
-use Rattle.ua_subscription_messages.specs.declared.publishing.SubscriptionAcknowledgement.{SubscriptionAcknowledgement}
 use Rattle.ua_state_table.specs.StateTable.{actions_of}
 use Rattle.ua_state_table.specs.declared.action.Action.{Action}
 use Rattle.ua_state_table.specs.declared.action.Action.TheVariants.{Initialise, Enqueue, Dequeue, SendNotifications, SendKeepAlive, DeleteItems}
@@ -34,30 +33,29 @@ use Rattle.ua_subscriptions.specs.Firing.{is_closed, row_of, fired}
 use Rattle.ua_subscriptions.specs.Making.{refused_one, added, with_number}
 use Rattle.ua_subscriptions.specs.Messages.{number_after, has_number}
 use Rattle.ua_subscriptions.specs.Named.{all_refused, without_requests}
-use Rattle.ua_subscriptions.specs.Publishing.{without_at, forgotten, without_kept, Acknowledged, acknowledgement_status, acknowledged_by, acknowledged, AllAcknowledged, with_acknowledged, part_without_note}
-use Rattle.ua_subscriptions.specs.Queues.{first_of}
-use Rattle.ua_subscriptions.specs.Scenes as scenes
-use Rattle.ua_subscriptions.specs.Scenes.{Scene, scene, Queueing, with_refused, enqueued, enqueued_by, kept_with, message_made, Noting, noting, note_sent, with_asked, Sending, sending, rest_sent, notes_sent, done, all_done, row_done}
+use Rattle.ua_subscriptions.specs.Publishing.{without_at, forgotten, without_kept, part_without_note}
+use Rattle.ua_subscriptions.specs.Scenes.{Scene, scene, Queueing, enqueued, enqueued_by, kept_with, message_made, Noting, noting, note_sent, with_asked, Sending, sending, rest_sent, notes_sent, done, all_done, row_done}
 use Rattle.ua_subscriptions.specs.Settings.{bounds_of}
 use Rattle.ua_subscriptions.specs.SubscriptionCalls.{SubscriptionsState, world_of, is_full}
-use Rattle.ua_subscriptions.specs.Subscriptions.{unborn, no_part, is_of}
+use Rattle.ua_subscriptions.specs.Subscriptions.{unborn, no_part}
 use Rattle.ua_subscriptions.specs.Tables.{TableState, World, OneMet, with_call, met_found, part_at, part_of, set_part, subscription_at}
 use Rattle.ua_subscriptions.proofs.Choosing.{either}
 use Rattle.ua_subscriptions.proofs.MapEntries.{entries_removed, entries_if_removed, entries_set, entries_found, entries_inserted}
 use Rattle.subscription_laws.specs.Runs.{Move, Ran, start, moved, run}
 use Rattle.subscription_laws.specs.Encounters.{Beside, Acknowledges, Refuses, Leaves, LeavesAll, Loses, beside, Encounter, scene_at}
+use Rattle.subscription_laws.proofs.Acknowledgements.{all_acknowledged}
+use Rattle.subscription_laws.proofs.Folds.{fold_keeps}
 use Rattle.subscription_laws.proofs.Keeping.{world_after}
-use Rattle.subscription_laws.proofs.Room.{either_false, room, length_inserted, length_removed, length_filtered}
+use Rattle.subscription_laws.proofs.Owners.{Frame, note_frame, done_frame}
+use Rattle.subscription_laws.proofs.Room.{room, length_inserted, length_removed, length_filtered}
 use Rattle.subscription_laws.proofs.Walks.{left_is, Follows, FollowsMaking, Any, any_begins, walked}
 
 -- ---- lengths
 
 kept_length : (bound : ℕ) (kept : List KeptMessage) (m : KeptMessage) → length kept ≤ bound → length (kept_with bound kept m) ≤ bound
-kept_length bound kept m h = by (nat_lt bound (length kept + 1)) refl
-  where
-    by : (b : Bool) → nat_lt bound (length kept + 1) ≡ b → length (cond b (drop 1 (kept ++ m ∷ [])) (kept ++ m ∷ [])) ≤ bound
-    by true is = let more = length-append kept (m ∷ []) in let less = length-drop 1 (kept ++ m ∷ []) in omega (arith, more, less, h)
-    by false is = let more = length-append kept (m ∷ []) in grind (arith, more, is)
+kept_length bound kept m h =
+    let more = length-append kept (m ∷ []) in
+    cond_both (nat_lt bound (length kept + 1)) _ _ (λ (ms : List KeptMessage). length ms ≤ bound) (λ is. let less = length-drop 1 (kept ++ m ∷ []) in omega (arith, more, less, h)) (λ is. grind (arith, more, is))
 
 forgotten_length : (number : ℕ) (kept : List KeptMessage) → length (forgotten number kept) ≤ length kept
 forgotten_length number kept = by (position (has_number number) kept)
@@ -72,11 +70,9 @@ forgotten_length number kept = by (position (has_number number) kept)
 
 key_length : (test : ℕ → Bool) (ns : List ℕ) → length (remove_key test ns) ≤ length ns
 key_length test [] = omega arith
-key_length test (n ∷ ns) = by (test n) (key_length test ns)
-  where
-    by : (b : Bool) → length (remove_key test ns) ≤ length ns → length (cond b ns (n ∷ remove_key test ns)) ≤ length (n ∷ ns)
-    by true h = omega arith
-    by false h = omega (arith, h)
+key_length test (n ∷ ns) =
+    let h = key_length test ns in
+    either (λ (ms : List ℕ). length ms ≤ length (n ∷ ns)) (test n) ns (n ∷ remove_key test ns) (omega arith) (omega (arith, h))
 
 put_length : (k : ℕ) (ns : List ℕ) → length (insert_key nat_cmp ns k) ≤ length ns + 1
 put_length k [] = omega arith
@@ -91,13 +87,8 @@ put_length k (n ∷ ns) = by (nat_cmp k n) (put_length k ns)
 
 module _ (b : Bounds) (some : 1 ≤ b.publish_queue) where
   pub record QueueingBounded (q : Queueing) : Type 0 where
-    pub bounds : q.round.bounds ≡ b
     pub requests : length q.part.requests ≤ b.publish_queue
     pub numbers : length q.part.numbers ≤ b.subscriptions
-
-  refused_bounds : (round : Round) (o : Option PublishCall) → round.bounds ≡ b → (with_refused round o).bounds ≡ b
-  refused_bounds round None h = h
-  refused_bounds round (Some c) h = h
 
   full_length : (requests : List PublishCall) (c : PublishCall) → length requests ≤ b.publish_queue → length (drop 1 requests ++ c ∷ []) ≤ b.publish_queue
   full_length requests c h =
@@ -106,25 +97,17 @@ module _ (b : Bounds) (some : 1 ≤ b.publish_queue) where
       omega (arith, more, less, h, some)
 
   enqueued_by_bounded : (asked : Option PublishCall) (round : Round) (part : SessionSubscriptions) → round.bounds ≡ b → length part.requests ≤ b.publish_queue → length part.numbers ≤ b.subscriptions → QueueingBounded (enqueued_by asked round part)
-  enqueued_by_bounded None round part h g k = record { bounds = h; requests = g; numbers = k }
-  enqueued_by_bounded (Some c) round part h g k = by (nat_le round.bounds.publish_queue (length part.requests)) refl
-    where
-      by : (full : Bool) → nat_le round.bounds.publish_queue (length part.requests) ≡ full → QueueingBounded (cond full
-          (record { round = with_refused (record round { asked = None }) (first_of part.requests); part = record part { requests = drop 1 part.requests ++ c ∷ [] } })
-          (record { round = record round { asked = None }; part = record part { requests = part.requests ++ c ∷ [] } }))
-      by true is = record { bounds = refused_bounds (record round { asked = None }) (first_of part.requests) h; requests = full_length part.requests c g; numbers = k }
-      by false is =
-          let more = length-append part.requests (c ∷ []) in
-          let room : nat_le b.publish_queue (length part.requests) ≡ false = subst (λ (x : Bounds). nat_le x.publish_queue (length part.requests) ≡ false) h is in
-          record { bounds = h; requests = grind (arith, more, room); numbers = k }
+  enqueued_by_bounded None round part h g k = record { requests = g; numbers = k }
+  enqueued_by_bounded (Some c) round part h g k =
+      let more = length-append part.requests (c ∷ []) in
+      cond_both (nat_le round.bounds.publish_queue (length part.requests)) _ _ QueueingBounded (λ is. record { requests = full_length part.requests c g; numbers = k })
+      (λ is.
+      let room : nat_le b.publish_queue (length part.requests) ≡ false = subst (λ (x : Bounds). nat_le x.publish_queue (length part.requests) ≡ false) h is in
+      record { requests = grind (arith, more, room); numbers = k })
 
   enqueued_bounded : (round : Round) (part : SessionSubscriptions) → round.bounds ≡ b → length part.requests ≤ b.publish_queue → length part.numbers ≤ b.subscriptions → QueueingBounded (enqueued round part)
   unfolding enqueued
   enqueued_bounded round part h g k = enqueued_by_bounded round.asked round part h g k
-
-  answered_bounds : (asked : Option PublishCall) (round : Round) (s : Subscription) (more : Bool) (message : List ℕ) → round.bounds ≡ b → (scenes.answered_by asked round s more message).bounds ≡ b
-  answered_bounds None round s more message h = h
-  answered_bounds (Some c) round s more message h = h
 
   pub record NotingBounded (n : Noting) : Type 0 where
     pub bounds : n.round.bounds ≡ b
@@ -136,7 +119,7 @@ module _ (b : Bounds) (some : 1 ≤ b.publish_queue) where
   note_bounded : (n : Noting) → NotingBounded n → NotingBounded (note_sent n)
   unfolding note_sent
   note_bounded n h = record {
-    bounds = answered_bounds n.round.asked _ _ _ _ h.bounds;
+    bounds = ap (λ (f : Frame). f.bounds) (note_frame n) ∙ h.bounds;
     kept = kept_bounded n.round n.subscription.kept (record { number = number_after n.subscription.number; bytes = message_made n.round n.subscription n.items }) h.bounds h.kept;
   }
 
@@ -161,26 +144,18 @@ module _ (b : Bounds) (some : 1 ≤ b.publish_queue) where
     pub numbers : length c.part.numbers ≤ b.subscriptions
     pub kept : length c.subscription.kept ≤ b.kept
 
-  same_bounded : (c d : Scene) → d.round.bounds ≡ c.round.bounds → d.part.requests ≡ c.part.requests → d.part.numbers ≡ c.part.numbers → d.subscription.kept ≡ c.subscription.kept → SceneBounded c → SceneBounded d
-  same_bounded c d bounds requests numbers kept h = record {
-    bounds = bounds ∙ h.bounds;
-    requests = subst (λ (x : List PublishCall). length x ≤ b.publish_queue) (sym requests) h.requests;
-    numbers = subst (λ (x : List ℕ). length x ≤ b.subscriptions) (sym numbers) h.numbers;
-    kept = subst (λ (x : List KeptMessage). length x ≤ b.kept) (sym kept) h.kept;
-  }
-
   done_bounded : (c : Scene) (action : Action) → SceneBounded c → SceneBounded (done c action)
   done_bounded c Initialise h = record { bounds = h.bounds; requests = h.requests; numbers = h.numbers; kept = omega arith }
   done_bounded c Enqueue h =
       let q = enqueued_bounded c.round c.part h.bounds h.requests h.numbers in
-      record { bounds = q.bounds; requests = q.requests; numbers = q.numbers; kept = h.kept }
+      record { bounds = ap (λ (f : Frame). f.bounds) (done_frame c Enqueue) ∙ h.bounds; requests = q.requests; numbers = q.numbers; kept = h.kept }
   done_bounded c Dequeue h = record { bounds = h.bounds; requests = let less = length-drop 1 c.part.requests in let before = h.requests in omega (arith, less, before); numbers = h.numbers; kept = h.kept }
   done_bounded c SendNotifications h =
       let sent = notes_bounded c.part.requests (noting c.round c.subscription c.items) (record { bounds = h.bounds; kept = h.kept }) h.requests in
       record { bounds = sent.noting.bounds; requests = sent.requests; numbers = h.numbers; kept = sent.noting.kept }
-  done_bounded c SendKeepAlive h = record { bounds = answered_bounds c.round.asked _ _ _ _ h.bounds; requests = h.requests; numbers = h.numbers; kept = h.kept }
+  done_bounded c SendKeepAlive h = record { bounds = ap (λ (f : Frame). f.bounds) (done_frame c SendKeepAlive) ∙ h.bounds; requests = h.requests; numbers = h.numbers; kept = h.kept }
   done_bounded c DeleteItems h = record { bounds = h.bounds; requests = h.requests; numbers = h.numbers; kept = omega arith }
-  done_bounded c action h = same_bounded c (done c action) refl refl refl refl h
+  done_bounded c action h = record { bounds = h.bounds; requests = h.requests; numbers = h.numbers; kept = h.kept }
 
   all_done_bounded : (actions : List Action) (c : Scene) → SceneBounded c → SceneBounded (all_done c actions)
   all_done_bounded [] c h = h
@@ -306,43 +281,18 @@ module _ (b : Bounds) (some : 1 ≤ b.publish_queue) where
 
   -- ---- Publish
 
-  acknowledged_bounded : (session : ℕ) (subscriptions : List (ℕ × Subscription)) (a : SubscriptionAcknowledgement) → AllByRecursion EachKept subscriptions → AllByRecursion EachKept (acknowledged session subscriptions a).subscriptions
-  unfolding acknowledged
-  acknowledged_bounded session subscriptions a h = by (subscription_at a.subscription_id subscriptions) (kept_found a.subscription_id subscriptions h)
-    where
-      own : (mine : Bool) (s : Subscription) → length s.kept ≤ b.kept → AllByRecursion EachKept (cond {A = Acknowledged} mine
-          (record { status = acknowledgement_status a.sequence_number s.kept; subscriptions = set_value (is_at (nat_cmp a.subscription_id)) subscriptions (without_kept a.sequence_number s) })
-          (record { status = status.BAD_SUBSCRIPTION_ID_INVALID; subscriptions = subscriptions })).subscriptions
-      own true s k =
-          let less = forgotten_length a.sequence_number s.kept in
-          entries_set EachKept a.subscription_id (without_kept a.sequence_number s) subscriptions (omega (arith, less, k)) h
-      own false s k = h
+  -- of the subscriptions of a table
+  record AreFew (subscriptions : List (ℕ × Subscription)) : Type 0 where
+    kept : AllByRecursion EachKept subscriptions
+    few : length subscriptions ≤ b.subscriptions_in_all
 
-      by : (o : Option Subscription) → length (unwrap_or o (unborn 0)).kept ≤ b.kept → AllByRecursion EachKept (acknowledged_by session subscriptions a o).subscriptions
-      by None k = h
-      by (Some s) k = own (is_of s.session session) s k
-
-  all_acknowledged_bounded : (session : ℕ) (acks : List SubscriptionAcknowledgement) (before : AllAcknowledged) → AllByRecursion EachKept before.subscriptions → AllByRecursion EachKept (fold (with_acknowledged session) before acks).subscriptions
-  all_acknowledged_bounded session [] before h = h
-  all_acknowledged_bounded session (a ∷ acks) before h = all_acknowledged_bounded session acks (with_acknowledged session before a) (acknowledged_bounded session before.subscriptions a h)
-
-  acknowledged_few : (session : ℕ) (subscriptions : List (ℕ × Subscription)) (a : SubscriptionAcknowledgement) → length (acknowledged session subscriptions a).subscriptions ≡ length subscriptions
-  unfolding acknowledged
-  acknowledged_few session subscriptions a = by (subscription_at a.subscription_id subscriptions)
-    where
-      own : (mine : Bool) (s : Subscription) → length (cond {A = Acknowledged} mine
-          (record { status = acknowledgement_status a.sequence_number s.kept; subscriptions = set_value (is_at (nat_cmp a.subscription_id)) subscriptions (without_kept a.sequence_number s) })
-          (record { status = status.BAD_SUBSCRIPTION_ID_INVALID; subscriptions = subscriptions })).subscriptions ≡ length subscriptions
-      own true s = length-set_value (is_at (nat_cmp a.subscription_id)) subscriptions (without_kept a.sequence_number s)
-      own false s = refl
-
-      by : (o : Option Subscription) → length (acknowledged_by session subscriptions a o).subscriptions ≡ length subscriptions
-      by None = refl
-      by (Some s) = own (is_of s.session session) s
-
-  all_acknowledged_few : (session : ℕ) (acks : List SubscriptionAcknowledgement) (before : AllAcknowledged) → length (fold (with_acknowledged session) before acks).subscriptions ≡ length before.subscriptions
-  all_acknowledged_few session [] before = refl
-  all_acknowledged_few session (a ∷ acks) before = all_acknowledged_few session acks (with_acknowledged session before a) ∙ acknowledged_few session before.subscriptions a
+  forgotten_few : (subscriptions : List (ℕ × Subscription)) (n number : ℕ) (s : Subscription) → subscription_at n subscriptions ≡ Some s → AreFew subscriptions → AreFew (set_value (is_at (nat_cmp n)) subscriptions (without_kept number s))
+  forgotten_few subscriptions n number s found h =
+      let k : length s.kept ≤ b.kept = subst (λ (o : Option Subscription). length (unwrap_or o (unborn 0)).kept ≤ b.kept) found (kept_found n subscriptions h.kept) in
+      let less = forgotten_length number s.kept in
+      let same = length-set_value (is_at (nat_cmp n)) subscriptions (without_kept number s) in
+      let before = h.few in
+      record { kept = entries_set EachKept n (without_kept number s) subscriptions (omega (arith, less, k)) h.kept; few = omega (arith, same, before) }
 
   without_conn_bounded : (conn : ℕ) (sessions : List (ℕ × SessionSubscriptions)) → AllByRecursion EachPart sessions → AllByRecursion EachPart (map (entry_without_conn conn) sessions)
   without_conn_bounded conn [] h = tt
@@ -358,10 +308,10 @@ module _ (b : Bounds) (some : 1 ≤ b.publish_queue) where
     pub table : TableBounded r.subs.table
 
   room_left : (s : SubscriptionsState) (session : ℕ) → is_full s session ≡ false → length (part_at session s.table.sessions).numbers + 1 ≤ s.bounds.subscriptions
-  room_left s session e = room s.bounds.subscriptions (length (part_at session s.table.sessions).numbers) (either_false _ _ e).0
+  room_left s session e = room s.bounds.subscriptions (length (part_at session s.table.sessions).numbers) (or_parts _ _ e).0
 
   room_in_all : (s : SubscriptionsState) (session : ℕ) → is_full s session ≡ false → length s.table.subscriptions + 1 ≤ s.bounds.subscriptions_in_all
-  room_in_all s session e = room s.bounds.subscriptions_in_all (length s.table.subscriptions) (either_false _ _ (either_false _ _ e).1).0
+  room_in_all s session e = room s.bounds.subscriptions_in_all (length s.table.subscriptions) (or_parts _ _ (or_parts _ _ e).1).0
 
   abbrev StaysBounded : World → List Encounter → World → Type 0
   StaysBounded w es v = WorldBounded w → WorldBounded v
@@ -369,12 +319,13 @@ module _ (b : Bounds) (some : 1 ≤ b.publish_queue) where
   bounded_beside : (w : World) (x : Beside) → WorldBounded w → WorldBounded (beside w x)
   bounded_beside w (Acknowledges session acks) h =
       let p = part_bounded session w.table.sessions h.table.sessions in
+      let those = all_acknowledged session AreFew (λ subscriptions n number s found its k. forgotten_few subscriptions n number s found k) acks w.table.subscriptions (record { kept = h.table.subscriptions; few = h.table.few }) in
       record {
         bounds = h.bounds;
         table = record {
           sessions = set_bounded session (part_without_note (part_at session w.table.sessions)) w.table.sessions (record { requests = p.requests; numbers = p.numbers }) h.table.sessions;
-          subscriptions = all_acknowledged_bounded session acks (record { results = []; subscriptions = w.table.subscriptions }) h.table.subscriptions;
-          few = let same = all_acknowledged_few session acks (record { results = []; subscriptions = w.table.subscriptions }) in let before = h.table.few in omega (arith, same, before);
+          subscriptions = those.kept;
+          few = those.few;
         };
       }
   bounded_beside w (Refuses session code) h = all_refused_bounded session code w h
@@ -425,10 +376,6 @@ module _ (b : Bounds) (some : 1 ≤ b.publish_queue) where
       let is = left_is r m in
       record { bounds = is.bounds ∙ h.bounds; table = subst TableBounded (sym is.table) v.table }
 
-  pub all_bounded : (moves : List Move) (r : Ran) → RunBounded r → RunBounded (fold moved r moves)
-  all_bounded [] r h = h
-  all_bounded (m ∷ ms) r h = all_bounded ms (moved r m) (one_bounded r m h)
-
 pub subs_bounded : (config : Configuration) (is : IsConfigured config) (moves : List Move) → let r = run config moves in TableBounded (bounds_of config) is.publish_queue.0 r.subs.table
 subs_bounded config is moves =
-    (all_bounded (bounds_of config) is.publish_queue.0 moves (start config) (record { bounds = refl; table = record { sessions = tt; subscriptions = tt; few = omega arith } })).table
+    (fold_keeps (RunBounded (bounds_of config) is.publish_queue.0) moved (one_bounded (bounds_of config) is.publish_queue.0) moves (start config) (record { bounds = refl; table = record { sessions = tt; subscriptions = tt; few = omega arith } })).table

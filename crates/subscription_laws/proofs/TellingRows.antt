@@ -1,6 +1,7 @@
 -- What rows answer is told: each answer in its place, the messages that it brings, and the numbers that it has.
 use Rattle.std.proofs.Common.{◌≡◌, ℕ, Bool, true, false, cond, List, [], ◌∷◌, ◌++◌, append-nil, append_assoc, map, drop, nat_le, length, Option, Some, None, refl, sym, ap, ◌∙◌, subst}
 use Rattle.std.proofs.lemmas.List.{map-append}
+use Rattle.ua_types.specs.declared.status.TheConstants.Status as status
 use Rattle.server_messages.specs.declared.reply.Reply.{Reply}
 use Rattle.ua_state_table.specs.declared.row.RowId.{RowId}
 use Rattle.ua_state_table.specs.declared.row.RowId.TheVariants.{N1, N2, N3, N4, L1, L2, K1, K2, K3}
@@ -15,10 +16,10 @@ use Rattle.ua_subscriptions.specs.declared.session_part.SessionSubscriptions.{Se
 use Rattle.ua_subscriptions.specs.declared.subscription.Subscription.{Subscription}
 use Rattle.subscription_laws.specs.Messaging.{Made, made_of, messages_for, AreAmong, AreItsMessages}
 use Rattle.subscription_laws.specs.Numbering.{note_made, rest_made, notes_made, messages_of}
-use Rattle.subscription_laws.specs.Tellings.{Telling, answer_of, message_in, messages_in, too_many_told, queued_told, note_told, rest_told, notes_told, alive_told, row_told, AreInSequence}
+use Rattle.subscription_laws.specs.Tellings.{Telling, answer_of, message_in, messages_in, if_asked, KeepAlive, Refused, queued_told, note_told, rest_told, notes_told, row_told, AreInSequence}
 use Rattle.subscription_laws.proofs.RowRequests.{IsGiven}
 use Rattle.subscription_laws.proofs.MessageLists.{last_on, more_own, more_kept}
-use Rattle.subscription_laws.proofs.Remains.{note_own}
+use Rattle.subscription_laws.proofs.Owners.{note_own}
 
 -- ---- answers behind others
 
@@ -115,7 +116,7 @@ notes_tell ms calls n o asked is there h =
 -- ---- keep-alives, and requests that are queued
 
 alive_tells : (ms : List Made) (c : Scene) (o : Option PublishCall) (round : Round) (s : Subscription) → round.replies ≡ c.round.replies → round.clock ≡ c.round.clock → round.own ≡ c.round.own → s.kept ≡ c.subscription.kept →
-    IsAt c.round.own ms c.subscription → Tells ms c.round.replies (scenes.answered_by o round s false (keep_alive_message (number_after c.subscription.number) c.round.clock)).replies [] (alive_told o c)
+    IsAt c.round.own ms c.subscription → Tells ms c.round.replies (scenes.answered_by o round s false (keep_alive_message (number_after c.subscription.number) c.round.clock)).replies [] (if_asked c.round.clock c.subscription.kept (KeepAlive c.round.own (number_after c.subscription.number)) o)
 alive_tells ms c None round s replies clock own kept h = record { so = replies ∙ sym (append-nil c.round.replies); brings = refl; sequence = tt }
 alive_tells ms c (Some asked) round s replies clock own kept h =
     record { so = rw (replies, clock, own, kept) refl; brings = refl; sequence = ((ap number_after (sym h.last), h.kept), tt) }
@@ -124,7 +125,7 @@ queued_tells : (ms : List Made) (round : Round) (part : SessionSubscriptions) �
 unfolding enqueued
 queued_tells ms round part = by round.asked
   where
-    refused : (o : Option PublishCall) → Tells ms round.replies (with_refused (record round { asked = None }) o).replies [] (too_many_told round.clock o)
+    refused : (o : Option PublishCall) → Tells ms round.replies (with_refused (record round { asked = None }) o).replies [] (if_asked round.clock [] (Refused status.BAD_TOO_MANY_PUBLISH_REQUESTS) o)
     refused None = tells_none ms round.replies
     refused (Some asked) = record { so = refl; brings = refl; sequence = (tt, tt) }
 
@@ -134,7 +135,7 @@ queued_tells ms round part = by round.asked
 
     by : (o : Option PublishCall) → Tells ms round.replies (enqueued_by o round part).round.replies [] (queued_told o round part)
     by None = tells_none ms round.replies
-    by (Some asked) = full (nat_le round.bounds.publish_queue (length part.requests)) _ _ (too_many_told round.clock (first_of part.requests)) (refused (first_of part.requests)) (tells_none ms round.replies)
+    by (Some asked) = full (nat_le round.bounds.publish_queue (length part.requests)) _ _ _ (refused (first_of part.requests)) (tells_none ms round.replies)
 
 -- ---- a row
 

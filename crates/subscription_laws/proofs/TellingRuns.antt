@@ -1,5 +1,5 @@
 -- Whatever is called, what is answered is told, and each message is brought.
-use Rattle.std.proofs.Common.{◌≡◌, ◌⊎◌, inl, inr, ℕ, Bool, true, false, ◌||◌, cond, List, [], ◌∷◌, ◌++◌, append-nil, map, drop, fold, Option, Some, None, refl, sym, ap, ◌∙◌, subst, unwrap_or, ◌+◌}
+use Rattle.std.proofs.Common.{◌≡◌, inl, inr, ℕ, Bool, true, false, cond, List, [], ◌∷◌, ◌++◌, append-nil, map, drop, fold, Option, Some, None, refl, sym, ap, ◌∙◌, subst, unwrap_or, ◌+◌}
 use Rattle.std.proofs.lemmas.List.Concat.{flat_map-append}
 use Rattle.std.specs.BTreeMap.{is_at}
 use Rattle.std.specs.List.{flat_map}
@@ -8,13 +8,11 @@ use Rattle.std.specs.Ordering.{nat_cmp}
 use Rattle.ua_types.specs.Configuration.{Configuration}
 use Rattle.ua_types.specs.declared.moment.Moment.{Moment}
 use Rattle.ua_types.specs.declared.status.Status.{Status}
-use Rattle.server_messages.specs.declared.fired.Fired.{Fired}
 use Rattle.server_messages.specs.declared.reply.Reply.{Reply}
 use Rattle.ua_subscription_messages.specs.declared.publishing.SubscriptionAcknowledgement.{SubscriptionAcknowledgement}
 use Rattle.ua_subscriptions.specs.declared.call.Call.{Call}
 use Rattle.ua_subscriptions.specs.declared.call.Call.TheVariants as call
 use Rattle.ua_subscriptions.specs.declared.publish_call.PublishCall.{PublishCall}
-use Rattle.ua_subscriptions.specs.declared.ranks.Rank.{Rank}
 use Rattle.ua_subscriptions.specs.declared.session_part.SessionSubscriptions.{SessionSubscriptions}
 use Rattle.ua_subscriptions.specs.declared.session_part.TimeoutNote.{TimeoutNote}
 use Rattle.ua_subscriptions.specs.declared.settings.Settings.{Settings}
@@ -25,23 +23,21 @@ use Rattle.ua_subscriptions.specs.Firing.{row_of, fired}
 use Rattle.ua_subscriptions.specs.Making.{refused_one, added}
 use Rattle.ua_subscriptions.specs.Messages.{timeout_message}
 use Rattle.ua_subscriptions.specs.Named.{all_refused}
-use Rattle.ua_subscriptions.specs.Publishing.{acknowledged_all, note_of, without_note, part_without_note, asked_by, answered_by, with_results, published}
+use Rattle.ua_subscriptions.specs.Publishing.{acknowledged_all, note_of, without_note, part_without_note, answered_by, with_results, published, ready}
 use Rattle.ua_subscriptions.specs.Queues.{first_of}
-use Rattle.ua_subscriptions.specs.Ranks.{waiting_of}
 use Rattle.ua_subscriptions.specs.Scenes.{row_done}
 use Rattle.ua_subscriptions.specs.SubscriptionCalls.{world_of, is_full, refused, created_one, created}
 use Rattle.ua_subscriptions.specs.Subscriptions.{no_part}
-use Rattle.ua_subscriptions.specs.Tables.{World, met, part_at, subscription_at}
+use Rattle.ua_subscriptions.specs.Tables.{World, part_at, subscription_at}
 use Rattle.subscription_laws.specs.Answering.{AreBrought}
-use Rattle.subscription_laws.specs.Calm.{is_listed}
-use Rattle.subscription_laws.specs.Encounters.{Beside, TellsNote, TellsNone, Refuses, LeavesAll, ready, beside, Encounter, Meets, Does, scene_at, is_meant, met_if, best_or_all, made_scene}
+use Rattle.subscription_laws.specs.Encounters.{Beside, TellsNote, TellsNone, Refuses, LeavesAll, beside, Encounter, Meets, Does, scene_at, made_scene}
 use Rattle.subscription_laws.specs.Messaging.{Made, made_at, moved_made, run_made}
 use Rattle.subscription_laws.specs.Runs.{Move, Ran, start, moved, run}
 use Rattle.subscription_laws.specs.Tellings.{Telling, Told, Notifications, KeepAlive, TimedOut, Refused, answer_by, answer_of, message_in, messages_in, refused_told, told_at, moved_told, run_told, AreInSequence}
 use Rattle.subscription_laws.proofs.ChosenRows.{is_create}
-use Rattle.subscription_laws.proofs.Entries.{at_itself, set_here}
-use Rattle.subscription_laws.proofs.Keeping.{IsKept, world_after}
-use Rattle.subscription_laws.proofs.KeepingPublish.{Asked, met_asked, none_asked, ready_kept}
+use Rattle.subscription_laws.proofs.Entries.{listed_first, some_same, set_here}
+use Rattle.subscription_laws.proofs.Keeping.{world_after}
+use Rattle.subscription_laws.proofs.KeepingPublish.{Answerable, CanAnswer, rest_can, publish_begins}
 use Rattle.subscription_laws.proofs.MessageNotes.{IsMessaged, IsNote, AllNotes}
 use Rattle.subscription_laws.proofs.RowRequests.{IsGiven, plain_given, asked_given, calm_given}
 use Rattle.subscription_laws.proofs.RunMessages.{follows_numbers, created_none, IsRunNumbered, one_run, run_numbered}
@@ -54,10 +50,7 @@ use Rattle.subscription_laws.proofs.Walks.{makes, left, left_is, Fits, Follows, 
 
 first_note : (made : ℕ) (ms : List Made) (subscriptions : List (ℕ × Subscription)) (notes : List TimeoutNote) (note : TimeoutNote) → first_of notes ≡ Some note → AllNotes made ms subscriptions notes → IsNote made ms subscriptions note
 first_note made ms subscriptions [] note is h = absurd (cc)
-first_note made ms subscriptions (n ∷ ns) note is h = subst (IsNote made ms subscriptions) (same is) h.0
-  where
-    same : Some n ≡ Some note → n ≡ note
-    same e = cc
+first_note made ms subscriptions (n ∷ ns) note is h = subst (IsNote made ms subscriptions) (some_same is) h.0
 
 refused_answers : (clock : Moment) (code : Status) (calls : List PublishCall) → map (refused_of clock code) calls ≡ map answer_of (map (refused_told clock code) calls)
 refused_answers clock code [] = refl
@@ -88,26 +81,9 @@ beside_tells made ms w b fits h = tells_none ms w.round.replies
 
 -- ---- a subscription that sends at a Publish request has it
 
--- it alone meets the request; or those of a session do, of which none waits
-abbrev Answerable : World → List ℕ → Type 0
-Answerable w [] = Unit {0}
-Answerable w (n ∷ ns) = ((ns ≡ []) × ((call : PublishCall) × (w.round.asked ≡ Some call))) ⊎ ((session : ℕ) × (made : ℕ) × (past : List Fired) × Asked session made past (n ∷ ns) w)
-
-abbrev CanAnswer : Option ℕ → Call → World → List ℕ → Type 0
-CanAnswer whose asked w ns = asked ≡ call.Publish → (whose ≡ None) × Answerable w ns
-
-rest_answerable : (w : World) (n : ℕ) (ns : List ℕ) → Answerable w (n ∷ ns) → Answerable (met w n call.Publish) ns
-rest_answerable w n [] h = tt
-rest_answerable w n (m ∷ ns) (inl (alone, x)) = absurd (cc)
-rest_answerable w n (m ∷ ns) (inr (session, made, past, a)) = inr (session, made, past, met_asked session made past w n (m ∷ ns) a.asking a.of)
-
-rest_can : (whose : Option ℕ) (asked : Call) (w : World) (n : ℕ) (ns : List ℕ) → CanAnswer whose asked w (n ∷ ns) → CanAnswer whose asked (met_if (is_meant whose w n) w n asked) ns
-rest_can None asked w n ns h = λ is. (refl, subst (λ (c : Call). Answerable (met w n c) ns) (sym is) (rest_answerable w n ns (h is).1))
-rest_can (Some session) asked w n ns h = λ is. let clash : Some session ≡ None = (h is).0 in absurd (cc)
-
 publish_given : (w : World) (n : ℕ) (ns : List ℕ) (s : Subscription) → subscription_at n w.table.subscriptions ≡ Some s → Answerable w (n ∷ ns) → IsGiven (row_of (scene_at w n call.Publish s)) (scene_at w n call.Publish s)
-publish_given w n ns s found (inl (alone, (asked, is))) = asked_given w n asked is s
-publish_given w n ns s found (inr (session, made, past, a)) = calm_given w n s (a.asking.none n s found (a.of n s (ap (λ (b : Bool). b || is_listed n ns) (at_itself n)) found))
+publish_given w n ns s found (inl (alone, waits, (asked, is))) = asked_given w n asked is s
+publish_given w n ns s found (inr (session, made, past, a)) = calm_given w n s (a.asking.none n s found (a.of n s (listed_first n ns) found))
 
 given_at : (w : World) (n : ℕ) (ns : List ℕ) (asked : Call) (s : Subscription) → subscription_at n w.table.subscriptions ≡ Some s → (asked ≡ call.Publish → Answerable w (n ∷ ns)) → IsGiven (row_of (scene_at w n asked s)) (scene_at w n asked s)
 given_at w n ns asked s found h = by asked h
@@ -153,31 +129,15 @@ follows_tell = record {
 }
 
 -- where a call begins
-best_answerable : (session made : ℕ) (past : List Fired) (w : World) (asked : PublishCall) (ns : List ℕ) → (part_at session w.table.sessions).numbers ≡ ns → IsKept None made past w →
-    (o : Option Rank) → first_of (waiting_of w.table.subscriptions ns) ≡ o → Answerable (asked_by w asked) (best_or_all o ns)
-best_answerable session made past w asked ns are k (Some rank) is = inl (refl, (asked, refl))
-best_answerable session made past w asked [] are k None is = tt
-best_answerable session made past w asked (n ∷ ns) are k None is = inr (session, made, past, none_asked session made past w (n ∷ ns) asked are k is)
-
 begins : (r : Ran) (m : Move) → IsRunKept r → Begins CanAnswer r m
 begins r (Move.Publish clock session asked acks) k = λ none is.
     let w = world_of r.subs r.items clock in
-    let v = ready session acks w in (
-      refl,
-      best_answerable session r.subs.made r.rows v (with_results asked (acknowledged_all session r.subs.table.subscriptions acks).results) (part_at session v.table.sessions).numbers refl
-          (ready_kept session r.subs.made r.rows acks w (enter r clock k)) (first_of (waiting_of v.table.subscriptions (part_at session v.table.sessions).numbers)) refl,
-    )
+    (refl, publish_begins session r.subs.made r.rows (with_results asked (acknowledged_all session r.subs.table.subscriptions acks).results) acks w (enter r clock k))
 begins r (Move.Create clock session settings enabled) k = tt
-begins r (Move.Modify clock session number settings) k = λ is. absurd (cc)
-begins r (Move.SetMode clock session numbers enabled) k = λ is. absurd (cc)
-begins r (Move.Delete clock session numbers) k = λ is. absurd (cc)
-begins r (Move.Republish clock session number wanted) k = λ is. absurd (cc)
-begins r (Move.Timers clock) k = λ is. absurd (cc)
-begins r (Move.EndSession clock session deleting) k = λ is. absurd (cc)
-begins r (Move.Shutdown clock) k = λ is. absurd (cc)
 begins r (Move.Gone conn) k = tt
-begins r (Move.Items clock number asked) k = λ vars is. absurd (cc)
 begins r (Move.Show changed) k = tt
+begins r (Move.Items clock number asked) k = λ vars is. absurd (cc)
+begins r m k = λ is. absurd (cc)
 
 -- ---- one that makes a subscription
 

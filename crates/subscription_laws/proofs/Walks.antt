@@ -11,7 +11,6 @@ use Rattle.ua_subscription_messages.specs.declared.publishing.SubscriptionAcknow
 use Rattle.ua_subscriptions.specs.declared.call.Call.{Call}
 use Rattle.ua_subscriptions.specs.declared.call.Call.TheVariants as call
 use Rattle.ua_subscriptions.specs.declared.publish_call.PublishCall.{PublishCall}
-use Rattle.ua_subscriptions.specs.declared.ranks.Rank.{Rank}
 use Rattle.ua_subscriptions.specs.declared.session_part.TimeoutNote.{TimeoutNote}
 use Rattle.ua_subscriptions.specs.declared.settings.Settings.{Settings}
 use Rattle.ua_subscriptions.specs.declared.subscription.Subscription.{Subscription}
@@ -19,15 +18,16 @@ use Rattle.ua_subscriptions.specs.Ending.{without_session, session_ended, all_le
 use Rattle.ua_subscriptions.specs.Firing.{fired}
 use Rattle.ua_subscriptions.specs.Making.{revised_of, kept_at, modified, republished, refused_one, added}
 use Rattle.ua_subscriptions.specs.Named.{Outcome, outcome, is_own, own_met, named_one, named_all, all_refused, has_none, deleted}
-use Rattle.ua_subscriptions.specs.Publishing.{acknowledged_all, note_of, asked_by, met_by_best, answered_to, answered_by, with_results, published}
-use Rattle.ua_subscriptions.specs.Queues.{first_of}
-use Rattle.ua_subscriptions.specs.Ranks.{waiting_of, due_numbers}
+use Rattle.ua_subscriptions.specs.Publishing.{acknowledged_all, note_of, asked_by, answered_to, answered_by, with_results, published, ready, asked_numbers}
+use Rattle.ua_subscriptions.specs.Ranks.{due_numbers}
 use Rattle.ua_subscriptions.specs.SubscriptionCalls.{world_of, said, told, is_full, refused, created_one, created}
 use Rattle.ua_subscriptions.specs.Subscriptions.{vars_of}
-use Rattle.ua_subscriptions.specs.Tables.{World, with_call, without_closed, met_found, met, all_met, part_of, part_at, subscription_at, vars_by, vars_found}
-use Rattle.subscription_laws.specs.Encounters.{Beside, CallsItems, ShowsItems, Acknowledges, Asks, TellsNote, TellsNone, Refuses, Leaves, LeavesAll, Loses, ready, beside, Encounter, Meets, Does, scene_at, meets_by, meets, is_meant, met_if, all_meet, world_met, best_or_all, asked_numbers, asked_encounters, noted_encounters, made_scene, served_encounters, any_time, if_none_left, encounters}
+use Rattle.ua_subscriptions.specs.Tables.{World, with_call, without_closed, met_found, met, all_met, part_of, part_at, subscription_at, vars_by, vars_found, TableState}
+use Rattle.subscription_laws.specs.Encounters.{Beside, CallsItems, ShowsItems, Acknowledges, Asks, TellsNote, TellsNone, Refuses, Leaves, LeavesAll, Loses, beside, Encounter, Meets, Does, scene_at, meets_by, meets, is_meant, met_if, all_meet, world_met, asked_encounters, noted_encounters, made_scene, served_encounters, any_time, if_none_left, encounters}
 use Rattle.subscription_laws.specs.Runs.{ItemsCall, ran_by, items_ran, Move, Ran, moved}
+use Rattle.ua_subscriptions.proofs.Choosing.{either}
 use Rattle.ua_subscriptions.proofs.OwingRows.{all_append}
+use Rattle.ua_subscriptions.proofs.Shutdowns.{nothing_left}
 use Rattle.subscription_laws.proofs.ChosenRows.{is_create}
 use Rattle.subscription_laws.proofs.Keeping.{world_after}
 
@@ -58,7 +58,7 @@ abbrev pub left_noted : Option TimeoutNote → ℕ → PublishCall → List Subs
 left_noted (Some note) session asked acks w = ready session acks (beside w (TellsNote session asked note))
 left_noted None session asked acks w = let v = ready session acks w in left_asked (part_at session v.table.sessions).numbers asked v
 
-abbrev pub left_served : ℕ → ItemsCall → World → Option Vars → World
+abbrev pub left_served : ℕ → Option ItemsCall → World → Option Vars → World
 left_served number asked w None = w
 left_served number asked w (Some vars) = met (beside w (CallsItems number asked)) number (call.Items vars)
 
@@ -129,14 +129,10 @@ republished_is session number wanted w =
     let kept = kept_at number wanted w.table in
     either_is (is_own w.table session number) w number (call.Republish (is_some kept)) (ok_or kept status.BAD_MESSAGE_NOT_AVAILABLE) (Err status.BAD_SUBSCRIPTION_ID_INVALID)
 
-best_is : (o : Option Rank) (ns : List ℕ) (w : World) → met_by_best o ns w ≡ world_met None call.Publish w (best_or_all o ns)
-best_is (Some rank) ns w = refl
-best_is None ns w = all_is call.Publish ns w
-
 asked_is : (ns : List ℕ) (asked : PublishCall) (w : World) → answered_to ns asked w ≡ left_asked ns asked w
 unfolding answered_to
 asked_is [] asked w = refl
-asked_is (n ∷ ns) asked w = best_is (first_of (waiting_of w.table.subscriptions (n ∷ ns))) (n ∷ ns) (asked_by w asked)
+asked_is (n ∷ ns) asked w = all_is call.Publish (asked_numbers w (n ∷ ns)) (asked_by w asked)
 
 noted_is : (note : Option TimeoutNote) (session : ℕ) (asked : PublishCall) (acks : List SubscriptionAcknowledgement) (w : World) → answered_by note session asked (ready session acks w) ≡ left_noted note session asked acks w
 noted_is (Some note) session asked acks w = refl
@@ -168,7 +164,7 @@ created_left r clock session settings enabled = by (is_full r.subs session)
     by true = record { table = refl; items = refl; rows = refl; replies = refl; bounds = refl }
     by false = record { table = refl; items = refl; rows = refl; replies = refl; bounds = refl }
 
-items_left : (r : Ran) (clock : Moment) (number : ℕ) (asked : ItemsCall) (o : Option Vars) → IsLeft r (items_ran clock number asked r o) (left_served number asked (world_of r.subs r.items clock) o)
+items_left : (r : Ran) (clock : Moment) (number : ℕ) (asked : Option ItemsCall) (o : Option Vars) → IsLeft r (items_ran clock number asked r o) (left_served number asked (world_of r.subs r.items clock) o)
 items_left r clock number asked None = record { table = refl; items = refl; rows = sym (append-nil r.rows); replies = sym (append-nil r.replies); bounds = refl }
 items_left r clock number asked (Some vars) = record { table = refl; items = refl; rows = refl; replies = refl; bounds = refl }
 
@@ -222,10 +218,11 @@ made_stays r m plain = refl
 abbrev pub passed : World → ℕ → Call → World
 passed w n asked = record { round = with_call w.round n asked; table = record { subscriptions = w.table.subscriptions; sessions = w.table.sessions }; items = w.items }
 
--- the items of a live subscription alone are called, and the oldest note is told
+-- the items of a live subscription alone are called, the oldest note is told, and sessions are left with no subscription
 abbrev pub Fits : World → Beside → Type 0
 Fits w (CallsItems number asked) = is_some (subscription_at number w.table.subscriptions) ≡ true
 Fits w (TellsNote session asked note) = note_of session w.table.sessions ≡ Some note
+Fits w (LeavesAll code) = w.table.subscriptions ≡ []
 Fits w b = Unit {0}
 
 -- How a relation follows a call, but one that makes a subscription: over each encounter, and from one to the next. Something may be
@@ -306,7 +303,7 @@ module _ (Given : Option ℕ → Call → World → List ℕ → Type 0) (R : Wo
       by true = f.aside v (Refuses session status.BAD_NO_SUBSCRIPTION) tt
       by false = f.none v
 
-  served_walked : (number : ℕ) (asked : ItemsCall) (w : World) → ((vars : Vars) → Given None (call.Items vars) (beside w (CallsItems number asked)) (number ∷ [])) → (o : Option Subscription) → subscription_at number w.table.subscriptions ≡ o →
+  served_walked : (number : ℕ) (asked : Option ItemsCall) (w : World) → ((vars : Vars) → Given None (call.Items vars) (beside w (CallsItems number asked)) (number ∷ [])) → (o : Option Subscription) → subscription_at number w.table.subscriptions ≡ o →
       let vars = vars_by number w.items w.table.sessions o in R w (served_encounters number asked w vars) (left_served number asked w vars)
   served_walked number asked w given None found = f.none w
   served_walked number asked w given (Some s) found =
@@ -342,7 +339,8 @@ module _ (Given : Option ℕ → Call → World → List ℕ → Type 0) (R : Wo
       let w = world_of r.subs r.items clock in
       let ns = keys_of r.subs.table.subscriptions in
       let v = world_met None call.Shutdown w ns in
-      f.next w v (beside v (LeavesAll status.BAD_SHUTDOWN)) (all_meet None call.Shutdown w ns) (Does v (LeavesAll status.BAD_SHUTDOWN) ∷ []) (all_walked None call.Shutdown refl ns w given) (f.aside v (LeavesAll status.BAD_SHUTDOWN) tt)
+      f.next w v (beside v (LeavesAll status.BAD_SHUTDOWN)) (all_meet None call.Shutdown w ns) (Does v (LeavesAll status.BAD_SHUTDOWN) ∷ []) (all_walked None call.Shutdown refl ns w given)
+      (f.aside v (LeavesAll status.BAD_SHUTDOWN) (ap (λ (x : World). x.table.subscriptions) (sym (shut_is w)) ∙ ap (λ (t : TableState). t.subscriptions) (nothing_left w)))
   walked_on r (Move.Gone conn) plain given = f.aside (world_of r.subs r.items any_time) (Loses conn) tt
   walked_on r (Move.Items clock number asked) plain given = served_walked number asked (world_of r.subs r.items clock) given (subscription_at number r.subs.table.subscriptions) refl
   walked_on r (Move.Show changed) plain given = f.aside (world_of r.subs r.items any_time) (ShowsItems changed) tt
@@ -363,17 +361,7 @@ module _ (Given : Option ℕ → Call → World → List ℕ → Type 0) (R : Wo
     -- any call
     pub walked : (r : Ran) (m : Move) → Begins Given r m → R (entered r m) (encounters r m) (left r m)
     walked r (Move.Create clock session settings enabled) given = created_walked r clock session settings enabled
-    walked r (Move.Modify clock session number settings) given = walked_on r (Move.Modify clock session number settings) refl given
-    walked r (Move.SetMode clock session numbers enabled) given = walked_on r (Move.SetMode clock session numbers enabled) refl given
-    walked r (Move.Delete clock session numbers) given = walked_on r (Move.Delete clock session numbers) refl given
-    walked r (Move.Publish clock session asked acks) given = walked_on r (Move.Publish clock session asked acks) refl given
-    walked r (Move.Republish clock session number wanted) given = walked_on r (Move.Republish clock session number wanted) refl given
-    walked r (Move.Timers clock) given = walked_on r (Move.Timers clock) refl given
-    walked r (Move.EndSession clock session deleting) given = walked_on r (Move.EndSession clock session deleting) refl given
-    walked r (Move.Shutdown clock) given = walked_on r (Move.Shutdown clock) refl given
-    walked r (Move.Gone conn) given = walked_on r (Move.Gone conn) refl given
-    walked r (Move.Items clock number asked) given = walked_on r (Move.Items clock number asked) refl given
-    walked r (Move.Show changed) given = walked_on r (Move.Show changed) refl given
+    walked r m given = walked_on r m refl given
 
 -- ---- where nothing need be given
 
@@ -420,7 +408,7 @@ module _ (Q : Beside → Type 0) where
   then_done : (es fs : List Encounter) → AllByRecursion (OnBeside Q) es → AllByRecursion (OnBeside Q) fs → AllByRecursion (OnBeside Q) (es ++ fs)
   then_done = all_append (OnBeside Q)
 
-  meet_done : (whose : Option ℕ) (asked : Call) (ns : List ℕ) (w : World) → AllByRecursion (OnBeside Q) (all_meet whose asked w ns)
+  pub meet_done : (whose : Option ℕ) (asked : Call) (ns : List ℕ) (w : World) → AllByRecursion (OnBeside Q) (all_meet whose asked w ns)
   meet_done whose asked [] w = tt
   meet_done whose asked (n ∷ ns) w =
       let b = is_meant whose w n in
@@ -436,13 +424,9 @@ module _ (Q : Beside → Type 0) where
   noted_done None session asked acks w acknowledges noted none one = let v = ready session acks w in (acknowledges, asked_done (part_at session v.table.sessions).numbers asked v none one)
 
   none_left_done : (session : ℕ) (w : World) → Q (Refuses session status.BAD_NO_SUBSCRIPTION) → AllByRecursion (OnBeside Q) (if_none_left session w)
-  none_left_done session w h = by (has_none session w.table)
-    where
-      by : (b : Bool) → AllByRecursion (OnBeside Q) (cond b (Does w (Refuses session status.BAD_NO_SUBSCRIPTION) ∷ []) [])
-      by true = (h, tt)
-      by false = tt
+  none_left_done session w h = either (AllByRecursion (OnBeside Q)) (has_none session w.table) (Does w (Refuses session status.BAD_NO_SUBSCRIPTION) ∷ []) [] (h, tt) tt
 
-  served_done : (number : ℕ) (asked : ItemsCall) (w : World) (o : Option Vars) → Q (CallsItems number asked) → AllByRecursion (OnBeside Q) (served_encounters number asked w o)
+  served_done : (number : ℕ) (asked : Option ItemsCall) (w : World) (o : Option Vars) → Q (CallsItems number asked) → AllByRecursion (OnBeside Q) (served_encounters number asked w o)
   served_done number asked w None h = tt
   served_done number asked w (Some vars) h = (h, meets_none (beside w (CallsItems number asked)) number (call.Items vars) true)
 

@@ -4,6 +4,7 @@ use Rattle.std.specs.BTreeMap.{is_at}
 use Rattle.std.specs.List.{AllByRecursion}
 use Rattle.std.specs.Ordering.{nat_cmp}
 use Rattle.ua_types.specs.Configuration.{Configuration, IsConfigured}
+use Rattle.ua_monitored_items.specs.Items.{ItemsState}
 use Rattle.ua_monitored_items.specs.ItemTables.{NumberedItems, item_at}
 use Rattle.ua_monitored_items.specs.declared.item.Item.{Item}
 use Rattle.ua_subscriptions.specs.Settings.{bounds_of}
@@ -13,7 +14,7 @@ use Rattle.subscription_laws.specs.Bounds.{KeepsWithinSize, QueuesAreWithin, Ite
 use Rattle.subscription_laws.specs.ItemCalls.{item_calls}
 use Rattle.subscription_laws.specs.Runs.{Move, run}
 use Rattle.subscription_laws.proofs.ItemsCalled.{items_come_by_their_calls}
-use Rattle.subscription_laws.proofs.QueuesWithin.{AreBounded, items_bounded}
+use Rattle.subscription_laws.proofs.QueuesWithin.{AreFew, items_bounded}
 use Rattle.subscription_laws.proofs.TablesWithin.{part_bounded, kept_found, subs_bounded}
 
 found_keeps : (longest number : ℕ) (item : Item) (es : NumberedItems) → AllByRecursion (λ (e : ℕ × Item). KeepsWithinSize longest e.1) es → item_at number es ≡ Some item → KeepsWithinSize longest item
@@ -24,8 +25,8 @@ found_keeps longest number item (e ∷ es) h found = by (is_at (nat_cmp number) 
     by true here more = let is : e.1 ≡ item = cc in subst (KeepsWithinSize longest) is h.0
     by false here more = more here
 
-items_within : (config : Configuration) → IsConfigured config → (moves : List Move) → AreBounded config.items config.items_in_all config.queue (run config moves).items
-items_within config is moves = subst (AreBounded config.items config.items_in_all config.queue) (sym (items_come_by_their_calls config moves)) (items_bounded config is (item_calls config moves))
+items_within : (config : Configuration) → IsConfigured config → (moves : List Move) → AreFew config.items config.items_in_all config.queue (run config moves).items.items
+items_within config is moves = subst (λ (s : ItemsState). AreFew config.items config.items_in_all config.queue s.items) (sym (items_come_by_their_calls config moves)) (items_bounded config is (item_calls config moves)).items
 
 pub queues_within : (config : Configuration) → IsConfigured config → (moves : List Move) → let r = run config moves in QueuesAreWithin config r.items.items
 queues_within config is moves number item found = found_keeps config.queue number item (run config moves).items.items (items_within config is moves).keep found

@@ -1,7 +1,7 @@
 -- What holds of the subscriptions of a server after any calls.
 use Rattle.std.specs.Prelude.{◌≡◌, ◌<◌, ◌≤◌, ⊤, ℕ, Bool, true, List, [], ◌∷◌, Some}
 use Rattle.std.specs.BTreeMap.{is_at}
-use Rattle.std.specs.List.{list_any}
+use Rattle.std.specs.List.{AllByRecursion, list_any}
 use Rattle.std.specs.Ordering.{nat_cmp}
 use Rattle.ua_types.specs.Configuration.{Configuration}
 use Rattle.server_messages.specs.declared.fired.Fired.{Fired}
@@ -19,8 +19,7 @@ use Rattle.ua_subscriptions.specs.Tables.{TableState, part_at, part_of, subscrip
 
 -- the numbers are above that one
 abbrev pub AreAbove : {X : Type 0} → ℕ → List (ℕ × X) → Type 0
-AreAbove number [] = ⊤
-AreAbove number (e ∷ es) = (number < e.0) × AreAbove number es
+AreAbove number es = AllByRecursion (λ e. number < e.0) es
 
 -- the numbers rise
 abbrev pub AreRising : {X : Type 0} → List (ℕ × X) → Type 0
@@ -28,8 +27,7 @@ AreRising [] = ⊤
 AreRising (e ∷ es) = AreAbove e.0 es × AreRising es
 
 abbrev pub AreNumbersAbove : ℕ → List ℕ → Type 0
-AreNumbersAbove number [] = ⊤
-AreNumbersAbove number (n ∷ ns) = (number < n) × AreNumbersAbove number ns
+AreNumbersAbove number ns = AllByRecursion (λ n. number < n) ns
 
 abbrev pub AreNumbersRising : List ℕ → Type 0
 AreNumbersRising [] = ⊤

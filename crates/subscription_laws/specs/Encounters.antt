@@ -17,7 +17,6 @@ use Rattle.ua_monitored_items.specs.Moves as item_moves
 use Rattle.ua_subscriptions.specs.declared.call.Call.{Call}
 use Rattle.ua_subscriptions.specs.declared.call.Call.TheVariants as call
 use Rattle.ua_subscriptions.specs.declared.publish_call.PublishCall.{PublishCall}
-use Rattle.ua_subscriptions.specs.declared.ranks.Rank.{Rank}
 use Rattle.ua_subscriptions.specs.declared.session_part.TimeoutNote.{TimeoutNote}
 use Rattle.ua_subscriptions.specs.declared.settings.Settings.{Settings}
 use Rattle.ua_subscriptions.specs.declared.subscription.Subscription.{Subscription}
@@ -27,20 +26,19 @@ use Rattle.ua_subscriptions.specs.Firing.{row_of, fired_in}
 use Rattle.ua_subscriptions.specs.Making.{kept_at}
 use Rattle.ua_subscriptions.specs.Named.{is_own, has_none, all_refused}
 use Rattle.ua_subscriptions.specs.Answers.{refused_of}
-use Rattle.ua_subscriptions.specs.Publishing.{acknowledged_all, note_of, note_told, without_note, with_round, asked_by, with_results}
-use Rattle.ua_subscriptions.specs.Queues.{first_of}
-use Rattle.ua_subscriptions.specs.Ranks.{waiting_of, due_numbers}
+use Rattle.ua_subscriptions.specs.Publishing.{acknowledged_all, note_of, note_told, ready, with_round, asked_by, asked_numbers, with_results}
+use Rattle.ua_subscriptions.specs.Ranks.{due_numbers}
 use Rattle.ua_subscriptions.specs.Scenes.{Scene, scene, with_reply, row_done}
 use Rattle.ua_subscriptions.specs.SubscriptionCalls.{world_of, is_full}
 use Rattle.ua_subscriptions.specs.Subscriptions.{unborn, no_part}
 use Rattle.ua_subscriptions.specs.Tables.{World, with_call, met, part_of, part_at, subscription_at, vars_found}
-use Rattle.subscription_laws.specs.Runs.{ItemsCall, on_items, Move, Ran, start, moved}
+use Rattle.subscription_laws.specs.Runs.{ItemsCall, items_asked, Move, Ran, start, moved}
 
 -- ---- what is done beside
 
 pub data Beside : Type 0 where
   -- the items of a subscription are called, or all are shown what was written
-  CallsItems : (subscription : ℕ) → ItemsCall → Beside
+  CallsItems : (subscription : ℕ) → Option ItemsCall → Beside
   ShowsItems : List Change → Beside
   -- acknowledgements are applied, and the oldest note of the session is taken
   Acknowledges : (session : ℕ) → List SubscriptionAcknowledgement → Beside
@@ -59,18 +57,12 @@ pub data Beside : Type 0 where
   -- a connection is gone, and the requests that came by it
   Loses : (conn : ℕ) → Beside
 
--- once the acknowledgements were applied, and the oldest note was taken
-abbrev pub ready : ℕ → List SubscriptionAcknowledgement → World → World
-ready session acks w =
-    let all = acknowledged_all session w.table.subscriptions acks in
-    record { round = w.round; table = record { subscriptions = all.subscriptions; sessions = without_note session w.table.sessions }; items = w.items }
-
 abbrev pub with_items : World → ItemsState → World
 with_items w items = record { round = w.round; table = w.table; items = items }
 
 -- the world after it
 abbrev pub beside : World → Beside → World
-beside w (CallsItems number asked) = with_items w (item_moves.moved w.items (on_items number asked)).state
+beside w (CallsItems number asked) = with_items w (items_asked w.items number asked)
 beside w (ShowsItems changed) = with_items w (item_moves.moved w.items (item_moves.Move.Show changed)).state
 beside w (Acknowledges session acks) = ready session acks w
 beside w (Asks asked) = asked_by w asked
@@ -120,14 +112,6 @@ world_met whose asked w (n ∷ ns) = world_met whose asked (met_if (is_meant who
 
 -- ---- a Publish request
 
--- the best of those that wait alone, or else all
-abbrev pub best_or_all : Option Rank → List ℕ → List ℕ
-best_or_all (Some rank) numbers = rank.number ∷ []
-best_or_all None numbers = numbers
-
-abbrev pub asked_numbers : World → List ℕ → List ℕ
-asked_numbers w numbers = best_or_all (first_of (waiting_of w.table.subscriptions numbers)) numbers
-
 abbrev pub asked_encounters : List ℕ → PublishCall → World → List Encounter
 asked_encounters [] asked w = Does w (TellsNone asked) ∷ []
 asked_encounters (n ∷ ns) asked w = Does w (Asks asked) ∷ all_meet None call.Publish (asked_by w asked) (asked_numbers w (n ∷ ns))
@@ -155,7 +139,7 @@ made_scene false number session settings enabled w =
     scene (with_call w.round number (call.Create false settings enabled)) (unborn session) (part_at session w.table.sessions) w.items
 
 -- the items are called, and their subscription sees the variables that it had before
-abbrev pub served_encounters : ℕ → ItemsCall → World → Option Vars → List Encounter
+abbrev pub served_encounters : ℕ → Option ItemsCall → World → Option Vars → List Encounter
 served_encounters number asked w None = []
 served_encounters number asked w (Some vars) =
     let b = CallsItems number asked in

@@ -1,6 +1,6 @@
 -- The calls of the items that any calls come to: what clients ask of the items of a subscription, what the rows of
 -- subscriptions take of their items and end of them, and the values that are shown.
-use Rattle.std.specs.Prelude.{◌≡◌, List, [], ◌∷◌, ◌++◌, if◌then◌else◌}
+use Rattle.std.specs.Prelude.{◌≡◌, List, [], ◌∷◌, ◌++◌, if◌then◌else◌, Some}
 use Rattle.std.specs.List.{flat_map}
 use Rattle.ua_types.specs.Configuration.{Configuration}
 use Rattle.ua_state_table.specs.StateTable.{actions_of}
@@ -46,7 +46,7 @@ row_calls r c = actions_calls c (actions_of r)
 -- those of an encounter: of the row that fires, or what is asked of the items themselves
 abbrev pub calls_at : Encounter → List item_moves.Move
 calls_at (Meets c) = row_calls (row_of c) c
-calls_at (Does w (CallsItems number asked)) = on_items number asked ∷ []
+calls_at (Does w (CallsItems number (Some asked))) = on_items number asked ∷ []
 calls_at (Does w (ShowsItems changed)) = item_moves.Move.Show changed ∷ []
 calls_at (Does w b) = []
 

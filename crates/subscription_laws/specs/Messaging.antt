@@ -39,9 +39,9 @@ abbrev pub messages_for : ℕ → List Made → List KeptMessage
 messages_for number [] = []
 messages_for number (m ∷ ms) = if m.subscription == number then m.message ∷ messages_for number ms else messages_for number ms
 
-abbrev pub IsAmong : KeptMessage → List KeptMessage → Type 0
-IsAmong m [] = ⊥
-IsAmong m (x ∷ xs) = (m ≡ x) ⊎ IsAmong m xs
+abbrev pub IsAmong : {A : Type 0} → A → List A → Type 0
+IsAmong x [] = ⊥
+IsAmong x (y ∷ ys) = (x ≡ y) ⊎ IsAmong x ys
 
 abbrev pub AreAmong : List KeptMessage → List KeptMessage → Type 0
 AreAmong [] made = ⊤

@@ -1,12 +1,15 @@
 -- The messages that a row makes, and their numbers (IEC 62541-4, 5.13: SequenceNumber and the retransmission queue).
-use Rattle.std.specs.Prelude.{◌≡◌, ⊤, ℕ, Bool, true, false, List, [], ◌∷◌, drop, fold, if◌then◌else◌}
+use Rattle.std.specs.Prelude.{◌≡◌, ⊤, ℕ, Bool, true, false, List, [], ◌∷◌, fold, if◌then◌else◌}
+use Rattle.ua_state_table.specs.StateTable.{actions_of}
+use Rattle.ua_state_table.specs.declared.action.Action.{Action}
+use Rattle.ua_state_table.specs.declared.action.Action.TheVariants.{SendNotifications}
 use Rattle.ua_state_table.specs.declared.row.RowId.{RowId}
-use Rattle.ua_state_table.specs.declared.row.RowId.TheVariants.{C2, N2, N3, L1, K2, G5, G6, G8, G10}
+use Rattle.ua_state_table.specs.declared.row.RowId.TheVariants.{C2, G5, G6, G8, G10}
 use Rattle.ua_subscriptions.specs.declared.messages.KeptMessage.{KeptMessage}
 use Rattle.ua_subscriptions.specs.declared.publish_call.PublishCall.{PublishCall}
 use Rattle.ua_subscriptions.specs.declared.subscription.Subscription.{Subscription}
 use Rattle.ua_subscriptions.specs.Messages.{number_after}
-use Rattle.ua_subscriptions.specs.Scenes.{Scene, Noting, noting, note_sent, with_asked, message_made, kept_with, started, dequeued, life_reset}
+use Rattle.ua_subscriptions.specs.Scenes.{Scene, Noting, noting, note_sent, with_asked, message_made, kept_with, done}
 
 -- the message that is made next
 abbrev pub note_made : Noting → KeptMessage
@@ -39,13 +42,14 @@ pub record IsMade (bound : ℕ) (before after : Subscription) (made : List KeptM
   pub number : after.number ≡ last_number before.number made
   pub kept : after.kept ≡ all_kept bound before.kept made
 
--- the messages that a row makes; those of the four rows that send notifications
+-- the messages that a row makes: those of its action that sends notifications, after the actions before it
+abbrev pub messages_by : Scene → List Action → List KeptMessage
+messages_by c [] = []
+messages_by c (SendNotifications ∷ actions) = notes_made c.part.requests (noting c.round c.subscription c.items)
+messages_by c (action ∷ actions) = messages_by (done c action) actions
+
 abbrev pub messages_of : RowId → Scene → List KeptMessage
-messages_of N2 c = notes_made c.part.requests (noting c.round (life_reset c.subscription) c.items)
-messages_of L1 c = notes_made c.part.requests (noting c.round (life_reset c.subscription) c.items)
-messages_of N3 c = notes_made (drop 1 c.part.requests) (noting (dequeued c.round c.part).round (started c.round (life_reset c.subscription)) c.items)
-messages_of K2 c = notes_made (drop 1 c.part.requests) (noting (dequeued c.round c.part).round (started c.round (life_reset c.subscription)) c.items)
-messages_of r c = []
+messages_of r c = messages_by c (actions_of r)
 
 -- a row begins or ends a subscription
 abbrev pub begins_or_ends : RowId → Bool

@@ -39,6 +39,11 @@ on_items number (ItemsCall.SetMode nodes clock mode numbers) = item_moves.Move.S
 on_items number (ItemsCall.Link triggering add remove) = item_moves.Move.Link number triggering add remove
 on_items number (ItemsCall.Delete numbers) = item_moves.Move.Delete number numbers
 
+-- the items once they were called; a request that is refused calls nothing
+abbrev pub items_asked : ItemsState → ℕ → Option ItemsCall → ItemsState
+items_asked items number None = items
+items_asked items number (Some asked) = (item_moves.moved items (on_items number asked)).state
+
 -- a call: of `Subscriptions`; of the items of a subscription, of which `Subscriptions` is told then; or the items are shown what was written
 pub data Move : Type 0 where
   Create : (clock : Moment) → (session : ℕ) → Settings → (enabled : Bool) → Move
@@ -51,7 +56,7 @@ pub data Move : Type 0 where
   EndSession : (clock : Moment) → (session : ℕ) → (deleting : Bool) → Move
   Shutdown : (clock : Moment) → Move
   Gone : (conn : ℕ) → Move
-  Items : (clock : Moment) → (number : ℕ) → ItemsCall → Move
+  Items : (clock : Moment) → (number : ℕ) → Option ItemsCall → Move
   Show : List Change → Move
 
 -- the subscriptions and the items, and what was done so far: the rows that fired, and what was answered to Publish requests
@@ -73,10 +78,10 @@ ran_by before s = record {
 }
 
 -- where the subscription has these variables, its items are served, and the row sees both
-abbrev pub items_ran : Moment → ℕ → ItemsCall → Ran → Option Vars → Ran
+abbrev pub items_ran : Moment → ℕ → Option ItemsCall → Ran → Option Vars → Ran
 items_ran clock number asked before None = before
 items_ran clock number asked before (Some vars) =
-    ran_by before (told before.subs (met (world_of before.subs (item_moves.moved before.items (on_items number asked)).state clock) number (call.Items vars)))
+    ran_by before (told before.subs (met (world_of before.subs (items_asked before.items number asked) clock) number (call.Items vars)))
 
 -- what a call leaves: what its contract says
 abbrev pub moved : Ran → Move → Ran

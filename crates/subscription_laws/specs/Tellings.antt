@@ -1,20 +1,22 @@
 -- What the answers to Publish requests tell, one after the other (IEC 62541-4, "Publish"): messages with notifications, keep-alives,
 -- notes of time-outs, and faults.
-use Rattle.std.specs.Prelude.{◌≡◌, ⊤, ℕ, Bool, false, nat_le, length, List, [], ◌∷◌, ◌++◌, map, drop, Option, Some, None, if◌then◌else◌}
+use Rattle.std.specs.Prelude.{◌≡◌, ⊤, ℕ, Bool, false, nat_le, length, List, [], ◌∷◌, ◌++◌, map, Option, Some, None, if◌then◌else◌}
 use Rattle.std.specs.List.{flat_map}
 use Rattle.std.specs.Map.{values_of}
 use Rattle.ua_types.specs.declared.moment.Moment.{Moment}
 use Rattle.ua_types.specs.declared.status.Status.{Status}
 use Rattle.ua_types.specs.declared.status.TheConstants.Status as status
 use Rattle.server_messages.specs.declared.reply.Reply.{Reply}
+use Rattle.ua_state_table.specs.StateTable.{actions_of}
+use Rattle.ua_state_table.specs.declared.action.Action.{Action}
+use Rattle.ua_state_table.specs.declared.action.Action.TheVariants.{Enqueue, SendNotifications, SendKeepAlive}
 use Rattle.ua_state_table.specs.declared.row.RowId.{RowId}
-use Rattle.ua_state_table.specs.declared.row.RowId.TheVariants.{N1, N2, N3, N4, L1, L2, K1, K2, K3}
 use Rattle.ua_subscriptions.specs.Answers.{number_of, published_of, refused_of}
 use Rattle.ua_subscriptions.specs.Ending.{all_requests}
 use Rattle.ua_subscriptions.specs.Firing.{row_of}
 use Rattle.ua_subscriptions.specs.Messages.{number_after, keep_alive_message, timeout_message}
 use Rattle.ua_subscriptions.specs.Queues.{first_of}
-use Rattle.ua_subscriptions.specs.Scenes.{Scene, Noting, noting, subscription_noted, note_sent, with_asked, started, dequeued, life_reset}
+use Rattle.ua_subscriptions.specs.Scenes.{Scene, Noting, noting, subscription_noted, note_sent, with_asked, done}
 use Rattle.ua_subscriptions.specs.Tables.{World, part_at}
 use Rattle.subscription_laws.specs.Encounters.{Beside, TellsNote, TellsNone, Refuses, LeavesAll, Encounter, Meets, Does, encounters}
 use Rattle.ua_subscriptions.specs.declared.messages.KeptMessage.{KeptMessage}
@@ -67,14 +69,15 @@ messages_in (t ∷ ts) = message_in t.told ++ messages_in ts
 abbrev pub refused_told : Moment → Status → PublishCall → Telling
 refused_told clock code asked = record { clock = clock; call = asked; kept = []; told = Refused code }
 
-abbrev pub too_many_told : Moment → Option PublishCall → List Telling
-too_many_told clock None = []
-too_many_told clock (Some asked) = refused_told clock status.BAD_TOO_MANY_PUBLISH_REQUESTS asked ∷ []
+-- a request is told it, if there is one
+abbrev pub if_asked : Moment → List KeptMessage → Told → Option PublishCall → List Telling
+if_asked clock kept told None = []
+if_asked clock kept told (Some asked) = record { clock = clock; call = asked; kept = kept; told = told } ∷ []
 
 -- a request is queued; where as many wait as may, the oldest is answered that they are too many
 abbrev pub queued_told : Option PublishCall → Round → SessionSubscriptions → List Telling
 queued_told None round part = []
-queued_told (Some asked) round part = if nat_le round.bounds.publish_queue (length part.requests) then too_many_told round.clock (first_of part.requests) else []
+queued_told (Some asked) round part = if nat_le round.bounds.publish_queue (length part.requests) then if_asked round.clock [] (Refused status.BAD_TOO_MANY_PUBLISH_REQUESTS) (first_of part.requests) else []
 
 -- a message with notifications; it is kept then
 abbrev pub note_told : PublishCall → Noting → Telling
@@ -90,25 +93,17 @@ abbrev pub notes_told : Option PublishCall → List PublishCall → Noting → L
 notes_told None calls n = []
 notes_told (Some asked) calls n = note_told asked n ∷ rest_told calls (note_sent n)
 
--- a keep-alive, with the number that comes next
-abbrev pub alive_told : Option PublishCall → Scene → List Telling
-alive_told None c = []
-alive_told (Some asked) c =
-    record { clock = c.round.clock; call = asked; kept = c.subscription.kept; told = KeepAlive c.round.own (number_after c.subscription.number) } ∷ []
+-- what a row tells: by its action that queues the request, sends notifications, or sends a keep-alive, with the number that comes next; after
+-- the actions before it
+abbrev pub told_by : Scene → List Action → List Telling
+told_by c [] = []
+told_by c (Enqueue ∷ actions) = queued_told c.round.asked c.round c.part
+told_by c (SendNotifications ∷ actions) = notes_told c.round.asked c.part.requests (noting c.round c.subscription c.items)
+told_by c (SendKeepAlive ∷ actions) = if_asked c.round.clock c.subscription.kept (KeepAlive c.round.own (number_after c.subscription.number)) c.round.asked
+told_by c (action ∷ actions) = told_by (done c action) actions
 
--- rows N1 and K1 queue the request; N2, L1, N3 and K2 send notifications; N4, L2 and K3 a keep-alive; at a timer the oldest
--- request that waits is answered
 abbrev pub row_told : RowId → Scene → List Telling
-row_told N1 c = queued_told c.round.asked c.round c.part
-row_told K1 c = queued_told c.round.asked c.round c.part
-row_told N2 c = notes_told c.round.asked c.part.requests (noting c.round (life_reset c.subscription) c.items)
-row_told L1 c = notes_told c.round.asked c.part.requests (noting c.round (life_reset c.subscription) c.items)
-row_told N3 c = notes_told (first_of c.part.requests) (drop 1 c.part.requests) (noting (dequeued c.round c.part).round (started c.round (life_reset c.subscription)) c.items)
-row_told K2 c = notes_told (first_of c.part.requests) (drop 1 c.part.requests) (noting (dequeued c.round c.part).round (started c.round (life_reset c.subscription)) c.items)
-row_told N4 c = alive_told (first_of c.part.requests) c
-row_told K3 c = alive_told (first_of c.part.requests) c
-row_told L2 c = alive_told c.round.asked c
-row_told r c = []
+row_told r c = told_by c (actions_of r)
 
 -- ---- any call
 

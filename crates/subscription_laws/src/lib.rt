@@ -44,16 +44,17 @@ ghost use Rattle.ua_subscriptions.specs.Making.{kept_at, republished};
 ghost use Rattle.ua_subscriptions.specs.Messages.{number_after, keep_alive_message};
 ghost use Rattle.subscription_laws.specs.Messaging.{messages_for, run_made, IsAmong, AreNotes, AreItsMessages};
 ghost use Rattle.subscription_laws.specs.Numbering.{AreNumbered, IsMade, messages_of, begins_or_ends};
-ghost use Rattle.subscription_laws.specs.Precedence.{precedence, AreBestFirst};
-ghost use Rattle.ua_subscriptions.specs.Ranks.{is_waiting, is_due, rank_cmp, due_of, due_numbers};
+ghost use Rattle.subscription_laws.specs.Precedence.{precedence, ComesToTheBest, ComesBestFirst};
+ghost use Rattle.ua_subscriptions.specs.Ranks.{number_of as rank_number, is_waiting, waiting_of, is_due, rank_cmp, due_numbers};
 ghost use Rattle.subscription_laws.specs.Requests.{Name, such_answers, such_waiting, such_came};
-ghost use Rattle.subscription_laws.specs.Runs.{Move, run, moved, start};
+ghost use Rattle.subscription_laws.specs.Runs.{Move, Ran, run, moved, start};
 ghost use Rattle.ua_subscriptions.specs.Scenes.{Scene, row_done};
 ghost use Rattle.ua_subscriptions.specs.SubscriptionCalls.{world_of};
 ghost use Rattle.subscription_laws.specs.Standings.{Counts, standing_in, row_counts, IsAsked};
 ghost use Rattle.ua_subscriptions.specs.Tables.{part_at, subscription_at};
 ghost use Rattle.subscription_laws.specs.Marks.{MarksWhatFollows};
 ghost use Rattle.subscription_laws.specs.MessageContents.{all_taken, AreMadeOf, entries_sent};
+ghost use Rattle.ua_subscription_messages.specs.declared.publishing.SubscriptionAcknowledgement.{SubscriptionAcknowledgement};
 ghost use Rattle.ua_subscriptions.specs.declared.call.Call.TheVariants.{Publish};
 ghost use Rattle.ua_subscriptions.specs.declared.publish_call.PublishCall.{PublishCall};
 ghost use Rattle.ua_subscriptions.specs.declared.ranks.Rank.{Rank};
@@ -70,11 +71,17 @@ pub fn the_highest_priority_comes_first()
 /// The timers that are due come in that order: each before the next. Every subscription that is due is among them, and once a
 /// time comes, whatever was called, each of them is concerned, so that none is passed over, and no other.
 pub fn the_due_come_best_first()
-    ensures in_order { (clock : Moment) (subscriptions : List (ℕ × Subscription)) → AreBestFirst (due_of clock subscriptions) }
     ensures none_passed_over { (clock : Moment) (subscriptions : List (ℕ × Subscription)) (number : ℕ) (s : Subscription) →
         subscription_at number subscriptions ≡ Some s → is_due clock s ≡ true → is_listed number (due_numbers clock subscriptions) ≡ true }
-    ensures each_fires { (config : Configuration) (moves : List Move) (clock : Moment) → let r = run config moves in
-        map concern.number_of (concerned r (Move.Timers clock)) ≡ due_numbers clock r.subs.table.subscriptions }
+    ensures each_fires { (config : Configuration) (moves : List Move) (clock : Moment) → ComesBestFirst (run config moves) clock }
+{}
+
+/// The subscriptions of a session that wait for a Publish request stand in that order, too, and each of them is among them. A request
+/// comes to the first of them, and to no other, unless its answer is the note of a time-out.
+pub fn the_waiting_come_best_first()
+    ensures none_passed_over { (subscriptions : List (ℕ × Subscription)) (numbers : List ℕ) (number : ℕ) (s : Subscription) →
+        is_listed number numbers ≡ true → subscription_at number subscriptions ≡ Some s → is_waiting s ≡ true → is_listed number (map rank_number (waiting_of subscriptions numbers)) ≡ true }
+    ensures asked { (r : Ran) (clock : Moment) (session : ℕ) (asked : PublishCall) (acks : List SubscriptionAcknowledgement) → ComesToTheBest r clock session asked acks }
 {}
 
 /// Exactly one row fires of what comes to a steady subscription, the one that is chosen.

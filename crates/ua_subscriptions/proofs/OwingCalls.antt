@@ -14,7 +14,6 @@ use Rattle.ua_subscriptions.specs.declared.call.Call.{Call}
 use Rattle.ua_subscriptions.specs.declared.call.Call.TheVariants.{Create, Delete, Modify, Publish, Republish, SessionEnd, Shutdown, Timer}
 use Rattle.ua_subscriptions.specs.declared.making.Revised.{Revised}
 use Rattle.ua_subscriptions.specs.declared.publish_call.PublishCall.{PublishCall}
-use Rattle.ua_subscriptions.specs.declared.ranks.Rank.{Rank}
 use Rattle.ua_subscriptions.specs.declared.session_part.SessionSubscriptions.{SessionSubscriptions}
 use Rattle.ua_subscriptions.specs.declared.session_part.TimeoutNote.{TimeoutNote}
 use Rattle.ua_subscriptions.specs.declared.settings.Settings.{Settings}
@@ -24,9 +23,8 @@ use Rattle.ua_subscriptions.specs.Firing.{fired}
 use Rattle.ua_subscriptions.specs.Making.{refused_one, added, with_number, modified, republished, timed, kept_at}
 use Rattle.ua_subscriptions.specs.Named.{Outcome, outcome, is_own, own_met, named_one, named_all, all_refused, without_requests, has_none, deleted}
 use Rattle.ua_subscriptions.specs.Owing.{AllBy, QueuedBy, RepliedTo, OwesOnly}
-use Rattle.ua_subscriptions.specs.Publishing.{acknowledged_all, note_of, part_without_note, with_results, asked_by, met_by_best, answered_to, answered_by, published}
-use Rattle.ua_subscriptions.specs.Queues.{first_of}
-use Rattle.ua_subscriptions.specs.Ranks.{due_numbers, waiting_of}
+use Rattle.ua_subscriptions.specs.Publishing.{acknowledged_all, note_of, part_without_note, with_results, asked_by, asked_numbers, answered_to, answered_by, published}
+use Rattle.ua_subscriptions.specs.Ranks.{due_numbers}
 use Rattle.ua_subscriptions.specs.Scenes.{scene}
 use Rattle.ua_subscriptions.specs.Subscriptions.{unborn, no_part}
 use Rattle.ua_subscriptions.specs.Tables.{World, with_call, all_met, part_at}
@@ -106,15 +104,11 @@ module _ (Such : ℕ → Type 0) where
 
   -- ---- Publish
 
-  best_only : (best : Option Rank) (numbers : List ℕ) (w : World) → OwesOnly Such w → OwesOnly Such (met_by_best best numbers w)
-  best_only (Some rank) numbers w h = met_only Such w rank.number Publish h
-  best_only None numbers w h = all_met_only Such Publish numbers w h
-
   answered_to_only : (numbers : List ℕ) (call : PublishCall) (w : World) → Such call.conn → OwesOnly Such w → OwesOnly Such (answered_to numbers call w)
   unfolding answered_to
   answered_to_only [] call w a h = record { round = record { replies = one_more Such w.round.replies _ h.round.replies a; asked = h.round.asked }; queued = h.queued }
   answered_to_only (n ∷ ns) call w a h =
-      best_only (first_of (waiting_of w.table.subscriptions (n ∷ ns))) (n ∷ ns) (asked_by w call) (record { round = record { replies = h.round.replies; asked = a }; queued = h.queued })
+      all_met_only Such Publish (asked_numbers w (n ∷ ns)) (asked_by w call) (record { round = record { replies = h.round.replies; asked = a }; queued = h.queued })
 
   answered_by_only : (note : Option TimeoutNote) (session : ℕ) (call : PublishCall) (w : World) → Such call.conn → OwesOnly Such w → OwesOnly Such (answered_by note session call w)
   answered_by_only (Some note) session call w a h = record { round = record { replies = one_more Such w.round.replies _ h.round.replies a; asked = h.round.asked }; queued = h.queued }

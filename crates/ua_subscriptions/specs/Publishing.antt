@@ -22,7 +22,7 @@ use Rattle.ua_subscriptions.specs.Queues.{first_of}
 use Rattle.ua_subscriptions.specs.Ranks.{waiting_of}
 use Rattle.ua_subscriptions.specs.Scenes.{with_reply}
 use Rattle.ua_subscriptions.specs.Subscriptions.{is_of}
-use Rattle.ua_subscriptions.specs.Tables.{TableState, World, met, all_met, part_at, subscription_at}
+use Rattle.ua_subscriptions.specs.Tables.{TableState, World, all_met, part_at, subscription_at}
 
 -- ---- acknowledgements
 
@@ -96,14 +96,18 @@ with_round w round = record w { round = round }
 abbrev pub asked_by : World → PublishCall → World
 asked_by w call = let round : Round = w.round in with_round w (record round { asked = Some call })
 
-abbrev pub met_by_best : Option Rank → List ℕ → World → World
-met_by_best (Some rank) numbers w = met w rank.number Publish
-met_by_best None numbers w = all_met Publish w numbers
+-- the best of some subscriptions that waits alone, or else all of them
+abbrev pub best_or_all : Option Rank → List ℕ → List ℕ
+best_or_all (Some rank) numbers = rank.number ∷ []
+best_or_all None numbers = numbers
 
--- the best of some subscriptions that waits meets a request alone, or else all of them do
+abbrev pub asked_numbers : World → List ℕ → List ℕ
+asked_numbers w numbers = best_or_all (first_of (waiting_of w.table.subscriptions numbers)) numbers
+
+-- they meet a request
 unfoldable pub answered_to : List ℕ → PublishCall → World → World
 answered_to [] call w = with_round w (with_reply w.round (refused_of w.round.clock status.BAD_NO_SUBSCRIPTION call))
-answered_to (n ∷ ns) call w = met_by_best (first_of (waiting_of w.table.subscriptions (n ∷ ns))) (n ∷ ns) (asked_by w call)
+answered_to (n ∷ ns) call w = all_met Publish (asked_by w call) (asked_numbers w (n ∷ ns))
 
 abbrev pub answered_by : Option TimeoutNote → ℕ → PublishCall → World → World
 answered_by (Some note) session call w = with_round w (note_told w.round call note)
@@ -112,10 +116,14 @@ answered_by None session call w = answered_to (part_at session w.table.sessions)
 abbrev pub with_results : PublishCall → List Status → PublishCall
 with_results call results = record call { results = results }
 
--- acknowledgements are applied; then the oldest note is told, or else the session's subscriptions see the request
+-- acknowledgements are applied, and the oldest note is taken
+abbrev pub ready : ℕ → List SubscriptionAcknowledgement → World → World
+ready session acks w =
+    let table : TableState = w.table in
+    record w { table = record { subscriptions = (acknowledged_all session table.subscriptions acks).subscriptions; sessions = without_note session table.sessions } }
+
+-- the oldest note is told, or else the session's subscriptions see the request
 unfoldable pub published : ℕ → PublishCall → List SubscriptionAcknowledgement → World → World
 published session call acks w =
     let table : TableState = w.table in
-    let all = acknowledged_all session table.subscriptions acks in
-    answered_by (note_of session table.sessions) session (with_results call all.results)
-    (record w { table = record { subscriptions = all.subscriptions; sessions = without_note session table.sessions } })
+    answered_by (note_of session table.sessions) session (with_results call (acknowledged_all session table.subscriptions acks).results) (ready session acks w)

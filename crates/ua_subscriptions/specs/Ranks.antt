@@ -1,10 +1,9 @@
 -- Which subscription comes first (IEC 62541-4, 5.13: the priority of a subscription).
-use Rattle.std.specs.Prelude.{ℕ, ◌&&◌, Bool, true, false, int_le, List, [], map, fold, Option, Some, None, if◌then◌else◌}
+use Rattle.std.specs.Prelude.{ℕ, ◌&&◌, Bool, int_le, List, [], map, fold, Option, Some, None, if◌then◌else◌}
 use Rattle.std.specs.BTreeSet.{insert_key}
 use Rattle.std.specs.List.{list_any}
 use Rattle.std.specs.declared.cmp.Ordering.{Ordering}
-use Rattle.ua_state_table.specs.declared.state.State.{State}
-use Rattle.ua_state_table.specs.declared.state.State.TheVariants.{Closed, Normal, Late, KeepAlive}
+use Rattle.ua_state_table.specs.Steady.{waits_in}
 use Rattle.ua_types.specs.declared.moment.Moment.{Moment}
 use Rattle.ua_subscriptions.specs.contracts.ranks.RankOrd.TheImpl as order
 use Rattle.ua_subscriptions.specs.declared.ranks.Rank.{Rank}
@@ -27,12 +26,6 @@ with_rank ranks None = ranks
 with_rank ranks (Some rank) = insert_key rank_cmp ranks rank
 
 -- ---- those that wait
-
-abbrev pub waits_in : State → Bool → Bool
-waits_in Late left = true
-waits_in Normal left = left
-waits_in KeepAlive left = false
-waits_in Closed left = false
 
 -- a subscription waits for a request: it is late, or values are left over and wanted
 abbrev pub is_waiting : Subscription → Bool

@@ -1,5 +1,6 @@
 use Rattle.server_laws.proofs.FateLemmas.{have_one_fate, stand_in_messages, marks_losses}
 use Rattle.server_laws.proofs.MessageLemmas.{numbers_messages, gives_first_bytes}
+use Rattle.server_laws.proofs.SentLemmas.{answers_sent}
 use Rattle.server_laws.proofs.losses.Goals as goal
 
 pub returns : goal.returns
@@ -9,4 +10,5 @@ returns c = record {
   overflow_marks = marks_losses;
   message_numbers = numbers_messages;
   republish_gives_the_first_bytes = gives_first_bytes;
+  answers_are_sent = answers_sent;
 }

@@ -1,4 +1,4 @@
-use Rattle.server_laws.proofs.TableLemmas.{one_row, none_waits, exact_time_out, none_times_out_beside, none_is_skipped, sessions_apart, answers_stay}
+use Rattle.server_laws.proofs.TableLemmas.{one_row, none_waits, exact_time_out, none_times_out_beside, none_is_skipped, sessions_apart, answers_stay, best_first}
 use Rattle.server_laws.proofs.ShutLemmas.{items_owned}
 use Rattle.server_laws.proofs.table.Goals as goal
 
@@ -11,5 +11,6 @@ returns c = record {
   no_keep_alive_skipped = none_is_skipped;
   sessions_apart = sessions_apart;
   answers_in_their_sessions = answers_stay;
+  best_first = best_first;
   items_have_subscriptions = items_owned;
 }
