@@ -1,10 +1,10 @@
 #!/usr/bin/env python3
-"""Refuses each growth of memory in the lines `again OBJECT` of worked_examples in turn, and sees that they print what they print without.
+"""Refuses each growth of memory in the lines `again OBJECT` of library_examples in turn, and sees that they print what they print without.
 
 usage: scripts/checks/made_again.py PROGRAM
 
-PROGRAM is worked_examples as scripts/tools/build_unproved.py builds it. Such a line makes calls on an object, each of them again where memory ran
-out, so whichever growth is refused, it prints what stands in crates/worked_examples/stdout: the object was as before, and the second call
+PROGRAM is library_examples as scripts/tools/build_unproved.py builds it. Such a line makes calls on an object, each of them again where memory ran
+out, so whichever growth is refused, it prints what stands in crates/library_examples/stdout: the object was as before, and the second call
 gave what the first would have given; or `server` and `subscriptions` were out of memory for good. Where the growth was one of the
 line's own, outside of the calls, nothing is printed, and the exit status is 1.
 """
@@ -15,13 +15,13 @@ import time
 
 from lib import refusals
 
-WORKED = os.path.join(refusals.TOP, "crates", "worked_examples")
+EXAMPLES = os.path.join(refusals.TOP, "crates", "library_examples")
 LINE = "$ again "
 
 
 def due():
     """What each object's line prints."""
-    with open(os.path.join(WORKED, "stdout"), encoding="utf-8") as file:
+    with open(os.path.join(EXAMPLES, "stdout"), encoding="utf-8") as file:
         parts = file.read().split(LINE)[1:]
     found = {}
     for part in parts:

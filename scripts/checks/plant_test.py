@@ -258,18 +258,26 @@ def url(program, nodes, folder):
 
 
 def stop_file(program, nodes, folder):
-    """Once the file is there, clients hear that the server shuts down, and the program ends well."""
+    """Once the file is there, clients hear that the server shuts down, a Publish request that waits is answered so, and the program ends well."""
     path = os.path.join(folder, 'stop')
     server = Server(program, nodes, '--stop-file', path)
     try:
         sock, _ = opened(server.port)
         silent = connect(server.port)
+        session = Session(f'opc.tcp://127.0.0.1:{server.port}', patience=PATIENCE)
+        session.call('CreateSubscription', interval=60_000.0, keep_alive=10, lifetime=60, most=0, enabled=True)
+        waiting = session.send('Publish', acknowledged=[])
         time.sleep(0.5)
         assert server.is_running(), server.lines
         with open(path, 'w', encoding='utf-8'):
             pass
         assert error_of(read_all(sock)) == BAD_SHUTDOWN
         assert error_of(read_all(silent)) == BAD_SHUTDOWN
+        try:
+            session.connection.answer(waiting, 'PublishResponse')
+            raise AssertionError('no Bad_Shutdown')
+        except Refused as refused:
+            assert refused.code == BAD_SHUTDOWN, refused
         assert server.wait() == 0, server.lines
     finally:
         server.end()

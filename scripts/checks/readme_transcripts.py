@@ -18,7 +18,7 @@ prints, on standard output and standard error.
 
 A page that isn't true is run again, up to three times in all: on a busy machine a client may wait too long for its answer.
 It sees too that the examples of crates/uaserver/data are those that `worked_examples` runs in the gate, where they are
-called example_NAME.scenario. The exit status is 0 where all is true. Nothing but Python's own library is needed.
+called example_NAME.scenario, and that the files of `library_examples` are its too. The exit status is 0 where all is true. Nothing but Python's own library is needed.
 """
 import filecmp
 import glob
@@ -158,12 +158,14 @@ def faults_of(page, program):
 
 
 def examples_apart():
-    """How many examples differ from their copy in the gate, or have none."""
+    """How many files of data differ from their copy, or have none."""
+    worked = os.path.join(TOP, 'crates/worked_examples/data')
+    copies = [(it, os.path.join(worked, 'example_' + os.path.basename(it))) for it in glob.glob(os.path.join(TOP, 'crates/uaserver/data/*.scenario'))]
+    copies += [(os.path.join(worked, os.path.basename(it)), it) for it in glob.glob(os.path.join(TOP, 'crates/library_examples/data/*.*'))]
     faults = 0
-    for example in sorted(glob.glob(os.path.join(TOP, 'crates/uaserver/data/*.scenario'))):
-        copy = os.path.join(TOP, 'crates/worked_examples/data/example_' + os.path.basename(example))
-        if not os.path.isfile(copy) or not filecmp.cmp(example, copy, shallow=False):
-            print(f'WRONG {copy} is no copy of {example}')
+    for first, copy in sorted(copies):
+        if not os.path.isfile(copy) or not filecmp.cmp(first, copy, shallow=False):
+            print(f'WRONG {copy} is no copy of {first}')
             faults += 1
     return faults
 

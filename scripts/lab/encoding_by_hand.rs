@@ -1,8 +1,8 @@
-//! The encoding of three lists, written by hand in plain Rust: what the benchmark `encoding` of `worked_examples` is
+//! The encoding of three lists, written by hand in plain Rust: what the benchmark `encoding` of `library_examples` is
 //! compared with (docs/PERFORMANCE.md).
 //!
 //! It has the same types and checks, and the same lists. Build it with `rustc --edition 2021 -O encoding_by_hand.rs`, and
-//! run it by turns with `rt run -- benchmark encoding 5000` in crates/worked_examples.
+//! run it by turns with `rt run -- benchmark encoding 5000` in crates/library_examples.
 
 use std::hint::black_box;
 use std::time::Instant;

@@ -1,5 +1,5 @@
 //! Answers of services, written by hand in plain Rust: what the benchmarks `browse`, `history` and `publish` of
-//! `worked_examples` are compared with (docs/PERFORMANCE.md).
+//! `library_examples` are compared with (docs/PERFORMANCE.md).
 //!
 //! Each has the same data, in the containers that one would take in Rust, and writes the same answer, with its chunk's
 //! header, into a new vector; `publish` keeps the message, and `again` copies it into its answer. The requests aren't read, which

@@ -37,19 +37,11 @@
 //! - `number HEX`: the number of the id that a body begins with, 0 where that is none of the standard's;
 //! - `node_id TEXT`: the id that a text says, and how it is written, or what is wrong with the text.
 //!
-//! Of want of memory, which none of the lines meets:
-//!
-//! - `again OBJECT`: what calls on it give, each of which is made again where memory ran out ([`again`]).
-//!
-//! And `benchmark NAME ROUNDS` ([`benchmarks`]), whose counts are printed; the times go to standard error.
-//!
 //! What is to be printed stands in `stdout`: written by hand from the standard's layouts and the state table, and never
 //! from what was printed. The names are put in by `scripts/authoring/name_messages.py`, which knows the standard and none of this code.
 #![tactic(auto)]
 
-mod again;
 mod behind;
-mod benchmarks;
 mod endings;
 mod messages;
 mod names;
@@ -57,7 +49,6 @@ mod node_files;
 mod runs;
 mod state_table;
 
-use again::write_again;
 use behind::{named, write_behind};
 use encoding_examples::write_encoding;
 use endings::write_end;
@@ -77,13 +68,12 @@ use store_restoring::NoStores;
 use stream_taps::Tap;
 
 // The files of lines, in the order in which they are printed.
-const FILES: [&str; 6] = [
+const FILES: [&str; 5] = [
     "examples",
     "encoding",
     "conversations",
     "explained",
     "plant_cases",
-    "again",
 ];
 
 // Runs a command of the program, and gives what it prints.
@@ -148,7 +138,6 @@ fn write_command<R: Files + AllocGlobal + Net + RandomSource + Clock + Wait>(
     match words {
         ["uaserver"] => output.write_all(printed(rt, &[])?.as_slice()),
         ["state_table"] => write_table(output),
-        ["again", object] => write_again(rt, object, output),
         ["rows", nodes, scenario] => write_traced(rt, nodes, scenario, output),
         [part @ ("run" | "answers" | "last"), nodes, scenario] => {
             write_part(rt, part, nodes, scenario, output)
@@ -233,17 +222,11 @@ fn main(rt: HostRuntime) -> ExitCode {
     let Ok(line) = line_of(alloc, words.as_slice()) else {
         return ExitCode::FAILURE;
     };
-    if let Some(benchmark) = line.as_str().strip_prefix("benchmark ") {
-        return benchmarks::ended(benchmarks::run(&rt, benchmark));
-    }
     let Ok(printed) = transcript(&rt, line.as_str()) else {
         return ExitCode::FAILURE;
     };
     if rt.stdout().write_all(printed.as_slice()).is_err() {
         return ExitCode::FAILURE;
-    }
-    if line.is_empty() {
-        return benchmarks::ended(benchmarks::run_all(&rt));
     }
     ExitCode::SUCCESS
 }
