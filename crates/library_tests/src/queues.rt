@@ -6,7 +6,7 @@ use std::test::*;
 use ua_item_queue::*;
 
 // The values 1 to 6, sampled into a queue.
-fn sampled(alloc: Global, size: usize, is_oldest: bool) -> Result<ItemQueue<u32>, AllocError> {
+fn sampled(alloc: Global, size: u32, is_oldest: bool) -> Result<ItemQueue<u32>, AllocError> {
     let mut queue = ItemQueue::new(alloc, size.max(1), is_oldest)?;
     for value in 1..7u32 {
         queue.sample(value)?;
@@ -95,7 +95,7 @@ fn what_was_sent_waits_no_more(rt: HostRuntime) -> Result<(), Fail> {
 // A queue takes memory for what waits, not for its size; and after a burst that was sent it goes on as before.
 #[test]
 fn a_queue_grows_as_it_fills(rt: HostRuntime) -> Result<(), Fail> {
-    for size in [7, usize::MAX] {
+    for size in [7, u32::MAX] {
         let mut queue = sampled(rt.alloc(), size, true)?;
         queue.send(6);
         holds(&rt, "the last one", queue.last() == Some(&6));

@@ -24,7 +24,7 @@ pub struct ItemQueue<T> {
     // The values that wait, the oldest first, and behind them the one that was queued last, where it waits no more.
     ring: HeapCircularBuffer<Entry<T>>,
     // How many values may wait: at least 1.
-    size: usize,
+    size: u32,
     // Whether the newest value of the ring waits no more, and is only kept.
     keeps_last: bool,
     // Which value is lost where the queue is full: the oldest one, or the newest.
@@ -42,7 +42,7 @@ impl<T> Model for ItemQueue<T> {
 impl<T: Drop> ItemQueue<T> {
     /// An empty queue of this size, at least 1, which loses its oldest value where it is full, or else
     /// its newest. It has one place.
-    pub fn new(alloc: Global, size: usize, discard_oldest: bool) -> Result<ItemQueue<T>, AllocError>
+    pub fn new(alloc: Global, size: u32, discard_oldest: bool) -> Result<ItemQueue<T>, AllocError>
         requires { 1 ≤ size }
         ensures { IfOk result (λ queue. queue ≡ record { entries = []; size = size; discard_oldest = discard_oldest; last = None }) }
     {
@@ -99,10 +99,15 @@ impl<T: Drop> ItemQueue<T> {
         ensures full { self.old.size ≤ length self.old.entries → IsOk result }
         ensures empty { self.old.entries ≡ [] → IsOk result }
     {
-        make_place(&mut self.ring, self.keeps_last, self.size)?;
+        make_place(&mut self.ring, self.keeps_last, self.size as usize)?;
         forget_kept(&mut self.ring, self.keeps_last);
         self.keeps_last = false;
-        sample_into(&mut self.ring, self.size, self.discard_oldest, value);
+        sample_into(
+            &mut self.ring,
+            self.size as usize,
+            self.discard_oldest,
+            value,
+        );
         Ok(())
     }
 
@@ -136,8 +141,13 @@ impl<T: Drop> ItemQueue<T> {
         ensures { self.new ≡ resized self.old size discard_oldest }
     {
         let size = size.places();
-        cut(&mut self.ring, &mut self.keeps_last, size, discard_oldest);
-        give_back(&mut self.ring, size);
+        cut(
+            &mut self.ring,
+            &mut self.keeps_last,
+            size as usize,
+            discard_oldest,
+        );
+        give_back(&mut self.ring, size as usize);
         self.size = size;
         self.discard_oldest = discard_oldest;
     }

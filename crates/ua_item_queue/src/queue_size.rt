@@ -6,7 +6,7 @@ use std::marker::Model;
 
 /// How many values a queue may hold: at least one. Contracts see the number.
 pub struct QueueSize {
-    places: usize,
+    places: u32,
 }
 
 impl Model for QueueSize {
@@ -19,7 +19,7 @@ impl Model for QueueSize {
 
 impl QueueSize {
     /// So many values.
-    pub fn new(places: usize) -> QueueSize
+    pub fn new(places: u32) -> QueueSize
         requires { 1 ≤ places }
         ensures { result ≡ places }
     {
@@ -27,7 +27,7 @@ impl QueueSize {
     }
 
     // So many values.
-    pub(crate) fn places(self) -> usize
+    pub(crate) fn places(self) -> u32
         ensures places { result ≡ self }
         ensures some { 1 ≤ result }
     {

@@ -12,7 +12,7 @@ ghost use Rattle.ua_subscription_messages.specs.DataChangeMessages.{with_notes};
 use crate::kinds::{Mode, Trigger};
 use crate::links::Links;
 use crate::preparing::Modification;
-use crate::releases::{Release, Releases};
+use crate::releases::Releases;
 use std::alloc::{AllocError, Global};
 use ua_binary::BorrowedDataValue;
 use ua_item_queue::{Entry, ItemQueue};
@@ -28,7 +28,7 @@ const OVERFLOW: u32 = 0x480;
 
 /// A monitored item: whose it is, what it watches, how, the values that wait, and the items that it triggers.
 ///
-/// What a message looks at is declared first, side by side.
+/// What a message looks at is declared first, side by side, and what is small before what is large: there are many items.
 pub struct Item {
     /// The number of its subscription.
     pub subscription: u32,
@@ -46,18 +46,18 @@ pub struct Item {
     /// ends when its queue is empty, and when its mode is set.
     pub released: bool,
 
+    /// Which changes are queued.
+    pub trigger: Trigger,
+
+    /// The number of the attribute that it watches, as 13 for the value.
+    pub attribute_id: u32,
+
     /// The values that wait, with both times as they were read, and the last one that was queued: none until the
     /// item is enabled first.
     pub queue: ItemQueue<DataValue>,
 
     /// The node that it watches.
     pub node_id: NodeId,
-
-    /// The number of the attribute that it watches, as 13 for the value.
-    pub attribute_id: u32,
-
-    /// Which changes are queued.
-    pub trigger: Trigger,
 
     /// The items that are linked to it.
     pub links: Links,
@@ -177,13 +177,10 @@ impl Item {
     pub(crate) fn add_releases(&self, releases: &mut Releases) -> Result<(), AllocError>
         ensures { OnOk result (releases.new ≡ with_releases releases.old (releases_of self.now)) }
     {
-        for number in self.links.numbers() {
-            releases.put(Release {
-                subscription: self.subscription,
-                number: *number,
-            })?;
+        match self.links.numbers() {
+            Some(numbers) => releases.put_all(self.subscription, numbers),
+            None => Ok(()),
         }
-        Ok(())
     }
 
     // Sees a value that was written, and adds what that releases. At an `Err`, which comes only where it queues the value, the

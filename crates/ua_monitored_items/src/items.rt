@@ -20,6 +20,7 @@ use crate::links::{Linked, Links};
 use crate::preparing::{Modification, Prepared};
 use crate::releases::Releases;
 use std::alloc::{AllocError, Global};
+use std::collections::BTreeSet;
 use std::marker::Model;
 use ua_item_queue::{ItemQueue, QueueSize};
 use ua_messages::ReadValueId;
@@ -206,7 +207,7 @@ impl Items {
             data_encoding: _,
         } = item_to_monitor;
         let size = revised_size(self.longest, parameters.queue_size);
-        let queue = ItemQueue::new(alloc, size as usize, parameters.discard_oldest)?;
+        let queue = ItemQueue::new(alloc, size, parameters.discard_oldest)?;
         Ok(Item {
             subscription,
             node_id,
@@ -368,7 +369,7 @@ impl Items {
         let size = revised_size(self.longest, parameters.queue_size);
         let modification = Modification {
             trigger,
-            size: QueueSize::new(size as usize),
+            size: QueueSize::new(size),
         };
         self.table
             .modify(number, timestamps, modification, parameters);
@@ -554,6 +555,22 @@ impl Items {
         links.put(number)
     }
 
+    // Of these numbers, as links, those of items of this subscription.
+    fn own_of(
+        &self,
+        alloc: Global,
+        subscription: u32,
+        numbers: &BTreeSet<u32>,
+    ) -> Result<Links, AllocError>
+        ensures { IfOk result (λ own. own ≡ in_order (filter (is_own_spec self.now subscription) numbers.now.keys)) }
+    {
+        let mut own = Links::new(alloc);
+        for number in numbers {
+            self.keep_own(subscription, &mut own, *number)?;
+        }
+        Ok(own)
+    }
+
     // Of the items that are linked to one of this subscription, those that are there yet.
     fn linked_yet(
         &self,
@@ -563,11 +580,10 @@ impl Items {
     ) -> Result<Links, AllocError>
         ensures { IfOk result (λ yet. yet ≡ in_order (filter (is_own_spec self.now subscription) links.now)) }
     {
-        let mut yet = Links::new(alloc);
-        for number in links.numbers() {
-            self.keep_own(subscription, &mut yet, *number)?;
+        match links.numbers() {
+            Some(numbers) => self.own_of(alloc, subscription, numbers),
+            None => Ok(Links::new(alloc)),
         }
-        Ok(yet)
     }
 
     // Whether an item may be linked to another of this subscription.

@@ -4,6 +4,7 @@ ghost use Rattle.std.specs.Prelude.{◌≡◌, [], OnOk, OnErr};
 ghost use Rattle.std.specs.BTreeMap.{is_at};
 ghost use Rattle.std.specs.BTreeSet.{insert_key};
 ghost use Rattle.std.specs.List.{list_any};
+ghost use Rattle.std.specs.Option.{option_map_or};
 ghost use Rattle.std.specs.Ordering.{nat_cmp};
 ghost use Rattle.std.specs.Set.{remove_key};
 
@@ -18,15 +19,18 @@ use ua_types::Status;
 /// leads to nothing, since no item gets it again.
 #[derive(Drop)]
 pub struct Links {
-    numbers: BTreeSet<u32>,
+    // In a block of their own, from the first link on: most items have none.
+    numbers: Option<Box<BTreeSet<u32>, Global>>,
+    alloc: Global,
 }
 
 impl Model for Links {
-    ghost use Rattle.std.specs.Prelude.{ℕ, List};
+    ghost use Rattle.std.specs.Prelude.{ℕ, List, []};
+    ghost use Rattle.std.specs.Option.{option_map_or};
 
     ghost Value = { List ℕ };
 
-    ghost view = { λ l. l.numbers.keys };
+    ghost view = { λ l. option_map_or (λ numbers. numbers.value.keys) l.numbers [] };
 }
 
 impl Links {
@@ -35,15 +39,19 @@ impl Links {
         ensures { result ≡ [] }
     {
         Links {
-            numbers: BTreeSet::new(alloc),
+            numbers: None,
+            alloc,
         }
     }
 
-    /// The numbers, rising.
-    pub fn numbers(&self) -> &BTreeSet<u32>
-        ensures { result.now.keys ≡ self.now }
+    /// The numbers, rising; None where there never was one.
+    pub fn numbers(&self) -> Option<&BTreeSet<u32>>
+        ensures { option_map_or (λ numbers. numbers.now.keys) result [] ≡ self.now }
     {
-        &self.numbers
+        match &self.numbers {
+            Some(numbers) => Some(numbers),
+            None => None,
+        }
     }
 
     /// One more number, also where it is there already. At an `Err` nothing changed.
@@ -51,10 +59,16 @@ impl Links {
         ensures ok { OnOk result (self.new ≡ insert_key nat_cmp self.old number) }
         ensures err { OnErr result (self.new ≡ self.old) }
     {
-        match self.numbers.insert(number) {
-            Ok(_) => Ok(()),
-            Err(_) => Err(AllocError),
+        if let Some(numbers) = &mut self.numbers {
+            return match numbers.insert(number) {
+                Ok(_) => Ok(()),
+                Err(_) => Err(AllocError),
+            };
         }
+        let mut numbers = BTreeSet::new(self.alloc);
+        numbers.insert(number)?;
+        self.numbers = Some(Box::new(self.alloc, numbers)?);
+        Ok(())
     }
 
     /// Takes a number out, and answers whether it was there. Takes no memory.
@@ -62,7 +76,10 @@ impl Links {
         ensures there { result ≡ list_any (is_at (nat_cmp number)) self.old }
         ensures left { self.new ≡ remove_key (is_at (nat_cmp number)) self.old }
     {
-        self.numbers.remove(&number)
+        match &mut self.numbers {
+            Some(numbers) => numbers.remove(&number),
+            None => false,
+        }
     }
 }
 

@@ -1,8 +1,8 @@
 //! Items that are released, since one to which they are linked queued a value.
 
-ghost use Rattle.std.specs.Prelude.{◌≡◌, [], OnOk};
+ghost use Rattle.std.specs.Prelude.{◌≡◌, [], map, OnOk};
 ghost use Rattle.std.specs.BTreeSet.{insert_key};
-ghost use Rattle.ua_monitored_items.specs.Releases.{release_cmp};
+ghost use Rattle.ua_monitored_items.specs.Releases.{release_cmp, with_releases};
 
 use std::alloc::{AllocError, Global};
 use std::collections::BTreeSet;
@@ -58,5 +58,22 @@ impl Releases {
             Ok(_) => Ok(()),
             Err(_) => Err(AllocError),
         }
+    }
+
+    /// Those with these numbers of a subscription. At an `Err` a part may be there.
+    pub(crate) fn put_all(
+        &mut self,
+        subscription: u32,
+        numbers: &BTreeSet<u32>,
+    ) -> Result<(), AllocError>
+        ensures { OnOk result (self.new ≡ with_releases self.old (map (λ number. record { subscription = subscription; number = number }) numbers.now.keys)) }
+    {
+        for number in numbers {
+            self.put(Release {
+                subscription,
+                number: *number,
+            })?;
+        }
+        Ok(())
     }
 }

@@ -4,14 +4,14 @@ use Rattle.std.proofs.lemmas.List.Sums.{fold-append}
 use Rattle.std.specs.BTreeSet.{insert_key}
 use Rattle.ua_monitored_items.specs.Releases.{release_cmp, with_releases}
 use Rattle.ua_monitored_items.specs.declared.releases.Release.{Release}
-use Rattle.ua_monitored_items.proofs.item.Item.add_releases.Goals as goal
+use Rattle.ua_monitored_items.proofs.releases.Releases.put_all.Goals as goal
 
 pub loop-number-preserved : goal.loop-number-preserved
 loop-number-preserved c =
     let front = c.loop-number.invariant.2 in
     let number = c.in-Some.number.now in
-    let before = c.args.releases.now in
-    let one : ℕ → Release = λ n. record { subscription = c.args.self.now.subscription; number = n } in (
+    let before = c.args.self.now in
+    let one : ℕ → Release = λ n. record { subscription = c.args.subscription; number = n } in (
       tt,
       tt,
       front ++ number ∷ [],

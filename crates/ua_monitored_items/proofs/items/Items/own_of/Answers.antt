@@ -3,7 +3,7 @@ use Rattle.std.specs.BTreeSet.{insert_key}
 use Rattle.std.specs.Ordering.{nat_cmp}
 use Rattle.ua_monitored_items.specs.Links.{is_own}
 use Rattle.ua_monitored_items.proofs.Linking.{passing_more}
-use Rattle.ua_monitored_items.proofs.items.Items.linked_yet.Goals as goal
+use Rattle.ua_monitored_items.proofs.items.Items.own_of.Goals as goal
 
 pub loop-number-preserved : goal.loop-number-preserved
 loop-number-preserved c =
