@@ -34,7 +34,7 @@ table_at key ms = do
   found ← of_kind as_table (get_member key ms)
   Ok (unwrap_or found no_members)
 
--- the parts of a file: its version is judged first, then its own keys, and then the kinds of its parts
+-- the parts of a file: its own keys are judged first, then its version, and then the kinds of its parts
 pub record Parts : Type 0 where
   pub version : Version
   pub server : Members
@@ -43,8 +43,8 @@ pub record Parts : Type 0 where
 
 unfoldable pub parts_of : Members → Result Parts Cause
 parts_of ms = do
-  version ← version_of (get_member (codes "version") ms)
   known ← only (codes "version" ∷ codes "server" ∷ codes "node" ∷ codes "reference" ∷ []) ms
+  version ← version_of (get_member (codes "version") ms)
   server ← table_at (codes "server") ms
   nodes ← list_at (codes "node") ms
   references ← list_at (codes "reference") ms

@@ -60,8 +60,8 @@ fn parts<'a>(
     requires { table_view empty.now ≡ no_members }
     ensures { result_map_both (λ p. record { version = p.0; server = table_view p.1.now; nodes = items_view p.2.now; references = items_view p.3.now }) (λ cause. cause) result ≡ parts_of (table_view table.now) }
 {
-    let version = version(table)?;
     only(&["version", "server", "node", "reference"], table)?;
+    let version = version(table)?;
     let server = table_at(table, "server", empty)?;
     let nodes = list_at(table, "node")?;
     let references = list_at(table, "reference")?;
