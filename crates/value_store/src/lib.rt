@@ -26,8 +26,6 @@ mod restoring;
 mod rows;
 mod store;
 mod tables;
-#[cfg(test)]
-mod tests;
 mod turns;
 
 pub use fault::database_fault;

@@ -93,18 +93,6 @@ impl<S: Alter + Drop> ValueStore<S> {
     }
 }
 
-impl<S: Alter> ValueStore<S> {
-    ghost use Rattle.value_store.specs.Shown.{connection_of};
-
-    /// The connection, as to close it.
-    pub fn into_connection(self) -> Connection<S>
-        ensures { result ≡ connection_of self }
-    {
-        let ValueStore { alloc: _, conn } = self;
-        conn
-    }
-}
-
 impl<S: Alter> Keeper for ValueStore<S> {
     ghost use Rattle.value_store.specs.Keeping.{kept_in as kept_in_state, MayFind as MayFindIn};
     ghost use Rattle.value_store.specs.Lasting.{lasts};
