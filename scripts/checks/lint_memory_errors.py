@@ -13,7 +13,7 @@ import re
 import sys
 
 ROOT = os.path.join(os.path.dirname(os.path.realpath(__file__)), "..", "..", "crates")
-NOT_LOOKED_AT = {"encoding_examples", "library_examples", "library_tests", "server_tests", "worked_examples", "wrong_bodies", "wrong_steps"}
+NOT_LOOKED_AT = {"encoding_examples", "library_examples", "library_tests", "server_tests", "worked_examples", "wrong_bodies", "wrong_calls", "wrong_steps"}
 
 # crate/file function: how many places, and why
 SAID = {

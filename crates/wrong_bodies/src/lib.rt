@@ -1,9 +1,9 @@
-//! Calls of public functions of `ua_types`, `ua_binary` and `ua_space`, each under the clauses that its callers rely on.
-//! That the crate is proved says that the contracts below give these clauses; each edit in `must-fail` puts a wrong body in
-//! the place of a call, which the clauses have to refuse. Nothing calls these functions.
+//! Calls of public functions of `ua_types`, `ua_binary`, `ua_space`, `ua_item_queue` and `ua_state_table`, each under the
+//! clauses that its callers rely on. That the crate is proved says that the contracts below give these clauses; each edit in
+//! `must-fail` puts a wrong body in the place of a call, which the clauses have to refuse. Nothing calls these functions.
 #![tactic(auto)]
 
-ghost use Rattle.std.specs.Prelude.{◌≡◌, ◌≢◌, ◌++◌, Err, OnOk, OnErr, IfOk, string_bytes, true};
+ghost use Rattle.std.specs.Prelude.{◌≡◌, ◌≢◌, ◌↔◌, ◌++◌, ◌∷◌, [], Err, OnOk, OnErr, IfOk, IsTrue, string_bytes, true};
 ghost use Rattle.ua_types.specs.Answers.{Gives};
 ghost use Rattle.ua_types.specs.IdTexts.{id_of, id_text};
 ghost use Rattle.ua_types.specs.declared.id_texts.IdFault.TheVariants as id_fault;
@@ -15,10 +15,16 @@ ghost use Rattle.ua_binary.specs.declared.fault.TakeFault.TheVariants as take_fa
 ghost use Rattle.ua_space.specs.Build.{space_of};
 ghost use Rattle.ua_space.specs.Values.{takes_at, with_value};
 ghost use Rattle.ua_space.specs.declared.fault.SpaceFault.TheVariants as space_fault;
+ghost use Rattle.ua_item_queue.specs.ItemQueue.{sampled as value_sampled_into};
+ghost use Rattle.ua_state_table.specs.Events.{fits};
+ghost use Rattle.ua_state_table.specs.Sound.{IsSound};
+ghost use Rattle.ua_state_table.specs.StateTable.{actions_of as actions_by_table, fires};
 
 use std::alloc::{AllocError, Global};
 use ua_binary::{Cursor, TakeFault, Wire};
+use ua_item_queue::ItemQueue;
 use ua_space::{Node, Space, SpaceFault, Triple};
+use ua_state_table::{Action, RowId, TableEvent, Vars, actions_of, choose, reachable};
 use ua_types::{Array, Config, IdFault, Listed, NodeId, write_id};
 use ua_values::DataValue;
 
@@ -80,4 +86,33 @@ pub fn value_set(space: &mut Space, id: &NodeId, value: DataValue)
     ensures triples { space.new.triples ≡ space.old.triples }
 {
     space.set_value(id, value);
+}
+
+/// As [`ItemQueue::sample`].
+pub fn value_sampled<T: Drop>(queue: &mut ItemQueue<T>, value: T) -> Result<(), AllocError>
+    ensures ok { OnOk result (queue.new ≡ value_sampled_into queue.old value) }
+    ensures err { OnErr result (queue.new ≡ queue.old) }
+{
+    queue.sample(value)
+}
+
+/// As [`reachable`].
+pub fn is_reachable(vars: &Vars) -> bool
+    ensures { IsTrue result ↔ IsSound vars.now }
+{
+    reachable(vars)
+}
+
+/// As [`choose`].
+pub fn row_chosen(vars: &Vars, event: TableEvent) -> RowId
+    ensures { IsSound vars.now → IsTrue (fits vars.now.state event) → fires vars.now event ≡ result ∷ [] }
+{
+    choose(vars, event)
+}
+
+/// As [`actions_of`].
+pub fn row_actions(row: RowId) -> &'static [Action]
+    ensures { result.now ≡ actions_by_table row }
+{
+    actions_of(row)
 }

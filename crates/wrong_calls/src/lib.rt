@@ -1,0 +1,113 @@
+//! Calls of public functions of `ua_browse`, `ua_history`, `ua_monitored_items` and `ua_subscriptions`, each under the clauses that
+//! its callers rely on. That the crate is proved says that the contracts below give these clauses; each edit in `must-fail` puts a
+//! wrong body in the place of a call, which the clauses have to refuse. Nothing calls these functions.
+#![tactic(auto)]
+
+ghost use Rattle.std.specs.Prelude.{◌≡◌};
+ghost use Rattle.ua_session.specs.Points.{TakesSerial};
+ghost use Rattle.ua_browse.specs.Browsing.{browse_next_of};
+ghost use Rattle.ua_history.specs.Intervals.{past};
+ghost use Rattle.ua_monitored_items.specs.Items.{is_available};
+ghost use Rattle.ua_subscriptions.specs.Ending.{shut_down, without_conn};
+ghost use Rattle.ua_subscriptions.specs.Making.{republished, timed};
+ghost use Rattle.ua_subscriptions.specs.Publishing.{published};
+ghost use Rattle.ua_subscriptions.specs.SubscriptionCalls.{Serves, said, told, world_of};
+
+use bytes::Bytes;
+use server_messages::Halt;
+use std::alloc::Global;
+use ua_browse::{Page, browse_next};
+use ua_history::Interval;
+use ua_monitored_items::Items;
+use ua_session::Points;
+use ua_space::Space;
+use ua_subscription_messages::SubscriptionAcknowledgement;
+use ua_subscriptions::{Answered, PublishCall, Subscriptions};
+use ua_types::{Moment, Refusal, Status};
+
+/// As [`browse_next`].
+pub fn page_given<'a>(
+    alloc: Global,
+    space: &'a Space,
+    points: &mut Points,
+    serial: u64,
+) -> Result<Page<'a>, Refusal>
+    ensures { TakesSerial result points.old points.new (browse_next_of space.now points.old serial) }
+{
+    browse_next(alloc, space, points, serial)
+}
+
+/// As [`Interval::past`].
+pub fn interval_past(interval: Interval, last: Moment) -> Interval
+    ensures { result ≡ past interval last }
+{
+    interval.past(last)
+}
+
+/// As [`Items::available`].
+pub fn values_wait(items: &Items, subscription: u32) -> bool
+    ensures { result ≡ is_available items.now subscription }
+{
+    items.available(subscription)
+}
+
+/// As [`Subscriptions::publish`].
+pub fn publish_taken(
+    subscriptions: &mut Subscriptions,
+    alloc: Global,
+    items: &mut Items,
+    clock: Moment,
+    session: u32,
+    call: PublishCall,
+    acknowledgements: &[SubscriptionAcknowledgement],
+) -> Result<Answered<()>, Halt>
+    ensures { Serves result subscriptions.old subscriptions.new items.new (told subscriptions.old (published session call acknowledgements.now (world_of subscriptions.old items.old clock))) }
+{
+    subscriptions.publish(alloc, items, clock, session, call, acknowledgements)
+}
+
+/// As [`Subscriptions::republish`].
+pub fn message_republished(
+    subscriptions: &mut Subscriptions,
+    alloc: Global,
+    items: &mut Items,
+    clock: Moment,
+    session: u32,
+    number: u32,
+    wanted: u32,
+) -> Result<Answered<Result<Bytes, Status>>, Halt>
+    ensures { Serves result subscriptions.old subscriptions.new items.new (said subscriptions.old (republished session number wanted (world_of subscriptions.old items.old clock))) }
+{
+    subscriptions.republish(alloc, items, clock, session, number, wanted)
+}
+
+/// As [`Subscriptions::timers`].
+pub fn timers_run(
+    subscriptions: &mut Subscriptions,
+    alloc: Global,
+    items: &mut Items,
+    clock: Moment,
+) -> Result<Answered<()>, Halt>
+    ensures { Serves result subscriptions.old subscriptions.new items.new (told subscriptions.old (timed (world_of subscriptions.old items.old clock))) }
+{
+    subscriptions.timers(alloc, items, clock)
+}
+
+/// As [`Subscriptions::shut_down`].
+pub fn all_shut_down(
+    subscriptions: &mut Subscriptions,
+    alloc: Global,
+    items: &mut Items,
+    clock: Moment,
+) -> Result<Answered<()>, Halt>
+    ensures { Serves result subscriptions.old subscriptions.new items.new (told subscriptions.old (shut_down (world_of subscriptions.old items.old clock))) }
+{
+    subscriptions.shut_down(alloc, items, clock)
+}
+
+/// As [`Subscriptions::gone`].
+pub fn connection_gone(subscriptions: &mut Subscriptions, conn: u64)
+    ensures { subscriptions.new ≡ record subscriptions.old { table = without_conn conn subscriptions.old.table } }
+{
+    subscriptions.gone(conn);
+}
