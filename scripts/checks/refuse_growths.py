@@ -1,7 +1,7 @@
 #!/usr/bin/env python3
 """Refuses each growth of memory of the program in turn, and sees that it ends as want of memory, with nothing of the refused step out.
 
-usage: scripts/checks/refuse_growths.py PROGRAM [--only NAME] [--jobs N] [--all] [--list]
+usage: scripts/checks/refuse_growths.py PROGRAM [--only NAME] [--jobs N] [--every N | --all] [--list]
 
 PROGRAM is uaserver as scripts/tools/build_unproved.py builds it. These run, each with each of its growths refused (refusals.c says how): `run` over every
 scenario of the worked examples with each node file that a line names beside it; `trace` and `asm` where a line has them; `check` of
@@ -13,7 +13,7 @@ Each refused growth has to end with the status 5, `memory` on standard error, an
 beginning of what the whole run prints: all growths of one step leave the same, which is what came before that step, and `pipe` has written it
 before. Some growths needn't be had, and each such place stands in SPARED with its reason: there the run may go on to its usual end, and has to end
 as above where all growths behind the refused one are refused too. What a node file takes is refused once. Of a run with very many growths
-every so manyth is refused, and this is said; --all refuses all. One of each run is refused once more, in a process that starts anew. --list says of each run how many were refused.
+every so manyth is refused, and this is said; --all refuses all, and --every N of each run one in N at the most. One of each run is refused once more, in a process that starts anew. --list says of each run how many were refused.
 """
 import argparse
 import collections
@@ -175,9 +175,9 @@ def anew(program, library, run, judge):
     return len(chosen)
 
 
-def swept(program, library, names, whole, lists, run):
-    """Sweeps a run, and gives what was seen."""
-    every = 1 if whole else max(EVERY.get(it, 1) for it in run.words)
+def swept(program, library, names, least, lists, run):
+    """Sweeps a run, one growth in `least` of it, or in more where it has very many, and gives what was seen. With 0 all are refused."""
+    every = max(least, *(EVERY.get(it, 1) for it in run.words)) if least else 1
     found = refusals.run(program, library, run.words, run.stdin, refuse="growths", mark=run.mark(), every=every, **run.begin)
     judge = Judge(run, found, names, every)
     judge.judge_all()
@@ -199,7 +199,8 @@ def main():
     parser.add_argument("program")
     parser.add_argument("--only", default="")
     parser.add_argument("--jobs", type=int, default=len(os.sched_getaffinity(0)))
-    parser.add_argument("--all", action="store_true")
+    parser.add_argument("--every", type=int, default=1)
+    parser.add_argument("--all", action="store_const", const=0, dest="every")
     parser.add_argument("--list", action="store_true")
     asked = parser.parse_args()
     program, started = os.path.abspath(asked.program), time.monotonic()
@@ -208,8 +209,8 @@ def main():
     with tempfile.TemporaryDirectory(prefix="want-of-memory-") as folder, concurrent.futures.ThreadPoolExecutor(asked.jobs) as pool:
         library = refusals.compiled(folder)
         refusals.leave_out_unless_fit(program, library, STEP, TURN)
-        judges = list(pool.map(functools.partial(swept, program, library, names, asked.all, asked.list), runs))
-    told(judges, bool(asked.only), started)
+        judges = list(pool.map(functools.partial(swept, program, library, names, asked.every, asked.list), runs))
+    told(judges, asked.only != "" or asked.every > 1, started)
 
 
 def told(judges, is_part, started):
