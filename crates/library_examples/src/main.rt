@@ -25,9 +25,10 @@ fn run(rt: &HostRuntime, words: &[&str]) -> io::Result<()> {
             write_again(rt, object, &mut output)?;
             rt.stdout().write_all(output.as_slice())
         }
-        ["benchmark", name, rounds] => {
-            benchmarks::run(rt, name, rounds.parse::<u32>().unwrap_or(1))
-        }
+        ["benchmark", name, rounds] => match rounds.parse::<u32>() {
+            Ok(rounds) => benchmarks::run(rt, name, rounds),
+            Err(_) => Err(io::Error::from(ErrorKind::InvalidInput)),
+        },
         _ => Err(io::Error::from(ErrorKind::InvalidInput)),
     }
 }
