@@ -22,5 +22,3 @@ mod spaces;
 mod types;
 #[cfg(test)]
 mod values;
-#[cfg(test)]
-mod views;
