@@ -121,17 +121,24 @@ fn are_answered(alloc: Global, server: &mut Server, events: &[Event]) -> bool {
     so
 }
 
+// The events of a scenario.
+fn events_of<R: Files + AllocGlobal>(rt: &R, scenario: &str) -> io::Result<Listed<Event>> {
+    let text = fs::read_to_string(rt, scenario)?;
+    assemble(rt.alloc(), text.as_str()).map_err(|_| failed())
+}
+
+// A server of a node file.
+fn server_of<R: Files + AllocGlobal>(rt: &R, nodes: &str) -> io::Result<Server> {
+    let text = fs::read_to_string(rt, nodes)?;
+    let (config, space) = plant(rt.alloc(), text.as_str())?;
+    Ok(Server::new(rt.alloc(), config, space)?)
+}
+
 /// Writes whether a server, once out of memory, is halted for good.
 pub(super) fn write_steps<R: Files + AllocGlobal>(rt: &R, output: &mut Vec<u8>) -> io::Result<()> {
-    let alloc = rt.alloc();
-    let text = fs::read_to_string(rt, "keep_alives.scenario")?;
-    let Ok(events) = assemble(alloc, text.as_str()) else {
-        return Err(failed());
-    };
-    let nodes = fs::read_to_string(rt, "sample.toml")?;
-    let (config, space) = plant(alloc, nodes.as_str())?;
-    let mut server = Server::new(alloc, config, space)?;
-    let so = are_answered(alloc, &mut server, events.as_slice());
+    let events = events_of(rt, "keep_alives.scenario")?;
+    let mut server = server_of(rt, "sample.toml")?;
+    let so = are_answered(rt.alloc(), &mut server, events.as_slice());
     write!(
         output,
         "each event is answered, or Memory at one and Halted from then on: {so}\n"
