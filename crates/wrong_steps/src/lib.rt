@@ -1,9 +1,9 @@
-//! Calls of public functions of `ua_channel` and `server_core`, each under the clauses that its callers rely on. That the crate
-//! is proved says that the contracts below give these clauses; each edit in `must-fail` puts a wrong body in the place of a
-//! call, which the clauses have to refuse. Nothing calls these functions.
+//! Calls of public functions of `ua_channel`, `server_core`, and the crates that carry its bytes and tell its runs, each under the
+//! clauses that its callers rely on. That the crate is proved says that the contracts below give these clauses; each edit in
+//! `must-fail` puts a wrong body in the place of a call, which the clauses have to refuse. Nothing calls these functions.
 #![tactic(auto)]
 
-ghost use Rattle.std.specs.Prelude.{◌≡◌, Err, true, false};
+ghost use Rattle.std.specs.Prelude.{◌≡◌, ◌++◌, Err, MatchResult, OnOk, string_bytes, true, false};
 ghost use Rattle.ua_types.specs.Refusals.{TakesOrRefuses};
 ghost use Rattle.ua_types.specs.declared.refusal.Refusal.TheVariants as refusal;
 ghost use Rattle.ua_channel.specs.Acceptance.{take_of};
@@ -11,9 +11,22 @@ ghost use Rattle.ua_channel.specs.Messages.{brings_part};
 ghost use Rattle.server_core.specs.World.{world_of};
 ghost use Rattle.server_core.specs.Stepping.{step_on, StepsTo, takes_no_memory_on};
 ghost use Rattle.server_core.specs.declared.out.StepFault.TheVariants as step_fault;
+ghost use Rattle.scenario_text.specs.Scenarios.{Means};
+ghost use Rattle.scenario_events.specs.Assembly.{events_of};
+ghost use Rattle.scenario_lines.specs.TraceText.{row_line};
+ghost use Rattle.stream_server.specs.Pumped.{scene, Done, Stopped};
+ghost use Rattle.socket_peers.specs.Peers.{owed_all};
 
-use server_core::{Event, Server, Step, StepFault};
-use std::alloc::Global;
+use scenario_events::assemble;
+use scenario_lines::append_line;
+use scenario_text::AsmFault;
+use server_core::{Event, Fired, Listed, Out, Server, Step, StepFault};
+use short_lists::ShortList;
+use socket_peers::Peers;
+use std::alloc::{AllocError, Global};
+use std::io::{Read, Write};
+use stream_server::{Pump, PumpFault};
+use stream_taps::Tap;
 use ua_channel::{Channel, Taken};
 use ua_tcp::Frame;
 use ua_types::Refusal;
@@ -38,4 +51,41 @@ pub fn stepped(server: &mut Server, alloc: Global, event: &Event) -> Result<Step
     ensures memory { result ≡ Err step_fault.Memory → takes_no_memory_on (world_of server.old) event.now ≡ false }
 {
     server.step(alloc, event)
+}
+
+/// As [`assemble`].
+pub fn scenario_assembled(alloc: Global, text: &str) -> Result<Listed<Event>, AsmFault>
+    ensures { Means result (events_of text.now) }
+{
+    assemble(alloc, text)
+}
+
+/// As [`append_line`].
+pub fn row_traced(out: &mut String, event: u64, fired: &Fired) -> Result<(), AllocError>
+    ensures { OnOk result (string_bytes out.new ≡ string_bytes out.old ++ row_line event fired.now) }
+{
+    append_line(out, event, fired)
+}
+
+/// As [`Pump::run`].
+pub fn pumped<R: Read, W: Write>(
+    pump: &mut Pump,
+    alloc: Global,
+    server: &mut Server,
+    conn: u64,
+    reader: &mut Tap<R>,
+    writer: &mut Tap<W>,
+) -> Result<(), PumpFault>
+    ensures { let old = scene R.remaining W.contents 0 (world_of server.old) reader.old writer.old in
+        let new = scene R.remaining W.contents pump.new (world_of server.new) reader.new writer.new in
+        MatchResult result (λ _. Done conn old new) (Stopped conn old new) }
+{
+    pump.run(alloc, server, conn, reader, writer)
+}
+
+/// As [`Peers::owe_all`].
+pub fn sockets_owed<S: Drop>(peers: &mut Peers<S>, outs: ShortList<Out>) -> Result<(), AllocError>
+    ensures { OnOk result (peers.new ≡ owed_all peers.old outs) }
+{
+    peers.owe_all(outs)
 }
