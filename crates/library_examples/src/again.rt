@@ -15,8 +15,8 @@ use std::io;
 use std::io::Write;
 use std::rt::Files;
 use ua_binary::{Cursor, TakeFault, Wire};
-use ua_history::{History, Interval, KeptRuns};
-use ua_session::Sessions;
+use ua_history::{History, Interval, KeptRuns, KeptValues};
+use ua_session::{Created, Sessions};
 use ua_types::{Config, Moment, NodeId, Refusal, Status};
 use ua_values::{Content, DataValue, Variant};
 
@@ -40,24 +40,35 @@ fn write_value(alloc: Global, output: &mut Vec<u8>) -> io::Result<()> {
     }
 }
 
-// Two sessions, each with its token and its nonce.
+fn created(alloc: Global, sessions: &mut Sessions, conn: u64) -> Result<Created, Refusal> {
+    let key = [0; 32];
+    match sessions.create(alloc, conn, &key) {
+        Err(Refusal::Memory) => sessions.create(alloc, conn, &key),
+        created => created,
+    }
+}
+
+// A session of a connection, with its token and its nonce.
+fn write_session(
+    alloc: Global,
+    sessions: &mut Sessions,
+    conn: u64,
+    output: &mut Vec<u8>,
+) -> io::Result<()> {
+    match created(alloc, sessions, conn) {
+        Ok(session) => {
+            let nonce = hex::encode(alloc, session.nonce.as_slice())?;
+            write!(output, "{} {nonce}\n", session.number)
+        }
+        Err(refusal) => write!(output, "{refusal:?}\n"),
+    }
+}
+
+// Two sessions.
 fn write_sessions(alloc: Global, output: &mut Vec<u8>) -> io::Result<()> {
     let mut sessions = Sessions::new(alloc, &Config::standard(alloc)?);
-    let key = [0; 32];
-    for conn in 1..3 {
-        let created = match sessions.create(alloc, conn, &key) {
-            Err(Refusal::Memory) => sessions.create(alloc, conn, &key),
-            created => created,
-        };
-        match created {
-            Ok(session) => {
-                let nonce = hex::encode(alloc, session.nonce.as_slice())?;
-                write!(output, "{} {nonce}\n", session.number)?;
-            }
-            Err(refusal) => write!(output, "{refusal:?}\n")?,
-        }
-    }
-    Ok(())
+    write_session(alloc, &mut sessions, 1, output)?;
+    write_session(alloc, &mut sessions, 2, output)
 }
 
 fn counted(number: u16, time: i64) -> DataValue {
@@ -69,23 +80,28 @@ fn counted(number: u16, time: i64) -> DataValue {
     }
 }
 
-// The history of a node that keeps three values, of which four were written, and one in place of another.
-fn write_history(alloc: Global, output: &mut Vec<u8>) -> io::Result<()> {
+// Whether a value is kept, at the second time where memory ran out.
+fn is_kept(alloc: Global, history: &mut History, number: u16, time: i64) -> bool {
     let node = NodeId::numeric(1, 11);
+    history.keep(alloc, &node, counted(number, time)).is_ok()
+        || history.keep(alloc, &node, counted(number, time)).is_ok()
+}
+
+// The history of a node that keeps three values, of which four were written, and one in place of another.
+fn filled(alloc: Global, output: &mut Vec<u8>) -> io::Result<History> {
     let mut config = Config::standard(alloc)?;
     config.history = 3;
     let mut history = History::new(alloc, &config);
     for (number, time) in [(1, 100), (2, 200), (4, 400), (3, 300), (8, 300)] {
-        let mut kept = history.keep(alloc, &node, counted(number, time));
-        if kept.is_err() {
-            kept = history.keep(alloc, &node, counted(number, time));
-        }
-        if kept.is_err() {
+        if !is_kept(alloc, &mut history, number, time) {
             output.write_all(TWICE)?;
         }
     }
-    let cut = history.read(alloc, &node, Interval::new(Moment(0), Moment(0)), 9)?;
-    match cut.values.runs() {
+    Ok(history)
+}
+
+fn write_values(values: &KeptValues<'_>, output: &mut Vec<u8>) -> io::Result<()> {
+    match values.runs() {
         KeptRuns::Rising(runs) => {
             for run in runs {
                 for (time, value) in run.iter() {
@@ -102,6 +118,13 @@ fn write_history(alloc: Global, output: &mut Vec<u8>) -> io::Result<()> {
         }
     }
     Ok(())
+}
+
+fn write_history(alloc: Global, output: &mut Vec<u8>) -> io::Result<()> {
+    let history = filled(alloc, output)?;
+    let node = NodeId::numeric(1, 11);
+    let cut = history.read(alloc, &node, Interval::new(Moment(0), Moment(0)), 9)?;
+    write_values(&cut.values, output)
 }
 
 /// Writes what the calls give.

@@ -9,7 +9,7 @@ mod requests;
 mod space;
 mod variables;
 
-pub(crate) use requests::{failed, plant};
+pub(crate) use requests::{failed, plant, server_of};
 use std::io::{self, ErrorKind};
 use std::time::Instant;
 

@@ -1,6 +1,6 @@
 //! Scenarios, and what is out of memory for good.
 
-use crate::benchmarks::{failed, plant};
+use crate::benchmarks::{failed, server_of};
 use scenario_events::assemble;
 use scenario_text::{AsmFault, Cause};
 use server_core::{Event, Server, StepFault};
@@ -127,17 +127,16 @@ fn events_of<R: Files + AllocGlobal>(rt: &R, scenario: &str) -> io::Result<Liste
     assemble(rt.alloc(), text.as_str()).map_err(|_| failed())
 }
 
-// A server of a node file.
-fn server_of<R: Files + AllocGlobal>(rt: &R, nodes: &str) -> io::Result<Server> {
+// The server of a node file.
+fn server_at<R: Files + AllocGlobal>(rt: &R, nodes: &str) -> io::Result<Server> {
     let text = fs::read_to_string(rt, nodes)?;
-    let (config, space) = plant(rt.alloc(), text.as_str())?;
-    Ok(Server::new(rt.alloc(), config, space)?)
+    server_of(rt.alloc(), text.as_str())
 }
 
 /// Writes whether a server, once out of memory, is halted for good.
 pub(super) fn write_steps<R: Files + AllocGlobal>(rt: &R, output: &mut Vec<u8>) -> io::Result<()> {
     let events = events_of(rt, "keep_alives.scenario")?;
-    let mut server = server_of(rt, "sample.toml")?;
+    let mut server = server_at(rt, "sample.toml")?;
     let so = are_answered(rt.alloc(), &mut server, events.as_slice());
     write!(
         output,

@@ -78,24 +78,31 @@ fn write_space(alloc: Global, space: &mut Space, output: &mut Vec<u8>) -> io::Re
     )
 }
 
-/// Writes how many nodes and references a node file has, and its space with the base set, and whether two values are written to it.
-pub(super) fn write_nodes<R: Files + AllocGlobal>(rt: &R, output: &mut Vec<u8>) -> io::Result<()> {
-    let alloc = rt.alloc();
-    let text = fs::read_to_string(rt, "sample.toml")?;
-    match loaded(alloc, text.as_str()) {
+fn write_loaded(alloc: Global, text: &str, output: &mut Vec<u8>) -> io::Result<()> {
+    match loaded(alloc, text) {
         Ok(loaded) => {
             let nodes = loaded.nodes.as_slice().len();
             let triples = loaded.triples.as_slice().len();
-            write!(output, "{nodes} nodes, {triples} references\n")?;
+            write!(output, "{nodes} nodes, {triples} references\n")
         }
-        Err(fault) => write!(output, "{fault}\n")?,
+        Err(fault) => write!(output, "{fault}\n"),
     }
-    let mut space = built(alloc, text.as_str())?;
-    if matches!(&space, Err(SpaceFault::Memory)) {
-        space = built(alloc, text.as_str())?;
-    }
+}
+
+fn write_built(alloc: Global, text: &str, output: &mut Vec<u8>) -> io::Result<()> {
+    let space = match built(alloc, text)? {
+        Err(SpaceFault::Memory) => built(alloc, text)?,
+        space => space,
+    };
     match space {
         Ok(mut space) => write_space(alloc, &mut space, output),
         Err(fault) => write!(output, "{fault:?}\n"),
     }
+}
+
+/// Writes how many nodes and references a node file has, and its space with the base set, and whether two values are written to it.
+pub(super) fn write_nodes<R: Files + AllocGlobal>(rt: &R, output: &mut Vec<u8>) -> io::Result<()> {
+    let text = fs::read_to_string(rt, "sample.toml")?;
+    write_loaded(rt.alloc(), text.as_str(), output)?;
+    write_built(rt.alloc(), text.as_str(), output)
 }

@@ -80,6 +80,12 @@ fn plant(alloc: Global) -> io::Result<(Config, Space)> {
     }
 }
 
+// The server of that folder.
+fn server(alloc: Global) -> io::Result<Server> {
+    let (config, space) = plant(alloc)?;
+    Ok(Server::new(alloc, config, space)?)
+}
+
 // Browses the node of three references so many times.
 fn time_few(rt: &HostRuntime, server: &mut Server, first: u32, rounds: u32) -> io::Result<()> {
     let alloc = rt.alloc();
@@ -139,8 +145,6 @@ fn time_all(rt: &HostRuntime, server: &mut Server, rounds: u32) -> io::Result<()
 
 /// Browses a node of three references so many times, and one of very many by pages.
 pub(crate) fn run(rt: &HostRuntime, rounds: u32) -> io::Result<()> {
-    let alloc = rt.alloc();
-    let (config, space) = plant(alloc)?;
-    let mut server = Server::new(alloc, config, space)?;
+    let mut server = server(rt.alloc())?;
     time_all(rt, &mut server, rounds.min(1_000_000_000))
 }

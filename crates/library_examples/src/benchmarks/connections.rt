@@ -1,7 +1,7 @@
 //! Clients that come, are served and go, beside very many that stay.
 
 use super::elapsed;
-use super::requests::{NO_TIMES, READ, greet_on, hand_in_on, joined, plant, request_on, tell};
+use super::requests::{NO_TIMES, READ, greet_on, hand_in_on, joined, request_on, server_of, tell};
 use server_core::{Event, Server};
 use std::alloc::{AllocError, Global};
 use std::io::{self, Write};
@@ -86,8 +86,6 @@ fn time_all(rt: &HostRuntime, server: &mut Server, stay: u32) -> io::Result<()> 
 
 /// Lets clients come, be served and go beside so many that stay, at most 99,999, and tells how long each takes.
 pub(crate) fn run(rt: &HostRuntime, stay: u32) -> io::Result<()> {
-    let alloc = rt.alloc();
-    let (config, space) = plant(alloc, NODES)?;
-    let mut server = Server::new(alloc, config, space)?;
+    let mut server = server_of(rt.alloc(), NODES)?;
     time_all(rt, &mut server, stay.min(99_999))
 }

@@ -1,7 +1,7 @@
 //! Writes of a variable whose history is kept, and reading the history by pages.
 
 use super::elapsed;
-use super::requests::{TOKEN, greet, hand_in, plant, request};
+use super::requests::{TOKEN, greet, hand_in, request, server_of};
 use server_core::Server;
 use std::alloc::{AllocError, Global};
 use std::io::{self, Write};
@@ -119,8 +119,6 @@ fn time_all(rt: &HostRuntime, server: &mut Server) -> io::Result<()> {
 
 /// Writes the values of a variable whose history is kept, and reads its history by pages, once.
 pub(crate) fn run(rt: &HostRuntime) -> io::Result<()> {
-    let alloc = rt.alloc();
-    let (config, space) = plant(alloc, NODES)?;
-    let mut server = Server::new(alloc, config, space)?;
+    let mut server = server_of(rt.alloc(), NODES)?;
     time_all(rt, &mut server)
 }

@@ -2,8 +2,8 @@
 
 use super::elapsed;
 use super::requests::{
-    ANOTHER, NODES, TOKEN, VALUE, WRITE, WRITTEN, greet, hand_in, joined, plant, request, sent_at,
-    tell,
+    ANOTHER, NODES, TOKEN, VALUE, WRITE, WRITTEN, greet, hand_in, joined, request, sent_at,
+    server_of, tell,
 };
 use server_core::{Event, Server};
 use std::alloc::{AllocError, Global};
@@ -172,8 +172,6 @@ fn time_all(rt: &HostRuntime, server: &mut Server, rounds: u32) -> io::Result<()
 
 /// Has a subscription tell of 1,000 items so many times, each in one message, and asks for each message again.
 pub(crate) fn run(rt: &HostRuntime, rounds: u32) -> io::Result<()> {
-    let alloc = rt.alloc();
-    let (config, space) = plant(alloc, NODES)?;
-    let mut server = Server::new(alloc, config, space)?;
+    let mut server = server_of(rt.alloc(), NODES)?;
     time_all(rt, &mut server, rounds.min(1_000_000_000))
 }

@@ -187,6 +187,12 @@ pub(crate) fn plant(alloc: Global, text: &str) -> io::Result<(Config, Space)> {
     }
 }
 
+/// The server of a node file's text.
+pub(crate) fn server_of(alloc: Global, text: &str) -> io::Result<Server> {
+    let (config, space) = plant(alloc, text)?;
+    Ok(Server::new(alloc, config, space)?)
+}
+
 /// Opens the first connection with its channel, and a session on it, by two requests.
 pub(crate) fn greet(alloc: Global, server: &mut Server) -> io::Result<()> {
     greet_on(alloc, server, 1, TOKEN)?;
@@ -329,8 +335,6 @@ fn cut_short(rt: &HostRuntime, server: &mut Server, number: u32) -> io::Result<(
 
 /// Reads one value and 1,000 values, and writes as many, each so many times; and then writes 1,000 that are cut short.
 pub(crate) fn run(rt: &HostRuntime, rounds: u32) -> io::Result<()> {
-    let alloc = rt.alloc();
-    let (config, space) = plant(alloc, NODES)?;
-    let mut server = Server::new(alloc, config, space)?;
+    let mut server = server_of(rt.alloc(), NODES)?;
     time_all(rt, &mut server, rounds.min(1_000_000_000))
 }

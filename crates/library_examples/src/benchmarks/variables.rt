@@ -1,6 +1,6 @@
 //! Reads of many variables: in the order of their ids, and in one without a pattern.
 
-use super::requests::{NO_TIMES, READ, VALUE, greet, plant, time_requests};
+use super::requests::{NO_TIMES, READ, VALUE, greet, server_of, time_requests};
 use server_core::Server;
 use std::alloc::{AllocError, Global};
 use std::io;
@@ -85,9 +85,7 @@ fn time_all(rt: &HostRuntime, server: &mut Server, rounds: u32) -> io::Result<()
 
 /// Reads 996 variables, in the order of their ids and out of it, each so many times.
 pub(crate) fn run(rt: &HostRuntime, rounds: u32) -> io::Result<()> {
-    let alloc = rt.alloc();
-    let text = nodes(alloc)?;
-    let (config, space) = plant(alloc, text.as_str())?;
-    let mut server = Server::new(alloc, config, space)?;
+    let text = nodes(rt.alloc())?;
+    let mut server = server_of(rt.alloc(), text.as_str())?;
     time_all(rt, &mut server, rounds.min(1_000_000_000))
 }
