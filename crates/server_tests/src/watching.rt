@@ -1,68 +1,12 @@
-//! What is told while the program serves: the rows that fire, and the connections that come and go.
+//! What is told while the program serves: the connections that come and go.
 
-use crate::events::base_server;
 use crate::holding::holds;
-use commands::{Tracing, Visitors, Visits};
-use scenario_events::assemble;
-use server_core::Server;
+use commands::{Visitors, Visits};
 use socket_server::{End, Observer};
-use std::alloc::Global;
 use std::io::ErrorKind;
 use std::net::SocketAddr;
 use std::test::*;
-use stream_taps::Tap;
 use ua_types::Status;
-
-// A subscription whose client never sends a Publish request: it is late at the first tick.
-const IS_LATE: &str = "open 1 0000000000000000000000000000000000000000000000000000000000000000
-hel 1 \"opc.tcp://localhost:4840\"
-opn 1 issue
-session 1
-activate 1 1
-sub 1 1 0 0 0 0 on
-tick 10000000
-";
-
-const TOLD: &[u8] = b"6 1 C2 closed -> normal K2 L5 C1:full
-7 1 N5 normal -> late K2 L4 N3:Q N4:Q N6:S G6:L=1
-";
-
-// Hands the events to the server, one after the other, and tells which rows fire.
-fn tells<W: Observer>(alloc: Global, server: &mut Server, observer: &mut W) -> Result<(), Fail> {
-    let Ok(events) = assemble(alloc, IS_LATE) else {
-        return Err(Fail::new("not assembled"));
-    };
-    let mut number = 0u64;
-    for event in events.as_slice() {
-        number = number.wrapping_add(1);
-        let Ok(step) = server.step(alloc, event) else {
-            return Err(Fail::new("not answered"));
-        };
-        if observer.saw(number, step.rows.as_slice()).is_err() {
-            return Err(Fail::new("not told"));
-        }
-    }
-    Ok(())
-}
-
-#[test]
-fn rows_are_told(rt: HostRuntime) -> Result<(), Fail> {
-    let alloc = rt.alloc();
-    let mut server = base_server(alloc)?;
-    let mut output = Tap::new(Vec::new(alloc));
-    let mut errors = Vec::new(alloc);
-    let mut visits = Visits::new(alloc, false, true);
-    let mut text = String::new(alloc);
-    let mut tracing = Tracing {
-        output: &mut output,
-        errors: &mut errors,
-        visits: &mut visits,
-        text: &mut text,
-    };
-    tells(alloc, &mut server, &mut tracing)?;
-    holds(&rt, "rows", output.into_inner().as_slice() == TOLD);
-    Ok(())
-}
 
 // One comes and goes, and others are turned away, whose ends are no lines.
 fn come_and_go<W: Observer>(observer: &mut W) {
