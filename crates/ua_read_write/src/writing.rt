@@ -126,7 +126,7 @@ fn write_one<'a>(
 /// have the attribute, `BAD_ATTRIBUTE_ID_INVALID`; it isn't the value, `BAD_NOT_WRITABLE`; an index range is
 /// given that can't be read, `BAD_INDEX_RANGE_INVALID`; there is no value, `BAD_WRITE_NOT_SUPPORTED`; AccessLevel doesn't
 /// let it be written, `BAD_NOT_WRITABLE`. Then, without an index range: it isn't of the variable's type and rank,
-/// `BAD_TYPE_MISMATCH`; a list has to be flat, which is one that isn't null and has no dimensions or exactly one. With
+/// `BAD_TYPE_MISMATCH`; a list has to be flat, which is one that isn't null and has at most one dimension. With
 /// one: the variable's value isn't a list that has all these elements, `BAD_INDEX_RANGE_NO_DATA`; what is written isn't a
 /// flat list of the variable's type, `BAD_TYPE_MISMATCH`; it has another number of elements, `BAD_INDEX_RANGE_INVALID`.
 /// The others are good. They are stored with the clock as the server's time, and as the source's where none was written; a

@@ -15,7 +15,7 @@ use Rattle.ua_values.specs.declared.variant.Variant.TheVariants as variants
 module _ {A : Type 0} where
   list_of_flat : (elements : List A) (dimensions : List ℕ) (n : ℕ) → flat_len_of elements dimensions ≡ Some n
       → (list_len_in (flat_list elements dimensions) ≡ Some n) × (shape_in (flat_list elements dimensions) ≡ shapes.List)
-  list_of_flat elements [] n is = absurd cc
+  list_of_flat elements [] n is = (is, refl)
   list_of_flat elements (d ∷ []) n is = (is, refl)
   list_of_flat elements (d ∷ e ∷ ds) n is = absurd cc
 

@@ -22,22 +22,22 @@ part_in from count (Array (Some elements)) = Array (Some (take count (drop from 
 part_in from count (Matrix m) = Matrix m
 
 abbrev pub flat_list : {A : Type 0} → List A → List ℕ → Content A
-flat_list elements [] = Matrix (elements, [])
+flat_list elements [] = Array (Some elements)
 flat_list elements (d ∷ []) = Array (Some elements)
 flat_list elements (d ∷ e ∷ ds) = Matrix (elements, d ∷ e ∷ ds)
 
--- a list with one dimension is the list without it
+-- a list with at most one dimension is the list without dimensions
 abbrev pub flattened_in : {A : Type 0} → Content A → Content A
 flattened_in (Scalar x) = Scalar x
 flattened_in (Array elements) = Array elements
 flattened_in (Matrix m) = flat_list m.0 m.1
 
 abbrev pub flat_len_of : {A : Type 0} → List A → List ℕ → Option ℕ
-flat_len_of elements [] = None
+flat_len_of elements [] = Some (length elements)
 flat_len_of elements (d ∷ []) = Some (length elements)
 flat_len_of elements (d ∷ e ∷ ds) = None
 
--- how many elements a flat list has: one that isn't null, without dimensions or with exactly one
+-- how many elements a flat list has: one that isn't null, with at most one dimension
 abbrev pub flat_len_in : {A : Type 0} → Content A → Option ℕ
 flat_len_in (Scalar x) = None
 flat_len_in (Array None) = None
@@ -106,11 +106,11 @@ list_len value = of_content None (λ A. list_len_in {A = A}) value
 abbrev pub part_of : ℕ → ℕ → Variant → Variant
 part_of from count value = mapped (λ A. part_in {A = A} from count) value
 
--- how many elements a flat list has: one that isn't null, without dimensions or with exactly one
+-- how many elements a flat list has: one that isn't null, with at most one dimension
 abbrev pub flat_len : Variant → Option ℕ
 flat_len value = of_content None (λ A. flat_len_in {A = A}) value
 
--- a list with one dimension is the list without it; all else stays as it is
+-- a list with at most one dimension is the list without dimensions; all else stays as it is
 abbrev pub flattened : Variant → Variant
 flattened value = mapped (λ A. flattened_in {A = A}) value
 

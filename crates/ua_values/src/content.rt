@@ -75,13 +75,13 @@ impl<T> Content<T> {
 impl<T: Drop> Content<T> {
     ghost use Rattle.ua_values.specs.Parts.{flattened_in};
 
-    // A list with one dimension without it, and all else as it is.
+    // A list with at most one dimension without dimensions, and all else as it is.
     pub(crate) fn flattened(self) -> Content<T>
         ensures { result ≡ flattened_in self }
     {
         match self {
             Content::Matrix(matrix) => {
-                if matrix.dimensions().len() == 1 {
+                if matrix.dimensions().len() <= 1 {
                     Content::Array(SharedList::from_shared(matrix.into_elements()))
                 } else {
                     Content::Matrix(matrix)

@@ -137,7 +137,7 @@ impl Variant {
         }
     }
 
-    /// A list with exactly one dimension as the list without it, and everything else as it is.
+    /// A list with at most one dimension as the list without dimensions, and everything else as it is.
     pub fn flattened(self, alloc: Global) -> Result<Variant, AllocError>
         ensures { IfOk result (λ value. value ≡ flattened self) }
     {

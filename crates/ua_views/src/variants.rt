@@ -74,7 +74,7 @@ impl<'a> VariantView<'a> {
         }
     }
 
-    /// How many elements it has where it is a flat list: one that isn't null, and has no dimensions or exactly one. None of
+    /// How many elements it has where it is a flat list: one that isn't null, and has at most one dimension. None of
     /// everything else. Its content is walked over, without memory.
     pub fn flat_len(&self) -> Option<u32>
         ensures { result ≡ flat_len self.now }

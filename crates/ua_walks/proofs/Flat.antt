@@ -1,5 +1,5 @@
 -- How many elements a flat list has, told by its length and by the number of its dimensions.
-use Rattle.std.proofs.Common.{◌≡◌, ◌≢◌, ℕ, List, [], ◌∷◌, Bool, true, length, Option, Some, None, Ok, refl, sym, arith}
+use Rattle.std.proofs.Common.{◌≡◌, ◌<◌, ◌≤◌, ℕ, List, [], ◌∷◌, Bool, true, length, Option, Some, None, Ok, refl, arith}
 use Rattle.std.specs.Prelude.{option_map}
 use Rattle.std.specs.Int.{w32}
 use Rattle.std.proofs.lemmas.Result.{IfOk-at_ok}
@@ -25,12 +25,12 @@ pub list_told : {A : Type 0} (list : Option (List A)) → flat_len_in (Array lis
 list_told None = refl
 list_told (Some xs) = refl
 
-pub of_one_dimension : {A : Type 0} (elements : List A) (dimensions : List ℕ) (rank : ℕ) → length dimensions ≡ rank → rank ≡ 1 → flat_len_of elements dimensions ≡ Some (length elements)
-of_one_dimension elements [] rank many one = absurd (omega arith)
-of_one_dimension elements (d ∷ []) rank many one = refl
-of_one_dimension elements (d ∷ e ∷ ds) rank many one = absurd (omega arith)
+pub of_few_dimensions : {A : Type 0} (elements : List A) (dimensions : List ℕ) (rank : ℕ) → length dimensions ≡ rank → rank ≤ 1 → flat_len_of elements dimensions ≡ Some (length elements)
+of_few_dimensions elements [] rank many few = refl
+of_few_dimensions elements (d ∷ []) rank many few = refl
+of_few_dimensions elements (d ∷ e ∷ ds) rank many few = absurd (omega arith)
 
-pub of_other_dimensions : {A : Type 0} (elements : List A) (dimensions : List ℕ) (rank : ℕ) → length dimensions ≡ rank → rank ≢ 1 → flat_len_of elements dimensions ≡ None
-of_other_dimensions elements [] rank many other = refl
-of_other_dimensions elements (d ∷ []) rank many other = absurd (other (sym many))
-of_other_dimensions elements (d ∷ e ∷ ds) rank many other = refl
+pub of_more_dimensions : {A : Type 0} (elements : List A) (dimensions : List ℕ) (rank : ℕ) → length dimensions ≡ rank → 1 < rank → flat_len_of elements dimensions ≡ None
+of_more_dimensions elements [] rank many more = absurd (omega arith)
+of_more_dimensions elements (d ∷ []) rank many more = absurd (omega arith)
+of_more_dimensions elements (d ∷ e ∷ ds) rank many more = refl

@@ -72,12 +72,12 @@ fn skip_dimensions(count: u32, cursor: &mut Cursor<'_>) -> Result<Option<u32>, T
     }
 }
 
-// What follows is moved past, and of a flat list it is told how many elements it has: of one that isn't null, and has no
-// dimensions or exactly one. None is told of everything else. Lists, and values of no fixed size, are moved past by functions of
+// What follows is moved past, and of a flat list it is told how many elements it has: of one that isn't null, and has at most
+// one dimension. None is told of everything else. Lists, and values of no fixed size, are moved past by functions of
 // their own, which aren't inlined, so that a number, which most values are, is passed by a short one.
 
 // Moves past a list and its dimensions, in which it must lie.
-#[tactic(auto, using(crate::proofs::Flat::of_one_dimension, crate::proofs::Flat::of_other_dimensions), unfolding(ua_binary::specs::Variants::content_reading))]
+#[tactic(auto, using(crate::proofs::Flat::of_few_dimensions, crate::proofs::Flat::of_more_dimensions), unfolding(ua_binary::specs::Variants::content_reading))]
 #[inline(never)]
 fn skip_matrix<T: Walk>(cursor: &mut Cursor<'_>) -> Result<Option<u32>, TakeFault>
     ensures tells { Tells flat_len_in result cursor.new (content_reading T.reading 3 cursor.old) }
@@ -89,8 +89,7 @@ fn skip_matrix<T: Walk>(cursor: &mut Cursor<'_>) -> Result<Option<u32>, TakeFaul
     };
     match skip_dimensions(count, cursor)? {
         None => Err(TakeFault::Form),
-        Some(1) => Ok(Some(count)),
-        Some(_) => Ok(None),
+        Some(rank) => Ok(if rank <= 1 { Some(count) } else { None }),
     }
 }
 
@@ -209,8 +208,8 @@ fn skip_typed(number: u8, flags: u8, cursor: &mut Cursor<'_>) -> Result<Option<u
     }
 }
 
-/// Moves past a Variant, and tells how many elements it has where it is a flat list: one that isn't null, and has no
-/// dimensions or exactly one. None of everything else.
+/// Moves past a Variant, and tells how many elements it has where it is a flat list: one that isn't null, and has at most
+/// one dimension. None of everything else.
 ///
 /// At an `Err`, the first fault, the cursor stands where the fault is.
 #[tactic(auto, unfolding(ua_binary::specs::Variants::variant_reading))]
