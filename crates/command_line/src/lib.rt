@@ -14,6 +14,7 @@
 #![tactic(auto)]
 
 mod command;
+mod help;
 mod parsing;
 mod program;
 mod stop;

@@ -5,6 +5,7 @@ ghost use Rattle.clap.specs.Words.{app_of, rule_of};
 ghost use Rattle.clap.specs.declared.builder.command.Command.TheViews.{out-Command as fields_of};
 ghost use Rattle.command_line.specs.Words.{asm_app, check_app, flag_rule, nodes_rule, option_rule, pipe_app, program, run_app, scenario_rule, serve_app, serve_bounds, serve_paths, serve_place, serve_totals, trace_app, with_nodes, with_scenarios};
 
+use crate::help;
 use clap::{Arg, ArgAction, Command};
 use std::alloc::{AllocError, Global};
 
@@ -36,9 +37,7 @@ fn with_nodes<'a>(alloc: Global) -> Result<Command<'a>, AllocError>
     ensures { IfOk result (λ c. app_of c ≡ with_nodes) }
 {
     Command::new(alloc, "uaserver")
-        .about(
-            "An OPC UA server (opc.tcp, binary encoding, no security). README.md says what it serves and how to begin",
-        )
+        .about(help::PROGRAM)
         .version(VERSION)
         .no_binary_name(true)
         .subcommand_required(true)
@@ -51,32 +50,24 @@ fn pipe<'a>(alloc: Global) -> Result<Command<'a>, AllocError>
     ensures { IfOk result (λ c. (app_of c ≡ pipe_app) × ((fields_of c).has_globals ≡ false)) }
 {
     Command::new(alloc, "pipe")
-        .about("Serves one connection on standard input and standard output (docs/USING.md)")
-        .arg(nodes(alloc).help(
-            "a node file (TOML); the standard's base nodes alone where left out",
-        ))
+        .about(help::PIPE)
+        .arg(nodes(alloc).help(help::NODES_OR_NONE))
 }
 
 fn check<'a>(alloc: Global) -> Result<Command<'a>, AllocError>
     ensures { IfOk result (λ c. (app_of c ≡ check_app) × ((fields_of c).has_globals ≡ false)) }
 {
     Command::new(alloc, "check")
-        .about(
-            "Counts the nodes and references of a node file, or says what is wrong with it (docs/NODE_FILE.md)",
-        )
+        .about(help::CHECK)
         .arg(nodes(alloc).required(true))?
-        .arg(flag(
-            alloc,
-            "explain",
-            "says on standard error what is wrong in the file's own words, or how long its durations are (docs/NODE_FILE.md)",
-        ))
+        .arg(flag(alloc, "explain", help::EXPLAIN))
 }
 
 fn asm<'a>(alloc: Global) -> Result<Command<'a>, AllocError>
     ensures { IfOk result (λ c. (app_of c ≡ asm_app) × ((fields_of c).has_globals ≡ false)) }
 {
     Command::new(alloc, "asm")
-        .about("Prints the events of a scenario (docs/SCENARIOS.md)")
+        .about(help::ASM)
         .arg(scenario(alloc))
 }
 
@@ -84,7 +75,7 @@ fn run<'a>(alloc: Global) -> Result<Command<'a>, AllocError>
     ensures { IfOk result (λ c. (app_of c ≡ run_app) × ((fields_of c).has_globals ≡ false)) }
 {
     Command::new(alloc, "run")
-        .about("Prints what is sent when a scenario happens to the server (docs/SCENARIOS.md)")
+        .about(help::RUN)
         .arg(nodes(alloc).required(true))?
         .arg(scenario(alloc))
 }
@@ -93,9 +84,7 @@ fn trace<'a>(alloc: Global) -> Result<Command<'a>, AllocError>
     ensures { IfOk result (λ c. (app_of c ≡ trace_app) × ((fields_of c).has_globals ≡ false)) }
 {
     Command::new(alloc, "trace")
-        .about(
-            "Prints the state table rows that fire when a scenario happens to the server (docs/SCENARIOS.md)",
-        )
+        .about(help::TRACE)
         .arg(nodes(alloc).required(true))?
         .arg(scenario(alloc))
 }
@@ -104,21 +93,9 @@ fn serve<'a>(alloc: Global) -> Result<Command<'a>, AllocError>
     ensures { IfOk result (λ c. (app_of c ≡ serve_app) × ((fields_of c).has_globals ≡ false)) }
 {
     serve_paths(alloc)?
-        .arg(flag(
-            alloc,
-            "trace",
-            "prints the state table rows of subscriptions as they fire, behind the line 'listening P' (docs/USING.md)",
-        ))?
-        .arg(flag(
-            alloc,
-            "quiet",
-            "leaves out of standard error who comes and goes",
-        ))?
-        .arg(flag(
-            alloc,
-            "summary",
-            "tells on standard error each minute how much is served",
-        ))
+        .arg(flag(alloc, "trace", help::TRACED))?
+        .arg(flag(alloc, "quiet", help::QUIET))?
+        .arg(flag(alloc, "summary", help::SUMMARY))
 }
 
 // `serve` with its place, what bounds its sockets and the whole server, its URL and its files.
@@ -126,24 +103,9 @@ fn serve_paths<'a>(alloc: Global) -> Result<Command<'a>, AllocError>
     ensures { IfOk result (λ c. (app_of c ≡ serve_paths) × ((fields_of c).has_globals ≡ false)) }
 {
     serve_totals(alloc)?
-        .arg(option(
-            alloc,
-            "url",
-            "URL",
-            "the endpoint URL that clients are told, in place of the node file's",
-        ))?
-        .arg(option(
-            alloc,
-            "stop-file",
-            "PATH",
-            "ends once this file is there, as after the last turn",
-        ))?
-        .arg(option(
-            alloc,
-            "store",
-            "FILE",
-            "keeps what is written, with its history, in this SQLite file, and begins with what is kept there",
-        ))
+        .arg(option(alloc, "url", "URL", help::URL))?
+        .arg(option(alloc, "stop-file", "PATH", help::STOP_FILE))?
+        .arg(option(alloc, "store", "FILE", help::STORE))
 }
 
 // `serve` with its place, what bounds its sockets and what bounds the whole server.
@@ -151,18 +113,8 @@ fn serve_totals<'a>(alloc: Global) -> Result<Command<'a>, AllocError>
     ensures { IfOk result (λ c. (app_of c ≡ serve_totals) × ((fields_of c).has_globals ≡ false)) }
 {
     serve_bounds(alloc)?
-        .arg(option(
-            alloc,
-            "all-subscriptions",
-            "N",
-            "the most subscriptions of the whole server, those whose sessions ended among them; 100000 where left out",
-        ))?
-        .arg(option(
-            alloc,
-            "all-items",
-            "N",
-            "the most monitored items of the whole server; 1000000 where left out",
-        ))
+        .arg(option(alloc, "all-subscriptions", "N", help::ALL_SUBSCRIPTIONS))?
+        .arg(option(alloc, "all-items", "N", help::ALL_ITEMS))
 }
 
 // `serve` with its place and what bounds its turns and sockets.
@@ -170,24 +122,9 @@ fn serve_bounds<'a>(alloc: Global) -> Result<Command<'a>, AllocError>
     ensures { IfOk result (λ c. (app_of c ≡ serve_bounds) × ((fields_of c).has_globals ≡ false)) }
 {
     serve_place(alloc)?
-        .arg(option(
-            alloc,
-            "turns",
-            "N",
-            "ends after so many turns of the loop, of at most 100 ms each; 0, the default, never ends",
-        ))?
-        .arg(option(
-            alloc,
-            "idle",
-            "SECONDS",
-            "lets go of a socket that is silent for so long; twice the file's session_time, at least 600, where left out; 0 never does",
-        ))?
-        .arg(option(
-            alloc,
-            "per-address",
-            "N",
-            "closes a further socket of an address that has so many; 0, the default, is no bound",
-        ))
+        .arg(option(alloc, "turns", "N", help::TURNS))?
+        .arg(option(alloc, "idle", "SECONDS", help::IDLE))?
+        .arg(option(alloc, "per-address", "N", help::PER_ADDRESS))
 }
 
 // `serve` with its NODES, its port and its address.
@@ -195,17 +132,10 @@ fn serve_place<'a>(alloc: Global) -> Result<Command<'a>, AllocError>
     ensures { IfOk result (λ c. (app_of c ≡ serve_place) × ((fields_of c).has_globals ≡ false)) }
 {
     Command::new(alloc, "serve")
-        .about(
-            "Serves connections to a port, from this machine alone unless an address is given (docs/USING.md)",
-        )
+        .about(help::SERVE)
         .arg(nodes(alloc).required(true))?
-        .arg(option(alloc, "port", "P", "the port, from 1 to 65535").required(true))?
-        .arg(option(
-            alloc,
-            "address",
-            "A",
-            "the IPv4 or IPv6 address to listen at; 127.0.0.1 where left out, 0.0.0.0 for all. Whoever reaches it may write",
-        ))
+        .arg(option(alloc, "port", "P", help::PORT).required(true))?
+        .arg(option(alloc, "address", "A", help::ADDRESS))
 }
 
 // An option with a value.
