@@ -23,6 +23,9 @@ use crate::value::{Form, ranked_value, type_of};
 use crate::version::Version;
 use std::alloc::{AllocError, Global};
 use toml::{Table, Value};
+use ua_space::standard_ids::{
+    BASE_DATA_VARIABLE_TYPE, BASE_OBJECT_TYPE, HAS_TYPE_DEFINITION, ORGANIZES,
+};
 use ua_space::{Node, NodeDetails, Part, Triple, ValueRank, Variable};
 use ua_types::{
     Copyable, Listed, LocalizedText, Moment, NodeClass, NodeId, NumberRange, QualifiedName, Text,
@@ -256,7 +259,7 @@ fn place_in(alloc: Global, highest: u16, table: &Table) -> Result<Place, Cause>
     ensures { Gives Memory result (place_of highest (table_view table.now)) }
 {
     let parent = id_if_any(alloc, highest, table, "parent")?;
-    let via = id_or(alloc, highest, table, "via", 35)?;
+    let via = id_or(alloc, highest, table, "via", ORGANIZES)?;
     Ok(Place { parent, via })
 }
 
@@ -353,7 +356,13 @@ fn variable_in(
 fn object_in(alloc: Global, setting: &Setting, table: &Table) -> Result<Kind, Cause>
     ensures { Gives Memory result (object_of setting.now (table_view table.now)) }
 {
-    let definition = id_or(alloc, setting.highest, table, "definition", 58)?;
+    let definition = id_or(
+        alloc,
+        setting.highest,
+        table,
+        "definition",
+        BASE_OBJECT_TYPE,
+    )?;
     Ok(plain_kind(alloc, NodeDetails::Object, Some(definition)))
 }
 
@@ -361,7 +370,13 @@ fn object_in(alloc: Global, setting: &Setting, table: &Table) -> Result<Kind, Ca
 fn variable_node_in(alloc: Global, setting: &Setting, table: &Table) -> Result<Kind, Cause>
     ensures { Gives Memory result (variable_node_of setting.now (table_view table.now)) }
 {
-    let definition = id_or(alloc, setting.highest, table, "definition", 63)?;
+    let definition = id_or(
+        alloc,
+        setting.highest,
+        table,
+        "definition",
+        BASE_DATA_VARIABLE_TYPE,
+    )?;
     let form = form_in(table)?;
     let variable = variable_in(alloc, setting, form, table)?;
     let history = history(alloc, setting, form, variable.historizing, table)?;
@@ -476,7 +491,7 @@ fn definition_triple(
         None => Ok(None),
         Some(definition) => Ok(Some(Triple {
             source: id.copy(alloc)?,
-            reference_type: standard_id(40),
+            reference_type: standard_id(HAS_TYPE_DEFINITION),
             target: definition,
             part,
         })),

@@ -15,7 +15,7 @@ use scenario_text::{
 use std::alloc::{AllocError, Global};
 use ua_messages::{
     ApplicationDescription, ApplicationType, ReadValueId, RequestHeader, SecurityTokenRequestType,
-    extension_object, type_ids,
+    VALUE, extension_object, type_ids,
 };
 use ua_service_messages::{ReadRawModifiedDetails, SignatureData, WriteValue};
 use ua_subscription_messages::{
@@ -29,9 +29,6 @@ use ua_values::{DataValue, Double};
 
 /// No span of time.
 pub(crate) const NO_DURATION: Duration = Duration([0; 8]);
-
-/// The number of the attribute Value (IEC 62541-6, Annex A).
-const VALUE: u32 = 13;
 
 /// No structure.
 pub(crate) fn no_object() -> ExtensionObject

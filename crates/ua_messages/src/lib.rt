@@ -53,7 +53,7 @@ pub use enumerations::{
 pub use get_endpoints::{GetEndpointsRequest, GetEndpointsResponse};
 pub use headers::{RequestHeader, ResponseHeader};
 pub use message_body::{HEAD_SIZE, MessageBody};
-pub use read_value_ids::ReadValueId;
+pub use read_value_ids::{ReadValueId, VALUE};
 pub use requests::{Requested, received_fields};
 pub use results::{Results, results_body};
 pub use secure_channels::{

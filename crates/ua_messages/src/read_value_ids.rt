@@ -7,11 +7,14 @@ use ua_binary::{Cursor, TakeFault, Wire};
 use ua_types::{NodeId, QualifiedName, Text};
 use ua_walks::Walk;
 
+/// The number of the attribute Value (IEC 62541-6, Annex A).
+pub const VALUE: u32 = 13;
+
 /// An attribute of a node, or a part of its value (ReadValueId, IEC 62541-4, section 7).
 #[derive(Debug, Drop)]
 pub struct ReadValueId {
     pub node_id: NodeId,
-    /// The number of the attribute, as 13 for the value.
+    /// The number of the attribute, as [`VALUE`].
     pub attribute_id: u32,
     /// Which elements of a list are meant, all where it is null or empty.
     pub index_range: Text,

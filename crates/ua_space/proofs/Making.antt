@@ -6,6 +6,7 @@ use Rattle.std.specs.BTreeMap.{insert_entry, is_at}
 use Rattle.std.specs.Ordering.{is_eq, match_ordering}
 use Rattle.std.specs.declared.cmp.Ordering.{Ordering}
 use Rattle.std.specs.declared.cmp.Ordering.TheVariants.{Less, Equal, Greater}
+use Rattle.ua_types.specs.Configuration.{Configuration}
 use Rattle.ua_types.specs.NodeIdOrder.{id_cmp}
 use Rattle.ua_types.specs.declared.node_id.NodeId.{NodeId}
 use Rattle.ua_types.specs.contracts.node_id.NodeIdOrd.TheImpl.Laws.{matches_eq-law}
@@ -125,6 +126,10 @@ all_given n known made (node ∷ nodes) e =
                 }
           ]
     ]
+
+pub base_count : (config : Configuration) → length (base_nodes config) ≡ 22
+unfolding base_nodes
+base_count config = refl
 
 pub spaces_made : SpacesAreMade
 unfolding space_of all_named

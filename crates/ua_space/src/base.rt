@@ -10,6 +10,12 @@ ghost use Rattle.ua_values.specs.declared.content.Content.TheVariants as content
 ghost use Rattle.ua_values.specs.declared.variant.Variant.TheVariants as variants;
 
 use crate::node::{Node, NodeDetails, ValueRank, Variable};
+use crate::standard_ids::{
+    AGGREGATES, BASE_DATA_VARIABLE_TYPE, BASE_OBJECT_TYPE, FOLDER_TYPE, HAS_CHILD, HAS_COMPONENT,
+    HAS_PROPERTY, HAS_SUBTYPE, HAS_TYPE_DEFINITION, HIERARCHICAL_REFERENCES, NAMESPACE_ARRAY,
+    NON_HIERARCHICAL_REFERENCES, OBJECTS, ORGANIZES, PROPERTY_TYPE, REFERENCES, ROOT, SERVER,
+    SERVER_ARRAY, SERVER_STATE, TYPES, VIEWS,
+};
 use crate::triple::{Part, Triple};
 use std::alloc::{AllocError, Global};
 use ua_types::{
@@ -136,37 +142,44 @@ fn triples_of(
     Ok(triples)
 }
 
+/// How many nodes the base set has.
+pub(crate) const NODES: usize = 22;
+
 /// The base set's references: their types, sources and targets.
 pub(crate) const TRIPLES: [(u32, u32, u32); 29] = [
-    (35, 84, 85),
-    (35, 84, 86),
-    (35, 84, 87),
-    (35, 85, 2253),
-    (46, 2253, 2254),
-    (46, 2253, 2255),
-    (47, 2253, 2259),
-    (35, 86, 58),
-    (35, 86, 63),
-    (35, 86, 68),
-    (35, 86, 31),
-    (45, 58, 61),
-    (45, 31, 32),
-    (45, 31, 33),
-    (45, 33, 34),
-    (45, 33, 35),
-    (45, 34, 44),
-    (45, 34, 45),
-    (45, 44, 46),
-    (45, 44, 47),
-    (45, 32, 40),
-    (40, 84, 61),
-    (40, 85, 61),
-    (40, 86, 61),
-    (40, 87, 61),
-    (40, 2253, 58),
-    (40, 2254, 68),
-    (40, 2255, 68),
-    (40, 2259, 63),
+    (ORGANIZES, ROOT, OBJECTS),
+    (ORGANIZES, ROOT, TYPES),
+    (ORGANIZES, ROOT, VIEWS),
+    (ORGANIZES, OBJECTS, SERVER),
+    (HAS_PROPERTY, SERVER, SERVER_ARRAY),
+    (HAS_PROPERTY, SERVER, NAMESPACE_ARRAY),
+    (HAS_COMPONENT, SERVER, SERVER_STATE),
+    (ORGANIZES, TYPES, BASE_OBJECT_TYPE),
+    (ORGANIZES, TYPES, BASE_DATA_VARIABLE_TYPE),
+    (ORGANIZES, TYPES, PROPERTY_TYPE),
+    (ORGANIZES, TYPES, REFERENCES),
+    (HAS_SUBTYPE, BASE_OBJECT_TYPE, FOLDER_TYPE),
+    (HAS_SUBTYPE, REFERENCES, NON_HIERARCHICAL_REFERENCES),
+    (HAS_SUBTYPE, REFERENCES, HIERARCHICAL_REFERENCES),
+    (HAS_SUBTYPE, HIERARCHICAL_REFERENCES, HAS_CHILD),
+    (HAS_SUBTYPE, HIERARCHICAL_REFERENCES, ORGANIZES),
+    (HAS_SUBTYPE, HAS_CHILD, AGGREGATES),
+    (HAS_SUBTYPE, HAS_CHILD, HAS_SUBTYPE),
+    (HAS_SUBTYPE, AGGREGATES, HAS_PROPERTY),
+    (HAS_SUBTYPE, AGGREGATES, HAS_COMPONENT),
+    (
+        HAS_SUBTYPE,
+        NON_HIERARCHICAL_REFERENCES,
+        HAS_TYPE_DEFINITION,
+    ),
+    (HAS_TYPE_DEFINITION, ROOT, FOLDER_TYPE),
+    (HAS_TYPE_DEFINITION, OBJECTS, FOLDER_TYPE),
+    (HAS_TYPE_DEFINITION, TYPES, FOLDER_TYPE),
+    (HAS_TYPE_DEFINITION, VIEWS, FOLDER_TYPE),
+    (HAS_TYPE_DEFINITION, SERVER, BASE_OBJECT_TYPE),
+    (HAS_TYPE_DEFINITION, SERVER_ARRAY, PROPERTY_TYPE),
+    (HAS_TYPE_DEFINITION, NAMESPACE_ARRAY, PROPERTY_TYPE),
+    (HAS_TYPE_DEFINITION, SERVER_STATE, BASE_DATA_VARIABLE_TYPE),
 ];
 
 /// The base references, and room for more.
@@ -193,11 +206,11 @@ fn add_objects(alloc: Global, nodes: &mut Vec<Node>) -> Result<(), AllocError>
     ensures { OnOk result (nodes.new.items ≡ nodes.old.items ++ base_objects) }
 {
     let names = [
-        (84, "Root"),
-        (85, "Objects"),
-        (86, "Types"),
-        (87, "Views"),
-        (2253, "Server"),
+        (ROOT, "Root"),
+        (OBJECTS, "Objects"),
+        (TYPES, "Types"),
+        (VIEWS, "Views"),
+        (SERVER, "Server"),
     ];
     add_all(alloc, nodes, &names, Kind::Object)
 }
@@ -205,14 +218,20 @@ fn add_objects(alloc: Global, nodes: &mut Vec<Node>) -> Result<(), AllocError>
 fn add_object_types(alloc: Global, nodes: &mut Vec<Node>) -> Result<(), AllocError>
     ensures { OnOk result (nodes.new.items ≡ nodes.old.items ++ base_object_types) }
 {
-    let names = [(58, "BaseObjectType"), (61, "FolderType")];
+    let names = [
+        (BASE_OBJECT_TYPE, "BaseObjectType"),
+        (FOLDER_TYPE, "FolderType"),
+    ];
     add_all(alloc, nodes, &names, Kind::ObjectType)
 }
 
 fn add_variable_types(alloc: Global, nodes: &mut Vec<Node>) -> Result<(), AllocError>
     ensures { OnOk result (nodes.new.items ≡ nodes.old.items ++ base_variable_types) }
 {
-    let names = [(63, "BaseDataVariableType"), (68, "PropertyType")];
+    let names = [
+        (BASE_DATA_VARIABLE_TYPE, "BaseDataVariableType"),
+        (PROPERTY_TYPE, "PropertyType"),
+    ];
     add_all(alloc, nodes, &names, Kind::VariableType)
 }
 
@@ -220,16 +239,16 @@ fn add_reference_types(alloc: Global, nodes: &mut Vec<Node>) -> Result<(), Alloc
     ensures { OnOk result (nodes.new.items ≡ nodes.old.items ++ base_reference_types) }
 {
     let names = [
-        (31, "References"),
-        (32, "NonHierarchicalReferences"),
-        (33, "HierarchicalReferences"),
-        (34, "HasChild"),
-        (35, "Organizes"),
-        (44, "Aggregates"),
-        (45, "HasSubtype"),
-        (46, "HasProperty"),
-        (47, "HasComponent"),
-        (40, "HasTypeDefinition"),
+        (REFERENCES, "References"),
+        (NON_HIERARCHICAL_REFERENCES, "NonHierarchicalReferences"),
+        (HIERARCHICAL_REFERENCES, "HierarchicalReferences"),
+        (HAS_CHILD, "HasChild"),
+        (ORGANIZES, "Organizes"),
+        (AGGREGATES, "Aggregates"),
+        (HAS_SUBTYPE, "HasSubtype"),
+        (HAS_PROPERTY, "HasProperty"),
+        (HAS_COMPONENT, "HasComponent"),
+        (HAS_TYPE_DEFINITION, "HasTypeDefinition"),
     ];
     add_all(alloc, nodes, &names, Kind::ReferenceType)
 }
@@ -287,14 +306,19 @@ fn state(config: &Config) -> NodeDetails
 fn add_variables(alloc: Global, nodes: &mut Vec<Node>, config: &Config) -> Result<(), AllocError>
     ensures { OnOk result (nodes.new.items ≡ nodes.old.items ++ base_variables config.now) }
 {
-    let servers = standard_node(alloc, 2254, "ServerArray", server_array(alloc, config)?)?;
+    let servers = standard_node(
+        alloc,
+        SERVER_ARRAY,
+        "ServerArray",
+        server_array(alloc, config)?,
+    )?;
     let spaces = standard_node(
         alloc,
-        2255,
+        NAMESPACE_ARRAY,
         "NamespaceArray",
         namespace_array(alloc, config)?,
     )?;
-    let state = standard_node(alloc, 2259, "State", state(config))?;
+    let state = standard_node(alloc, SERVER_STATE, "State", state(config))?;
     nodes.push(servers)?;
     nodes.push(spaces)?;
     nodes.push(state)?;
@@ -307,7 +331,7 @@ pub(crate) fn base_nodes(alloc: Global, config: &Config) -> Result<Vec<Node>, Al
     ensures items { IfOk result (λ nodes. nodes.items ≡ base_nodes config.now) }
     ensures len { IfOk result (λ nodes. vec_len nodes ≡ 22) }
 {
-    let mut nodes = Vec::with_capacity(alloc, 22)?;
+    let mut nodes = Vec::with_capacity(alloc, NODES)?;
     add_objects(alloc, &mut nodes)?;
     add_variables(alloc, &mut nodes, config)?;
     add_object_types(alloc, &mut nodes)?;

@@ -1,13 +1,14 @@
 //! A space out of nodes and references, or the first thing that is wrong with them.
 
-ghost use Rattle.std.specs.Prelude.{◌≡◌, ◌≤◌, ◌<◌, ◌^◌, ◌+◌, ◌++◌, [], length, vec_len, IfOk, IfErr, OnOk};
+ghost use Rattle.std.specs.Prelude.{◌≡◌, ◌≤◌, ◌<◌, ◌^◌, ◌+◌, ◌++◌, List, [], length, vec_len, IfOk, IfErr, OnOk};
 ghost use Rattle.ua_space.specs.BaseNodes.{base_triples};
+ghost use Rattle.ua_space.specs.declared.node.Node.{Node};
 ghost use Rattle.ua_types.specs.Answers.{Gives, GivesAs};
 ghost use Rattle.ua_space.specs.Build.{is_too_much, within_limits, named, all_named, linked};
 ghost use Rattle.ua_space.specs.Spaces.{fits, most_triples};
 ghost use Rattle.ua_space.specs.declared.fault.SpaceFault.TheVariants.{Memory};
 
-use crate::base::{TRIPLES, base_nodes, base_triples};
+use crate::base::{NODES, TRIPLES, base_nodes, base_triples};
 use crate::fault::SpaceFault;
 use crate::hints::Hints;
 use crate::history::is_history;
@@ -36,13 +37,12 @@ fn is_too_much(most: usize, base: usize, given: usize) -> bool
 }
 
 #[tactic(auto, unfolding(crate::specs::BaseNodes::base_triples))]
-fn within_limits(base: &[Node], nodes: &[Node], triples: &[Triple]) -> Result<(), SpaceFault>
-    requires { length base.now ≤ 22 }
-    ensures limits { result ≡ within_limits base.now nodes.now triples.now }
+fn within_limits(nodes: &[Node], triples: &[Triple]) -> Result<(), SpaceFault>
+    ensures limits { (base : List Node) → length base ≡ 22 → result ≡ within_limits base nodes.now triples.now }
     ensures few_nodes { OnOk result (length nodes.now < 2 ^ 32) }
     ensures few_triples { OnOk result (length triples.now < most_triples) }
 {
-    if is_too_much(MAX_NODES, base.len(), nodes.len())
+    if is_too_much(MAX_NODES, NODES, nodes.len())
         || is_too_much(MAX_TRIPLES, TRIPLES.len(), triples.len())
     {
         return Err(SpaceFault::Limit);
@@ -139,6 +139,8 @@ fn all_named(
 
 impl Space {
     ghost use Rattle.ua_types.specs.Answers.{Gives};
+    ghost use Rattle.std.specs.Prelude.{Err};
+    ghost use Rattle.ua_space.specs.BaseNodes.{base_nodes};
     ghost use Rattle.ua_space.specs.Build.{space_of};
     ghost use Rattle.ua_space.specs.declared.fault.SpaceFault.TheVariants.{Memory};
 
@@ -147,18 +149,19 @@ impl Space {
     ///
     /// The fault is [`SpaceFault::Limit`], or else the first of the nodes in order, which count from
     /// 1, or else the first of the references in order, or else of the first reference on a loop of
-    /// HasSubtype references.
-    #[tactic(auto, unfolding(crate::specs::Build::space_of))]
+    /// HasSubtype references. Limit is told however little memory there is.
+    #[tactic(auto, using(crate::proofs::Making::base_count), unfolding(crate::specs::Build::space_of))]
     pub fn build(
         alloc: Global,
         config: &Config,
         nodes: Vec<Node>,
         triples: Vec<Triple>,
     ) -> Result<Space, SpaceFault>
-        ensures { Gives Memory result (space_of config.now nodes.items triples.items) }
+        ensures space { Gives Memory result (space_of config.now nodes.items triples.items) }
+        ensures limit { IfErr (within_limits (base_nodes config.now) nodes.items triples.items) (λ fault. result ≡ Err fault) }
     {
+        within_limits(nodes.as_slice(), triples.as_slice())?;
         let base = base_nodes(alloc, config)?;
-        within_limits(base.as_slice(), nodes.as_slice(), triples.as_slice())?;
         let known = all_named(alloc, base, nodes)?;
         let all = with_base(alloc, triples)?;
         linked(alloc, &known, all.as_slice())?;

@@ -8,6 +8,7 @@ ghost use Rattle.ua_space.specs.References.{is_defining};
 ghost use Rattle.ua_space.specs.Subtypes.{is_subtyping};
 ghost use Rattle.ua_space.specs.Indexes.{IsIndex, items, places_at, key_of, stands_under};
 
+use crate::standard_ids::{HAS_SUBTYPE, HAS_TYPE_DEFINITION};
 use crate::triple::Triple;
 use std::alloc::{AllocError, Global};
 use std::collections::BTreeMap;
@@ -33,14 +34,14 @@ pub(crate) enum Key {
 pub(crate) fn is_subtyping(triple: &Triple) -> bool
     ensures { result ≡ is_subtyping triple.now }
 {
-    triple.reference_type == NodeId::numeric(0, 45)
+    triple.reference_type == NodeId::numeric(0, HAS_SUBTYPE)
 }
 
 // Whether it leads from a node to its type definition.
 fn is_defining(triple: &Triple) -> bool
     ensures { result ≡ is_defining triple.now }
 {
-    triple.reference_type == NodeId::numeric(0, 40)
+    triple.reference_type == NodeId::numeric(0, HAS_TYPE_DEFINITION)
 }
 
 // The id, if it is asked for.

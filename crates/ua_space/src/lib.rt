@@ -30,6 +30,7 @@ mod node_table;
 mod numbering;
 mod references;
 mod space;
+pub mod standard_ids;
 mod subtype_set;
 mod subtypes;
 mod triple;
