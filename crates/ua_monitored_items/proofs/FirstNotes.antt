@@ -8,7 +8,8 @@ use Rattle.std.specs.declared.cmp.Ordering.TheVariants.{Greater}
 use Rattle.ua_subscription_messages.specs.declared.publishing.MonitoredItemNotification.{MonitoredItemNotification}
 use Rattle.ua_monitored_items.specs.Item.{tells, gave, notes_of, note_of, waiting_in}
 use Rattle.ua_monitored_items.specs.ItemTables.{NumberedItems, item_at, numbers_of, is_of, with_found, with_item, AreRising}
-use Rattle.ua_monitored_items.specs.Items.{Taking, nat_least, taken_from, with_taken, nothing_taken}
+use Rattle.ua_monitored_items.specs.Items.{Taking, nat_least, taken_from, with_taken, nothing_taken, taken_of}
+use Rattle.ua_monitored_items.specs.Taking.{told_at, told_by}
 use Rattle.ua_monitored_items.specs.Moves.{told_notes, all_notes, run, NotesAreTheFirst}
 use Rattle.ua_monitored_items.specs.declared.item.Item.{Item}
 use Rattle.ua_monitored_items.proofs.Following.{set_other}
@@ -71,17 +72,29 @@ given left item = by (tells item)
     by true = all_told left (notes_of item) (length item.queue.entries) (sym (length-map item.queue.entries (note_of item.client_handle item.timestamps)))
     by false = none_told left (notes_of item)
 
+-- as many as wait of what an item holds, or fewer, are the first of what it has to tell
+pub told_first : (left : ℕ) (found : Option Item) (item : Item) → found ≡ Some item → take (nat_least left (waiting_in item)) (notes_of item) ≡ take left (told_at found)
+told_first left found item is = (given left item).first ∙ ap (λ (o : Option Item). take left (told_at o)) (sym is)
+
+pub told_rest : (left : ℕ) (found : Option Item) (item : Item) → found ≡ Some item → left - nat_least left (waiting_in item) ≡ left - length (told_at found)
+told_rest left found item is = (given left item).rest ∙ ap (λ (o : Option Item). left - length (told_at o)) (sym is)
+
 -- ---- what the items of some numbers tell
 
--- what an item has to tell, if there is such an item
-abbrev told_at : Option Item → Notes
-told_at None = []
-told_at (Some item) = told_notes item
+-- the first of them tells, and then the others
+pub tells_more : (items : NumberedItems) (front : Notes) (left : ℕ) (number : ℕ) (numbers rest : List ℕ) → rest ≡ number ∷ numbers
+    → (front ++ take left (told_at (item_at number items))) ++ take (left - length (told_at (item_at number items))) (told_by items numbers) ≡ front ++ take left (told_by items rest)
+tells_more items front left number numbers rest is =
+    append_assoc front (take left (told_at (item_at number items))) (take (left - length (told_at (item_at number items))) (told_by items numbers))
+    ∙ ap (λ (ns : Notes). front ++ ns) (sym (take_split left (told_at (item_at number items)) (told_by items numbers)))
+    ∙ ap (λ (ks : List ℕ). front ++ take left (told_by items ks)) (sym is)
 
--- what the items of some numbers have to tell, one after the other
-abbrev told_by : NumberedItems → List ℕ → Notes
-told_by items [] = []
-told_by items (number ∷ numbers) = told_at (item_at number items) ++ told_by items numbers
+-- nothing is wanted any more, or nobody is left
+pub tells_end : (items : NumberedItems) (front all : Notes) (left : ℕ) (rest : List ℕ) → front ++ take left (told_by items rest) ≡ all → take left (told_by items rest) ≡ [] → front ≡ all
+tells_end items front all left rest is none = sym (append-nil front) ∙ ap (λ (ns : Notes). front ++ ns) (sym none) ∙ is
+
+pub nobody_tells : (items : NumberedItems) (left : ℕ) (rest : List ℕ) → rest ≡ [] → take left (told_by items rest) ≡ no_notes
+nobody_tells items left rest none = ap (λ (ks : List ℕ). take left (told_by items ks)) none ∙ take_nothing left
 
 abbrev IsRisingList : List ℕ → Type 0
 IsRisingList [] = ⊤
@@ -141,6 +154,10 @@ all_are_made_of subscription (e ∷ es) rising =
         let here : item_at e.0 (e ∷ es) ≡ Some e.1 = rw (at_itself e.0) refl in
         ap (λ (o : Option Item). told_at o ++ told_by (e ∷ es) (numbers_of subscription es)) here ∙ ap (λ (ns : Notes). told_notes e.1 ++ ns) rest
     by false rest = rest
+
+-- what is taken of a subscription's items is the first of what they had to tell
+pub taken_are_told : (items : NumberedItems) (subscription n : ℕ) → AreRising items → (taken_of items n (numbers_of subscription items)).notes ≡ take n (told_by items (numbers_of subscription items))
+taken_are_told items subscription n rising = first_told (nothing_taken items n) (numbers_of subscription items) (numbers_rise subscription items rising)
 
 pub notes_are_the_first : NotesAreTheFirst
 notes_are_the_first config moves subscription n =

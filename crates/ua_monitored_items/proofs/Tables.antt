@@ -433,7 +433,7 @@ none_left subscription (e ∷ es) none = by (is_of subscription e.1) none (none_
 -- ---- after what was seen or taken, of which a part may be left
 
 module _ (made : ℕ) (of_subscription : BTreeMap ℕ (BTreeSet ℕ)) (on_node : BTreeMap NodeId (BTreeSet ℕ)) (items : NumberedItems) (h : IsTable made items of_subscription on_node) where
-  table_sent : (new : NumberedItems) (n : ℕ) (numbers : List ℕ) → new ≡ (taken_of items n numbers).items → IsTable made new of_subscription on_node
+  pub table_sent : (new : NumberedItems) (n : ℕ) (numbers : List ℕ) → new ≡ (taken_of items n numbers).items → IsTable made new of_subscription on_node
   table_sent new n numbers is = subst (λ (es : NumberedItems). IsTable made es of_subscription on_node) (sym is) (table_taken made of_subscription on_node (nothing_taken items n) numbers h)
 
   -- whether all of the items gave theirs, or only the first of them

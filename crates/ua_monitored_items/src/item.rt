@@ -1,6 +1,6 @@
 //! A monitored item.
 
-ghost use Rattle.std.specs.Prelude.{◌≡◌, ◌≤◌, [], true, take, OnOk, OnErr, IsOk, IfOk, if◌then◌else◌};
+ghost use Rattle.std.specs.Prelude.{◌≡◌, ◌≤◌, ◌++◌, [], true, take, OnOk, OnErr, IsOk, IfOk, if◌then◌else◌};
 ghost use Rattle.std.specs.Option.{option_copied};
 ghost use Rattle.ua_monitored_items.specs.Item.{is_change_since as is_change_since_spec, takes as takes_spec, queued, seen, reading, revised_size as revised_size_spec, takes_last as takes_last_spec, gave, notes_of, tells as tells_spec, waiting_in, released_in, with_links, time_if, marked_status, note_of};
 ghost use Rattle.ua_monitored_items.specs.ItemTables.{DisabledIsEmpty};
@@ -18,7 +18,9 @@ use ua_binary::BorrowedDataValue;
 use ua_item_queue::{Entry, ItemQueue};
 use ua_read_write::{Timestamps, sample};
 use ua_space::Space;
-use ua_subscription_messages::{BorrowedNotification, DataChangeMessage, MonitoringParameters};
+use ua_subscription_messages::{
+    BorrowedNotification, DataChangeMessage, MonitoredItemNotification, MonitoringParameters,
+};
 use ua_types::{Copyable, Moment, NodeId, Status};
 use ua_values::DataValue;
 
@@ -130,6 +132,25 @@ fn note<'a>(
             time_if(timestamps.has_server(), value.server_time),
         ),
     )
+}
+
+// A value as a client is told it, copied from where it waits.
+fn copied_note(
+    alloc: Global,
+    client_handle: u32,
+    timestamps: Timestamps,
+    entry: &Entry<DataValue>,
+) -> Result<MonitoredItemNotification, AllocError>
+    ensures { IfOk result (λ note. note ≡ note_of client_handle timestamps entry.now) }
+{
+    let mut value = entry.value.copy(alloc)?;
+    value.status = marked_status(entry.marked, value.status);
+    value.source_time = time_if(timestamps.has_source(), value.source_time);
+    value.server_time = time_if(timestamps.has_server(), value.server_time);
+    Ok(MonitoredItemNotification {
+        client_handle,
+        value,
+    })
 }
 
 // Whether a trigger sees a change since the last value that was queued.
@@ -281,7 +302,7 @@ impl Item {
     }
 
     // Whether so many values, if they are any, are all that it holds.
-    fn takes_last(&self, count: usize) -> bool
+    pub(crate) fn takes_last(&self, count: usize) -> bool
         ensures { result ≡ takes_last_spec count self.now }
     {
         count > 0 && self.queue.len() <= count
@@ -300,8 +321,27 @@ impl Item {
         Ok(())
     }
 
+    // Copies its oldest values, so many, as a client is told them, behind what is there. At an `Err` a part of them is there.
+    pub(crate) fn copy_notes(
+        &self,
+        alloc: Global,
+        count: usize,
+        notes: &mut Vec<MonitoredItemNotification>,
+    ) -> Result<(), AllocError>
+        ensures { OnOk result (notes.new.items ≡ notes.old.items ++ take count (notes_of self.now)) }
+    {
+        for index in 0..count {
+            let Some(entry) = self.queue.get(index) else {
+                return Ok(());
+            };
+            let note = copied_note(alloc, self.client_handle, self.timestamps, entry)?;
+            notes.push(note)?;
+        }
+        Ok(())
+    }
+
     // Its oldest values were sent, so many, and whether they are all that it holds; the last one ends a release. Takes no memory.
-    fn send(&mut self, count: usize, are_all: bool)
+    pub(crate) fn send(&mut self, count: usize, are_all: bool)
         requires { are_all ≡ takes_last_spec count self.old }
         ensures { self.new ≡ gave count self.old }
     {

@@ -1,6 +1,6 @@
 //! Items under their numbers, with an index of the subscriptions and one of the nodes.
 
-ghost use Rattle.std.specs.Prelude.{◌≡◌, ◌<◌, ◌-◌, ◌+◌, ◌^◌, [], true, length, OnOk, OnErr, IfSome};
+ghost use Rattle.std.specs.Prelude.{◌≡◌, ◌<◌, ◌-◌, ◌+◌, ◌^◌, [], true, length, OnOk, OnErr, IfOk, IfSome};
 ghost use Rattle.std.specs.BTreeMap.{is_at, insert_entry};
 ghost use Rattle.std.specs.Map.{remove_entry};
 ghost use Rattle.std.specs.Option.{option_copied};
@@ -19,6 +19,7 @@ use crate::index::{Index, put_in, take_out};
 use crate::item::Item;
 use crate::kinds::Mode;
 use crate::links::Links;
+use crate::notes::{copy_all, send_all};
 use crate::numbered::Numbered;
 use crate::preparing::Modification;
 use crate::releases::Releases;
@@ -26,14 +27,14 @@ use crate::sampling::{release_all, sample_all, show_node};
 use std::alloc::{AllocError, Global};
 use std::collections::BTreeMap;
 use std::marker::Model;
+use ua_messages::VALUE;
 use ua_read_write::{Change, Timestamps};
 use ua_space::Space;
-use ua_subscription_messages::{DataChangeMessage, MonitoringParameters};
+use ua_subscription_messages::{
+    DataChangeMessage, MonitoredItemNotification, MonitoringParameters,
+};
 use ua_types::{Copyable, NodeId};
 use ua_values::DataValue;
-
-/// The number of the attribute Value.
-const VALUE: u32 = 13;
 
 /// The items of a server under their numbers, and the number of the last one that was made.
 ///
@@ -333,6 +334,34 @@ impl ItemTable {
         match self.of_subscription.get(&subscription) {
             None => Ok(()),
             Some(numbers) => self.items.give(subscription, numbers, count, message),
+        }
+    }
+
+    /// The first values of a subscription's items that report or are released, at most so many, are copied as clients are told
+    /// them, and sent. At an `Err`, which comes only where one of them has a value, nothing changed.
+    #[tactic(auto, using(crate::proofs::Serving::none_taken, crate::proofs::FirstNotes::taken_are_told))]
+    pub fn take_notes(
+        &mut self,
+        alloc: Global,
+        subscription: u32,
+        count: usize,
+    ) -> Result<Vec<MonitoredItemNotification>, AllocError>
+        ensures made { self.new.made ≡ self.old.made }
+        ensures notes { IfOk result (λ notes. notes.items ≡ (taken_of self.old.items count (numbers_of subscription self.old.items)).notes) }
+        ensures ok { OnOk result (self.new.items ≡ (taken_of self.old.items count (numbers_of subscription self.old.items)).items) }
+        ensures err { OnErr result (self.new.items ≡ self.old.items) }
+        ensures waits { OnErr result (any_waits self.old.items (numbers_of subscription self.old.items) ≡ true) }
+    {
+        if !self.available(subscription) {
+            return Ok(Vec::new(alloc));
+        }
+        match self.of_subscription.get(&subscription) {
+            None => Ok(Vec::new(alloc)),
+            Some(numbers) => {
+                let notes = copy_all(alloc, &self.items, numbers, count)?;
+                send_all(&mut self.items, numbers, count);
+                Ok(notes)
+            }
         }
     }
 }

@@ -28,7 +28,7 @@ use ua_read_write::{Change, Timestamps, refusal};
 use ua_space::Space;
 use ua_subscription_messages::{
     DataChangeMessage, MonitoredItemCreateRequest, MonitoredItemCreateResult,
-    MonitoredItemModifyRequest, MonitoredItemModifyResult,
+    MonitoredItemModifyRequest, MonitoredItemModifyResult, MonitoredItemNotification,
 };
 use ua_types::{Config, Duration, ExtensionObject, ExtensionObjectBody, Moment, NodeId, Status};
 use ua_values::DataValue;
@@ -270,6 +270,7 @@ impl Items {
         ensures results { IfOk result (λ results. results.items ≡ (all_served (create_one space.now.nodes clock subscription timestamps) self.old requests.items).results) }
         ensures ok { OnOk result (self.new ≡ (all_served (create_one space.now.nodes clock subscription timestamps) self.old requests.items).state) }
         ensures err { OnErr result (CanBeUndone self.old self.new) }
+        ensures memory { requests.items ≡ [] → IsOk result }
     {
         let mut results = Vec::with_capacity(alloc, requests.len())?;
         for request in requests {
@@ -318,6 +319,7 @@ impl Items {
         ensures results { IfOk result (λ results. results.items ≡ (all_served (create_one space.now.nodes clock subscription timestamps) self.old requests.items).results) }
         ensures ok { OnOk result (self.new ≡ (all_served (create_one space.now.nodes clock subscription timestamps) self.old requests.items).state) }
         ensures err { OnErr result (self.new ≡ self.old) }
+        ensures memory { requests.items ≡ [] → IsOk result }
     {
         let made = self.table.made();
         match self.create_all(alloc, space, clock, subscription, timestamps, requests) {
@@ -397,6 +399,7 @@ impl Items {
         ensures results { IfOk result (λ results. results.items ≡ (all_served (modify_one subscription timestamps) self.old requests.now).results) }
         ensures ok { OnOk result (self.new ≡ (all_served (modify_one subscription timestamps) self.old requests.now).state) }
         ensures err { OnErr result (self.new ≡ self.old) }
+        ensures memory { requests.now ≡ [] → IsOk result }
     {
         let mut results = Vec::with_capacity(alloc, requests.len())?;
         for request in requests {
@@ -448,6 +451,7 @@ impl Items {
         ensures numbers { IfOk result (λ entries. map (λ e. e.number) entries.items ≡ numbers.now) }
         ensures releases { OnOk result (releases.new ≡ with_releases releases.old (modes_release self.now subscription mode numbers.now)) }
         ensures ready { IfOk result (λ entries. AreReady space.now.nodes clock subscription mode self.now entries.items) }
+        ensures memory { numbers.now ≡ [] → IsOk result }
     {
         let mut entries = Vec::with_capacity(alloc, numbers.len())?;
         for number in numbers {
@@ -494,6 +498,7 @@ impl Items {
         ensures ok { OnOk result (self.new ≡ (all_served (mode_one space.now.nodes clock subscription mode) self.old numbers.now).state) }
         ensures releases { OnOk result (releases.new ≡ with_releases releases.old (modes_release self.old subscription mode numbers.now)) }
         ensures err { OnErr result (self.new ≡ self.old) }
+        ensures memory { numbers.now ≡ [] → IsOk result }
     {
         let entries = self.prepare_all(alloc, space, clock, subscription, mode, numbers, releases)?;
         let mut results = Vec::with_capacity(alloc, numbers.len())?;
@@ -522,6 +527,7 @@ impl Items {
         ensures results { IfOk result (λ results. results.items ≡ (modes_set space.now.nodes clock subscription mode self.old numbers.now).results) }
         ensures ok { OnOk result (self.new ≡ (modes_set space.now.nodes clock subscription mode self.old numbers.now).state) }
         ensures err { OnErr result (self.new ≡ self.old) }
+        ensures memory { numbers.now ≡ [] → IsOk result }
     {
         let mut releases = Releases::new(alloc);
         let results = self.mode_all(
@@ -689,6 +695,7 @@ impl Items {
         ensures results { IfOk result (λ results. results.items ≡ (all_served (delete_one subscription) self.old numbers.now).results) }
         ensures ok { OnOk result (self.new ≡ (all_served (delete_one subscription) self.old numbers.now).state) }
         ensures err { OnErr result (self.new ≡ self.old) }
+        ensures memory { numbers.now ≡ [] → IsOk result }
     {
         let mut statuses = Vec::with_capacity(alloc, numbers.len())?;
         for number in numbers {
@@ -762,5 +769,24 @@ impl Items {
         ensures waits { OnErr result (is_available self.old subscription ≡ true) }
     {
         self.table.send(subscription, count, message)
+    }
+
+    /// Takes what a subscription's items that report or are released have to tell, at most so many values, as [`Items::send`]
+    /// writes it: copied first, and then it is sent, and waits no more.
+    ///
+    /// At an `Err`, which is want of memory and comes only where there is a value to send, nothing changed.
+    pub fn take_notes(
+        &mut self,
+        alloc: Global,
+        subscription: u32,
+        count: usize,
+    ) -> Result<Vec<MonitoredItemNotification>, AllocError>
+        ensures notes { IfOk result (λ notes. notes.items ≡ (taken_of self.old.items count (numbers_of subscription self.old.items)).notes) }
+        ensures ok { OnOk result (self.new.items ≡ (taken_of self.old.items count (numbers_of subscription self.old.items)).items) }
+        ensures others { self.new ≡ record self.old { items = self.new.items } }
+        ensures err { OnErr result (self.new ≡ self.old) }
+        ensures waits { OnErr result (is_available self.old subscription ≡ true) }
+    {
+        self.table.take_notes(alloc, subscription, count)
     }
 }

@@ -54,8 +54,8 @@ pub fn links_stay_inside()
     ensures { LinksStayInside }
 {}
 
-/// What [`crate::Items::send`] writes is the first of all that the subscription's items that report or
-/// are released have to tell: the items by rising number, the values of each oldest first.
+/// What [`crate::Items::send`] writes, and [`crate::Items::take_notes`] gives, is the first of all that the subscription's items
+/// that report or are released have to tell: the items by rising number, the values of each oldest first.
 #[tactic(auto, using(crate::proofs::FirstNotes::notes_are_the_first))]
 pub fn notes_are_the_first()
     ensures { NotesAreTheFirst }
@@ -63,7 +63,8 @@ pub fn notes_are_the_first()
 
 /// What items gave to messages, call after call, are the values of their accounts that were sent, with the
 /// marks that they had then: each in one message, in the order in which they were sampled. What
-/// [`crate::Items::send`] writes are the notes of what the items give with it, and nothing else.
+/// [`crate::Items::send`] writes, or [`crate::Items::take_notes`] gives, are the notes of what the items give with it, and
+/// nothing else.
 pub fn messages_take_what_is_sent()
     ensures notes { NotesAreOfGivings }
     ensures sent { GivingsAreWhatWasSent }

@@ -6,13 +6,13 @@ ghost use Rattle.std.specs.Map.{remove_entry};
 ghost use Rattle.std.specs.Option.{option_copied};
 ghost use Rattle.std.specs.Ordering.{nat_cmp};
 ghost use Rattle.ua_monitored_items.specs.Counts.{recount_by};
-ghost use Rattle.ua_monitored_items.specs.Item.{seen, released_in, with_links};
+ghost use Rattle.ua_monitored_items.specs.Item.{seen, gave, released_in, with_links};
 ghost use Rattle.ua_monitored_items.specs.ItemTables.{item_at, numbers_of, with_item, AreRising, DisabledIsEmpty};
-ghost use Rattle.ua_monitored_items.specs.Items.{any_waits, taken_of, visit_takes};
+ghost use Rattle.ua_monitored_items.specs.Items.{any_waits, nat_least, nothing_taken, taken_of, visit_takes, with_taken};
 ghost use Rattle.ua_monitored_items.specs.Modifying.{modified_with};
 ghost use Rattle.ua_monitored_items.specs.Preparing.{moded_from};
 ghost use Rattle.ua_monitored_items.specs.Releases.{visit_releases, with_release, with_releases};
-ghost use Rattle.ua_monitored_items.specs.Taking.{TakenSome};
+ghost use Rattle.ua_monitored_items.specs.Taking.{TakenSome, waiting_at};
 ghost use Rattle.ua_subscription_messages.specs.DataChangeMessages.{with_notes};
 
 use crate::item::Item;
@@ -118,6 +118,27 @@ fn set_links_at(items: &mut Slots<Item>, number: u32, links: Links) -> Option<Re
         had,
         has: item.waiting() > 0,
     })
+}
+
+// The oldest values of the item with this number are sent, at most so many. Answers how many more are wanted.
+fn send_at(items: &mut Slots<Item>, number: u32, left: usize) -> (usize, Option<Recount>)
+    ensures left { result.0 ≡ (with_taken (nothing_taken items.old left) number).left }
+    ensures items { items.new ≡ (with_taken (nothing_taken items.old left) number).items }
+    ensures recount { result.1 ≡ recount_by (gave (nat_least left (waiting_at (item_at number items.old)))) (item_at number items.old) }
+{
+    let Some(item) = items.get_mut(number as u64) else {
+        return (left, None);
+    };
+    let waiting = item.waiting();
+    let count = left.min(waiting);
+    let are_all = item.takes_last(count);
+    item.send(count, are_all);
+    let recount = Recount {
+        subscription: item.subscription,
+        had: waiting > 0,
+        has: waiting > count,
+    };
+    (left - count, Some(recount))
 }
 
 // The item with this number sees a value, and what that releases is added. At an `Err`, which comes only where the item queues
@@ -318,6 +339,20 @@ impl Numbered {
         );
         tally.put_back(&mut self.counts);
         given
+    }
+
+    /// The oldest values of the item with this number are sent, at most so many. Answers how many more are wanted. Takes no
+    /// memory.
+    pub fn send_from(&mut self, number: u32, left: usize) -> usize
+        ensures left { result ≡ (with_taken (nothing_taken self.old left) number).left }
+        ensures items { self.new ≡ (with_taken (nothing_taken self.old left) number).items }
+    {
+        let most = self.items.len();
+        let (wanted, found) = send_at(&mut self.items, number, left);
+        if let Some(recount) = found {
+            count(&mut self.counts, recount, most);
+        }
+        wanted
     }
 
     /// Whether an item of a subscription has a value to send. Takes no memory, and looks at no item.

@@ -117,6 +117,25 @@ fn write_notes(alloc: Global, items: &mut Items, output: &mut Vec<u8>) -> io::Re
     Ok(())
 }
 
+// Takes what the items have to tell as values, and writes a line for each.
+fn write_taken(alloc: Global, items: &mut Items, output: &mut Vec<u8>) -> io::Result<()> {
+    let mut taken = items.take_notes(alloc, 1, 9);
+    if taken.is_err() {
+        taken = items.take_notes(alloc, 1, 9);
+    }
+    let Ok(notes) = taken else {
+        return output.write_all(TWICE);
+    };
+    for note in notes.as_slice() {
+        write!(
+            output,
+            "item {} {:?}\n",
+            note.client_handle, note.value.value
+        )?;
+    }
+    Ok(())
+}
+
 fn changed(number: u32, value: Variant) -> Change {
     Change {
         node_id: NodeId::numeric(1, number),
@@ -168,11 +187,14 @@ fn write_all(
         items.sample(alloc, &[change])?;
     }
     write_modified(alloc, items, output)?;
-    write_notes(alloc, items, output)
+    write_notes(alloc, items, output)?;
+    show(alloc, items, 10, 11, output)?;
+    write_taken(alloc, items, output)
 }
 
 /// Writes what becomes of two items that are made, what they tell at first and then of a value each; and what becomes of them as
-/// they get queues of one value, and what the first tells then, which had two.
+/// they get queues of one value, and what the first tells then, which had two. Behind that, what is taken of both after a value
+/// more of each.
 pub(super) fn write_items<R: Files + AllocGlobal>(rt: &R, output: &mut Vec<u8>) -> io::Result<()> {
     let text = fs::read_to_string(rt, "sample.toml")?;
     let (config, space) = plant(rt.alloc(), text.as_str())?;
