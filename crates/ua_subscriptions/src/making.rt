@@ -2,7 +2,7 @@
 
 ghost use Rattle.std.specs.Prelude.{◌≡◌, false, length, option_map, IfOk, IsOk};
 ghost use Rattle.ua_subscriptions.specs.Making.{revised_of, refused_one, added, modified, republished, timed, kept_at};
-ghost use Rattle.ua_subscriptions.specs.Named.{Comes};
+ghost use Rattle.ua_subscriptions.specs.Named.{Comes, is_own as is_own_spec};
 ghost use Rattle.ua_subscriptions.specs.Tables.{world, Meets, part_at};
 ghost use Rattle.ua_subscriptions.specs.Ranks.{is_any_due};
 
@@ -152,7 +152,8 @@ impl LiveSubscriptions {
         number: u32,
         settings: Settings,
     ) -> Result<Result<Revised, Status>, Halt>
-        ensures { Comes result (world round.new self.new items.new) (modified session number settings (world round.old self.old items.old)) }
+        ensures comes { Comes result (world round.new self.new items.new) (modified session number settings (world round.old self.old items.old)) }
+        ensures memory { is_own_spec self.old session number ≡ false → IsOk result }
     {
         if !self.is_own(session, number) {
             return Ok(Err(Status::BAD_SUBSCRIPTION_ID_INVALID));
@@ -174,7 +175,8 @@ impl LiveSubscriptions {
         number: u32,
         wanted: u32,
     ) -> Result<Result<Bytes, Status>, Halt>
-        ensures { Comes result (world round.new self.new items.new) (republished session number wanted (world round.old self.old items.old)) }
+        ensures comes { Comes result (world round.new self.new items.new) (republished session number wanted (world round.old self.old items.old)) }
+        ensures memory { is_own_spec self.old session number ≡ false → IsOk result }
     {
         if !self.is_own(session, number) {
             return Ok(Err(Status::BAD_SUBSCRIPTION_ID_INVALID));

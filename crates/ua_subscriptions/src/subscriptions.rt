@@ -9,7 +9,7 @@ ghost use Rattle.ua_subscriptions.specs.Publishing.{published};
 ghost use Rattle.ua_subscriptions.specs.Ranks.{is_any_due};
 ghost use Rattle.ua_subscriptions.specs.Scenes.{is_overspent};
 ghost use Rattle.ua_subscriptions.specs.SubscriptionCalls.{no_subscriptions, round_of, world_of, settled as settled_spec, Serves, said, told, is_full as is_full_spec, refused, created_one, created};
-ghost use Rattle.ua_subscriptions.specs.Tables.{no_table, met, vars_found, kept_found};
+ghost use Rattle.ua_subscriptions.specs.Tables.{no_table, met, subscription_at, vars_found, kept_found};
 ghost use Rattle.ua_subscriptions.specs.declared.call.Call.TheVariants.{Items as ItemsCall, SetMode};
 
 use crate::answered::Answered;
@@ -227,7 +227,8 @@ impl Subscriptions {
         number: u32,
         settings: Settings,
     ) -> Result<Answered<Result<Revised, Status>>, Halt>
-        ensures { Serves result self.old self.new items.new (said self.old (modified session number settings (world_of self.old items.old clock))) }
+        ensures serves { Serves result self.old self.new items.new (said self.old (modified session number settings (world_of self.old items.old clock))) }
+        ensures memory { self.old.halted ≡ None → is_own_spec self.old.table session number ≡ false → IsOk result }
     {
         if let Some(halt) = self.halted {
             return Err(halt);
@@ -331,7 +332,8 @@ impl Subscriptions {
         number: u32,
         wanted: u32,
     ) -> Result<Answered<Result<Bytes, Status>>, Halt>
-        ensures { Serves result self.old self.new items.new (said self.old (republished session number wanted (world_of self.old items.old clock))) }
+        ensures serves { Serves result self.old self.new items.new (said self.old (republished session number wanted (world_of self.old items.old clock))) }
+        ensures memory { self.old.halted ≡ None → is_own_spec self.old.table session number ≡ false → IsOk result }
     {
         if let Some(halt) = self.halted {
             return Err(halt);
@@ -416,7 +418,8 @@ impl Subscriptions {
         number: u32,
         before: Vars,
     ) -> Result<Answered<()>, Halt>
-        ensures { Serves result self.old self.new items.new (told self.old (met (world_of self.old items.old clock) number (ItemsCall before))) }
+        ensures serves { Serves result self.old self.new items.new (told self.old (met (world_of self.old items.old clock) number (ItemsCall before))) }
+        ensures memory { self.old.halted ≡ None → subscription_at number self.old.table.subscriptions ≡ None → IsOk result }
     {
         if let Some(halt) = self.halted {
             return Err(halt);

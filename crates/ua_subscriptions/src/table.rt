@@ -1,11 +1,11 @@
 //! Subscriptions and sessions under their numbers.
 
-ghost use Rattle.std.specs.Prelude.{◌≡◌, true, OnOk, IfOk, IfErr};
+ghost use Rattle.std.specs.Prelude.{◌≡◌, true, None, OnOk, IfOk, IsOk, IfErr};
 ghost use Rattle.server_messages.specs.declared.halt.Halt.TheVariants.{Exhausted};
 ghost use Rattle.ua_subscriptions.specs.Askers.{AreAsked};
 ghost use Rattle.ua_subscriptions.specs.DueLists.{due_at, has_due, has_moved, AreListed};
 ghost use Rattle.ua_subscriptions.specs.declared.due_list.Due.{Due as DueLem};
-ghost use Rattle.ua_subscriptions.specs.Tables.{no_table, part_of, vars_found, kept_found, met_in, one_met, met_at, world, met, all_met, Meets};
+ghost use Rattle.ua_subscriptions.specs.Tables.{no_table, part_of, subscription_at, vars_found, kept_found, met_in, one_met, met_at, world, met, all_met, Meets};
 ghost use Rattle.ua_subscriptions.specs.Subscriptions.{is_any};
 ghost use Rattle.ua_subscriptions.specs.Scenes.{is_overspent};
 
@@ -137,6 +137,7 @@ fn fire_at(
     ensures exhausted { IfErr result (λ halt. halt ≡ Exhausted → is_overspent (met_at round.old subscriptions.old.entries sessions.old.entries items.old).round ≡ true) }
     ensures listed { AreListed subscriptions.new.entries dues.new }
     ensures asked { AreAsked sessions.new.entries askers.new }
+    ensures memory { subscription_at round.old.own subscriptions.old.entries ≡ None → IsOk result }
 {
     match subscriptions.get_mut(&round.own) {
         None => Ok(false),
@@ -205,7 +206,8 @@ impl LiveSubscriptions {
         own: u32,
         call: Call,
     ) -> Result<(), Halt>
-        ensures { Meets result (world round.new self.new items.new) (met (world round.old self.old items.old) own call) }
+        ensures meets { Meets result (world round.new self.new items.new) (met (world round.old self.old items.old) own call) }
+        ensures memory { subscription_at own self.old.subscriptions ≡ None → IsOk result }
     {
         round.own = own;
         round.call = call;

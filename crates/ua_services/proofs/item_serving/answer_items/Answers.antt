@@ -11,4 +11,4 @@ returns c =
     let state = c.args.services.now in
     called_first state c.args.caller.now (λ (done : Unit {0}). c.args.body) (told state.subs (met (world_at c.args.setting.now state) c.args.number (Items c.args.before)))
     c.in_ok-answered.answered c.items.new.self c.items.new.items c.served_alone.result c.args.body c.in_ok-reply_first.field-0
-    c.in_ok-answered.ensures c.served_alone.ensures refl c.in_ok-reply_first.ensures
+    c.in_ok-answered.ensures.serves c.served_alone.ensures refl c.in_ok-reply_first.ensures
