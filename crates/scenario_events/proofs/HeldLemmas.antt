@@ -133,7 +133,7 @@ held_pieces false header room body r m w =
 held_pieces true header room body r m w =
     let few = one_more no_limit (pieces_of room body) no_reason (short_pieces no_limit room body r (omega arith)) (omega arith) in
     let h = held Aborted header (pieces_of room body ++ no_reason ∷ []) few w in
-    record { fs = h.fs; text = h.text; each = h.each; says = (no_reason, h.says); next = h.next }
+    record { fs = h.fs; text = h.text; each = h.each; says = h.says; next = h.next }
 
 held_request : (aborted : Bool) (header : ChunkHeader) (room : ℕ) (body : List ℕ) → 0 < room → room ≤ body_limit → IsWritable header
     → HeldRequest aborted header (pieces_of room body) (request_run aborted header room body)

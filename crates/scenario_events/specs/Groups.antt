@@ -127,10 +127,10 @@ Hold last header (part ∷ parts) [] = ⊥
 Hold last header (part ∷ parts) (f ∷ fs) =
     (f.message_type ≡ message.Message) × (f.chunk_type ≡ type_of last parts) × (chunk_header_reading f.body ≡ Ok (header, part)) × Hold last (next_header header) parts fs
 
--- a request that is given up has all its parts, and then a chunk that says why
+-- a request that is given up has all its parts, and then a chunk that says why: a status of 0 and a reason that is null
 abbrev pub HoldRequest : Bool → ChunkHeader → List (List ℕ) → List Frame → Type 0
 HoldRequest false header parts fs = Hold Final header parts fs
-HoldRequest true header parts fs = (reason : List ℕ) × Hold Aborted header (parts ++ reason ∷ []) fs
+HoldRequest true header parts fs = Hold Aborted header (parts ++ (0 ∷ 0 ∷ 0 ∷ 0 ∷ 255 ∷ 255 ∷ 255 ∷ 255 ∷ []) ∷ []) fs
 
 -- so many chunks, which hold a body of this kind in parts of this size
 pub record IsRequest (aborted : Bool) (chunk : ℕ) (header : ChunkHeader) (IsBody : List ℕ → Type 0) (count : ℕ) (bytes : List ℕ) : Type 0 where

@@ -133,7 +133,8 @@ impl Server {
     /// The numbers of the messages that a subscription keeps until they are acknowledged, in the order in which they were
     /// sent; none where there is no such subscription, or the server is halted.
     pub fn kept_numbers(&self, alloc: Global, number: u32) -> Result<Vec<u32>, AllocError>
-        ensures { IfOk result (λ numbers. numbers.items ≡ kept_numbers_on (world_of self.now) number) }
+        ensures numbers { IfOk result (λ numbers. numbers.items ≡ kept_numbers_on (world_of self.now) number) }
+        ensures halted { world_of self.now ≡ None → IsOk result }
     {
         match &self.world {
             None => Ok(Vec::new(alloc)),
