@@ -26,6 +26,7 @@ ghost use Rattle.server_messages.specs.declared.setting.Setting.{Setting};
 ghost use Rattle.ua_space.specs.Nodes.{SpaceState};
 ghost use Rattle.subscription_laws.specs.Answering.{AreBrought};
 ghost use Rattle.subscription_laws.specs.Runs.{run};
+ghost use Rattle.subscription_laws.specs.Tellings.{AreInSequence};
 ghost use Rattle.ua_services.specs.Services.{serving_of, ticking_of, forgotten};
 ghost use Rattle.ua_services.specs.declared.services.Services.{Services};
 ghost use Rattle.server_core.specs.Coherent.{reached, IfRuns};
@@ -38,6 +39,7 @@ ghost use Rattle.server_laws.specs.Moving.{ComesOn, ComesOnBy};
 ghost use Rattle.server_laws.specs.Postings.{AnswersAreSent};
 ghost use Rattle.server_laws.specs.Replying.{BringsMessages, SendsReplies};
 ghost use Rattle.server_laws.specs.SessionsApart.{SessionsStayApart};
+ghost use Rattle.server_laws.specs.Tellings.{told_by};
 ghost use Rattle.server_laws.specs.Tables.{rows_of_run, IfShown, LeadTo, NoneWaitsBesideARequest, NoKeepAliveIsSkipped, FiresOneRow, TimesOutExactly, NoneTimesOutBesideARequest, ItemsHaveSubscriptions, AnswersStayInSessions, ServesTheBestFirst};
 
 /// What the services do is a function of what is asked: each request, served or refused, each tick, and each connection that is
@@ -107,6 +109,9 @@ pub fn table()
 ///   cleared, or its queue holds one value only. A call that finds nothing to clear changes nothing of that.
 /// - `message_numbers`: the messages of a subscription are numbered from 1 without a gap, after the last of 32 bits comes 1, also
 ///   once it is no more; more events only add messages. A note of a time-out has the number that would have come next.
+/// - `answers_numbered`: each answer to a Publish request has the number that comes next of its subscription: a message with
+///   notifications, a keep-alive and the note of a time-out, of which the first alone uses it up. Beside it stand numbers of messages
+///   that were made.
 /// - `republish_gives_the_first_bytes`: what Republish and [`Server::kept`](server_core::Server::kept) give is, byte for byte, the
 ///   message that was made under that number, and under each number that is shown there is one.
 /// - `answers_are_sent`: each answer that is posted goes out by the channel of the connection that its request came by, in its
@@ -119,6 +124,7 @@ pub fn losses()
     ensures each_in_one_message { (config : Configuration) (space : SpaceState) (events : List Event) (number : ℕ) → StandInMessages config space events number }
     ensures overflow_marks { (config : Configuration) (space : SpaceState) (events : List Event) (number : ℕ) → MarksItsLosses config space events number }
     ensures message_numbers { (config : Configuration) (space : SpaceState) (events : List Event) → NumbersItsMessages config space events }
+    ensures answers_numbered { (config : Configuration) (space : SpaceState) (events : List Event) → AreInSequence [] (told_by config space events) }
     ensures republish_gives_the_first_bytes { (config : Configuration) (space : SpaceState) (events : List Event) → GivesTheFirstBytes config space events }
     ensures answers_are_sent { (config : Configuration) (space : SpaceState) (events : List Event) → IsConfigured config → AnswersAreSent config space events }
 {}

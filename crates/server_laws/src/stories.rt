@@ -35,6 +35,7 @@ ghost use Rattle.subscription_laws.specs.OwnRequests.{CameIn};
 ghost use Rattle.subscription_laws.specs.Requests.{name_of};
 ghost use Rattle.subscription_laws.specs.Runs.{Move, run};
 ghost use Rattle.subscription_laws.specs.Tellings.{Telling, told_at};
+ghost use Rattle.subscription_laws.specs.Tellings.Told.{KeepAlive};
 ghost use Rattle.server_connections.specs.Reactions.{sends};
 ghost use Rattle.ua_services.specs.Services.{serving_of};
 ghost use Rattle.ua_services.specs.ServicesState.{no_services_used};
@@ -51,6 +52,7 @@ ghost use Rattle.server_laws.specs.Postings.{Posting, posted};
 ghost use Rattle.server_laws.specs.Storing.{stored_in};
 ghost use Rattle.server_laws.specs.Stories.{lost, sent, waiting};
 ghost use Rattle.server_laws.specs.Tables.{rows_of_run};
+ghost use Rattle.server_laws.specs.Tellings.{told_by};
 
 use crate::storing::store_has_what_changed;
 use crate::{losses, table};
@@ -75,6 +77,14 @@ pub fn a_fate_that_changes_back()
 pub fn a_number_passed_over()
     ensures { (config : Configuration) (space : SpaceState) (events : List Event) (number : ℕ) (first next : KeptMessage) →
         messages_for number (made_by config space events) ≡ first ∷ next ∷ [] → first.number ≡ 1 → next.number ≡ 3 → ⊥ }
+{
+    losses();
+}
+
+/// The first answer to a Publish request is a keep-alive, and its number isn't 1.
+pub fn a_keep_alive_with_another_number()
+    ensures { (config : Configuration) (space : SpaceState) (events : List Event) (first : Telling) (subscription number : ℕ) →
+        told_by config space events ≡ first ∷ [] → first.told ≡ KeepAlive subscription number → number ≢ 1 → ⊥ }
 {
     losses();
 }

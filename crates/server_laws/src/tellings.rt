@@ -7,7 +7,7 @@ ghost use Rattle.server_laws.specs.Messages.{made_by};
 ghost use Rattle.server_laws.specs.Tellings.{told_by};
 ghost use Rattle.server_messages.specs.declared.setting.Setting.{Setting};
 ghost use Rattle.subscription_laws.specs.Runs.{run};
-ghost use Rattle.subscription_laws.specs.Tellings.{answer_of, messages_in, AreInSequence};
+ghost use Rattle.subscription_laws.specs.Tellings.{answer_of, messages_in};
 ghost use Rattle.ua_services.specs.Publish.{publish_acknowledged, publish_call};
 ghost use Rattle.ua_services.specs.declared.caller.Caller.{Caller};
 ghost use Rattle.ua_services.specs.declared.services.Services.{Services};
@@ -22,17 +22,14 @@ ghost use Rattle.ua_subscriptions.specs.declared.session_part.TimeoutNote.{Timeo
 /// Whatever happens, what a server answers to Publish requests are these answers, in order, and no others: each tells of a message
 /// that was made, of a keep-alive, of a time-out, or is a fault, on the connection and under the number that its request came by.
 ///
-/// - `messages`: the messages that they bring are those that were made, each once.
-/// - `numbered`: each has the number that comes next of its subscription: a message with notifications, a keep-alive and the note of
-///   a time-out, of which the first alone uses it up. Beside it stand numbers of messages that were made.
+/// The messages that they bring are those that were made, each once.
 ///
-/// That these answers stand among the replies to the request or tick that gives them says
-/// [`messages_are_answers`](crate::messages_are_answers).
+/// How they are numbered says [`losses`](crate::losses), and that these answers stand among the replies to the request or tick that
+/// gives them [`messages_are_answers`](crate::messages_are_answers).
 pub fn answers_are_told()
     ensures answers { (config : Configuration) (space : SpaceState) (events : List Event) →
         (run config (moves_of config space events)).replies ≡ map answer_of (told_by config space events) }
     ensures messages { (config : Configuration) (space : SpaceState) (events : List Event) → messages_in (told_by config space events) ≡ made_by config space events }
-    ensures numbered { (config : Configuration) (space : SpaceState) (events : List Event) → AreInSequence [] (told_by config space events) }
 {}
 
 /// Where a session has a note of a time-out, its next Publish request, unless it has too many acknowledgements, is answered on
