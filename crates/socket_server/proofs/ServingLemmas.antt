@@ -18,14 +18,14 @@ use Rattle.socket_peers.specs.declared.peer.Readiness.{Readiness}
 use Rattle.socket_peers.specs.Peer.{PeerState, is_piece, may_be_more}
 use Rattle.mio.specs.declared.net.stream.TcpStream.{TcpStream}
 use Rattle.socket_peers.specs.Socket.{Calls}
-use Rattle.socket_peers.specs.Peers.{PeersState, at, with_joined, with_departed, without, departs_at, is_crowded, is_owed_at, at_time, is_silent_at, is_gone_at, is_sweep_due, swept_now, numbers_of, LetsGo, reported, ReadsBy, ReadsAt, LooksAt}
+use Rattle.socket_peers.specs.Peers.{PeersState, at, with_joined, with_departed, without, departs_at, is_done_at, is_crowded, is_owed_at, at_time, is_silent_at, is_gone_at, is_sweep_due, swept_now, numbers_of, LetsGo, reported, ReadsBy, ReadsAt, LooksAt}
 use Rattle.socket_server.specs.Sockets.{Sockets}
 use Rattle.socket_server.specs.Keeping.{Keeping, SettlesBy, Settles, StaysUnkept, IsOfStore}
 use Rattle.socket_server.specs.Output.{Output, EventText}
 use Rattle.socket_server.specs.declared.serve_fault.ServeFault.TheVariants as serve_fault
 use Rattle.socket_server.specs.declared.serve_fault.ServeFault.{ServeFault}
 use Rattle.rand_core.specs.Stream.{Stream}
-use Rattle.socket_server.specs.Serving.{Scene, scene, IsNextKey, IsQuiet, Happening, Connects, Reports, Gathers, Looks, Hears, Waits, Keeps, Writes, Leaves, Drops, Passes, Sweeps, Expires, LetsExpire, AreNoneSilent, readable, Does, Runs, ticks, Takes, Fails, IsOutside, SendsOut, HandsIn, IsKept, IsUnkept, IsUnsent, WindsUp, Goes, Stops, GivesUp, Serves, Heeds, GoesOn, ReadsOn, KeepsIf, LooksOn, Attends, AttendsEach, AttendsGroups, AttendsAll, ReportsEach, TakesIn, MayTakeIn, TakesInMany, TakesInSome, ExpiresMany, MayExpire, ExpiresAmong, SweepsIfDue, TakesTurn, Turns, IsTurns, ServesUntil, unknown, uncounted, readiness_of, is_of_listener, reported_events, begun, IsServed, IsStopped}
+use Rattle.socket_server.specs.Serving.{Scene, scene, IsNextKey, IsQuiet, Happening, Connects, Reports, Gathers, Looks, Hears, Waits, Keeps, Writes, Leaves, Drops, Passes, Sweeps, Expires, LetsExpire, AreNoneSilent, readable, Does, Runs, ticks, Takes, Fails, IsOutside, SendsOut, HandsIn, IsKept, IsUnkept, IsUnsent, WindsUp, Goes, Stops, GivesUp, Heeds, GoesOn, ReadsOn, KeepsIf, LooksOn, Attends, AttendsEach, AttendsGroups, AttendsAll, ReportsEach, TakesIn, MayTakeIn, TakesInMany, TakesInSome, ExpiresMany, MayExpire, ExpiresAmong, SweepsIfDue, TakesTurn, Turns, IsTurns, ServesUntil, unknown, uncounted, readiness_of, is_of_listener, reported_events, begun, IsServed, IsStopped, LeavesIf, DropsIf, Finishes}
 
 ticks_append : (xs ys : List Happening) → ticks (xs ++ ys) ≡ ticks xs + ticks ys
 ticks_append [] ys = omega arith
@@ -124,10 +124,6 @@ module _ {S : Type 0} (remaining contents : S → Option (List ℕ)) (calls : S 
   none_read conn old new (Some p) room piece heard.Nothing other (after, reads, e) = reads.0
   none_read conn old new (Some p) room piece heard.End other (after, reads, e) = reads.0
 
-  pub leaves : (conn : ℕ) (a c : Scene S) → departs_at a.peers conn ≡ true → Takes text (Gone conn) (record a { peers = with_departed a.peers conn }) c
-      → Goes remaining contents calls text 0 a c
-  leaves conn a c over takes = quiet (Leaves conn) a c refl (over, takes)
-
   pub passes : (now : Moment) (a c : Scene S) → Does remaining contents calls text (Passes now) a c → Goes remaining contents calls text 1 a c
   passes now a c does = (Passes now ∷ [], refl, (c, does, refl))
 
@@ -154,9 +150,21 @@ module _ {S : Type 0} (remaining contents : S → Option (List ℕ)) (calls : S 
   same_scene a b peers (server, events, output, keys) = scene_path b a keys server peers events output
 
   -- a socket that is done with is let go of, or nothing is done
-  pub drops : (conn : ℕ) (a c : Scene S) (is_gone : Bool) → LetsGo conn a.peers c.peers is_gone → IsQuiet a c → Goes remaining contents calls text 0 a c
-  drops conn a c true (done, e) same = quiet (Drops conn) a c refl (done, e, same)
-  drops conn a c false (not_done, e) same = goes_same a c (same_scene a c e same)
+  drops : (conn : ℕ) (a c : Scene S) (is_gone : Bool) → LetsGo conn a.peers c.peers is_gone → IsQuiet a c → DropsIf remaining contents calls text (is_done_at a.peers conn) conn a c
+  drops conn a c true (done, e) same = subst (λ is. DropsIf remaining contents calls text is conn a c) (sym done) (done, e, same)
+  drops conn a c false (not_done, e) same = subst (λ is. DropsIf remaining contents calls text is conn a c) (sym not_done) (same_scene a c e same)
+
+  leaves_if_goes : (is : Bool) (conn : ℕ) (a c : Scene S) → LeavesIf remaining contents calls text is conn a c → Goes remaining contents calls text 0 a c
+  leaves_if_goes true conn a c does = quiet (Leaves conn) a c refl does
+  leaves_if_goes false conn a c e = goes_same a c e
+
+  drops_if_goes : (is : Bool) (conn : ℕ) (a c : Scene S) → DropsIf remaining contents calls text is conn a c → Goes remaining contents calls text 0 a c
+  drops_if_goes true conn a c does = quiet (Drops conn) a c refl does
+  drops_if_goes false conn a c e = goes_same a c e
+
+  finishes_go : (conn : ℕ) (a c : Scene S) → Finishes remaining contents calls text conn a c → Goes remaining contents calls text 0 a c
+  finishes_go conn a c (left, leaving, dropping) =
+      goes_on a left c (leaves_if_goes (departs_at a.peers conn) conn a left leaving) (drops_if_goes (is_done_at left.peers conn) conn left c dropping)
 
   -- ---- what calls come to
 
@@ -215,18 +223,19 @@ module _ {S : Type 0} (remaining contents : S → Option (List ℕ)) (calls : S 
   piece_stops conn piece p a c fault h = stops_at (Bytes conn piece) a c fault (fails_from (Bytes conn piece) a c p a.keys fault refl h)
 
   pub gone_serves : {X : Type 0} (conn : ℕ) (a : Scene S) (p : PeersState S) (c : Scene S) (r : Result X ServeFault) → (departs_at a.peers conn ≡ true) × (p ≡ with_departed a.peers conn)
-      → Handed (Gone conn) (record a { peers = p }) c r → Serves remaining contents calls text 0 a c r
-  gone_serves conn a p c (Ok x) (over, j) h = leaves conn a c over (subst (λ q. Takes text (Gone conn) (record a { peers = q }) c) j h)
+      → Handed (Gone conn) (record a { peers = p }) c r
+      → MatchResult r (λ _. LeavesIf remaining contents calls text (departs_at a.peers conn) conn a c) (Stops remaining contents calls text a c)
+  gone_serves conn a p c (Ok x) (over, j) h =
+      subst (λ is. LeavesIf remaining contents calls text is conn a c) (sym over) (over, subst (λ q. Takes text (Gone conn) (record a { peers = q }) c) j h)
   gone_serves conn a p c (Err fault) (over, j) h = stops_at (Gone conn) a c fault (fails_from (Gone conn) a c p a.keys fault refl h)
 
-  pub serves_after : {X : Type 0} (m n : ℕ) (a b c : Scene S) (r : Result X ServeFault) → Goes remaining contents calls text m a b → Serves remaining contents calls text n b c r → Serves remaining contents calls text (m + n) a c r
-  serves_after m n a b c (Ok x) p h = goes_trans m n a b c p h
-  serves_after m n a b c (Err fault) p h = stops_after m a b c fault p h
+  pub none_leaves : (conn : ℕ) (a c : Scene S) → departs_at a.peers conn ≡ false → c ≡ a → LeavesIf remaining contents calls text (departs_at a.peers conn) conn a c
+  none_leaves conn a c still e = subst (λ is. LeavesIf remaining contents calls text is conn a c) (sym still) e
 
-  -- a socket is let go of where it is done with, after other acts
-  pub released_after : (conn : ℕ) (a b c : Scene S) (is_gone : Bool) → Goes remaining contents calls text 0 a b → LetsGo conn b.peers c.peers is_gone → IsQuiet b c
-      → Goes remaining contents calls text 0 a c
-  released_after conn a b c is_gone p lets same = goes_on a b c p (drops conn b c is_gone lets same)
+  -- a socket is let go of where it is done with, once the server was told
+  pub released_after : (conn : ℕ) (a b c : Scene S) (is_gone : Bool) → LeavesIf remaining contents calls text (departs_at a.peers conn) conn a b
+      → LetsGo conn b.peers c.peers is_gone → IsQuiet b c → Finishes remaining contents calls text conn a c
+  released_after conn a b c is_gone leaving lets same = (b, leaving, drops conn b c is_gone lets same)
 
   -- an observer that was told of a connection put nothing out
   pub takes_same : (event : Event) (a : Scene S) (keys : Stream) (server : Keeping) (p : PeersState S) (events : ℕ) (output again : Output) → again ≡ output
@@ -271,7 +280,8 @@ module _ {S : Type 0} (remaining contents : S → Option (List ℕ)) (calls : S 
   looks_go conn a c (kept, may, does) = goes_on a kept c (kept_if_goes (is_owed_at a.peers conn) a kept may) (looks conn kept c does)
 
   pub attends_go : (conn : ℕ) (a c : Scene S) → Attends remaining contents calls text conn a c → Goes remaining contents calls text 0 a c
-  attends_go conn a c (looked, read, looking, reads, goes) = goes_on a looked c (looks_go conn a looked looking) (goes_on looked read c (reads_go conn looked read reads) goes)
+  attends_go conn a c (looked, read, looking, reads, finishes) =
+      goes_on a looked c (looks_go conn a looked looking) (goes_on looked read c (reads_go conn looked read reads) (finishes_go conn read c finishes))
 
   pub sends_go : (a c : Scene S) → SendsOut remaining contents calls text a c → Goes remaining contents calls text 0 a c
   sends_go a c (kept, does, sends) = goes_on a kept c (keeps a kept does) (writes kept c sends)
@@ -488,9 +498,10 @@ module _ {S : Type 0} (remaining contents : S → Option (List ℕ)) (calls : S 
 
   -- after the look and the reads the server is told
   pub attends_then : {X : Type 0} (conn : ℕ) (a looked read c : Scene S) (r : Result X ServeFault) → LooksOn remaining contents calls text conn a looked
-      → ReadsOn remaining contents calls text conn looked read → Serves remaining contents calls text 0 read c r
+      → ReadsOn remaining contents calls text conn looked read
+      → MatchResult r (λ _. Finishes remaining contents calls text conn read c) (Stops remaining contents calls text read c)
       → MatchResult r (λ _. Attends remaining contents calls text conn a c) (Stops remaining contents calls text a c)
-  attends_then conn a looked read c (Ok x) looking reads goes = (looked, read, looking, reads, goes)
+  attends_then conn a looked read c (Ok x) looking reads finishes = (looked, read, looking, reads, finishes)
   attends_then conn a looked read c (Err fault) looking reads stops =
       stops_after 0 a read c fault (goes_on a looked read (looks_go conn a looked looking) (reads_go conn looked read reads)) stops
 

@@ -200,10 +200,6 @@ module _ {S : Type 0} (remaining contents : S → Option (List ℕ)) (calls : S 
   abbrev pub GivesUp : Scene S → Scene S → ServeFault → Type 0
   GivesUp old new fault = (stopped : Scene S) × Stops old stopped fault × WindsUp fault stopped new
 
-  -- acts in which time passed so often, or where it stopped
-  abbrev pub Serves : {X : Type 0} → ℕ → Scene S → Scene S → Result X ServeFault → Type 0
-  Serves turns old new result = MatchResult result (λ _. Goes turns old new) (Stops old new)
-
   -- ---- a turn
 
   -- A read from this socket came to this. A piece that it gave is handed in, as it came, and where it gave none nothing is
@@ -232,9 +228,25 @@ module _ {S : Type 0} (remaining contents : S → Option (List ℕ)) (calls : S 
   LooksOn conn old new =
       (kept : Scene S) × KeepsIf (is_owed_at old.peers conn) old kept × Does remaining contents calls text (Looks conn) kept new
 
-  -- a socket is looked at, then read from, and then the server is told if its connection is no more
+  -- the server is told that a connection is no more, or nothing is done
+  abbrev pub LeavesIf : Bool → ℕ → Scene S → Scene S → Type 0
+  LeavesIf true conn old new = Does remaining contents calls text (Leaves conn) old new
+  LeavesIf false conn old new = new ≡ old
+
+  -- a socket is let go of, or nothing is done
+  abbrev pub DropsIf : Bool → ℕ → Scene S → Scene S → Type 0
+  DropsIf true conn old new = Does remaining contents calls text (Drops conn) old new
+  DropsIf false conn old new = new ≡ old
+
+  -- where the connection of a socket is no more the server is told, unless it was before, and where the socket is done with then it
+  -- is let go of
+  abbrev pub Finishes : ℕ → Scene S → Scene S → Type 0
+  Finishes conn old new =
+      (left : Scene S) × LeavesIf (departs_at old.peers conn) conn old left × DropsIf (is_done_at left.peers conn) conn left new
+
+  -- a socket is looked at, then read from, and then what is over is ended
   abbrev pub Attends : ℕ → Scene S → Scene S → Type 0
-  Attends conn old new = (looked : Scene S) × (read : Scene S) × LooksOn conn old looked × ReadsOn conn looked read × Goes 0 read new
+  Attends conn old new = (looked : Scene S) × (read : Scene S) × LooksOn conn old looked × ReadsOn conn looked read × Finishes conn read new
 
   abbrev pub AttendsEach : List ℕ → Scene S → Scene S → Type 0
   AttendsEach [] old new = new ≡ old

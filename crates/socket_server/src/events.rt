@@ -7,7 +7,7 @@ ghost use Rattle.server_core.specs.declared.event.Event.TheVariants as happening
 ghost use Rattle.socket_server.specs.Keeping.{keeping};
 ghost use Rattle.socket_peers.specs.Peers.{departs_at, is_crowded, is_sweep_due};
 ghost use Rattle.socket_server.specs.Output.{Output, EventText};
-ghost use Rattle.socket_server.specs.Serving.{scene, IsNextKey, Connects, Does, Takes, Fails, SendsOut, IsUnsent, WindsUp, LooksOn, GoesOn, ReadsOn, Attends, AttendsEach, AttendsAll, TakesIn, AreNoneSilent, MayExpire, ExpiresAmong, SweepsIfDue, Serves, Stops};
+ghost use Rattle.socket_server.specs.Serving.{scene, IsNextKey, Connects, Does, Takes, Fails, SendsOut, IsUnsent, WindsUp, LooksOn, GoesOn, ReadsOn, Attends, AttendsEach, AttendsAll, TakesIn, AreNoneSilent, MayExpire, ExpiresAmong, SweepsIfDue, Stops, LeavesIf, Finishes};
 
 use crate::kept_server::{Answer, KeptServer};
 use crate::observer::Observer;
@@ -239,8 +239,10 @@ fn depart<S: Socket + Drop, K: Keeper, W: Observer>(
     observer: &mut W,
     number: u64,
 ) -> Result<(), ServeFault>
-    ensures serves { (keys : Stream) → Serves S.remaining S.contents S.calls W.text 0 (scene keys (keeping K.kept server.old) peers.old events.old (W.output observer.old))
-        (scene keys (keeping K.kept server.new) peers.new events.new (W.output observer.new)) result }
+    ensures serves { (keys : Stream) →
+        let old = scene keys (keeping K.kept server.old) peers.old events.old (W.output observer.old) in
+        let new = scene keys (keeping K.kept server.new) peers.new events.new (W.output observer.new) in
+        MatchResult result (λ _. LeavesIf S.remaining S.contents S.calls W.text (departs_at peers.old number) number old new) (Stops S.remaining S.contents S.calls W.text old new) }
     ensures told { OnOk result (departs_at peers.new number ≡ false) }
 {
     if peers.depart(number) {
@@ -262,8 +264,10 @@ fn finish<S: Socket + Drop, K: Keeper, W: Observer>(
     observer: &mut W,
     number: u64,
 ) -> Result<(), ServeFault>
-    ensures serves { (keys : Stream) → Serves S.remaining S.contents S.calls W.text 0 (scene keys (keeping K.kept server.old) peers.old events.old (W.output observer.old))
-        (scene keys (keeping K.kept server.new) peers.new events.new (W.output observer.new)) result }
+    ensures serves { (keys : Stream) →
+        let old = scene keys (keeping K.kept server.old) peers.old events.old (W.output observer.old) in
+        let new = scene keys (keeping K.kept server.new) peers.new events.new (W.output observer.new) in
+        MatchResult result (λ _. Finishes S.remaining S.contents S.calls W.text number old new) (Stops S.remaining S.contents S.calls W.text old new) }
     ensures told { OnOk result (departs_at peers.new number ≡ false) }
 {
     match depart(alloc, peers, events, server, observer, number) {

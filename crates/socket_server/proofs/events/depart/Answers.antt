@@ -3,7 +3,7 @@ use Rattle.rand_core.specs.Stream.{Stream}
 use Rattle.socket_peers.specs.Peers.{departs_at, with_departed}
 use Rattle.socket_server.specs.Keeping.{keeping}
 use Rattle.socket_server.specs.Serving.{scene}
-use Rattle.socket_server.proofs.ServingLemmas.{gone_serves, goes_same}
+use Rattle.socket_server.proofs.ServingLemmas.{gone_serves, none_leaves}
 use Rattle.socket_server.proofs.DepartLemmas.{told_by, empty_stream}
 use Rattle.socket_server.proofs.events.depart.Goals as goal
 
@@ -22,6 +22,6 @@ returns g c =
     let same : c.depart.new.self ≡ c.args.peers.now = search rules in
     let still : departs_at c.args.peers.now c.args.number ≡ false = search rules in
     record {
-      serves = λ keys. goes_same g.S.Socket.remaining g.S.Socket.contents g.S.Socket.calls g.W.Observer.text (scene keys (keeping g.K.Keeper.kept c.args.server.now) c.args.peers.now c.args.events.now (g.W.Observer.output c.args.observer.now)) _ (ap (λ p. scene keys (keeping g.K.Keeper.kept c.args.server.now) p c.args.events.now (g.W.Observer.output c.args.observer.now)) same);
+      serves = λ keys. none_leaves g.S.Socket.remaining g.S.Socket.contents g.S.Socket.calls g.W.Observer.text c.args.number (scene keys (keeping g.K.Keeper.kept c.args.server.now) c.args.peers.now c.args.events.now (g.W.Observer.output c.args.observer.now)) _ still (ap (λ p. scene keys (keeping g.K.Keeper.kept c.args.server.now) p c.args.events.now (g.W.Observer.output c.args.observer.now)) same);
       told = subst (λ p. departs_at p c.args.number ≡ false) (sym same) still;
     }
