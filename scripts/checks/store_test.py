@@ -160,7 +160,7 @@ def lists_last(program, folder):
 
 
 def left_out(program, folder):
-    """A value whose variable has another type by now is left out and told; it is back once the type is."""
+    """A value whose variable has another type by now, or is no more, is left out and told; it is back once the type is."""
     file = os.path.join(folder, 'types')
     one = NodeId.of_text('ns=1;i=1')
     server = StoringServer(program, node_file(folder, (1, 'Int32', 0)), file)
@@ -172,6 +172,9 @@ def left_out(program, folder):
         assert "store: the value of ns=1;i=1 isn't put back: the value is of another type or rank" in server.lines, server.lines
         with server.session() as session:
             assert session.read([one])[0].value == 'x'
+        server.end()
+        server = StoringServer(program, node_file(folder, (2, 'Int32', 0)), file)
+        assert "store: the value of ns=1;i=1 isn't put back: there is no such node" in server.lines, server.lines
         server.end()
         server = StoringServer(program, node_file(folder, (1, 'Int32', 0)), file)
         with server.session() as session:

@@ -1,11 +1,9 @@
 //! Histories, where no Write, no HistoryRead and no node file leads: a value without a time of the source, all times, and more
-//! values from before the server began than are kept; and those that a store has kept.
+//! values from before the server began than are kept.
 
 use crate::holding::holds;
-use server_messages::{KeptValue, KeptValues as StoredValues};
 use std::alloc::{AllocError, Global};
 use std::test::*;
-use store_restoring::{Misfit, latest_time, restore};
 use ua_history::{History, Interval, KeptRuns, KeptValues};
 use ua_space::{Node, NodeDetails, Space, ValueRank, Variable};
 use ua_types::{Config, Listed, LocalizedText, Moment, NodeId, QualifiedName, Status, Text};
@@ -155,42 +153,5 @@ fn the_last_values_of_before_are_kept(rt: HostRuntime) -> Result<(), Fail> {
         .node(&node)
         .map(|found| found.history.as_slice().len());
     holds(&rt, "moved out", left == Some(0));
-    Ok(())
-}
-
-fn stored(number: u32, value: u16, time: i64) -> KeptValue {
-    KeptValue {
-        node_id: NodeId::numeric(1, number),
-        value: counted(value, Some(Moment(time))),
-    }
-}
-
-#[test]
-fn what_a_store_has_kept_is_put_back(rt: HostRuntime) -> Result<(), Fail> {
-    let alloc = rt.alloc();
-    let config = Config::standard(alloc)?;
-    let nodes = vec![in alloc; counter(alloc)?]?;
-    let Ok(mut space) = Space::build(alloc, &config, nodes, Vec::new(alloc)) else {
-        return Err(Fail::new("not built"));
-    };
-    let kept = StoredValues {
-        values: vec![in alloc; stored(11, 9, 400), stored(12, 5, 400)]?,
-        histories: vec![in alloc; stored(11, 6, 50), stored(11, 8, 200), stored(11, 9, 400)]?,
-    };
-    holds(&rt, "the latest", latest_time(&kept) == Some(Moment(0)));
-    let restored = restore(alloc, &mut space, kept)?;
-    holds(&rt, "one is left out", restored.left_out.len() == 1);
-    for one in &restored.left_out {
-        holds(&rt, "no such node", one.why == Misfit::NoNode);
-    }
-    let id = NodeId::numeric(1, 11);
-    holds(&rt, "the value", number_of(space.value(&id)) == 9);
-    let mut numbers = 0u64;
-    if let Some(node) = space.node(&id) {
-        for value in node.history.as_slice() {
-            numbers = with_digit(numbers, value);
-        }
-    }
-    holds(&rt, "the history", numbers == 61839);
     Ok(())
 }
