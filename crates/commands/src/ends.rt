@@ -37,15 +37,28 @@ pub(crate) fn tell_status<E: Write>(errors: &mut E, status: Status) {
     };
 }
 
-// A number of bytes that is more than a million, with its thousands apart.
+// A number of bytes above 0, with its thousands apart.
 fn tell_owed<E: Write>(errors: &mut E, bytes: usize) {
-    let millions = bytes / 1_000_000;
-    let thousands = bytes / 1_000 % 1_000;
-    let rest = bytes % 1_000;
-    let _ = writeln!(
-        errors,
-        "let go: owed {millions},{thousands:03},{rest:03} bytes"
-    );
+    let parts = [
+        bytes / 1_000_000_000_000_000_000,
+        bytes / 1_000_000_000_000_000 % 1_000,
+        bytes / 1_000_000_000_000 % 1_000,
+        bytes / 1_000_000_000 % 1_000,
+        bytes / 1_000_000 % 1_000,
+        bytes / 1_000 % 1_000,
+        bytes % 1_000,
+    ];
+    let _ = write!(errors, "let go: owed ");
+    let mut is_begun = false;
+    for part in parts {
+        if is_begun {
+            let _ = write!(errors, ",{part:03}");
+        } else if part > 0 {
+            let _ = write!(errors, "{part}");
+            is_begun = true;
+        }
+    }
+    let _ = writeln!(errors, " bytes");
 }
 
 fn tell_failed<E: Write>(errors: &mut E, kind: Option<ErrorKind>) {

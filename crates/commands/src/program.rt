@@ -74,7 +74,8 @@ pub fn no_memory<E: Write>(errors: &mut E) -> Status
     Status::Halted
 }
 
-pub(crate) fn step_fault<E: Write>(fault: StepFault, errors: &mut E) -> Status
+/// Says why a step of the server failed.
+pub fn step_fault<E: Write>(fault: StepFault, errors: &mut E) -> Status
     ensures { result ≡ Status.Halted }
 {
     match fault {

@@ -347,17 +347,18 @@ fn with_store(mut config: Config, kept: &KeptValues) -> Config
 }
 
 // A server of this configuration and address space, and who keeps what it stores.
-fn kept_server<K: Keeper + Drop>(
+fn kept_server<K: Keeper + Drop, E: Write>(
     alloc: Global,
     config: Config,
     space: Space,
     keeper: K,
-) -> Result<KeptServer<K>, AllocError>
-    ensures { IfOk result (λ server. keeping K.kept server ≡ keeping_all (Some (opening config space)) (K.kept keeper)) }
+    errors: &mut E,
+) -> Result<KeptServer<K>, Status>
+    ensures { MatchResult result (λ server. keeping K.kept server ≡ keeping_all (Some (opening config space)) (K.kept keeper)) (λ status. status ≡ Status.Halted) }
 {
     match Server::new(alloc, config, space) {
         Ok(server) => Ok(KeptServer::new(alloc, server, keeper)),
-        Err(fault) => Err(fault),
+        Err(_) => Err(no_memory(errors)),
     }
 }
 
@@ -398,9 +399,29 @@ fn stored_server<P: OpensStores, E: Write>(
     let Ok(space) = restored(alloc, space, kept, errors) else {
         return Err(no_memory(errors));
     };
-    match kept_server(alloc, config, space, store) {
+    match kept_server(alloc, config, space, store, errors) {
         Ok(server) => Ok(server),
-        Err(_) => Err(no_memory(errors)),
+        Err(status) => Err(status),
+    }
+}
+
+// Serves by a server that has begun, or ends as it didn't.
+fn serve_begun<R: Files + Net + RandomSource + Clock + Wait, K: Keeper + Drop, O: Write, E: Write>(
+    rt: &R,
+    alloc: Global,
+    begun: Result<KeptServer<K>, Status>,
+    idle: u64,
+    options: &ServeOptions<'_>,
+    output: &mut Tap<O>,
+    errors: &mut E,
+) -> Status
+    ensures { let old = place O.contents output.old in
+        let new = place O.contents output.new in
+        MatchResult begun (λ server. ServesOn old new idle options.now (keeping K.kept server) result) (λ status. (result ≡ status) × (new ≡ old)) }
+{
+    match begun {
+        Ok(mut server) => serve_on(rt, alloc, &mut server, idle, options, output, errors),
+        Err(status) => status,
     }
 }
 
@@ -437,14 +458,14 @@ pub fn serve<R: Files + Net + RandomSource + Clock + Wait, P: OpensStores, O: Wr
     };
     tell_served(&config, &space, options, &mut Log::new(alloc, rt, errors));
     match options.store {
-        None => match kept_server(alloc, config, space, NoKeeper) {
-            Ok(mut server) => serve_on(rt, alloc, &mut server, idle, options, output, errors),
-            Err(_) => no_memory(errors),
-        },
-        Some(path) => match stored_server(stores, alloc, path, config, space, errors) {
-            Ok(mut server) => serve_on(rt, alloc, &mut server, idle, options, output, errors),
-            Err(status) => status,
-        },
+        None => {
+            let begun = kept_server(alloc, config, space, NoKeeper, errors);
+            serve_begun(rt, alloc, begun, idle, options, output, errors)
+        }
+        Some(path) => {
+            let begun = stored_server(stores, alloc, path, config, space, errors);
+            serve_begun(rt, alloc, begun, idle, options, output, errors)
+        }
     }
 }
 
