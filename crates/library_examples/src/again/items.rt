@@ -14,7 +14,8 @@ use ua_read_write::{Change, Timestamps};
 use ua_space::Space;
 use ua_subscription_messages::{
     DataChangeMessage, DataChangeNotification, MonitoredItemCreateRequest,
-    MonitoredItemCreateResult, MonitoredItemModifyRequest, NotificationMessage,
+    MonitoredItemCreateResult, MonitoredItemModifyRequest, MonitoredItemNotification,
+    NotificationMessage,
 };
 use ua_types::{Array, Moment, NodeId, Status};
 use ua_values::{Content, DataValue, Variant};
@@ -101,13 +102,9 @@ fn told_by(alloc: Global, bytes: &[u8]) -> io::Result<DataChangeNotification> {
     }
 }
 
-// Has the items send what they have to tell, and writes a line for each value.
-fn write_notes(alloc: Global, items: &mut Items, output: &mut Vec<u8>) -> io::Result<()> {
-    let mut message = DataChangeMessage::new(alloc, 1, Moment(0))?;
-    items.send(1, 9, &mut message)?;
-    let bytes = message.finish()?;
-    let told = told_by(alloc, bytes.as_slice())?;
-    for note in told.monitored_items.as_slice().unwrap_or(&[]) {
+// A line for each value that is told.
+fn write_each(notes: &[MonitoredItemNotification], output: &mut Vec<u8>) -> io::Result<()> {
+    for note in notes {
         write!(
             output,
             "item {} {:?}\n",
@@ -115,6 +112,15 @@ fn write_notes(alloc: Global, items: &mut Items, output: &mut Vec<u8>) -> io::Re
         )?;
     }
     Ok(())
+}
+
+// Has the items send what they have to tell, and writes a line for each value.
+fn write_notes(alloc: Global, items: &mut Items, output: &mut Vec<u8>) -> io::Result<()> {
+    let mut message = DataChangeMessage::new(alloc, 1, Moment(0))?;
+    items.send(1, 9, &mut message)?;
+    let bytes = message.finish()?;
+    let told = told_by(alloc, bytes.as_slice())?;
+    write_each(told.monitored_items.as_slice().unwrap_or(&[]), output)
 }
 
 // Takes what the items have to tell as values, and writes a line for each.
@@ -126,14 +132,7 @@ fn write_taken(alloc: Global, items: &mut Items, output: &mut Vec<u8>) -> io::Re
     let Ok(notes) = taken else {
         return output.write_all(TWICE);
     };
-    for note in notes.as_slice() {
-        write!(
-            output,
-            "item {} {:?}\n",
-            note.client_handle, note.value.value
-        )?;
-    }
-    Ok(())
+    write_each(notes.as_slice(), output)
 }
 
 fn changed(number: u32, value: Variant) -> Change {
