@@ -1,4 +1,4 @@
-//! Tests of the server over sockets, streams and the command line, for what no line of `worked_examples` can say.
+//! Tests of the server over sockets and streams, for what no line of `worked_examples` can say.
 //!
 //! Expected bytes are spelled by hand from the standard's layouts (IEC 62541-6, 5 and 6.7).
 #![tactic(auto)]
@@ -19,5 +19,3 @@ mod sockets;
 mod streams;
 #[cfg(test)]
 mod watching;
-#[cfg(test)]
-mod words;

@@ -3,6 +3,8 @@
 use crate::bytes_due::{ACKNOWLEDGE, HELLO};
 use crate::holding::holds;
 use commands::Status;
+use server_core::StepFault;
+use std::alloc::Global;
 use std::fs;
 use std::net::Net;
 use std::random::RandomSource;
@@ -53,6 +55,28 @@ fn hello_over_a_pipe(rt: HostRuntime) -> Result<(), Fail> {
         answers(&rt, &["pipe", "limits.toml"], HELLO, due),
     );
     Ok(())
+}
+
+// Whether this is told of a fault.
+fn is_told(alloc: Global, fault: StepFault, due: &[u8]) -> bool {
+    let mut errors = Vec::new(alloc);
+    let status = commands::step_fault(fault, &mut errors);
+    matches!(status, Status::Halted) && errors.as_slice() == due
+}
+
+// No client and no scenario brings about those but `Memory`.
+#[test]
+fn faults_of_steps(rt: HostRuntime) {
+    let alloc = rt.alloc();
+    for (fault, due) in [
+        (StepFault::Memory, "memory\n"),
+        (StepFault::Halted, "halted\n"),
+        (StepFault::Exhausted, "halted\n"),
+        (StepFault::KnownConnection, "halted\n"),
+        (StepFault::UnknownConnection, "halted\n"),
+    ] {
+        holds(&rt, due, is_told(alloc, fault, due.as_bytes()));
+    }
 }
 
 #[test]

@@ -21,7 +21,7 @@ fn come_and_go<W: Observer>(observer: &mut W) {
 }
 
 // Each way in which a connection ends.
-const ENDS: [End; 9] = [
+const ENDS: [End; 10] = [
     End::Client,
     End::Server(None),
     End::Server(Some(Status::BAD_SECURITY_POLICY_REJECTED)),
@@ -29,6 +29,7 @@ const ENDS: [End; 9] = [
     End::Silent(600),
     End::Owed(4_194_305),
     End::Owed(1_050_007_009),
+    End::Owed(usize::MAX),
     End::Failed(Some(ErrorKind::ConnectionReset)),
     End::Failed(None),
 ];
@@ -50,7 +51,9 @@ connection 5 from [::1]:4840 let go: silent for 600 s
 connection 5 from [::1]:4840
 connection 5 from [::1]:4840 let go: owed 4,194,305 bytes
 connection 5 from [::1]:4840
-connection 5 from [::1]:4840 let go: owed 1050,007,009 bytes
+connection 5 from [::1]:4840 let go: owed 1,050,007,009 bytes
+connection 5 from [::1]:4840
+connection 5 from [::1]:4840 let go: owed 18,446,744,073,709,551,615 bytes
 connection 5 from [::1]:4840
 connection 5 from [::1]:4840 failed: ConnectionReset
 connection 5 from [::1]:4840
