@@ -8,43 +8,41 @@
 //! standard streams, and ends with its status.
 #![tactic(auto)]
 
+use std::alloc::AllocError;
 use std::env;
 use std::io::ErrorKind;
 use std::process::ExitCode;
 use store_files::StoreFiles;
 use stream_taps::Tap;
 
-fn main(rt: HostRuntime) -> ExitCode {
+// The program's name and the words behind it. Where one isn't UTF-8 a word that names no command stands in their place.
+fn words(rt: &HostRuntime) -> Result<Vec<String>, AllocError> {
     let alloc = rt.alloc();
+    match env::args(rt) {
+        Ok(args) => args.collect(alloc),
+        Err(error) if error.kind() == ErrorKind::OutOfMemory => Err(AllocError),
+        Err(_) => {
+            let (name, word) = ("uaserver", "\u{fffd}");
+            Ok(vec![in alloc;
+                String::from_str(alloc, name)?,
+                String::from_str(alloc, word)?,
+            ]?)
+        }
+    }
+}
+
+fn main(rt: HostRuntime) -> ExitCode {
     let stores = StoreFiles::new(&rt);
     let mut input = Tap::new(rt.stdin());
     let mut output = Tap::new(rt.stdout());
     let mut errors = rt.stderr();
-    let args = match env::args(&rt) {
-        Ok(args) => args,
-        Err(error) if error.kind() == ErrorKind::OutOfMemory => {
-            return ExitCode::from(commands::no_memory(&mut errors).code());
-        }
-        // Words that aren't UTF-8 name no command.
-        Err(_) => {
-            let ended = commands::run(
-                &rt,
-                &stores,
-                &["\u{fffd}"],
-                &mut input,
-                &mut output,
-                &mut errors,
-            );
-            return ExitCode::from(ended.status.code());
-        }
-    };
-    let Ok(args) = args.collect::<Vec<String>>(alloc) else {
+    let Ok(words) = words(&rt) else {
         return ExitCode::from(commands::no_memory(&mut errors).code());
     };
     let ended = commands::run_args(
         &rt,
         &stores,
-        args.as_slice(),
+        words.as_slice(),
         &mut input,
         &mut output,
         &mut errors,
