@@ -5,8 +5,10 @@ usage: scripts/checks/greatest_test.py PROGRAM [--greatest] [--times] [CASE..]
 
 PROGRAM is the built program `uaserver`. No contract says that memory is there, so a body that answers `Memory` above a size is seen
 by an example alone. The examples are the cases of greatest.txt, which says how its lines are read. Their sizes are those in CI, where
-the program checks itself and is slow: just above the thresholds that bodies were tried with. With --greatest they are the greatest ones,
-for the proved program or that of scripts/lab/fast_program.py. --times prints what each case takes.
+the program checks itself and is slow: above the thresholds that bodies were tried with, but far below 2^20 for texts and lists and below
+65,536 for kept messages. With --greatest they are the greatest ones that a scenario can say in reasonable time (greatest.txt has them;
+`history`, `kept` and real sockets stay below their bounds), for the proved program or that of scripts/lab/fast_program.py. --times
+prints what each case takes.
 
 What the program sends is compared byte by byte with what the lines say. Faults are printed, and nothing else; the exit status is 0
 where there are none. Nothing but Python's own library is needed.

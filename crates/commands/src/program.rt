@@ -74,7 +74,8 @@ pub fn no_memory<E: Write>(errors: &mut E) -> Status
     Status::Halted
 }
 
-/// Says why a step of the server failed.
+/// Says on standard error why a step of the server failed: `memory`, and `halted` for every other fault. Public for the test of these
+/// texts, since nothing outside brings most of them about.
 pub fn step_fault<E: Write>(fault: StepFault, errors: &mut E) -> Status
     ensures { result ≡ Status.Halted }
 {
