@@ -7,5 +7,7 @@
 
 mod lines;
 mod viewed;
+mod viewed_sessions;
+mod viewed_subscriptions;
 
 pub use lines::write_encoding;

@@ -9,7 +9,6 @@ use ua_binary::{Cursor, TakeFault, Wire};
 use ua_messages::type_ids::*;
 use ua_messages::*;
 use ua_service_messages::*;
-use ua_service_views::*;
 use ua_subscription_messages::*;
 use ua_types::{
     Array, ByteString, Copyable, Duration, ExpandedNodeId, ExtensionObject, Guid, LocalizedText,
@@ -17,7 +16,6 @@ use ua_types::{
 };
 use ua_values::{DataValue, Double, Float, Variant};
 use ua_views::*;
-use ua_walks::Walk;
 
 // What was read, how it is written again, and how many bytes are left.
 fn write_read<T: Wire + Debug>(
@@ -59,7 +57,7 @@ fn copied<'a, V: Viewed<'a>>(
     }
 }
 
-// Writes the lines of what was taken, and behind them those of its view, or of what was read in two steps, where they aren't the same.
+// Writes the lines of what was taken, and behind them those of its view, where they aren't the same.
 fn write_both(taken: &[u8], viewed: &[u8], output: &mut Vec<u8>) -> io::Result<()> {
     output.write_all(taken)?;
     if taken != viewed {
@@ -152,25 +150,8 @@ fn whole<F: Drop>(
     }
 }
 
-// A request, which is read in two steps too.
-fn write_request<F: Walk + Debug>(
-    alloc: Global,
-    type_id: u32,
-    bytes: &[u8],
-    output: &mut Vec<u8>,
-) -> io::Result<()> {
-    let stepped = match header_view(bytes) {
-        Ok(headed) => {
-            let fields = received_fields::<F>(alloc, headed.fields);
-            whole(alloc, headed.header, fields)?
-        }
-        Err(fault) => Err(fault),
-    };
-    write_twice::<Requested<F>>(alloc, type_id, bytes, stepped, output)
-}
-
-// A request, whose fields are looked at behind its header too.
-fn write_request_viewed<'a, V: Viewed<'a>>(
+// A request, whose header and fields are looked at too.
+fn write_request<'a, V: Viewed<'a>>(
     alloc: Global,
     type_id: u32,
     bytes: &'a [u8],
@@ -261,7 +242,7 @@ fn write_of_subscriptions(
     output: &mut Vec<u8>,
 ) -> io::Result<()> {
     match name {
-        "CreateMonitoredItemsRequest" => write_request::<CreateMonitoredItemsRequest>(
+        "CreateMonitoredItemsRequest" => write_request::<CreateMonitoredItemsRequestView>(
             alloc,
             CREATE_MONITORED_ITEMS_REQUEST,
             bytes,
@@ -273,7 +254,7 @@ fn write_of_subscriptions(
             bytes,
             output,
         ),
-        "ModifyMonitoredItemsRequest" => write_request::<ModifyMonitoredItemsRequest>(
+        "ModifyMonitoredItemsRequest" => write_request::<ModifyMonitoredItemsRequestView>(
             alloc,
             MODIFY_MONITORED_ITEMS_REQUEST,
             bytes,
@@ -285,7 +266,7 @@ fn write_of_subscriptions(
             bytes,
             output,
         ),
-        "SetMonitoringModeRequest" => write_request::<SetMonitoringModeRequest>(
+        "SetMonitoringModeRequest" => write_request::<SetMonitoringModeRequestView>(
             alloc,
             SET_MONITORING_MODE_REQUEST,
             bytes,
@@ -297,7 +278,7 @@ fn write_of_subscriptions(
             bytes,
             output,
         ),
-        "DeleteMonitoredItemsRequest" => write_request::<DeleteMonitoredItemsRequest>(
+        "DeleteMonitoredItemsRequest" => write_request::<DeleteMonitoredItemsRequestView>(
             alloc,
             DELETE_MONITORED_ITEMS_REQUEST,
             bytes,
@@ -309,7 +290,7 @@ fn write_of_subscriptions(
             bytes,
             output,
         ),
-        "SetTriggeringRequest" => write_request::<SetTriggeringRequest>(
+        "SetTriggeringRequest" => write_request::<SetTriggeringRequestView>(
             alloc,
             SET_TRIGGERING_REQUEST,
             bytes,
@@ -345,7 +326,7 @@ fn write_of_subscriptions(
             bytes,
             output,
         ),
-        "SetPublishingModeRequest" => write_request::<SetPublishingModeRequest>(
+        "SetPublishingModeRequest" => write_request::<SetPublishingModeRequestView>(
             alloc,
             SET_PUBLISHING_MODE_REQUEST,
             bytes,
@@ -357,7 +338,7 @@ fn write_of_subscriptions(
             bytes,
             output,
         ),
-        "DeleteSubscriptionsRequest" => write_request::<DeleteSubscriptionsRequest>(
+        "DeleteSubscriptionsRequest" => write_request::<DeleteSubscriptionsRequestView>(
             alloc,
             DELETE_SUBSCRIPTIONS_REQUEST,
             bytes,
@@ -369,7 +350,12 @@ fn write_of_subscriptions(
             bytes,
             output,
         ),
-        "PublishRequest" => write_request::<PublishRequest>(alloc, PUBLISH_REQUEST, bytes, output),
+        "PublishRequest" => write_request::<PublishRequestView>(
+            alloc,
+            PUBLISH_REQUEST,
+            bytes,
+            output,
+        ),
         "PublishResponse" => write_message::<PublishResponse>(
             alloc,
             PUBLISH_RESPONSE,
@@ -388,7 +374,7 @@ fn write_of_subscriptions(
             bytes,
             output,
         ),
-        "DataChangeFilter" => write_structure::<DataChangeFilter>(
+        "DataChangeFilter" => write_structure_viewed::<DataChangeFilter>(
             alloc,
             DATA_CHANGE_FILTER,
             bytes,
@@ -417,7 +403,7 @@ fn write_of_services(
     output: &mut Vec<u8>,
 ) -> io::Result<()> {
     match name {
-        "CreateSessionRequest" => write_request::<CreateSessionRequest>(
+        "CreateSessionRequest" => write_request::<CreateSessionRequestView>(
             alloc,
             CREATE_SESSION_REQUEST,
             bytes,
@@ -429,7 +415,7 @@ fn write_of_services(
             bytes,
             output,
         ),
-        "ActivateSessionRequest" => write_request::<ActivateSessionRequest>(
+        "ActivateSessionRequest" => write_request::<ActivateSessionRequestView>(
             alloc,
             ACTIVATE_SESSION_REQUEST,
             bytes,
@@ -453,14 +439,9 @@ fn write_of_services(
             bytes,
             output,
         ),
-        "BrowseRequest" => write_request_viewed::<BrowseRequestView>(
-            alloc,
-            BROWSE_REQUEST,
-            bytes,
-            output,
-        ),
+        "BrowseRequest" => write_request::<BrowseRequestView>(alloc, BROWSE_REQUEST, bytes, output),
         "BrowseResponse" => write_message::<BrowseResponse>(alloc, BROWSE_RESPONSE, bytes, output),
-        "BrowseNextRequest" => write_request_viewed::<BrowseNextRequestView>(
+        "BrowseNextRequest" => write_request::<BrowseNextRequestView>(
             alloc,
             BROWSE_NEXT_REQUEST,
             bytes,
@@ -472,21 +453,11 @@ fn write_of_services(
             bytes,
             output,
         ),
-        "ReadRequest" => write_request_viewed::<ReadRequestView>(
-            alloc,
-            READ_REQUEST,
-            bytes,
-            output,
-        ),
+        "ReadRequest" => write_request::<ReadRequestView>(alloc, READ_REQUEST, bytes, output),
         "ReadResponse" => write_message::<ReadResponse>(alloc, READ_RESPONSE, bytes, output),
-        "WriteRequest" => write_request_viewed::<WriteRequestView>(
-            alloc,
-            WRITE_REQUEST,
-            bytes,
-            output,
-        ),
+        "WriteRequest" => write_request::<WriteRequestView>(alloc, WRITE_REQUEST, bytes, output),
         "WriteResponse" => write_message::<WriteResponse>(alloc, WRITE_RESPONSE, bytes, output),
-        "HistoryReadRequest" => write_request_viewed::<HistoryReadRequestView>(
+        "HistoryReadRequest" => write_request::<HistoryReadRequestView>(
             alloc,
             HISTORY_READ_REQUEST,
             bytes,
@@ -498,13 +469,13 @@ fn write_of_services(
             bytes,
             output,
         ),
-        "AnonymousIdentityToken" => write_structure::<AnonymousIdentityToken>(
+        "AnonymousIdentityToken" => write_structure_viewed::<AnonymousIdentityTokenView>(
             alloc,
             ANONYMOUS_IDENTITY_TOKEN,
             bytes,
             output,
         ),
-        "ReadRawModifiedDetails" => write_structure_viewed::<ReadRawModifiedDetailsView>(
+        "ReadRawModifiedDetails" => write_structure_viewed::<ReadRawModifiedDetails>(
             alloc,
             READ_RAW_MODIFIED_DETAILS,
             bytes,
@@ -522,7 +493,7 @@ fn write_of_channels(
     output: &mut Vec<u8>,
 ) -> io::Result<()> {
     match name {
-        "GetEndpointsRequest" => write_request::<GetEndpointsRequest>(
+        "GetEndpointsRequest" => write_request::<GetEndpointsRequestView>(
             alloc,
             GET_ENDPOINTS_REQUEST,
             bytes,

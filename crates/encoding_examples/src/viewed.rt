@@ -3,15 +3,12 @@
 use std::alloc::{AllocError, Global};
 use std::fmt::Debug;
 use ua_binary::Wire;
-use ua_messages::RequestHeader;
+use ua_messages::{ReadValueIdView, RequestHeader, RequestHeaderView};
 use ua_service_messages::{
-    BrowseNextRequest, BrowseRequest, HistoryReadRequest, ReadRawModifiedDetails, ReadRequest,
-    WriteRequest,
-};
-use ua_service_views::{
-    BrowseDescriptionView, BrowseNextRequestView, BrowseRequestView, HistoryReadRequestView,
-    HistoryReadValueIdView, ReadRawModifiedDetailsView, ReadRequestView, ReadValueIdView,
-    RequestHeaderView, WriteRequestView, WriteValueView,
+    BrowseDescriptionView, BrowseNextRequest, BrowseNextRequestView, BrowseRequest,
+    BrowseRequestView, HistoryReadRequest, HistoryReadRequestView, HistoryReadValueIdView,
+    ReadRawModifiedDetails, ReadRequest, ReadRequestView, WriteRequest, WriteRequestView,
+    WriteValueView,
 };
 use ua_types::{
     Array, ByteString, Duration, ExpandedNodeId, ExtensionObject, LocalizedText, Moment, NodeId,
@@ -109,7 +106,15 @@ impl<'a> Viewed<'a> for RequestHeaderView<'a> {
     type Value = RequestHeader;
 
     fn copied(self, alloc: Global) -> Result<RequestHeader, AllocError> {
-        self.to_value(alloc)
+        Ok(RequestHeader {
+            authentication_token: self.authentication_token.copied(alloc)?,
+            timestamp: self.timestamp,
+            request_handle: self.request_handle,
+            return_diagnostics: self.return_diagnostics,
+            audit_entry_id: self.audit_entry_id.copied(alloc)?,
+            timeout_hint: self.timeout_hint,
+            additional_header: self.additional_header.copied(alloc)?,
+        })
     }
 }
 
@@ -117,7 +122,12 @@ impl<'a> Viewed<'a> for ReadValueIdView<'a> {
     type Value = ua_messages::ReadValueId;
 
     fn copied(self, alloc: Global) -> Result<ua_messages::ReadValueId, AllocError> {
-        self.to_value(alloc)
+        Ok(ua_messages::ReadValueId {
+            node_id: self.node_id.copied(alloc)?,
+            attribute_id: self.attribute_id,
+            index_range: self.index_range.copied(alloc)?,
+            data_encoding: self.data_encoding.copied(alloc)?,
+        })
     }
 }
 
@@ -125,7 +135,12 @@ impl<'a> Viewed<'a> for WriteValueView<'a> {
     type Value = ua_service_messages::WriteValue;
 
     fn copied(self, alloc: Global) -> Result<ua_service_messages::WriteValue, AllocError> {
-        self.to_value(alloc)
+        Ok(ua_service_messages::WriteValue {
+            node_id: self.node_id.copied(alloc)?,
+            attribute_id: self.attribute_id,
+            index_range: self.index_range.copied(alloc)?,
+            value: self.value.copied(alloc)?,
+        })
     }
 }
 
@@ -133,7 +148,14 @@ impl<'a> Viewed<'a> for BrowseDescriptionView<'a> {
     type Value = ua_service_messages::BrowseDescription;
 
     fn copied(self, alloc: Global) -> Result<ua_service_messages::BrowseDescription, AllocError> {
-        self.to_value(alloc)
+        Ok(ua_service_messages::BrowseDescription {
+            node_id: self.node_id.copied(alloc)?,
+            browse_direction: self.browse_direction,
+            reference_type_id: self.reference_type_id.copied(alloc)?,
+            include_subtypes: self.include_subtypes,
+            node_class_mask: self.node_class_mask,
+            result_mask: self.result_mask,
+        })
     }
 }
 
@@ -141,7 +163,12 @@ impl<'a> Viewed<'a> for HistoryReadValueIdView<'a> {
     type Value = ua_service_messages::HistoryReadValueId;
 
     fn copied(self, alloc: Global) -> Result<ua_service_messages::HistoryReadValueId, AllocError> {
-        self.to_value(alloc)
+        Ok(ua_service_messages::HistoryReadValueId {
+            node_id: self.node_id.copied(alloc)?,
+            index_range: self.index_range.copied(alloc)?,
+            data_encoding: self.data_encoding.copied(alloc)?,
+            continuation_point: self.continuation_point.copied(alloc)?,
+        })
     }
 }
 
@@ -195,7 +222,7 @@ impl<'a> Viewed<'a> for Duration {
     }
 }
 
-impl<'a> Viewed<'a> for ReadRawModifiedDetailsView {
+impl<'a> Viewed<'a> for ReadRawModifiedDetails {
     type Value = ReadRawModifiedDetails;
 
     fn copied(self, _alloc: Global) -> Result<ReadRawModifiedDetails, AllocError> {
@@ -209,8 +236,8 @@ impl<'a> Viewed<'a> for ReadRawModifiedDetailsView {
     }
 }
 
-// The list of copies of the elements, or null.
-fn copies<'a, V: Viewed<'a>>(
+/// The list of copies of the elements, or null.
+pub(crate) fn copies<'a, V: Viewed<'a>>(
     alloc: Global,
     list: ArrayView<'a, V>,
 ) -> Result<Array<V::Value>, AllocError> {

@@ -121,7 +121,7 @@ fn opening_response(
     ensures { IfOk result (λ body. body ≡ opening_body setting.now handle channel_id token_id) }
 {
     let response = OpenSecureChannelResponse {
-        response_header: ResponseHeader::new(handle, Status(0), setting.clock),
+        response_header: ResponseHeader::good(handle, setting.clock),
         server_protocol_version: 0,
         channel_id,
         token_id,

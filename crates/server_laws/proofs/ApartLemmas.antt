@@ -88,7 +88,8 @@ use Rattle.server_laws.specs.EventMoves.{create_asked, modify_asked, mode_asked,
 use Rattle.server_laws.specs.Moving.{Went, ran_at}
 use Rattle.ua_services.specs.Operations.{operations_of}
 use Rattle.ua_services.specs.Paging.{AllDone, all_done, paged}
-use Rattle.ua_services.specs.Publish.{acknowledged_in, publish_call, publish_meaning}
+use Rattle.ua_views.specs.Views.{or_none}
+use Rattle.ua_services.specs.Publish.{publish_call, publish_meaning}
 use Rattle.ua_services.specs.Read.{read_listed, read_timed, read_meaning}
 use Rattle.ua_services.specs.Republish.{republish_answer, republish_meaning}
 use Rattle.ua_services.specs.Services.{call_of, picked_of_subscriptions, picked_of_items, picked, serving_by, serving_of, ticking_of, shutting_of}
@@ -328,7 +329,7 @@ delete_subscriptions_stays session setting caller request state from = subscript
 
 publish_stays : (session : ℕ) (setting : Setting) (caller : Caller) (request : PublishRequest) (state : Services) → CameBy state.subs state.items → KeepsRest session state (publish_meaning setting caller session request state).state
 publish_stays session setting caller request state from =
-    let acks = acknowledged_in request.subscription_acknowledgements in
+    let acks = or_none request.subscription_acknowledgements in
     let w = published session (publish_call caller) acks (world_at setting state) in
     let told_so : Apart session state (told_alone state w) = record { stays = told_stays session state from w (Move.Publish setting.clock session (publish_call caller) acks) (λ so_far replies. refl) refl } in
     let one : Apart session state (publish_meaning setting caller session request state) = either session state (nat_lt setting.config.operations (length acks)) _ _ (record { stays = none_stays session state }) told_so in

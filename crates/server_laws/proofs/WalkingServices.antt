@@ -76,14 +76,15 @@ use Rattle.server_laws.specs.EventMoves as of_events
 use Rattle.server_laws.specs.EventMoves.{if_read, in_session, if_listed, close_moves, close_session_moves, write_moves, create_subscription_moves, modify_subscription_moves, set_publishing_mode_moves, delete_subscriptions_moves, publish_moves, republish_moves, create_listed_asked, create_timed_asked, create_asked, modify_listed_asked, modify_timed_asked, modify_asked, mode_asked_by, mode_listed_asked, mode_asked, link_counted_asked, link_asked, delete_listed_asked, delete_asked, items_moves_by, items_moves, moves_of_subscriptions, moves_of_items, moves_picked, serving_moves_by, serving_moves, end_move, ticking_moves, shutting_moves}
 use Rattle.ua_services.specs.Operations.{count_judged, operations_of}
 use Rattle.ua_services.specs.Paging.{all_done}
-use Rattle.ua_services.specs.Publish.{acknowledged_in, publish_call, publish_meaning}
+use Rattle.ua_views.specs.Views.{or_none}
+use Rattle.ua_services.specs.Publish.{publish_call, publish_meaning}
 use Rattle.ua_services.specs.Read.{read_listed, read_timed, read_meaning}
 use Rattle.ua_services.specs.Republish.{republish_answer, republish_meaning}
 use Rattle.ua_services.specs.Services.{call_of, picked_of_subscriptions, picked_of_items, picked, serving_by, serving_of, ticking_of, shutting_of}
 use Rattle.ua_services.specs.declared.services.Services.{Services}
 use Rattle.ua_services.specs.Serving.{Serving, reply_of, answered, served_by}
 use Rattle.ua_services.specs.SessionServing.{taken, with_sessions}
-use Rattle.ua_services.specs.SetTriggering.{listed, links_asked, linked_by, linked_counted, items_linked}
+use Rattle.ua_services.specs.SetTriggering.{links_asked, linked_by, linked_counted, items_linked}
 use Rattle.ua_services.specs.SetMonitoringMode.{moded_all, moded_listed, items_moded}
 use Rattle.ua_services.specs.SetPublishingMode.{set_publishing_listed, set_publishing_mode_meaning}
 use Rattle.ua_services.specs.StatusResults.{statuses_body}
@@ -186,7 +187,7 @@ linked_same setting caller state (Err code) = refl
 
 link_counted_asks : (setting : Setting) (caller : Caller) (request : SetTriggeringRequest) (state : Services) (r : Result (Unit {0}) Status) → Asks request.subscription_id state.items (linked_counted setting caller request state r).items (link_counted_asked request r)
 link_counted_asks setting caller request state (Ok good) =
-    record { same = linked_same setting caller state (link state.items request.subscription_id request.triggering_item_id (listed request.links_to_add) (listed request.links_to_remove)) }
+    record { same = linked_same setting caller state (link state.items request.subscription_id request.triggering_item_id (or_none request.links_to_add) (or_none request.links_to_remove)) }
 link_counted_asks setting caller request state (Err code) = record { same = refl }
 
 pub linked_asks : (setting : Setting) (caller : Caller) (request : SetTriggeringRequest) (state : Services) → Asks request.subscription_id state.items (items_linked setting caller request state).items (link_asked setting request state)
@@ -321,7 +322,7 @@ module _ (setting : Setting) (R : Services → List Move → Serving → Type 0)
 
     publish_so : (session : ℕ) (request : PublishRequest) (state : Services) → R state (publish_moves setting caller session request state) (publish_meaning setting caller session request state)
     publish_so session request state =
-        let acks = acknowledged_in request.subscription_acknowledgements in
+        let acks = or_none request.subscription_acknowledgements in
         either _ _ _ _ _ (refused state _) (one_told state (published session (publish_call caller) acks (world_at setting state)) (Move.Publish setting.clock session (publish_call caller) acks) (λ so_far replies. refl))
 
     module _ (number : ℕ) (state : Services) (done : Itemed) (asked : Option ItemsCall) (asks : Asks number state.items done.items asked) where

@@ -44,9 +44,10 @@ use Rattle.subscription_laws.specs.Runs.{ItemsCall, Move}
 use Rattle.ua_services.specs.CreateSubscription.{settings_asked}
 use Rattle.ua_services.specs.ItemServing.{own_vars}
 use Rattle.ua_services.specs.ModifySubscription.{settings_wanted}
-use Rattle.ua_services.specs.SetTriggering.{listed, links_asked}
+use Rattle.ua_services.specs.SetTriggering.{links_asked}
 use Rattle.ua_services.specs.Operations.{count_judged, operations_of}
-use Rattle.ua_services.specs.Publish.{acknowledged_in, publish_call}
+use Rattle.ua_views.specs.Views.{or_none}
+use Rattle.ua_services.specs.Publish.{publish_call}
 use Rattle.ua_services.specs.Services.{call_of}
 use Rattle.ua_services.specs.SessionServing.{with_sessions}
 use Rattle.ua_services.specs.declared.caller.Caller.{Caller}
@@ -113,7 +114,7 @@ delete_subscriptions_moves setting session request state =
 -- too many acknowledgements are refused
 abbrev pub publish_moves : Setting → Caller → ℕ → PublishRequest → Services → List Move
 publish_moves setting caller session request state =
-    let acks = acknowledged_in request.subscription_acknowledgements in
+    let acks = or_none request.subscription_acknowledgements in
     if nat_lt setting.config.operations (length acks) then [] else Move.Publish setting.clock session (publish_call caller) acks ∷ []
 
 abbrev pub republish_moves : Setting → ℕ → RepublishRequest → Services → List Move
@@ -156,7 +157,7 @@ abbrev pub mode_asked : Setting → SetMonitoringModeRequest → Services → Op
 mode_asked setting request state = mode_listed_asked setting state (mode_numbered request.monitoring_mode) (operations_of setting.config request.monitored_item_ids)
 
 abbrev pub link_counted_asked : SetTriggeringRequest → Result (Unit {0}) Status → Option ItemsCall
-link_counted_asked request (Ok good) = Some (ItemsCall.Link request.triggering_item_id (listed request.links_to_add) (listed request.links_to_remove))
+link_counted_asked request (Ok good) = Some (ItemsCall.Link request.triggering_item_id (or_none request.links_to_add) (or_none request.links_to_remove))
 link_counted_asked request (Err code) = None
 
 abbrev pub link_asked : Setting → SetTriggeringRequest → Services → Option ItemsCall

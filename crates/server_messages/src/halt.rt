@@ -1,10 +1,12 @@
 //! Why the server halts.
 
 ghost use Rattle.std.specs.Prelude.{◌≡◌};
+ghost use Rattle.server_messages.specs.Halts.{refusal_of};
 ghost use Rattle.server_messages.specs.declared.halt.Halt.TheVariants.{Memory};
 
 use std::alloc::{AllocError, AllocFailed};
 use thiserror::Error;
+use ua_types::Refusal;
 
 /// Why a part of the server can't go on. Nothing is said of what it then is.
 #[derive(Clone, Copy, Debug, PartialEq, Eq, Error)]
@@ -15,6 +17,17 @@ pub enum Halt {
     /// A serial of 64 bits is at its last value.
     #[error("out of serial numbers")]
     Exhausted,
+}
+
+impl From<Halt> for Refusal {
+    ghost from_gives = { λ halt e. e ≡ refusal_of halt };
+
+    fn from(halt: Halt) -> Refusal {
+        match halt {
+            Halt::Memory => Refusal::Memory,
+            Halt::Exhausted => Refusal::Exhausted,
+        }
+    }
 }
 
 impl From<AllocError> for Halt {

@@ -13,7 +13,7 @@ use crate::describing::Described;
 use crate::pages::page_from;
 use crate::wanted::judged;
 use std::alloc::Global;
-use ua_service_views::BrowseDescriptionView;
+use ua_service_messages::BrowseDescriptionView;
 use ua_session::{BrowsePoint, Point, Points};
 use ua_space::Space;
 use ua_types::{Array, NodeId, Refusal, Status};

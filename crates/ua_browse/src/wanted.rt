@@ -12,8 +12,7 @@ ghost use Rattle.ua_browse.specs.Wanted.{has_bit as has_bit_spec, goes as goes_s
 
 use crate::asked::Asked;
 use std::alloc::{AllocError, Global};
-use ua_service_messages::BrowseDirection;
-use ua_service_views::BrowseDescriptionView;
+use ua_service_messages::{BrowseDescriptionView, BrowseDirection};
 use ua_space::{Direction, Node, NodeDetails, Reference, Space, Subtypes};
 use ua_types::{NodeClass, NodeId, Status};
 use ua_views::NodeIdView;

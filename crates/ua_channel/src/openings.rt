@@ -3,7 +3,7 @@
 ghost use Rattle.std.specs.Prelude.{◌≡◌, option_map};
 ghost use Rattle.ua_messages.specs.Headers.{request_header_reading};
 ghost use Rattle.ua_messages.specs.SecureChannels.{open_secure_channel_request_reading};
-ghost use Rattle.ua_walks.specs.Walks.{Tells};
+ghost use Rattle.ua_views.specs.Passing.{Tells};
 ghost use Rattle.ua_channel.specs.Headers.{opening_header_reading};
 ghost use Rattle.ua_channel.specs.Openings.{is_policy_none as is_policy_none_spec, judged_in, handle_in, asked_in, opening_request_of, renewal_of};
 
@@ -11,8 +11,8 @@ use ua_binary::{Cursor, TakeFault};
 use ua_messages::{
     MessageSecurityMode, SECURITY_POLICY_NONE, SecurityTokenRequestType, message_id, type_ids,
 };
-use ua_types::{ByteString, ExtensionObject, Moment, NodeId, Status, Text};
-use ua_walks::Walk;
+use ua_types::{Moment, Status};
+use ua_views::{ByteStringView, ExtensionObjectView, NodeIdView, TextView, View};
 
 fn is_policy_none(uri: Option<&str>) -> bool
     ensures { result ≡ is_policy_none_spec (option_map (λ t. t.now) uri.entry) }
@@ -40,8 +40,8 @@ pub(crate) fn judged_header(cursor: &mut Cursor<'_>) -> Result<JudgedHeader, Tak
 {
     let channel_id = cursor.number()?;
     let uri = cursor.text()?;
-    ByteString::skip(cursor)?;
-    ByteString::skip(cursor)?;
+    ByteStringView::pass(cursor)?;
+    ByteStringView::pass(cursor)?;
     let sequence_number = cursor.number()?;
     let request_id = cursor.number()?;
     Ok(JudgedHeader {
@@ -66,13 +66,13 @@ pub struct OpeningRequest {
 fn request_handle(cursor: &mut Cursor<'_>) -> Result<u32, TakeFault>
     ensures { Tells handle_in result cursor.new (request_header_reading cursor.old) }
 {
-    NodeId::skip(cursor)?;
-    Moment::skip(cursor)?;
+    NodeIdView::pass(cursor)?;
+    Moment::pass(cursor)?;
     let handle = cursor.number()?;
-    u32::skip(cursor)?;
-    Text::skip(cursor)?;
-    u32::skip(cursor)?;
-    ExtensionObject::skip(cursor)?;
+    u32::pass(cursor)?;
+    TextView::pass(cursor)?;
+    u32::pass(cursor)?;
+    ExtensionObjectView::pass(cursor)?;
     Ok(handle)
 }
 
@@ -82,11 +82,11 @@ fn asked(cursor: &mut Cursor<'_>) -> Result<OpeningRequest, TakeFault>
     ensures { Tells asked_in result cursor.new (open_secure_channel_request_reading cursor.old) }
 {
     let handle = request_handle(cursor)?;
-    u32::skip(cursor)?;
+    u32::pass(cursor)?;
     let request_type = cursor.number()?;
     let security_mode = cursor.number()?;
-    ByteString::skip(cursor)?;
-    u32::skip(cursor)?;
+    ByteStringView::pass(cursor)?;
+    u32::pass(cursor)?;
     Ok(OpeningRequest {
         handle,
         request_type: SecurityTokenRequestType(request_type.cast_signed()),
@@ -104,7 +104,7 @@ pub(crate) fn opening_request(body: &[u8]) -> Result<OpeningRequest, Status>
         _ => return Err(Status::BAD_DECODING_ERROR),
     }
     let mut cursor = Cursor::new(body);
-    if NodeId::skip(&mut cursor).is_err() {
+    if NodeIdView::pass(&mut cursor).is_err() {
         return Err(Status::BAD_DECODING_ERROR);
     }
     match asked(&mut cursor) {

@@ -16,7 +16,7 @@ use crate::intervals::Interval;
 use crate::kept_values::KeptValues;
 use crate::pages::Cut;
 use std::alloc::{AllocError, Global};
-use ua_service_views::HistoryReadValueIdView;
+use ua_service_messages::HistoryReadValueIdView;
 use ua_session::{HistoryPoint, Point, Points, point_serial};
 use ua_space::{Node, NodeDetails, Space};
 use ua_types::{Copyable, Moment, NodeId, Refusal, Status};

@@ -4,9 +4,10 @@ ghost use Rattle.ua_messages.specs.Descriptions.{application_description_reading
 
 use crate::enumerations::{ApplicationType, MessageSecurityMode, UserTokenType};
 use std::alloc::{AllocError, Global};
+use std::marker::Model;
 use ua_binary::{Cursor, TakeFault, Wire};
 use ua_types::{Array, ByteString, LocalizedText, Text};
-use ua_walks::Walk;
+use ua_views::{ArrayView, LocalizedTextView, Readable, TextView, View, look_enumeration};
 
 /// A client or a server (ApplicationDescription, IEC 62541-4, section 7).
 #[derive(Debug, Drop)]
@@ -55,17 +56,47 @@ impl Wire for ApplicationDescription {
     }
 }
 
+/// A [`ApplicationDescription`] in the bytes that it stands in.
+#[derive(Debug, Drop)]
+pub struct ApplicationDescriptionView<'a> {
+    /// The name of the installation, the same at no other one.
+    pub application_uri: TextView<'a>,
+    /// The name of the product.
+    pub product_uri: TextView<'a>,
+    pub application_name: LocalizedTextView<'a>,
+    pub application_type: ApplicationType,
+    /// The gateway through which the discovery URLs are reached, if any.
+    pub gateway_server_uri: TextView<'a>,
+    /// What the discovery URLs serve, null where it is discovery itself.
+    pub discovery_profile_uri: TextView<'a>,
+    /// Where the application answers a request for its endpoints.
+    pub discovery_urls: ArrayView<'a, TextView<'a>>,
+}
+
+impl<'a> Model for ApplicationDescriptionView<'a> {
+    ghost use Rattle.ua_messages.specs.declared.descriptions.ApplicationDescription.{ApplicationDescription};
+
+    ghost Value = { ApplicationDescription };
+
+    ghost view = { λ v. record { application_uri = v.application_uri; product_uri = v.product_uri; application_name = v.application_name; application_type = v.application_type; gateway_server_uri = v.gateway_server_uri; discovery_profile_uri = v.discovery_profile_uri; discovery_urls = v.discovery_urls } };
+}
+
+impl<'a> Readable for ApplicationDescriptionView<'a> {
+    ghost reading = { application_description_reading };
+}
+
 #[tactic(auto, unfolding(crate::specs::Descriptions::application_description_reading))]
-impl Walk for ApplicationDescription {
-    fn walk(cursor: &mut Cursor<'_>) -> Result<(), TakeFault> {
-        Text::skip(cursor)?;
-        Text::skip(cursor)?;
-        LocalizedText::skip(cursor)?;
-        ApplicationType::skip(cursor)?;
-        Text::skip(cursor)?;
-        Text::skip(cursor)?;
-        Array::<Text>::skip(cursor)?;
-        Ok(())
+impl<'a> View<'a> for ApplicationDescriptionView<'a> {
+    fn look(cursor: &mut Cursor<'a>) -> Result<ApplicationDescriptionView<'a>, TakeFault> {
+        Ok(ApplicationDescriptionView {
+            application_uri: TextView::look(cursor)?,
+            product_uri: TextView::look(cursor)?,
+            application_name: LocalizedTextView::look(cursor)?,
+            application_type: look_enumeration::<ApplicationType>(cursor)?,
+            gateway_server_uri: TextView::look(cursor)?,
+            discovery_profile_uri: TextView::look(cursor)?,
+            discovery_urls: ArrayView::<TextView<'a>>::look(cursor)?,
+        })
     }
 }
 

@@ -3,8 +3,7 @@
 
 ghost use Rattle.std.specs.Prelude.{refl};
 
-use ua_binary::{Cursor, Enumeration, TakeFault};
-use ua_walks::Walk;
+use ua_binary::Enumeration;
 
 /// What an application is (ApplicationType, IEC 62541-4, section 7).
 #[derive(Clone, Copy, Debug, PartialEq, Eq)]
@@ -36,14 +35,6 @@ impl Enumeration for ApplicationType {
     ghost kept = { λ v. refl };
 }
 
-#[tactic(auto, unfolding(ua_binary::specs::Enumerations::enumeration_reading))]
-impl Walk for ApplicationType {
-    fn walk(cursor: &mut Cursor<'_>) -> Result<(), TakeFault> {
-        i32::skip(cursor)?;
-        Ok(())
-    }
-}
-
 /// How messages are protected (MessageSecurityMode, IEC 62541-4, section 7).
 #[derive(Clone, Copy, Debug, PartialEq, Eq)]
 pub struct MessageSecurityMode(pub i32);
@@ -71,14 +62,6 @@ impl Enumeration for MessageSecurityMode {
     }
 
     ghost kept = { λ v. refl };
-}
-
-#[tactic(auto, unfolding(ua_binary::specs::Enumerations::enumeration_reading))]
-impl Walk for MessageSecurityMode {
-    fn walk(cursor: &mut Cursor<'_>) -> Result<(), TakeFault> {
-        i32::skip(cursor)?;
-        Ok(())
-    }
 }
 
 /// How a user says who they are (UserTokenType, IEC 62541-4, section 7).
@@ -141,14 +124,6 @@ impl Enumeration for SecurityTokenRequestType {
     ghost kept = { λ v. refl };
 }
 
-#[tactic(auto, unfolding(ua_binary::specs::Enumerations::enumeration_reading))]
-impl Walk for SecurityTokenRequestType {
-    fn walk(cursor: &mut Cursor<'_>) -> Result<(), TakeFault> {
-        i32::skip(cursor)?;
-        Ok(())
-    }
-}
-
 /// Which times a value is to have in an answer (TimestampsToReturn, IEC 62541-4, section 7).
 #[derive(Clone, Copy, Debug, PartialEq, Eq)]
 pub struct TimestampsToReturn(pub i32);
@@ -179,12 +154,4 @@ impl Enumeration for TimestampsToReturn {
     }
 
     ghost kept = { λ v. refl };
-}
-
-#[tactic(auto, unfolding(ua_binary::specs::Enumerations::enumeration_reading))]
-impl Walk for TimestampsToReturn {
-    fn walk(cursor: &mut Cursor<'_>) -> Result<(), TakeFault> {
-        i32::skip(cursor)?;
-        Ok(())
-    }
 }

@@ -5,9 +5,10 @@ ghost use Rattle.ua_messages.specs.GetEndpoints.{get_endpoints_request_reading, 
 use crate::descriptions::EndpointDescription;
 use crate::headers::ResponseHeader;
 use std::alloc::{AllocError, Global};
+use std::marker::Model;
 use ua_binary::{Cursor, TakeFault, Wire};
 use ua_types::{Array, Text};
-use ua_walks::Walk;
+use ua_views::{ArrayView, Readable, TextView, View};
 
 /// Asks for the endpoints of a server (GetEndpoints, IEC 62541-4, section 5, Discovery Service Set).
 #[derive(Debug, Drop)]
@@ -42,13 +43,37 @@ impl Wire for GetEndpointsRequest {
     }
 }
 
+/// A [`GetEndpointsRequest`] in the bytes that it stands in.
+#[derive(Debug, Drop)]
+pub struct GetEndpointsRequestView<'a> {
+    /// The URL by which the client reached the server.
+    pub endpoint_url: TextView<'a>,
+    /// The languages in which the client likes to have texts, the best first.
+    pub locale_ids: ArrayView<'a, TextView<'a>>,
+    /// The transports of which endpoints are wanted, all where there are none.
+    pub profile_uris: ArrayView<'a, TextView<'a>>,
+}
+
+impl<'a> Model for GetEndpointsRequestView<'a> {
+    ghost use Rattle.ua_messages.specs.declared.get_endpoints.GetEndpointsRequest.{GetEndpointsRequest};
+
+    ghost Value = { GetEndpointsRequest };
+
+    ghost view = { λ v. record { endpoint_url = v.endpoint_url; locale_ids = v.locale_ids; profile_uris = v.profile_uris } };
+}
+
+impl<'a> Readable for GetEndpointsRequestView<'a> {
+    ghost reading = { get_endpoints_request_reading };
+}
+
 #[tactic(auto, unfolding(crate::specs::GetEndpoints::get_endpoints_request_reading))]
-impl Walk for GetEndpointsRequest {
-    fn walk(cursor: &mut Cursor<'_>) -> Result<(), TakeFault> {
-        Text::skip(cursor)?;
-        Array::<Text>::skip(cursor)?;
-        Array::<Text>::skip(cursor)?;
-        Ok(())
+impl<'a> View<'a> for GetEndpointsRequestView<'a> {
+    fn look(cursor: &mut Cursor<'a>) -> Result<GetEndpointsRequestView<'a>, TakeFault> {
+        Ok(GetEndpointsRequestView {
+            endpoint_url: TextView::look(cursor)?,
+            locale_ids: ArrayView::<TextView<'a>>::look(cursor)?,
+            profile_uris: ArrayView::<TextView<'a>>::look(cursor)?,
+        })
     }
 }
 

@@ -5,9 +5,10 @@ ghost use Rattle.ua_messages.specs.Headers.{request_header_reading, request_head
 
 use crate::diagnostics::DiagnosticInfo;
 use std::alloc::{AllocError, Global};
+use std::marker::Model;
 use ua_binary::{Cursor, TakeFault, Wire};
 use ua_types::{Array, ExtensionObject, ExtensionObjectBody, Moment, NodeId, Status, Text};
-use ua_walks::Walk;
+use ua_views::{ExtensionObjectView, NodeIdView, Readable, TextView, View};
 
 /// What each request begins with (RequestHeader, IEC 62541-4, section 7).
 #[derive(Debug, Drop)]
@@ -58,17 +59,49 @@ impl Wire for RequestHeader {
     }
 }
 
+/// A [`RequestHeader`] in the bytes that it stands in.
+#[derive(Debug, Drop)]
+pub struct RequestHeaderView<'a> {
+    /// The secret id of the session, or null where there is none.
+    pub authentication_token: NodeIdView<'a>,
+    /// When the client sent the request.
+    pub timestamp: Moment,
+    /// The number by which the client knows the request. The response repeats it.
+    pub request_handle: u32,
+    /// Which diagnostic infos the client asks for. This server has none.
+    pub return_diagnostics: u32,
+    /// The client's name of the request in its audit log.
+    pub audit_entry_id: TextView<'a>,
+    /// How long the client waits for the response, in milliseconds; 0 is no end.
+    pub timeout_hint: u32,
+    /// Reserved. Any is read and none has a meaning.
+    pub additional_header: ExtensionObjectView<'a>,
+}
+
+impl<'a> Model for RequestHeaderView<'a> {
+    ghost use Rattle.ua_messages.specs.declared.headers.RequestHeader.{RequestHeader};
+
+    ghost Value = { RequestHeader };
+
+    ghost view = { λ v. record { authentication_token = v.authentication_token; timestamp = v.timestamp; request_handle = v.request_handle; return_diagnostics = v.return_diagnostics; audit_entry_id = v.audit_entry_id; timeout_hint = v.timeout_hint; additional_header = v.additional_header } };
+}
+
+impl<'a> Readable for RequestHeaderView<'a> {
+    ghost reading = { request_header_reading };
+}
+
 #[tactic(auto, unfolding(crate::specs::Headers::request_header_reading))]
-impl Walk for RequestHeader {
-    fn walk(cursor: &mut Cursor<'_>) -> Result<(), TakeFault> {
-        NodeId::skip(cursor)?;
-        Moment::skip(cursor)?;
-        u32::skip(cursor)?;
-        u32::skip(cursor)?;
-        Text::skip(cursor)?;
-        u32::skip(cursor)?;
-        ExtensionObject::skip(cursor)?;
-        Ok(())
+impl<'a> View<'a> for RequestHeaderView<'a> {
+    fn look(cursor: &mut Cursor<'a>) -> Result<RequestHeaderView<'a>, TakeFault> {
+        Ok(RequestHeaderView {
+            authentication_token: NodeIdView::look(cursor)?,
+            timestamp: Moment::look(cursor)?,
+            request_handle: u32::look(cursor)?,
+            return_diagnostics: u32::look(cursor)?,
+            audit_entry_id: TextView::look(cursor)?,
+            timeout_hint: u32::look(cursor)?,
+            additional_header: ExtensionObjectView::look(cursor)?,
+        })
     }
 }
 
@@ -105,6 +138,13 @@ impl ResponseHeader {
                 body: ExtensionObjectBody::Absent,
             },
         }
+    }
+
+    /// That of a response which is no fault.
+    pub fn good(request_handle: u32, timestamp: Moment) -> ResponseHeader
+        ensures { result ≡ plain_header request_handle (record { 0 = 0 }) timestamp }
+    {
+        ResponseHeader::new(request_handle, Status(0), timestamp)
     }
 }
 

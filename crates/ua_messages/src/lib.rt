@@ -7,13 +7,15 @@
 //! trait says that what is written is read again. A *body* is the id of a message's encoding, and then
 //! the message. [`message_id`] tells which message a body holds, [`message`] reads it, [`body`] writes
 //! one, and [`fault`] writes the answer to a request that failed; both give a [`MessageBody`], which has room for what stands
-//! before it in a frame. A request's struct has the fields of its kind, which follow a header: [`Requested`] is the two together,
-//! and [`received_fields`] reads the fields behind a header that was looked at. The two requests of secure channels, which no
-//! session serves, have their header as a field. [`Results`] is the response that has one
+//! before it in a frame. A request's struct has the fields of its kind, which follow a header: [`Requested`] is the two together.
+//! The two requests of secure channels, which no session serves, have their header as a field. [`Results`] is the response that has one
 //! result for each thing asked for, and [`results_body`] writes it from results that stand elsewhere.
 //! [`structure`] reads what an ExtensionObject holds, [`extension_object`] makes one, and [`write_structure`] writes one
-//! into the message that it stands in. A server reads what a client sent by [`received_fields`] and [`received_structure`],
-//! which answer a fault also where there is no memory: the types that clients send are [`ua_walks::Walk`] too.
+//! into the message that it stands in.
+//!
+//! What a client sent is looked at where it came, without memory: each structure in a request has a view beside it, as
+//! [`ReadValueIdView`], which contracts see as that structure, by the same reading. [`header_view`] gives a request's header,
+//! [`fields_view`] the fields behind it, and [`structure_view`] what an ExtensionObject holds.
 //!
 //! Nothing here decides anything: no field is judged beyond its form, no session is looked up, and no
 //! clock is read. Frames and chunks are other crates' work.
@@ -44,17 +46,19 @@ mod structures_in_place;
 pub mod type_ids;
 
 pub use bodies::{body, message, message_id};
-pub use descriptions::{ApplicationDescription, EndpointDescription, UserTokenPolicy};
+pub use descriptions::{
+    ApplicationDescription, ApplicationDescriptionView, EndpointDescription, UserTokenPolicy,
+};
 pub use diagnostics::{DiagnosticInfo, DiagnosticInfos};
 pub use enumerations::{
     ApplicationType, MessageSecurityMode, SecurityTokenRequestType, TimestampsToReturn,
     UserTokenType,
 };
-pub use get_endpoints::{GetEndpointsRequest, GetEndpointsResponse};
-pub use headers::{RequestHeader, ResponseHeader};
+pub use get_endpoints::{GetEndpointsRequest, GetEndpointsRequestView, GetEndpointsResponse};
+pub use headers::{RequestHeader, RequestHeaderView, ResponseHeader};
 pub use message_body::{HEAD_SIZE, MessageBody};
-pub use read_value_ids::{ReadValueId, VALUE};
-pub use requests::{Requested, received_fields};
+pub use read_value_ids::{ReadValueId, ReadValueIdView, VALUE};
+pub use requests::{Headed, Requested, fields_view, header_view};
 pub use results::{Results, results_body};
 pub use secure_channels::{
     CloseSecureChannelRequest, OpenSecureChannelRequest, OpenSecureChannelResponse,
@@ -62,6 +66,6 @@ pub use secure_channels::{
 pub use security_policies::SECURITY_POLICY_NONE;
 pub use service_faults::{ServiceFault, fault};
 pub use structures::{
-    StructureFault, extension_object, is_structure, object_of_bytes, received_structure, structure,
+    StructureFault, extension_object, object_of_bytes, structure, structure_view,
 };
 pub use structures_in_place::{put_number, write_structure};

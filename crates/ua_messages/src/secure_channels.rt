@@ -7,7 +7,6 @@ use crate::headers::{RequestHeader, ResponseHeader};
 use std::alloc::{AllocError, Global};
 use ua_binary::{Cursor, TakeFault, Wire};
 use ua_types::{ByteString, Moment};
-use ua_walks::Walk;
 
 /// Asks for a secure channel or a new token of one (OpenSecureChannel, IEC 62541-4, section 5,
 /// SecureChannel Service Set; its fields are in IEC 62541-6, 6.7.4).
@@ -51,19 +50,6 @@ impl Wire for OpenSecureChannelRequest {
         self.security_mode.encode(out)?;
         self.client_nonce.encode(out)?;
         self.requested_lifetime.encode(out)?;
-        Ok(())
-    }
-}
-
-#[tactic(auto, unfolding(crate::specs::SecureChannels::open_secure_channel_request_reading))]
-impl Walk for OpenSecureChannelRequest {
-    fn walk(cursor: &mut Cursor<'_>) -> Result<(), TakeFault> {
-        RequestHeader::skip(cursor)?;
-        u32::skip(cursor)?;
-        SecurityTokenRequestType::skip(cursor)?;
-        MessageSecurityMode::skip(cursor)?;
-        ByteString::skip(cursor)?;
-        u32::skip(cursor)?;
         Ok(())
     }
 }
@@ -145,14 +131,6 @@ impl Wire for CloseSecureChannelRequest {
 
     fn encode(&self, out: &mut Vec<u8>) -> Result<(), AllocError> {
         self.request_header.encode(out)?;
-        Ok(())
-    }
-}
-
-#[tactic(auto, unfolding(crate::specs::SecureChannels::close_secure_channel_request_reading))]
-impl Walk for CloseSecureChannelRequest {
-    fn walk(cursor: &mut Cursor<'_>) -> Result<(), TakeFault> {
-        RequestHeader::skip(cursor)?;
         Ok(())
     }
 }

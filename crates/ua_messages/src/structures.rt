@@ -1,15 +1,16 @@
 //! Structures inside ExtensionObjects: identity tokens, filters, the details of history, notifications.
 
-ghost use Rattle.std.specs.Prelude.{◌≡◌, ◌≢◌, ℕ, List, Ok, Err, IfOk, IsOk, is_ok, option_map};
+ghost use Rattle.std.specs.Prelude.{◌≡◌, ◌≢◌, Ok, Err, IfOk, option_map};
 ghost use Rattle.ua_types.specs.Answers.{Gives};
 ghost use Rattle.ua_messages.specs.declared.structures.StructureFault.TheVariants.{Memory};
+ghost use Rattle.ua_views.specs.Bodies.{body_of};
 ghost use Rattle.ua_messages.specs.Structures.{is_id, binary_body, structure_of, object_around};
 
 use std::alloc::{AllocError, Global};
 use thiserror::Error;
 use ua_binary::{Cursor, TakeFault, Wire};
 use ua_types::{ByteString, ExtensionObject, ExtensionObjectBody, Identifier, NodeId};
-use ua_walks::Walk;
+use ua_views::{ExtensionObjectBodyView, ExtensionObjectView, IdentifierView, NodeIdView, View};
 
 /// Why an object isn't read as the structure that is asked for.
 #[derive(Clone, Copy, Debug, PartialEq, Eq, Error)]
@@ -69,50 +70,6 @@ pub fn structure<T: Wire>(
     }
 }
 
-/// The structure of this type that an object from a client holds, as [`structure`] gives it.
-///
-/// An object of another type, or one that can't be read, is answered as that, however little memory there is: `Memory`
-/// comes only where the object holds such a structure, and never at a structure of fixed size.
-#[tactic(auto, unfolding(crate::specs::Structures::structure_of))]
-pub fn received_structure<T: Walk>(
-    alloc: Global,
-    type_id: u32,
-    object: &ExtensionObject,
-) -> Result<T, StructureFault>
-    ensures gives { Gives Memory result (structure_of T.reading type_id object.now) }
-    ensures memory { result ≡ Err Memory → IsOk (structure_of T.reading type_id object.now) }
-    ensures spared { ((bytes : List ℕ) → T.spares_memory bytes) → result ≢ Err Memory }
-{
-    if !is_standard(&object.type_id, type_id) {
-        return Err(StructureFault::OtherType);
-    }
-    let Some(bytes) = binary(&object.body) else {
-        return Err(StructureFault::Unreadable);
-    };
-    match T::decode(alloc, &mut Cursor::new(bytes)) {
-        Ok(value) => Ok(value),
-        Err(TakeFault::Memory) => match T::skip(&mut Cursor::new(bytes)) {
-            Ok(()) => Err(StructureFault::Memory),
-            Err(_) => Err(StructureFault::Unreadable),
-        },
-        Err(_) => Err(StructureFault::Unreadable),
-    }
-}
-
-/// Whether an object from a client holds a structure of this type. Takes no memory.
-#[tactic(auto, unfolding(crate::specs::Structures::structure_of))]
-pub fn is_structure<T: Walk>(type_id: u32, object: &ExtensionObject) -> bool
-    ensures { result ≡ is_ok (structure_of T.reading type_id object.now) }
-{
-    if !is_standard(&object.type_id, type_id) {
-        return false;
-    }
-    match binary(&object.body) {
-        Some(bytes) => T::skip(&mut Cursor::new(bytes)).is_ok(),
-        None => false,
-    }
-}
-
 /// An object that holds the structure of this type whose encoding these bytes are.
 ///
 /// Bytes of 2^31 or more can't be spelled, and are refused as by want of memory.
@@ -141,4 +98,48 @@ pub fn extension_object<T: Wire>(
     let mut bytes = Vec::new(alloc);
     value.encode(&mut bytes)?;
     object_of_bytes(type_id, bytes)
+}
+
+// Whether it is the id with this number in namespace 0.
+fn is_standard_view(id: &NodeIdView<'_>, number: u32) -> bool
+    ensures { result ≡ is_id number id.now }
+{
+    match &id.identifier {
+        IdentifierView::Numeric(own) => id.namespace == 0 && own.get() == number,
+        _ => false,
+    }
+}
+
+// The bytes of a body in the binary encoding.
+fn binary_view<'a>(body: &ExtensionObjectBodyView<'a>) -> Option<&'a [u8]>
+    ensures { option_map (λ b. b.now) result ≡ binary_body (body_of body.now) }
+{
+    match body {
+        ExtensionObjectBodyView::Binary(bytes) => bytes.as_slice(),
+        _ => None,
+    }
+}
+
+/// The structure of this type that an object holds, looked at in place, as [`structure`] gives it. Takes no
+/// memory.
+///
+/// Bytes after its last field are ignored. The object's type is judged before its body.
+#[tactic(auto, unfolding(crate::specs::Structures::structure_of))]
+pub fn structure_view<'a, T: View<'a>>(
+    type_id: u32,
+    object: &ExtensionObjectView<'a>,
+) -> Result<T, StructureFault>
+    ensures gives { Gives Memory result (structure_of T.reading type_id object.now) }
+    ensures no_memory { result ≢ Err Memory }
+{
+    if !is_standard_view(&object.type_id, type_id) {
+        return Err(StructureFault::OtherType);
+    }
+    let Some(bytes) = binary_view(&object.body) else {
+        return Err(StructureFault::Unreadable);
+    };
+    match T::look(&mut Cursor::new(bytes)) {
+        Ok(value) => Ok(value),
+        Err(_) => Err(StructureFault::Unreadable),
+    }
 }

@@ -19,7 +19,7 @@ use ua_item_queue::{Entry, ItemQueue};
 use ua_read_write::{Timestamps, sample};
 use ua_space::Space;
 use ua_subscription_messages::{
-    BorrowedNotification, DataChangeMessage, MonitoredItemNotification, MonitoringParameters,
+    BorrowedNotification, DataChangeMessage, MonitoredItemNotification, MonitoringParametersView,
 };
 use ua_types::{Copyable, Moment, NodeId, Status};
 use ua_values::DataValue;
@@ -229,7 +229,7 @@ impl Item {
         &mut self,
         timestamps: Timestamps,
         modification: Modification,
-        parameters: &MonitoringParameters,
+        parameters: &MonitoringParametersView<'_>,
     )
         ensures { self.new ≡ modified_with timestamps modification parameters.now self.old }
     {

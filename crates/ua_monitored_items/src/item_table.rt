@@ -31,7 +31,7 @@ use ua_messages::VALUE;
 use ua_read_write::{Change, Timestamps};
 use ua_space::Space;
 use ua_subscription_messages::{
-    DataChangeMessage, MonitoredItemNotification, MonitoringParameters,
+    DataChangeMessage, MonitoredItemNotification, MonitoringParametersView,
 };
 use ua_types::{Copyable, NodeId};
 use ua_values::DataValue;
@@ -250,7 +250,7 @@ impl ItemTable {
         number: u32,
         timestamps: Timestamps,
         modification: Modification,
-        parameters: &MonitoringParameters,
+        parameters: &MonitoringParametersView<'_>,
     )
         ensures { self.new ≡ record { made = self.old.made; items = with_item number (modified_with timestamps modification parameters.now) self.old.items } }
     {

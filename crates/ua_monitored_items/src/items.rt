@@ -5,33 +5,36 @@ ghost use Rattle.std.specs.BTreeSet.{insert_key};
 ghost use Rattle.std.specs.Option.{option_copied};
 ghost use Rattle.std.specs.Ordering.{nat_cmp};
 ghost use Rattle.ua_monitored_items.specs.ItemTables.{numbers_of};
-ghost use Rattle.ua_monitored_items.specs.Items.{no_items, is_full as is_full_spec, null_object, create_judged, create_one, create_refused, new_item, own_item, modify_one, modify_refused, mode_one, delete_one, ended as ended_spec, all_served, is_available, taken_of, visits_of, VisitedSome};
-ghost use Rattle.ua_monitored_items.specs.Links.{link_status, unlinked, is_own as is_own_spec, may_link as may_link_spec, linked, in_order, link as link_spec, after_link, IsAnswer};
+ghost use Rattle.ua_monitored_items.specs.Items.{no_items, is_full as is_full_spec, null_object, mode_judged, create_judged, create_one, create_refused, new_item, own_item, modify_one, modify_refused, mode_one, delete_one, ended as ended_spec, all_served, is_available, taken_of, visits_of, VisitedSome};
+ghost use Rattle.ua_monitored_items.specs.Kinds.{mode_numbered, trigger_of};
+ghost use Rattle.ua_monitored_items.specs.Links.{link_status, is_own as is_own_spec, may_link as may_link_spec, linked, in_order, link as link_spec, after_link, IsAnswer};
 ghost use Rattle.ua_monitored_items.specs.Preparing.{IsReady, AreReady, mode_status, moded_own};
 ghost use Rattle.ua_monitored_items.specs.Releases.{with_releases, mode_releases, modes_release, modes_set, shown_one, shown, ShownSome};
 ghost use Rattle.ua_monitored_items.specs.Taking.{TakenSome};
 ghost use Rattle.ua_monitored_items.specs.Undoing.{last_undone, undone, CanBeUndone};
 ghost use Rattle.ua_subscription_messages.specs.DataChangeMessages.{with_notes};
+ghost use Rattle.ua_views.specs.Views.{or_none};
 
 use crate::item::{Item, revised_size};
 use crate::item_table::ItemTable;
 use crate::kinds::{Kind, Mode, trigger_of};
-use crate::links::{Linked, Links};
+use crate::links::{Linked, Links, link_status, unlink_all};
 use crate::preparing::{Modification, Prepared};
 use crate::releases::Releases;
 use std::alloc::{AllocError, Global};
 use std::collections::BTreeSet;
 use std::marker::Model;
 use ua_item_queue::{ItemQueue, QueueSize};
-use ua_messages::ReadValueId;
 use ua_read_write::{Change, Timestamps, refusal};
 use ua_space::Space;
 use ua_subscription_messages::{
-    DataChangeMessage, MonitoredItemCreateRequest, MonitoredItemCreateResult,
-    MonitoredItemModifyRequest, MonitoredItemModifyResult, MonitoredItemNotification,
+    DataChangeMessage, MonitoredItemCreateRequestView, MonitoredItemCreateResult,
+    MonitoredItemModifyRequestView, MonitoredItemModifyResult, MonitoredItemNotification,
+    MonitoringMode, MonitoringParametersView,
 };
 use ua_types::{Config, Duration, ExtensionObject, ExtensionObjectBody, Moment, NodeId, Status};
 use ua_values::DataValue;
+use ua_views::ArrayView;
 
 /// The monitored items of a server, of all subscriptions. Each has a number, counted from 1 over the
 /// server and never used again.
@@ -104,28 +107,6 @@ fn modify_refused(status: Status) -> MonitoredItemModifyResult
     }
 }
 
-// Takes links away, one after the other.
-fn unlink_all(alloc: Global, links: &mut Links, remove: &[u32]) -> Result<Vec<Status>, AllocError>
-    ensures statuses { IfOk result (λ statuses. statuses.items ≡ (fold unlinked (record { statuses = []; numbers = links.old }) remove.now).statuses) }
-    ensures links { OnOk result (links.new ≡ (fold unlinked (record { statuses = []; numbers = links.old }) remove.now).numbers) }
-{
-    let mut statuses = Vec::with_capacity(alloc, remove.len())?;
-    for number in remove {
-        statuses.push(link_status(links.take(*number)))?;
-    }
-    Ok(statuses)
-}
-
-fn link_status(good: bool) -> Status
-    ensures { result ≡ link_status good }
-{
-    if good {
-        Status::GOOD
-    } else {
-        Status::BAD_MONITORED_ITEM_ID_INVALID
-    }
-}
-
 impl Items {
     /// No item yet, under this configuration. Takes no memory.
     pub fn new(alloc: Global, config: &Config) -> Items
@@ -157,25 +138,20 @@ impl Items {
             || self.table.made() == u32::MAX
     }
 
-    // Whether an item may be made, or why not. Takes no memory.
-    #[tactic(auto, unfolding(crate::specs::Items::create_judged))]
-    fn create_judged(
+    // Whether one more item may be made in this mode with these parameters, or why not. Takes no memory.
+    fn kind_judged(
         &self,
-        alloc: Global,
-        space: &Space,
         subscription: u32,
-        request: &MonitoredItemCreateRequest,
+        mode: MonitoringMode,
+        parameters: &MonitoringParametersView<'_>,
     ) -> Result<Kind, Status>
-        ensures verdict { result ≡ create_judged self.now space.now.nodes subscription request.now }
+        ensures verdict { result ≡ mode_judged (is_full_spec self.now subscription) (mode_numbered mode) (trigger_of parameters.now.filter) }
         ensures room { OnOk result (self.now.made < 2 ^ 32 - 1) }
     {
-        if let Some(status) = refusal(space, &request.item_to_monitor) {
-            return Err(status);
-        }
-        let Some(mode) = Mode::numbered(request.monitoring_mode) else {
+        let Some(mode) = Mode::numbered(mode) else {
             return Err(Status::BAD_MONITORING_MODE_INVALID);
         };
-        let Some(trigger) = trigger_of(alloc, &request.requested_parameters.filter) else {
+        let Some(trigger) = trigger_of(&parameters.filter) else {
             return Err(Status::BAD_MONITORED_ITEM_FILTER_UNSUPPORTED);
         };
         if self.is_full(subscription) {
@@ -184,34 +160,46 @@ impl Items {
         Ok(Kind { mode, trigger })
     }
 
-    // An item as it is made, before anything is sampled.
+    // Whether an item may be made, or why not. Takes no memory.
+    #[tactic(auto, unfolding(crate::specs::Items::create_judged))]
+    fn create_judged(
+        &self,
+        space: &Space,
+        subscription: u32,
+        request: &MonitoredItemCreateRequestView<'_>,
+    ) -> Result<Kind, Status>
+        ensures verdict { result ≡ create_judged self.now space.now.nodes subscription request.now }
+        ensures room { OnOk result (self.now.made < 2 ^ 32 - 1) }
+    {
+        if let Some(status) = refusal(space, &request.item_to_monitor) {
+            return Err(status);
+        }
+        self.kind_judged(
+            subscription,
+            request.monitoring_mode,
+            &request.requested_parameters,
+        )
+    }
+
+    // An item as it is made, before anything is sampled. Of the request the node's id is copied.
     fn new_item(
         &self,
         alloc: Global,
         subscription: u32,
         timestamps: Timestamps,
-        request: MonitoredItemCreateRequest,
+        request: &MonitoredItemCreateRequestView<'_>,
         kind: Kind,
     ) -> Result<Item, AllocError>
-        ensures { IfOk result (λ item. item ≡ new_item self.now subscription timestamps request kind) }
+        ensures { IfOk result (λ item. item ≡ new_item self.now subscription timestamps request.now kind) }
     {
-        let MonitoredItemCreateRequest {
-            item_to_monitor,
-            monitoring_mode: _,
-            requested_parameters: parameters,
-        } = request;
-        let ReadValueId {
-            node_id,
-            attribute_id,
-            index_range: _,
-            data_encoding: _,
-        } = item_to_monitor;
+        let parameters = &request.requested_parameters;
+        let node_id = request.item_to_monitor.node_id.to_value(alloc)?;
         let size = revised_size(self.longest, parameters.queue_size);
         let queue = ItemQueue::new(alloc, size, parameters.discard_oldest)?;
         Ok(Item {
             subscription,
             node_id,
-            attribute_id,
+            attribute_id: request.item_to_monitor.attribute_id,
             client_handle: parameters.client_handle,
             timestamps,
             mode: kind.mode,
@@ -231,14 +219,14 @@ impl Items {
         clock: Moment,
         subscription: u32,
         timestamps: Timestamps,
-        request: MonitoredItemCreateRequest,
+        request: &MonitoredItemCreateRequestView<'_>,
     ) -> Result<MonitoredItemCreateResult, AllocError>
-        ensures result { IfOk result (λ made. made ≡ (create_one space.now.nodes clock subscription timestamps self.old request).result) }
-        ensures ok { OnOk result (self.new ≡ (create_one space.now.nodes clock subscription timestamps self.old request).state) }
+        ensures result { IfOk result (λ made. made ≡ (create_one space.now.nodes clock subscription timestamps self.old request.now).result) }
+        ensures ok { OnOk result (self.new ≡ (create_one space.now.nodes clock subscription timestamps self.old request.now).state) }
         ensures back { OnOk result (CanBeUndone self.old self.new) }
         ensures err { OnErr result (self.new ≡ self.old) }
     {
-        let kind = match self.create_judged(alloc, space, subscription, &request) {
+        let kind = match self.create_judged(space, subscription, request) {
             Ok(kind) => kind,
             Err(status) => return Ok(create_refused(status)),
         };
@@ -258,23 +246,23 @@ impl Items {
     }
 
     // Makes the items of a request. At an `Err` some were made.
-    fn create_all(
+    fn create_all<'a>(
         &mut self,
         alloc: Global,
         space: &Space,
         clock: Moment,
         subscription: u32,
         timestamps: Timestamps,
-        requests: Vec<MonitoredItemCreateRequest>,
+        requests: ArrayView<'a, MonitoredItemCreateRequestView<'a>>,
     ) -> Result<Vec<MonitoredItemCreateResult>, AllocError>
-        ensures results { IfOk result (λ results. results.items ≡ (all_served (create_one space.now.nodes clock subscription timestamps) self.old requests.items).results) }
-        ensures ok { OnOk result (self.new ≡ (all_served (create_one space.now.nodes clock subscription timestamps) self.old requests.items).state) }
+        ensures results { IfOk result (λ results. results.items ≡ (all_served (create_one space.now.nodes clock subscription timestamps) self.old (or_none requests.entry)).results) }
+        ensures ok { OnOk result (self.new ≡ (all_served (create_one space.now.nodes clock subscription timestamps) self.old (or_none requests.entry)).state) }
         ensures err { OnErr result (CanBeUndone self.old self.new) }
-        ensures memory { requests.items ≡ [] → IsOk result }
+        ensures memory { or_none requests.entry ≡ [] → IsOk result }
     {
         let mut results = Vec::with_capacity(alloc, requests.len())?;
         for request in requests {
-            let made = self.create_one(alloc, space, clock, subscription, timestamps, request)?;
+            let made = self.create_one(alloc, space, clock, subscription, timestamps, &request)?;
             results.push_reserved(made);
         }
         Ok(results)
@@ -306,20 +294,21 @@ impl Items {
     /// (`BAD_NODE_ID_UNKNOWN`, `BAD_ATTRIBUTE_ID_INVALID`, `BAD_INDEX_RANGE_INVALID`, `BAD_NOT_READABLE`);
     /// `BAD_MONITORING_MODE_INVALID`; a filter other than null and a DataChangeFilter with a trigger from 0
     /// to 2 and no deadband, `BAD_MONITORED_ITEM_FILTER_UNSUPPORTED`; where the subscription or the server has as
-    /// many items as the configuration allows, or the numbers are used up, `BAD_TOO_MANY_MONITORED_ITEMS`.
-    pub fn create(
+    /// many items as the configuration allows, or the numbers are used up, `BAD_TOO_MANY_MONITORED_ITEMS`. Of an entry that isn't
+    /// refused the node's id is copied, and nothing else of the request.
+    pub fn create<'a>(
         &mut self,
         alloc: Global,
         space: &Space,
         clock: Moment,
         subscription: u32,
         timestamps: Timestamps,
-        requests: Vec<MonitoredItemCreateRequest>,
+        requests: ArrayView<'a, MonitoredItemCreateRequestView<'a>>,
     ) -> Result<Vec<MonitoredItemCreateResult>, AllocError>
-        ensures results { IfOk result (λ results. results.items ≡ (all_served (create_one space.now.nodes clock subscription timestamps) self.old requests.items).results) }
-        ensures ok { OnOk result (self.new ≡ (all_served (create_one space.now.nodes clock subscription timestamps) self.old requests.items).state) }
+        ensures results { IfOk result (λ results. results.items ≡ (all_served (create_one space.now.nodes clock subscription timestamps) self.old (or_none requests.entry)).results) }
+        ensures ok { OnOk result (self.new ≡ (all_served (create_one space.now.nodes clock subscription timestamps) self.old (or_none requests.entry)).state) }
         ensures err { OnErr result (self.new ≡ self.old) }
-        ensures memory { requests.items ≡ [] → IsOk result }
+        ensures memory { or_none requests.entry ≡ [] → IsOk result }
     {
         let made = self.table.made();
         match self.create_all(alloc, space, clock, subscription, timestamps, requests) {
@@ -352,10 +341,9 @@ impl Items {
     #[tactic(auto, unfolding(crate::specs::Items::modify_one))]
     fn modify_one(
         &mut self,
-        alloc: Global,
         subscription: u32,
         timestamps: Timestamps,
-        request: &MonitoredItemModifyRequest,
+        request: &MonitoredItemModifyRequestView<'_>,
     ) -> MonitoredItemModifyResult
         ensures result { result ≡ (modify_one subscription timestamps self.old request.now).result }
         ensures state { self.new ≡ (modify_one subscription timestamps self.old request.now).state }
@@ -365,7 +353,7 @@ impl Items {
             return modify_refused(Status::BAD_MONITORED_ITEM_ID_INVALID);
         }
         let parameters = &request.requested_parameters;
-        let Some(trigger) = trigger_of(alloc, &parameters.filter) else {
+        let Some(trigger) = trigger_of(&parameters.filter) else {
             return modify_refused(Status::BAD_MONITORED_ITEM_FILTER_UNSUPPORTED);
         };
         let size = revised_size(self.longest, parameters.queue_size);
@@ -389,21 +377,21 @@ impl Items {
     ///
     /// An entry is refused in this order: the subscription has no such item,
     /// `BAD_MONITORED_ITEM_ID_INVALID`; the filter, as in [`Items::create`].
-    pub fn modify(
+    pub fn modify<'a>(
         &mut self,
         alloc: Global,
         subscription: u32,
         timestamps: Timestamps,
-        requests: &[MonitoredItemModifyRequest],
+        requests: ArrayView<'a, MonitoredItemModifyRequestView<'a>>,
     ) -> Result<Vec<MonitoredItemModifyResult>, AllocError>
-        ensures results { IfOk result (λ results. results.items ≡ (all_served (modify_one subscription timestamps) self.old requests.now).results) }
-        ensures ok { OnOk result (self.new ≡ (all_served (modify_one subscription timestamps) self.old requests.now).state) }
+        ensures results { IfOk result (λ results. results.items ≡ (all_served (modify_one subscription timestamps) self.old (or_none requests.entry)).results) }
+        ensures ok { OnOk result (self.new ≡ (all_served (modify_one subscription timestamps) self.old (or_none requests.entry)).state) }
         ensures err { OnErr result (self.new ≡ self.old) }
-        ensures memory { requests.now ≡ [] → IsOk result }
+        ensures memory { or_none requests.entry ≡ [] → IsOk result }
     {
         let mut results = Vec::with_capacity(alloc, requests.len())?;
         for request in requests {
-            results.push_reserved(self.modify_one(alloc, subscription, timestamps, request));
+            results.push_reserved(self.modify_one(subscription, timestamps, &request));
         }
         Ok(results)
     }
@@ -445,13 +433,13 @@ impl Items {
         clock: Moment,
         subscription: u32,
         mode: Mode,
-        numbers: &[u32],
+        numbers: ArrayView<'_, u32>,
         releases: &mut Releases,
     ) -> Result<Vec<Prepared>, AllocError>
-        ensures numbers { IfOk result (λ entries. map (λ e. e.number) entries.items ≡ numbers.now) }
-        ensures releases { OnOk result (releases.new ≡ with_releases releases.old (modes_release self.now subscription mode numbers.now)) }
+        ensures numbers { IfOk result (λ entries. map (λ e. e.number) entries.items ≡ or_none numbers.entry) }
+        ensures releases { OnOk result (releases.new ≡ with_releases releases.old (modes_release self.now subscription mode (or_none numbers.entry))) }
         ensures ready { IfOk result (λ entries. AreReady space.now.nodes clock subscription mode self.now entries.items) }
-        ensures memory { numbers.now ≡ [] → IsOk result }
+        ensures memory { or_none numbers.entry ≡ [] → IsOk result }
     {
         let mut entries = Vec::with_capacity(alloc, numbers.len())?;
         for number in numbers {
@@ -461,7 +449,7 @@ impl Items {
                 clock,
                 subscription,
                 mode,
-                *number,
+                number,
                 releases,
             )?;
             entries.push(prepared)?;
@@ -491,17 +479,18 @@ impl Items {
         clock: Moment,
         subscription: u32,
         mode: Mode,
-        numbers: &[u32],
+        numbers: ArrayView<'_, u32>,
         releases: &mut Releases,
     ) -> Result<Vec<Status>, AllocError>
-        ensures results { IfOk result (λ results. results.items ≡ (all_served (mode_one space.now.nodes clock subscription mode) self.old numbers.now).results) }
-        ensures ok { OnOk result (self.new ≡ (all_served (mode_one space.now.nodes clock subscription mode) self.old numbers.now).state) }
-        ensures releases { OnOk result (releases.new ≡ with_releases releases.old (modes_release self.old subscription mode numbers.now)) }
+        ensures results { IfOk result (λ results. results.items ≡ (all_served (mode_one space.now.nodes clock subscription mode) self.old (or_none numbers.entry)).results) }
+        ensures ok { OnOk result (self.new ≡ (all_served (mode_one space.now.nodes clock subscription mode) self.old (or_none numbers.entry)).state) }
+        ensures releases { OnOk result (releases.new ≡ with_releases releases.old (modes_release self.old subscription mode (or_none numbers.entry))) }
         ensures err { OnErr result (self.new ≡ self.old) }
-        ensures memory { numbers.now ≡ [] → IsOk result }
+        ensures memory { or_none numbers.entry ≡ [] → IsOk result }
     {
+        let count = numbers.len();
         let entries = self.prepare_all(alloc, space, clock, subscription, mode, numbers, releases)?;
-        let mut results = Vec::with_capacity(alloc, numbers.len())?;
+        let mut results = Vec::with_capacity(alloc, count)?;
         for prepared in entries {
             results.push_reserved(self.mode_one(subscription, mode, prepared));
         }
@@ -522,12 +511,12 @@ impl Items {
         clock: Moment,
         subscription: u32,
         mode: Mode,
-        numbers: &[u32],
+        numbers: ArrayView<'_, u32>,
     ) -> Result<Vec<Status>, AllocError>
-        ensures results { IfOk result (λ results. results.items ≡ (modes_set space.now.nodes clock subscription mode self.old numbers.now).results) }
-        ensures ok { OnOk result (self.new ≡ (modes_set space.now.nodes clock subscription mode self.old numbers.now).state) }
+        ensures results { IfOk result (λ results. results.items ≡ (modes_set space.now.nodes clock subscription mode self.old (or_none numbers.entry)).results) }
+        ensures ok { OnOk result (self.new ≡ (modes_set space.now.nodes clock subscription mode self.old (or_none numbers.entry)).state) }
         ensures err { OnErr result (self.new ≡ self.old) }
-        ensures memory { numbers.now ≡ [] → IsOk result }
+        ensures memory { or_none numbers.entry ≡ [] → IsOk result }
     {
         let mut releases = Releases::new(alloc);
         let results = self.mode_all(
@@ -624,14 +613,14 @@ impl Items {
         subscription: u32,
         triggering: u32,
         links: &mut Links,
-        add: &[u32],
+        add: ArrayView<'_, u32>,
     ) -> Result<Vec<Status>, AllocError>
-        ensures statuses { IfOk result (λ statuses. statuses.items ≡ (fold (linked self.now subscription triggering) (record { statuses = []; numbers = links.old }) add.now).statuses) }
-        ensures links { OnOk result (links.new ≡ (fold (linked self.now subscription triggering) (record { statuses = []; numbers = links.old }) add.now).numbers) }
+        ensures statuses { IfOk result (λ statuses. statuses.items ≡ (fold (linked self.now subscription triggering) (record { statuses = []; numbers = links.old }) (or_none add.entry)).statuses) }
+        ensures links { OnOk result (links.new ≡ (fold (linked self.now subscription triggering) (record { statuses = []; numbers = links.old }) (or_none add.entry)).numbers) }
     {
         let mut statuses = Vec::with_capacity(alloc, add.len())?;
         for number in add {
-            let status = self.link_one(subscription, triggering, links, *number)?;
+            let status = self.link_one(subscription, triggering, links, number)?;
             statuses.push(status)?;
         }
         Ok(statuses)
@@ -651,13 +640,13 @@ impl Items {
         alloc: Global,
         subscription: u32,
         triggering: u32,
-        add: &[u32],
-        remove: &[u32],
+        add: ArrayView<'_, u32>,
+        remove: ArrayView<'_, u32>,
     ) -> Result<Result<Linked, Status>, AllocError>
-        ensures answer { IfOk result (λ answer. IsAnswer answer (link_spec self.old subscription triggering add.now remove.now)) }
-        ensures ok { OnOk result (self.new ≡ after_link self.old (link_spec self.old subscription triggering add.now remove.now)) }
+        ensures answer { IfOk result (λ answer. IsAnswer answer (link_spec self.old subscription triggering (or_none add.entry) (or_none remove.entry))) }
+        ensures ok { OnOk result (self.new ≡ after_link self.old (link_spec self.old subscription triggering (or_none add.entry) (or_none remove.entry))) }
         ensures err { OnErr result (self.new ≡ self.old) }
-        ensures good { OnErr result (IsOk (link_spec self.old subscription triggering add.now remove.now)) }
+        ensures good { OnErr result (IsOk (link_spec self.old subscription triggering (or_none add.entry) (or_none remove.entry))) }
     {
         let Some(item) = self.own_item(subscription, triggering) else {
             return Ok(Err(Status::BAD_MONITORED_ITEM_ID_INVALID));
@@ -690,16 +679,16 @@ impl Items {
         &mut self,
         alloc: Global,
         subscription: u32,
-        numbers: &[u32],
+        numbers: ArrayView<'_, u32>,
     ) -> Result<Vec<Status>, AllocError>
-        ensures results { IfOk result (λ results. results.items ≡ (all_served (delete_one subscription) self.old numbers.now).results) }
-        ensures ok { OnOk result (self.new ≡ (all_served (delete_one subscription) self.old numbers.now).state) }
+        ensures results { IfOk result (λ results. results.items ≡ (all_served (delete_one subscription) self.old (or_none numbers.entry)).results) }
+        ensures ok { OnOk result (self.new ≡ (all_served (delete_one subscription) self.old (or_none numbers.entry)).state) }
         ensures err { OnErr result (self.new ≡ self.old) }
-        ensures memory { numbers.now ≡ [] → IsOk result }
+        ensures memory { or_none numbers.entry ≡ [] → IsOk result }
     {
         let mut statuses = Vec::with_capacity(alloc, numbers.len())?;
         for number in numbers {
-            statuses.push_reserved(self.delete_one(subscription, *number));
+            statuses.push_reserved(self.delete_one(subscription, number));
         }
         Ok(statuses)
     }

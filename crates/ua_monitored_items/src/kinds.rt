@@ -4,11 +4,10 @@ ghost use Rattle.std.specs.Prelude.{◌≡◌};
 ghost use Rattle.ua_monitored_items.specs.Kinds.{mode_numbered, trigger_numbered, is_null_filter, trigger_of};
 ghost use Rattle.ua_monitored_items.specs.Item.{is_enabled, is_reporting, is_sampling, is_change, same_status, same_value, same_time};
 
-use std::alloc::Global;
-use ua_messages::{received_structure, type_ids};
+use ua_messages::{structure_view, type_ids};
 use ua_subscription_messages::{DataChangeFilter, DataChangeTrigger, MonitoringMode};
-use ua_types::{ExtensionObject, ExtensionObjectBody};
 use ua_values::DataValue;
+use ua_views::{ExtensionObjectBodyView, ExtensionObjectView};
 
 /// What a monitored item does (MonitoringMode, IEC 62541-4, section 7).
 #[derive(Clone, Copy, Debug, PartialEq, Eq)]
@@ -121,23 +120,23 @@ impl Trigger {
 }
 
 // No filter: the null id, and no body.
-fn is_null_filter(filter: &ExtensionObject) -> bool
+fn is_null_filter(filter: &ExtensionObjectView<'_>) -> bool
     ensures { result ≡ is_null_filter filter.now }
 {
-    filter.type_id.is_null() && matches!(&filter.body, ExtensionObjectBody::Absent)
+    filter.type_id.is_null() && matches!(&filter.body, ExtensionObjectBodyView::Absent)
 }
 
 /// Which changes a filter lets through. None where the server doesn't have the filter, which a service
 /// refuses by `BAD_MONITORED_ITEM_FILTER_UNSUPPORTED`: it has a null one, which is as
-/// [`Trigger::StatusValue`], and a DataChangeFilter without a deadband. Takes no memory, since that is of fixed size.
+/// [`Trigger::StatusValue`], and a DataChangeFilter without a deadband. Takes no memory.
 #[tactic(auto, unfolding(crate::specs::Kinds::trigger_of))]
-pub(crate) fn trigger_of(alloc: Global, filter: &ExtensionObject) -> Option<Trigger>
+pub(crate) fn trigger_of(filter: &ExtensionObjectView<'_>) -> Option<Trigger>
     ensures { result ≡ trigger_of filter.now }
 {
     if is_null_filter(filter) {
         return Some(Trigger::StatusValue);
     }
-    match received_structure::<DataChangeFilter>(alloc, type_ids::DATA_CHANGE_FILTER, filter) {
+    match structure_view::<DataChangeFilter>(type_ids::DATA_CHANGE_FILTER, filter) {
         Ok(filter) => {
             if filter.deadband_type == DataChangeFilter::NO_DEADBAND {
                 Trigger::numbered(filter.trigger)

@@ -1,17 +1,20 @@
 //! Links from an item to others of its subscription.
 
-ghost use Rattle.std.specs.Prelude.{◌≡◌, [], OnOk, OnErr};
+ghost use Rattle.std.specs.Prelude.{◌≡◌, [], fold, OnOk, OnErr, IfOk};
 ghost use Rattle.std.specs.BTreeMap.{is_at};
 ghost use Rattle.std.specs.BTreeSet.{insert_key};
 ghost use Rattle.std.specs.List.{list_any};
 ghost use Rattle.std.specs.Option.{option_map_or};
 ghost use Rattle.std.specs.Ordering.{nat_cmp};
 ghost use Rattle.std.specs.Set.{remove_key};
+ghost use Rattle.ua_monitored_items.specs.Links.{link_status, unlinked};
+ghost use Rattle.ua_views.specs.Views.{or_none};
 
 use std::alloc::{AllocError, Global};
 use std::collections::BTreeSet;
 use std::marker::Model;
 use ua_types::Status;
+use ua_views::ArrayView;
 
 /// The numbers of the items that are linked to one, rising, each once.
 ///
@@ -91,4 +94,31 @@ pub struct Linked {
 
     /// Of each whose link was to be taken away.
     pub removed: Vec<Status>,
+}
+
+/// Takes links away, one after the other, and answers what became of each.
+pub(crate) fn unlink_all(
+    alloc: Global,
+    links: &mut Links,
+    remove: ArrayView<'_, u32>,
+) -> Result<Vec<Status>, AllocError>
+    ensures statuses { IfOk result (λ statuses. statuses.items ≡ (fold unlinked (record { statuses = []; numbers = links.old }) (or_none remove.entry)).statuses) }
+    ensures links { OnOk result (links.new ≡ (fold unlinked (record { statuses = []; numbers = links.old }) (or_none remove.entry)).numbers) }
+{
+    let mut statuses = Vec::with_capacity(alloc, remove.len())?;
+    for number in remove {
+        statuses.push(link_status(links.take(number)))?;
+    }
+    Ok(statuses)
+}
+
+/// What becomes of an entry of a request that changes links.
+pub(crate) fn link_status(good: bool) -> Status
+    ensures { result ≡ link_status good }
+{
+    if good {
+        Status::GOOD
+    } else {
+        Status::BAD_MONITORED_ITEM_ID_INVALID
+    }
 }

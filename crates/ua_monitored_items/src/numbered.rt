@@ -27,7 +27,7 @@ use std::alloc::{AllocError, Global};
 use std::collections::{BTreeMap, BTreeSet};
 use std::marker::Model;
 use ua_read_write::Timestamps;
-use ua_subscription_messages::{DataChangeMessage, MonitoringParameters};
+use ua_subscription_messages::{DataChangeMessage, MonitoringParametersView};
 use ua_values::DataValue;
 
 /// Items under their numbers. Contracts see these alone.
@@ -57,7 +57,7 @@ fn modify_at(
     number: u32,
     timestamps: Timestamps,
     modification: Modification,
-    parameters: &MonitoringParameters,
+    parameters: &MonitoringParametersView<'_>,
 ) -> Option<Recount>
     ensures items { items.new ≡ with_item number (modified_with timestamps modification parameters.now) items.old }
     ensures recount { result ≡ recount_by (modified_with timestamps modification parameters.now) (item_at number items.old) }
@@ -245,7 +245,7 @@ impl Numbered {
         number: u32,
         timestamps: Timestamps,
         modification: Modification,
-        parameters: &MonitoringParameters,
+        parameters: &MonitoringParametersView<'_>,
     )
         ensures { self.new ≡ with_item number (modified_with timestamps modification parameters.now) self.old }
     {

@@ -11,7 +11,7 @@ ghost use Rattle.ua_space.specs.Variables.{shape_has_rank, takes};
 use crate::attributes::{Attribute, attribute_at};
 use crate::index_range::{IndexRange, asked_range};
 use std::alloc::{AllocError, Global};
-use ua_service_views::WriteValueView;
+use ua_service_messages::WriteValueView;
 use ua_space::{Node, ValueRank, Variable};
 use ua_types::{Copyable, Status};
 use ua_values::{Shape, Variant};

@@ -2,7 +2,7 @@
 //! space and without the services round them: no session, no request's header and no limit is known
 //! here.
 //!
-//! What a request asks for is judged where it stands in the request's bytes, by views of `ua_service_views`; a contract
+//! What a request asks for is judged where it stands in the request's bytes, by views of `ua_service_messages`; a contract
 //! sees a view as the structure that it shows.
 //!
 //! [`read`] answers one read by an [`Answer`], which borrows what it shows and takes no memory; it is

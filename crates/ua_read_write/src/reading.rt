@@ -9,8 +9,9 @@ ghost use Rattle.ua_messages.specs.Bodies.{body_encoding};
 ghost use Rattle.ua_messages.specs.declared.type_ids.TheConstants.{READ_RESPONSE};
 ghost use Rattle.ua_messages.specs.ResultLists.{results_encoding, results_of};
 ghost use Rattle.ua_read_write.specs.Attributes.{seen, IsWhole};
-ghost use Rattle.ua_read_write.specs.Reading.{is_readable, readable, refusal_in, attribute_read, ranged, told_of, read_of, all_read};
+ghost use Rattle.ua_read_write.specs.Reading.{is_readable, readable, readable_of, refusal_in, attribute_read, ranged, told_of, read_of, all_read};
 ghost use Rattle.ua_read_write.specs.declared.timestamps.Timestamps.TheVariants as timestamp_choices;
+ghost use Rattle.ua_types.specs.Given.{is_given};
 ghost use Rattle.ua_views.specs.Views.{or_none};
 
 use crate::answer::{Answer, copied, refused};
@@ -19,10 +20,9 @@ use crate::index_range::{IndexRange, asked_range};
 use crate::timestamps::Timestamps;
 use number_slots::Near;
 use std::alloc::{AllocError, Global};
-use ua_messages::{DiagnosticInfos, MessageBody, ReadValueId, ResponseHeader, type_ids};
-use ua_service_views::ReadValueIdView;
+use ua_messages::{DiagnosticInfos, MessageBody, ReadValueIdView, ResponseHeader, type_ids};
 use ua_space::{Node, Space};
-use ua_types::{Moment, NodeId, Status, Text};
+use ua_types::{Moment, NodeId, Status};
 use ua_values::DataValue;
 use ua_views::ArrayView;
 
@@ -36,23 +36,31 @@ fn is_readable(attribute: Attribute<'_>) -> bool
     }
 }
 
-// A whole attribute of a node, or why it can't be read, where no index range is served.
-#[tactic(auto, unfolding(crate::specs::Reading::readable))]
-fn readable<'a>(
-    space: &'a Space,
-    id: &NodeId,
-    number: u32,
-    index_range: &Text,
-) -> Result<Attribute<'a>, Status>
-    ensures { result_map_both seen (λ code. code) result ≡ readable space.now.nodes id.now number index_range.now }
+// Whether an index range is neither null nor empty.
+fn is_given(index_range: Option<&str>) -> bool
+    ensures { result ≡ is_given (option_map (λ t. t.now) index_range.entry) }
 {
-    let Some(node) = space.node(id) else {
+    match index_range {
+        None => false,
+        Some(text) => !text.is_empty(),
+    }
+}
+
+// A whole attribute of the node that was looked up, or why it can't be read, where no index range is served.
+fn readable<'a>(
+    node: Option<&'a Node>,
+    number: u32,
+    index_range: Option<&str>,
+) -> Result<Attribute<'a>, Status>
+    ensures { result_map_both seen (λ code. code) result ≡ readable_of number (option_map (λ t. t.now) index_range.entry) (option_copied node.entry) }
+{
+    let Some(node) = node else {
         return Err(Status::BAD_NODE_ID_UNKNOWN);
     };
     let Some(attribute) = attribute_at(node, number) else {
         return Err(Status::BAD_ATTRIBUTE_ID_INVALID);
     };
-    if index_range.is_given() {
+    if is_given(index_range) {
         return Err(Status::BAD_INDEX_RANGE_INVALID);
     }
     if !is_readable(attribute) {
@@ -130,16 +138,12 @@ pub fn read<'a>(
 /// Takes no memory.
 ///
 /// It refuses as [`read`] does, but that each index range that is given is `BAD_INDEX_RANGE_INVALID`.
-pub fn refusal(space: &Space, request: &ReadValueId) -> Option<Status>
+#[tactic(auto, unfolding(crate::specs::Reading::readable))]
+pub fn refusal(space: &Space, request: &ReadValueIdView<'_>) -> Option<Status>
     ensures { result ≡ refusal_in (readable space.now.nodes request.now.node_id request.now.attribute_id request.now.index_range) }
 {
-    let attribute = readable(
-        space,
-        &request.node_id,
-        request.attribute_id,
-        &request.index_range,
-    );
-    match attribute {
+    let node = space.find(&request.node_id);
+    match readable(node, request.attribute_id, request.index_range.as_str()) {
         Ok(_) => None,
         Err(status) => Some(status),
     }
@@ -147,6 +151,7 @@ pub fn refusal(space: &Space, request: &ReadValueId) -> Option<Status>
 
 /// What [`read`] answers for a whole attribute with both times, as a data value of its own. A refusal takes no
 /// memory.
+#[tactic(auto, unfolding(crate::specs::Reading::readable))]
 pub fn sample(
     alloc: Global,
     space: &Space,
@@ -157,7 +162,7 @@ pub fn sample(
     ensures value { IfOk result (λ value. value ≡ attribute_read space.now.nodes clock timestamp_choices.Both node_id.now attribute_id None) }
     ensures refused { IfErr (readable space.now.nodes node_id.now attribute_id None) (λ code. IsOk result) }
 {
-    match readable(space, node_id, attribute_id, &Text::null()) {
+    match readable(space.node(node_id), attribute_id, None) {
         Ok(attribute) => copied(alloc, attribute, clock, Timestamps::Both),
         Err(status) => Ok(refused(status)),
     }

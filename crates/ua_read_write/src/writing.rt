@@ -12,7 +12,7 @@ ghost use Rattle.ua_views.specs.Views.{or_none};
 use crate::judging::{judged, made};
 use number_slots::Near;
 use std::alloc::{AllocError, Global};
-use ua_service_views::WriteValueView;
+use ua_service_messages::WriteValueView;
 use ua_space::Space;
 use ua_types::{Copyable, Listed, Moment, NodeId, Refusal, Status};
 use ua_values::{DataValue, Variant};

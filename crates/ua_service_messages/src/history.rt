@@ -4,11 +4,15 @@ ghost use Rattle.std.specs.Prelude.{⊤};
 ghost use Rattle.ua_service_messages.specs.History.{read_raw_modified_details_reading, read_raw_modified_details_encoding, history_data_reading, history_data_encoding, history_read_value_id_reading, history_read_value_id_encoding, history_read_request_reading, history_read_request_encoding, history_read_result_reading, history_read_result_encoding};
 
 use std::alloc::{AllocError, Global};
+use std::marker::Model;
 use ua_binary::{Cursor, TakeFault, Wire};
 use ua_messages::{Results, TimestampsToReturn};
 use ua_types::{Array, ByteString, ExtensionObject, Moment, NodeId, QualifiedName, Status, Text};
 use ua_values::DataValue;
-use ua_walks::Walk;
+use ua_views::{
+    ArrayView, ByteStringView, ExtensionObjectView, NodeIdView, QualifiedNameView, Readable,
+    TextView, View, look_enumeration,
+};
 
 /// The details of a reading of raw values (ReadRawModifiedDetails, IEC 62541-11, section 6). They travel
 /// in an ExtensionObject. At least two of start, end and count are given.
@@ -54,15 +58,20 @@ impl Wire for ReadRawModifiedDetails {
     }
 }
 
+impl Readable for ReadRawModifiedDetails {
+    ghost reading = { read_raw_modified_details_reading };
+}
+
 #[tactic(auto, unfolding(crate::specs::History::read_raw_modified_details_reading))]
-impl Walk for ReadRawModifiedDetails {
-    fn walk(cursor: &mut Cursor<'_>) -> Result<(), TakeFault> {
-        bool::skip(cursor)?;
-        Moment::skip(cursor)?;
-        Moment::skip(cursor)?;
-        u32::skip(cursor)?;
-        bool::skip(cursor)?;
-        Ok(())
+impl<'a> View<'a> for ReadRawModifiedDetails {
+    fn look(cursor: &mut Cursor<'a>) -> Result<ReadRawModifiedDetails, TakeFault> {
+        Ok(ReadRawModifiedDetails {
+            is_read_modified: bool::look(cursor)?,
+            start_time: Moment::look(cursor)?,
+            end_time: Moment::look(cursor)?,
+            num_values_per_node: u32::look(cursor)?,
+            return_bounds: bool::look(cursor)?,
+        })
     }
 }
 
@@ -126,14 +135,39 @@ impl Wire for HistoryReadValueId {
     }
 }
 
+/// A [`HistoryReadValueId`] in the bytes that it stands in.
+#[derive(Debug, Drop)]
+pub struct HistoryReadValueIdView<'a> {
+    pub node_id: NodeIdView<'a>,
+    /// Which elements of a list are meant, all where it is null or empty.
+    pub index_range: TextView<'a>,
+    /// How a structure in the value is to be encoded, null for the usual way.
+    pub data_encoding: QualifiedNameView<'a>,
+    /// The point of the result before, or null at the beginning.
+    pub continuation_point: ByteStringView<'a>,
+}
+
+impl<'a> Model for HistoryReadValueIdView<'a> {
+    ghost use Rattle.ua_service_messages.specs.declared.history.HistoryReadValueId.{HistoryReadValueId};
+
+    ghost Value = { HistoryReadValueId };
+
+    ghost view = { λ v. record { node_id = v.node_id; index_range = v.index_range; data_encoding = v.data_encoding; continuation_point = v.continuation_point } };
+}
+
+impl<'a> Readable for HistoryReadValueIdView<'a> {
+    ghost reading = { history_read_value_id_reading };
+}
+
 #[tactic(auto, unfolding(crate::specs::History::history_read_value_id_reading))]
-impl Walk for HistoryReadValueId {
-    fn walk(cursor: &mut Cursor<'_>) -> Result<(), TakeFault> {
-        NodeId::skip(cursor)?;
-        Text::skip(cursor)?;
-        QualifiedName::skip(cursor)?;
-        ByteString::skip(cursor)?;
-        Ok(())
+impl<'a> View<'a> for HistoryReadValueIdView<'a> {
+    fn look(cursor: &mut Cursor<'a>) -> Result<HistoryReadValueIdView<'a>, TakeFault> {
+        Ok(HistoryReadValueIdView {
+            node_id: NodeIdView::look(cursor)?,
+            index_range: TextView::look(cursor)?,
+            data_encoding: QualifiedNameView::look(cursor)?,
+            continuation_point: ByteStringView::look(cursor)?,
+        })
     }
 }
 
@@ -172,14 +206,38 @@ impl Wire for HistoryReadRequest {
     }
 }
 
+/// A [`HistoryReadRequest`] in the bytes that it stands in.
+#[derive(Debug, Drop)]
+pub struct HistoryReadRequestView<'a> {
+    /// What of the history is wanted: [`ReadRawModifiedDetails`] for raw values.
+    pub history_read_details: ExtensionObjectView<'a>,
+    pub timestamps_to_return: TimestampsToReturn,
+    /// Whether the points are only given up.
+    pub release_continuation_points: bool,
+    pub nodes_to_read: ArrayView<'a, HistoryReadValueIdView<'a>>,
+}
+
+impl<'a> Model for HistoryReadRequestView<'a> {
+    ghost use Rattle.ua_service_messages.specs.declared.history.HistoryReadRequest.{HistoryReadRequest};
+
+    ghost Value = { HistoryReadRequest };
+
+    ghost view = { λ v. record { history_read_details = v.history_read_details; timestamps_to_return = v.timestamps_to_return; release_continuation_points = v.release_continuation_points; nodes_to_read = v.nodes_to_read } };
+}
+
+impl<'a> Readable for HistoryReadRequestView<'a> {
+    ghost reading = { history_read_request_reading };
+}
+
 #[tactic(auto, unfolding(crate::specs::History::history_read_request_reading))]
-impl Walk for HistoryReadRequest {
-    fn walk(cursor: &mut Cursor<'_>) -> Result<(), TakeFault> {
-        ExtensionObject::skip(cursor)?;
-        TimestampsToReturn::skip(cursor)?;
-        bool::skip(cursor)?;
-        Array::<HistoryReadValueId>::skip(cursor)?;
-        Ok(())
+impl<'a> View<'a> for HistoryReadRequestView<'a> {
+    fn look(cursor: &mut Cursor<'a>) -> Result<HistoryReadRequestView<'a>, TakeFault> {
+        Ok(HistoryReadRequestView {
+            history_read_details: ExtensionObjectView::look(cursor)?,
+            timestamps_to_return: look_enumeration::<TimestampsToReturn>(cursor)?,
+            release_continuation_points: bool::look(cursor)?,
+            nodes_to_read: ArrayView::<HistoryReadValueIdView<'a>>::look(cursor)?,
+        })
     }
 }
 

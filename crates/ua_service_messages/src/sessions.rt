@@ -4,10 +4,14 @@
 ghost use Rattle.ua_service_messages.specs.Sessions.{signature_data_reading, signature_data_encoding, signed_software_certificate_reading, signed_software_certificate_encoding, anonymous_identity_token_reading, anonymous_identity_token_encoding, create_session_request_reading, create_session_request_encoding, create_session_response_reading, create_session_response_encoding, activate_session_request_reading, activate_session_request_encoding, activate_session_response_reading, activate_session_response_encoding, close_session_request_reading, close_session_request_encoding, close_session_response_reading, close_session_response_encoding};
 
 use std::alloc::{AllocError, Global};
+use std::marker::Model;
 use ua_binary::{Cursor, TakeFault, Wire};
-use ua_messages::{ApplicationDescription, DiagnosticInfos, EndpointDescription, ResponseHeader};
+use ua_messages::{
+    ApplicationDescription, ApplicationDescriptionView, DiagnosticInfos, EndpointDescription,
+    ResponseHeader,
+};
 use ua_types::{Array, ByteString, Duration, ExtensionObject, NodeId, Status, Text};
-use ua_walks::Walk;
+use ua_views::{ArrayView, ByteStringView, ExtensionObjectView, Readable, TextView, View};
 
 /// A signature (SignatureData, IEC 62541-4, section 7). Both fields are null where nothing is signed.
 #[derive(Debug, Drop)]
@@ -37,12 +41,33 @@ impl Wire for SignatureData {
     }
 }
 
+/// A [`SignatureData`] in the bytes that it stands in.
+#[derive(Debug, Drop)]
+pub struct SignatureDataView<'a> {
+    /// The URI of the algorithm.
+    pub algorithm: TextView<'a>,
+    pub signature: ByteStringView<'a>,
+}
+
+impl<'a> Model for SignatureDataView<'a> {
+    ghost use Rattle.ua_service_messages.specs.declared.sessions.SignatureData.{SignatureData};
+
+    ghost Value = { SignatureData };
+
+    ghost view = { λ v. record { algorithm = v.algorithm; signature = v.signature } };
+}
+
+impl<'a> Readable for SignatureDataView<'a> {
+    ghost reading = { signature_data_reading };
+}
+
 #[tactic(auto, unfolding(crate::specs::Sessions::signature_data_reading))]
-impl Walk for SignatureData {
-    fn walk(cursor: &mut Cursor<'_>) -> Result<(), TakeFault> {
-        Text::skip(cursor)?;
-        ByteString::skip(cursor)?;
-        Ok(())
+impl<'a> View<'a> for SignatureDataView<'a> {
+    fn look(cursor: &mut Cursor<'a>) -> Result<SignatureDataView<'a>, TakeFault> {
+        Ok(SignatureDataView {
+            algorithm: TextView::look(cursor)?,
+            signature: ByteStringView::look(cursor)?,
+        })
     }
 }
 
@@ -77,12 +102,32 @@ impl Wire for SignedSoftwareCertificate {
     }
 }
 
+/// A [`SignedSoftwareCertificate`] in the bytes that it stands in.
+#[derive(Debug, Drop)]
+pub struct SignedSoftwareCertificateView<'a> {
+    pub certificate_data: ByteStringView<'a>,
+    pub signature: ByteStringView<'a>,
+}
+
+impl<'a> Model for SignedSoftwareCertificateView<'a> {
+    ghost use Rattle.ua_service_messages.specs.declared.sessions.SignedSoftwareCertificate.{SignedSoftwareCertificate};
+
+    ghost Value = { SignedSoftwareCertificate };
+
+    ghost view = { λ v. record { certificate_data = v.certificate_data; signature = v.signature } };
+}
+
+impl<'a> Readable for SignedSoftwareCertificateView<'a> {
+    ghost reading = { signed_software_certificate_reading };
+}
+
 #[tactic(auto, unfolding(crate::specs::Sessions::signed_software_certificate_reading))]
-impl Walk for SignedSoftwareCertificate {
-    fn walk(cursor: &mut Cursor<'_>) -> Result<(), TakeFault> {
-        ByteString::skip(cursor)?;
-        ByteString::skip(cursor)?;
-        Ok(())
+impl<'a> View<'a> for SignedSoftwareCertificateView<'a> {
+    fn look(cursor: &mut Cursor<'a>) -> Result<SignedSoftwareCertificateView<'a>, TakeFault> {
+        Ok(SignedSoftwareCertificateView {
+            certificate_data: ByteStringView::look(cursor)?,
+            signature: ByteStringView::look(cursor)?,
+        })
     }
 }
 
@@ -112,11 +157,31 @@ impl Wire for AnonymousIdentityToken {
     }
 }
 
+/// An [`AnonymousIdentityToken`] in the bytes that it stands in.
+#[derive(Debug, Drop)]
+pub struct AnonymousIdentityTokenView<'a> {
+    /// The name that the endpoint gives to its policy for anonymous users.
+    pub policy_id: TextView<'a>,
+}
+
+impl<'a> Model for AnonymousIdentityTokenView<'a> {
+    ghost use Rattle.ua_service_messages.specs.declared.sessions.AnonymousIdentityToken.{AnonymousIdentityToken};
+
+    ghost Value = { AnonymousIdentityToken };
+
+    ghost view = { λ v. record { policy_id = v.policy_id } };
+}
+
+impl<'a> Readable for AnonymousIdentityTokenView<'a> {
+    ghost reading = { anonymous_identity_token_reading };
+}
+
 #[tactic(auto, unfolding(crate::specs::Sessions::anonymous_identity_token_reading))]
-impl Walk for AnonymousIdentityToken {
-    fn walk(cursor: &mut Cursor<'_>) -> Result<(), TakeFault> {
-        Text::skip(cursor)?;
-        Ok(())
+impl<'a> View<'a> for AnonymousIdentityTokenView<'a> {
+    fn look(cursor: &mut Cursor<'a>) -> Result<AnonymousIdentityTokenView<'a>, TakeFault> {
+        Ok(AnonymousIdentityTokenView {
+            policy_id: TextView::look(cursor)?,
+        })
     }
 }
 
@@ -172,18 +237,51 @@ impl Wire for CreateSessionRequest {
     }
 }
 
+/// A [`CreateSessionRequest`] in the bytes that it stands in.
+#[derive(Debug, Drop)]
+pub struct CreateSessionRequestView<'a> {
+    pub client_description: ApplicationDescriptionView<'a>,
+    /// The server that is meant, where the endpoint is that of a gateway.
+    pub server_uri: TextView<'a>,
+    /// The URL by which the client reached the server.
+    pub endpoint_url: TextView<'a>,
+    /// The client's name of the session, for people.
+    pub session_name: TextView<'a>,
+    /// Random bytes that the server would sign, null where the mode is None.
+    pub client_nonce: ByteStringView<'a>,
+    /// Null where the mode is None.
+    pub client_certificate: ByteStringView<'a>,
+    /// How long the session is to live without a request, in milliseconds.
+    pub requested_session_timeout: Duration,
+    /// The largest response that the client takes, in bytes; 0 is no limit.
+    pub max_response_message_size: u32,
+}
+
+impl<'a> Model for CreateSessionRequestView<'a> {
+    ghost use Rattle.ua_service_messages.specs.declared.sessions.CreateSessionRequest.{CreateSessionRequest};
+
+    ghost Value = { CreateSessionRequest };
+
+    ghost view = { λ v. record { client_description = v.client_description; server_uri = v.server_uri; endpoint_url = v.endpoint_url; session_name = v.session_name; client_nonce = v.client_nonce; client_certificate = v.client_certificate; requested_session_timeout = v.requested_session_timeout; max_response_message_size = v.max_response_message_size } };
+}
+
+impl<'a> Readable for CreateSessionRequestView<'a> {
+    ghost reading = { create_session_request_reading };
+}
+
 #[tactic(auto, unfolding(crate::specs::Sessions::create_session_request_reading))]
-impl Walk for CreateSessionRequest {
-    fn walk(cursor: &mut Cursor<'_>) -> Result<(), TakeFault> {
-        ApplicationDescription::skip(cursor)?;
-        Text::skip(cursor)?;
-        Text::skip(cursor)?;
-        Text::skip(cursor)?;
-        ByteString::skip(cursor)?;
-        ByteString::skip(cursor)?;
-        Duration::skip(cursor)?;
-        u32::skip(cursor)?;
-        Ok(())
+impl<'a> View<'a> for CreateSessionRequestView<'a> {
+    fn look(cursor: &mut Cursor<'a>) -> Result<CreateSessionRequestView<'a>, TakeFault> {
+        Ok(CreateSessionRequestView {
+            client_description: ApplicationDescriptionView::look(cursor)?,
+            server_uri: TextView::look(cursor)?,
+            endpoint_url: TextView::look(cursor)?,
+            session_name: TextView::look(cursor)?,
+            client_nonce: ByteStringView::look(cursor)?,
+            client_certificate: ByteStringView::look(cursor)?,
+            requested_session_timeout: Duration::look(cursor)?,
+            max_response_message_size: u32::look(cursor)?,
+        })
     }
 }
 
@@ -288,15 +386,42 @@ impl Wire for ActivateSessionRequest {
     }
 }
 
+/// An [`ActivateSessionRequest`] in the bytes that it stands in.
+#[derive(Debug, Drop)]
+pub struct ActivateSessionRequestView<'a> {
+    pub client_signature: SignatureDataView<'a>,
+    pub client_software_certificates: ArrayView<'a, SignedSoftwareCertificateView<'a>>,
+    /// The languages in which the client likes to have texts, the best first.
+    pub locale_ids: ArrayView<'a, TextView<'a>>,
+    /// Who the user is: an [`AnonymousIdentityTokenView`], or null, which means the same.
+    pub user_identity_token: ExtensionObjectView<'a>,
+    pub user_token_signature: SignatureDataView<'a>,
+}
+
+impl<'a> Model for ActivateSessionRequestView<'a> {
+    ghost use Rattle.ua_service_messages.specs.declared.sessions.ActivateSessionRequest.{ActivateSessionRequest};
+
+    ghost Value = { ActivateSessionRequest };
+
+    ghost view = { λ v. record { client_signature = v.client_signature; client_software_certificates = v.client_software_certificates; locale_ids = v.locale_ids; user_identity_token = v.user_identity_token; user_token_signature = v.user_token_signature } };
+}
+
+impl<'a> Readable for ActivateSessionRequestView<'a> {
+    ghost reading = { activate_session_request_reading };
+}
+
 #[tactic(auto, unfolding(crate::specs::Sessions::activate_session_request_reading))]
-impl Walk for ActivateSessionRequest {
-    fn walk(cursor: &mut Cursor<'_>) -> Result<(), TakeFault> {
-        SignatureData::skip(cursor)?;
-        Array::<SignedSoftwareCertificate>::skip(cursor)?;
-        Array::<Text>::skip(cursor)?;
-        ExtensionObject::skip(cursor)?;
-        SignatureData::skip(cursor)?;
-        Ok(())
+impl<'a> View<'a> for ActivateSessionRequestView<'a> {
+    fn look(cursor: &mut Cursor<'a>) -> Result<ActivateSessionRequestView<'a>, TakeFault> {
+        Ok(ActivateSessionRequestView {
+            client_signature: SignatureDataView::look(cursor)?,
+            client_software_certificates: ArrayView::<SignedSoftwareCertificateView<'a>>::look(
+                cursor,
+            )?,
+            locale_ids: ArrayView::<TextView<'a>>::look(cursor)?,
+            user_identity_token: ExtensionObjectView::look(cursor)?,
+            user_token_signature: SignatureDataView::look(cursor)?,
+        })
     }
 }
 
@@ -363,11 +488,16 @@ impl Wire for CloseSessionRequest {
     }
 }
 
+impl Readable for CloseSessionRequest {
+    ghost reading = { close_session_request_reading };
+}
+
 #[tactic(auto, unfolding(crate::specs::Sessions::close_session_request_reading))]
-impl Walk for CloseSessionRequest {
-    fn walk(cursor: &mut Cursor<'_>) -> Result<(), TakeFault> {
-        bool::skip(cursor)?;
-        Ok(())
+impl<'a> View<'a> for CloseSessionRequest {
+    fn look(cursor: &mut Cursor<'a>) -> Result<CloseSessionRequest, TakeFault> {
+        Ok(CloseSessionRequest {
+            delete_subscriptions: bool::look(cursor)?,
+        })
     }
 }
 

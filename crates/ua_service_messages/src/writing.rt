@@ -4,11 +4,12 @@ ghost use Rattle.ua_binary.specs.Backing.{IsBackedOrBoxed};
 ghost use Rattle.ua_service_messages.specs.Writing.{write_value_reading, write_value_encoding, write_request_reading, write_request_encoding};
 
 use std::alloc::{AllocError, Global};
+use std::marker::Model;
 use ua_binary::{Cursor, TakeFault, Wire};
 use ua_messages::Results;
 use ua_types::{Array, NodeId, Status, Text};
 use ua_values::DataValue;
-use ua_walks::Walk;
+use ua_views::{ArrayView, DataValueView, NodeIdView, Readable, TextView, View};
 
 /// A new value for an attribute of a node (WriteValue, IEC 62541-4, section 5, Write).
 #[derive(Debug, Drop)]
@@ -47,16 +48,40 @@ impl Wire for WriteValue {
     }
 }
 
+/// A [`WriteValue`] in the bytes that it stands in.
+#[derive(Debug, Drop)]
+pub struct WriteValueView<'a> {
+    pub node_id: NodeIdView<'a>,
+    /// The number of the attribute, as 13 for the value.
+    pub attribute_id: u32,
+    /// Which elements of a list are meant, all where it is null or empty.
+    pub index_range: TextView<'a>,
+    pub value: DataValueView<'a>,
+}
+
+impl<'a> Model for WriteValueView<'a> {
+    ghost use Rattle.ua_service_messages.specs.declared.writing.WriteValue.{WriteValue};
+
+    ghost Value = { WriteValue };
+
+    ghost view = { λ v. record { node_id = v.node_id; attribute_id = v.attribute_id; index_range = v.index_range; value = v.value } };
+}
+
+impl<'a> Readable for WriteValueView<'a> {
+    ghost reading = { write_value_reading };
+}
+
 #[tactic(auto, unfolding(crate::specs::Writing::write_value_reading))]
-impl Walk for WriteValue {
+impl<'a> View<'a> for WriteValueView<'a> {
     // Inlined into the loop over a request's list: a call for each element costs more than it does.
     #[inline(always)]
-    fn walk(cursor: &mut Cursor<'_>) -> Result<(), TakeFault> {
-        NodeId::skip(cursor)?;
-        u32::skip(cursor)?;
-        Text::skip(cursor)?;
-        DataValue::skip(cursor)?;
-        Ok(())
+    fn look(cursor: &mut Cursor<'a>) -> Result<WriteValueView<'a>, TakeFault> {
+        Ok(WriteValueView {
+            node_id: NodeIdView::look(cursor)?,
+            attribute_id: u32::look(cursor)?,
+            index_range: TextView::look(cursor)?,
+            value: DataValueView::look(cursor)?,
+        })
     }
 }
 
@@ -84,11 +109,30 @@ impl Wire for WriteRequest {
     }
 }
 
+/// A [`WriteRequest`] in the bytes that it stands in.
+#[derive(Debug, Drop)]
+pub struct WriteRequestView<'a> {
+    pub nodes_to_write: ArrayView<'a, WriteValueView<'a>>,
+}
+
+impl<'a> Model for WriteRequestView<'a> {
+    ghost use Rattle.ua_service_messages.specs.declared.writing.WriteRequest.{WriteRequest};
+
+    ghost Value = { WriteRequest };
+
+    ghost view = { λ v. record { nodes_to_write = v.nodes_to_write } };
+}
+
+impl<'a> Readable for WriteRequestView<'a> {
+    ghost reading = { write_request_reading };
+}
+
 #[tactic(auto, unfolding(crate::specs::Writing::write_request_reading))]
-impl Walk for WriteRequest {
-    fn walk(cursor: &mut Cursor<'_>) -> Result<(), TakeFault> {
-        Array::<WriteValue>::skip(cursor)?;
-        Ok(())
+impl<'a> View<'a> for WriteRequestView<'a> {
+    fn look(cursor: &mut Cursor<'a>) -> Result<WriteRequestView<'a>, TakeFault> {
+        Ok(WriteRequestView {
+            nodes_to_write: ArrayView::<WriteValueView<'a>>::look(cursor)?,
+        })
     }
 }
 

@@ -29,6 +29,7 @@ use Rattle.ua_service_messages.specs.declared.writing.WriteValue.{WriteValue}
 use Rattle.ua_messages.specs.declared.read_value_ids.ReadValueId.{ReadValueId}
 use Rattle.ua_read_write.specs.Timestamps.{timestamps_of}
 use Rattle.ua_read_write.specs.declared.timestamps.Timestamps.{Timestamps}
+use Rattle.ua_views.specs.Views.{or_none}
 use Rattle.ua_types.specs.declared.node_id.NodeId.{NodeId}
 use Rattle.ua_types.specs.NodeIds.{is_null_id}
 use Rattle.ua_services.specs.Browse.{browse_listed, browse_meaning}
@@ -81,7 +82,7 @@ use Rattle.ua_services.specs.DeleteSubscriptions.{delete_subscriptions_listed, d
 use Rattle.ua_services.specs.ItemServing.{with_items, Itemed, own_vars, items_called_by}
 use Rattle.ua_services.specs.ModifyMonitoredItems.{items_modified, modify_monitored_items_meaning}
 use Rattle.ua_services.specs.ModifySubscription.{settings_wanted, modify_subscription_body, modify_subscription_meaning}
-use Rattle.ua_services.specs.Publish.{acknowledged_in, publish_call, publish_meaning}
+use Rattle.ua_services.specs.Publish.{publish_call, publish_meaning}
 use Rattle.ua_services.specs.Republish.{republish_answer, republish_meaning}
 use Rattle.ua_services.specs.SetMonitoringMode.{items_moded, set_monitoring_mode_meaning}
 use Rattle.ua_services.specs.SetTriggering.{items_linked, set_triggering_meaning}
@@ -260,7 +261,7 @@ module _ (Such : ℕ → Type 0) where
 
   publish_only : (setting : Setting) (caller : Caller) → Such caller.conn → (session : ℕ) (request : PublishRequest) (state : Services) → OwesOnly Such state → ServesOnly Such (publish_meaning setting caller session request state)
   publish_only setting caller q session request state p =
-      let acks = acknowledged_in request.subscription_acknowledgements in
+      let acks = or_none request.subscription_acknowledgements in
       either (nat_lt setting.config.operations (length acks)) _ _ (record { state = p; replies = (q, tt) })
       (told_only state _ (publish_owes_only Such state.subs state.items setting.clock session (publish_call caller) acks q p.0) p.1)
 

@@ -24,6 +24,7 @@ use Rattle.ua_types.specs.declared.refusal.Refusal.TheVariants as refusals
 use Rattle.ua_types.specs.declared.status.Status.{Status}
 use Rattle.ua_session.specs.Points.{PointsState, TakesSerial, GivesInRange, is_overspent}
 use Rattle.ua_session.specs.Sessions.{SessionsState, points_of, with_points}
+use Rattle.server_messages.specs.Halts.{refusal_of}
 use Rattle.server_messages.specs.declared.halt.Halt.{Halt}
 use Rattle.server_messages.specs.declared.halt.Halt.TheVariants.{Memory, Exhausted}
 use Rattle.server_messages.specs.declared.served.Served.{Served}
@@ -36,7 +37,6 @@ use Rattle.ua_services.specs.ServicesState.{Services}
 use Rattle.ua_services.specs.SessionServing.{with_sessions}
 use Rattle.ua_services.proofs.SubLemmas.{no_rows, none_stored}
 use Rattle.ua_services.specs.declared.caller.Caller.{Caller}
-use Rattle.ua_services.specs.declared.unserved.Unserved.TheVariants.{Halted}
 
 -- ---- one thing
 
@@ -185,6 +185,6 @@ module _ {R : Type 0} (encoding : R → List ℕ) (setting : Setting) (caller : 
       (sym (in_range_spend_none (is_overspent before) (is_overspent b.points) in_range))
       ∙ ap (λ x. given_of (paged encoding setting caller session type_id state x)) all
 
-  pub halted_all : (after : Services) (halt : Halt) (said : AllDone R) → Halts halt (points_of state.sessions session) said.points → Judges setting caller (Err (Halted halt)) after (paged encoding setting caller session type_id state said)
+  pub halted_all : (after : Services) (halt : Halt) (said : AllDone R) → Halts halt (points_of state.sessions session) said.points → Judges setting caller (Err (refusal_of halt)) after (paged encoding setting caller session type_id state said)
   halted_all after Memory said h = refl
   halted_all after Exhausted said h = past_range_spend_one (is_overspent (points_of state.sessions session)) (is_overspent said.points) h.0 h.1

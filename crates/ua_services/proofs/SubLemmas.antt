@@ -22,6 +22,7 @@ use Rattle.ua_subscriptions.specs.declared.call.Call.{Call as SubCall}
 use Rattle.ua_subscriptions.specs.declared.call.Call.TheVariants.{Delete, Timer}
 use Rattle.ua_subscriptions.specs.declared.round.Round.{Round}
 use Rattle.server_messages.specs.declared.fired.Fired.{Fired}
+use Rattle.server_messages.specs.Halts.{refusal_of}
 use Rattle.server_messages.specs.declared.halt.Halt.{Halt}
 use Rattle.server_messages.specs.declared.halt.Halt.TheVariants.{Memory, Exhausted}
 use Rattle.server_messages.specs.declared.reply.Reply.{Reply}
@@ -32,7 +33,6 @@ use Rattle.ua_services.specs.ServicesState.{Services}
 use Rattle.ua_services.specs.Serving.{Occurrence, Serving, Given, Serves, is_spent, given, given_of, rows_of, stored_of, served, joined, reply_of, reply_before, Judges}
 use Rattle.ua_services.specs.Serving.Occurrence.{Fire, Store, Spent}
 use Rattle.ua_services.specs.declared.caller.Caller.{Caller}
-use Rattle.ua_services.specs.declared.unserved.Unserved.TheVariants.{Halted}
 use Rattle.ua_services.specs.SubServing.{with_subs, fires, uncounted, is_uncounted, occurrences_of, called, no_reply, told_alone, nothing_done, both, and_then, session_over, timed_out, all_timed_out, timers_met, world_at}
 
 -- ---- rows, and serials that are spent
@@ -141,7 +141,7 @@ module _ (state : Services) (w : World) where
   told_halts halt new items h = called_halts state no_reply (told state.subs w) halt new items h
 
   -- the same of a service that refuses no such call
-  pub told_judged : (setting : Setting) (caller : Caller) (halt : Halt) (new : SubscriptionsState) (items : ItemsState) → subs.Serves (Err halt) state.subs new items (told state.subs w) → Judges setting caller (Err (Halted halt)) (with_subs state new items) (told_alone state w)
+  pub told_judged : (setting : Setting) (caller : Caller) (halt : Halt) (new : SubscriptionsState) (items : ItemsState) → subs.Serves (Err halt) state.subs new items (told state.subs w) → Judges setting caller (Err (refusal_of halt)) (with_subs state new items) (told_alone state w)
   unfolding told_alone
   told_judged setting caller Memory new items h = refl
   told_judged setting caller Exhausted new items h = called_halts state no_reply (told state.subs w) Exhausted new items h

@@ -1,12 +1,13 @@
 -- What the services of monitored items share: each names a subscription of its session.
 use Rattle.std.specs.Prelude.{◌≡◌, ℕ, Bool, true, false, List, [], ◌∷◌, Option, Some, None, if◌then◌else◌}
+use Rattle.ua_types.specs.declared.refusal.Refusal.{Refusal}
+use Rattle.ua_types.specs.declared.refusal.Refusal.TheVariants as refusals
 use Rattle.ua_types.specs.declared.status.Status.{Status}
 use Rattle.ua_types.specs.declared.status.TheConstants.Status as status
 use Rattle.ua_messages.specs.Bodies.{body_encoding}
 use Rattle.ua_messages.specs.Headers.{plain_header}
 use Rattle.ua_messages.specs.ResultLists.{results_encoding, results_of}
 use Rattle.ua_messages.specs.ServiceFaults.{fault_body}
-use Rattle.server_messages.specs.declared.halt.Halt.TheVariants.{Memory, Exhausted}
 use Rattle.server_messages.specs.declared.setting.Setting.{Setting}
 use Rattle.ua_monitored_items.specs.Items.{ItemsState, Served}
 use Rattle.ua_state_table.specs.declared.vars.Vars.{Vars}
@@ -18,8 +19,6 @@ use Rattle.ua_services.specs.ServicesState.{Services}
 use Rattle.ua_services.specs.Serving.{Serving, reply_of, faulted}
 use Rattle.ua_services.specs.SubServing.{called, world_at}
 use Rattle.ua_services.specs.declared.caller.Caller.{Caller}
-use Rattle.ua_services.specs.declared.unserved.Unserved.{Unserved}
-use Rattle.ua_services.specs.declared.unserved.Unserved.TheVariants.{Fault, Halted}
 
 abbrev pub with_items : Services → ItemsState → Services
 with_items state items = record state { items = items }
@@ -45,10 +44,10 @@ items_answered encoding type_id setting caller served = record {
 }
 
 -- a request is refused with the status that is said, and the items are as they were; want of memory is answered to good ones alone
-abbrev pub Refuses : Setting → Caller → Unserved → Services → Services → Itemed → Type 0
-Refuses setting caller (Fault code) old new done = (done ≡ items_refused setting caller old code) × (new ≡ old)
-Refuses setting caller (Halted Memory) old new done = done.is_refused ≡ false
-Refuses setting caller (Halted Exhausted) old new done = ⊥
+abbrev pub Refuses : Setting → Caller → Refusal → Services → Services → Itemed → Type 0
+Refuses setting caller (refusals.Service code) old new done = (done ≡ items_refused setting caller old code) × (new ≡ old)
+Refuses setting caller refusals.Memory old new done = done.is_refused ≡ false
+Refuses setting caller refusals.Exhausted old new done = ⊥
 
 -- ---- and the row that its subscription fires
 

@@ -1,7 +1,8 @@
 -- The service Publish.
-use Rattle.std.specs.Prelude.{ℕ, List, [], length, nat_lt, Option, Some, None, if◌then◌else◌}
+use Rattle.std.specs.Prelude.{ℕ, List, [], length, nat_lt, if◌then◌else◌}
 use Rattle.ua_types.specs.declared.status.TheConstants.Status as status
 use Rattle.server_messages.specs.declared.setting.Setting.{Setting}
+use Rattle.ua_views.specs.Views.{or_none}
 use Rattle.ua_subscription_messages.specs.declared.publishing.PublishRequest.{PublishRequest}
 use Rattle.ua_subscription_messages.specs.declared.publishing.SubscriptionAcknowledgement.{SubscriptionAcknowledgement}
 use Rattle.ua_subscriptions.specs.Publishing.{published}
@@ -10,11 +11,6 @@ use Rattle.ua_services.specs.ServicesState.{Services}
 use Rattle.ua_services.specs.Serving.{Serving, faulted}
 use Rattle.ua_services.specs.SubServing.{told_alone, world_at}
 use Rattle.ua_services.specs.declared.caller.Caller.{Caller}
-
--- the messages that the client has; none where the list is null
-abbrev pub acknowledged_in : Option (List SubscriptionAcknowledgement) → List SubscriptionAcknowledgement
-acknowledged_in None = []
-acknowledged_in (Some acks) = acks
 
 -- the request as it waits, before its acknowledgements are applied
 abbrev pub publish_call : Caller → PublishCall
@@ -28,4 +24,4 @@ publish_acknowledged setting caller session state acks =
 -- the acknowledgements may be none; the answer comes now, or waits
 abbrev pub publish_meaning : Setting → Caller → ℕ → PublishRequest → Services → Serving
 publish_meaning setting caller session request state =
-    publish_acknowledged setting caller session state (acknowledged_in request.subscription_acknowledgements)
+    publish_acknowledged setting caller session state (or_none request.subscription_acknowledgements)

@@ -1,5 +1,5 @@
 -- What a request comes to, and what all services share.
-use Rattle.std.specs.Prelude.{◌≡◌, ⊤, ℕ, Bool, true, false, not, List, [], ◌∷◌, ◌++◌, Result, Ok, Err}
+use Rattle.std.specs.Prelude.{◌≡◌, ⊤, ℕ, Bool, true, false, List, [], ◌∷◌, ◌++◌, Result, Ok, Err}
 use Rattle.std.specs.List.{list_any}
 use Rattle.ua_types.specs.declared.moment.Moment.{Moment}
 use Rattle.ua_types.specs.declared.node_id.NodeId.{NodeId}
@@ -10,6 +10,7 @@ use Rattle.ua_types.specs.declared.status.TheConstants.Status as status
 use Rattle.ua_binary.specs.declared.fault.TakeFault.{TakeFault}
 use Rattle.ua_messages.specs.ServiceFaults.{fault_body}
 use Rattle.server_messages.specs.declared.fired.Fired.{Fired}
+use Rattle.server_messages.specs.Halts.{refusal_of}
 use Rattle.server_messages.specs.declared.halt.Halt.{Halt}
 use Rattle.server_messages.specs.declared.halt.Halt.TheVariants.{Memory, Exhausted}
 use Rattle.server_messages.specs.declared.reply.Reply.{Reply}
@@ -18,8 +19,6 @@ use Rattle.server_messages.specs.declared.setting.Setting.{Setting}
 use Rattle.server_messages.specs.declared.stored.Stored.{Stored}
 use Rattle.ua_services.specs.ServicesState.{Services}
 use Rattle.ua_services.specs.declared.caller.Caller.{Caller}
-use Rattle.ua_services.specs.declared.unserved.Unserved.{Unserved}
-use Rattle.ua_services.specs.declared.unserved.Unserved.TheVariants.{Fault, Halted}
 
 -- What is said of a service beside its replies: a row of the subscriptions' state table fired, a store has to keep a value, or a
 -- serial of 64 bits has passed its last value
@@ -53,14 +52,7 @@ served_by meaning setting caller token state (Err fault) = faulted state caller 
 -- the refusal that a status tells, or for which the server halts
 abbrev pub refusal_by : Result Status Halt → Refusal
 refusal_by (Ok code) = refusals.Service code
-refusal_by (Err Memory) = refusals.Memory
-refusal_by (Err Exhausted) = refusals.Exhausted
-
--- the refusal that keeps a request from being served
-abbrev pub refusal_of : Unserved → Refusal
-refusal_of (Fault code) = refusals.Service code
-refusal_of (Halted Memory) = refusals.Memory
-refusal_of (Halted Exhausted) = refusals.Exhausted
+refusal_by (Err halt) = refusal_of halt
 
 -- ---- what the code gives of it
 
@@ -121,13 +113,9 @@ Serves (Err Memory) new said = ⊤
 Serves (Err Exhausted) new said = list_any is_spent said.occurrences ≡ true
 
 -- A service does what is said of it, or its request is refused with the status that is said, and nothing else was done. Want of
--- memory is answered to good requests alone
-abbrev pub Answers : Setting → Caller → (is_good : Bool) → Result Served Unserved → Services → Serving → Type 0
-Answers setting caller is_good (Ok served) new said = given new served ≡ given_of said
-Answers setting caller is_good (Err (Fault code)) new said = said ≡ faulted new caller code setting.clock
-Answers setting caller is_good (Err (Halted Memory)) new said = is_good ≡ true
-Answers setting caller is_good (Err (Halted Exhausted)) new said = list_any is_spent said.occurrences ≡ true
-
--- a request that its service doesn't refuse is a good one
-abbrev pub Judges : Setting → Caller → Result Served Unserved → Services → Serving → Type 0
-Judges setting caller result new said = Answers setting caller (not said.is_refused) result new said
+-- memory is answered to requests that aren't refused, and to no other
+abbrev pub Judges : Setting → Caller → Result Served Refusal → Services → Serving → Type 0
+Judges setting caller (Ok served) new said = given new served ≡ given_of said
+Judges setting caller (Err (refusals.Service code)) new said = said ≡ faulted new caller code setting.clock
+Judges setting caller (Err refusals.Memory) new said = said.is_refused ≡ false
+Judges setting caller (Err refusals.Exhausted) new said = list_any is_spent said.occurrences ≡ true

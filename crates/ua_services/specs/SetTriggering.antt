@@ -1,6 +1,7 @@
 -- The service SetTriggering.
-use Rattle.std.specs.Prelude.{ℕ, ◌+◌, false, List, [], length, Option, Some, None, Result, Ok, Err}
+use Rattle.std.specs.Prelude.{ℕ, ◌+◌, false, List, length, Some, Result, Ok, Err}
 use Rattle.ua_types.specs.declared.status.Status.{Status}
+use Rattle.ua_views.specs.Views.{or_none}
 use Rattle.ua_messages.specs.Bodies.{body_encoding}
 use Rattle.ua_messages.specs.Headers.{plain_header}
 use Rattle.ua_messages.specs.declared.type_ids.TheConstants.{SET_TRIGGERING_RESPONSE}
@@ -13,11 +14,6 @@ use Rattle.ua_services.specs.Operations.{count_judged}
 use Rattle.ua_services.specs.ServicesState.{Services}
 use Rattle.ua_services.specs.Serving.{Serving}
 use Rattle.ua_services.specs.declared.caller.Caller.{Caller}
-
--- a list that is null names no item
-abbrev pub listed : Option (List ℕ) → List ℕ
-listed None = []
-listed (Some numbers) = numbers
 
 -- what became of each link, in the order of the request
 abbrev pub links_body : Setting → Caller → List Status → List Status → List ℕ
@@ -36,12 +32,12 @@ linked_by setting caller state (Err code) = items_refused setting caller state c
 
 abbrev pub linked_counted : Setting → Caller → SetTriggeringRequest → Services → Result (Unit {0}) Status → Itemed
 linked_counted setting caller request state (Ok good) =
-    linked_by setting caller state (link state.items request.subscription_id request.triggering_item_id (listed request.links_to_add) (listed request.links_to_remove))
+    linked_by setting caller state (link state.items request.subscription_id request.triggering_item_id (or_none request.links_to_add) (or_none request.links_to_remove))
 linked_counted setting caller request state (Err code) = items_refused setting caller state code
 
 -- so many links are asked for, in both lists together
 abbrev pub links_asked : SetTriggeringRequest → ℕ
-links_asked request = length (listed request.links_to_add) + length (listed request.links_to_remove)
+links_asked request = length (or_none request.links_to_add) + length (or_none request.links_to_remove)
 
 -- how many are asked for is judged first, then the triggering item; then links are taken away, and others are added
 unfoldable pub items_linked : Setting → Caller → SetTriggeringRequest → Services → Itemed

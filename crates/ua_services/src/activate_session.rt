@@ -6,22 +6,24 @@ ghost use Rattle.ua_services.specs.ActivateSession.{activate_session_meaning, ac
 use crate::caller::Caller;
 use crate::service::{Service, reply};
 use crate::services::Services;
-use crate::unserved::{Unserved, why_unserved};
 use server_messages::{Served, Setting};
 use std::alloc::{AllocError, Global};
-use ua_messages::{DiagnosticInfos, ResponseHeader, body, is_structure, type_ids};
+use ua_messages::{DiagnosticInfos, ResponseHeader, body, structure_view, type_ids};
 use ua_service_messages::{
-    ActivateSessionRequest, ActivateSessionResponse, AnonymousIdentityToken,
+    ActivateSessionRequestView, ActivateSessionResponse, AnonymousIdentityTokenView,
 };
-use ua_types::{Array, ByteString, ExtensionObject, ExtensionObjectBody, Status};
-use ua_views::NodeIdView;
+use ua_types::{Array, ByteString, Refusal};
+use ua_views::{ExtensionObjectBodyView, ExtensionObjectView, NodeIdView};
 
 // Whether the user stays anonymous.
-fn is_anonymous(identity: &ExtensionObject) -> bool
+fn is_anonymous(identity: &ExtensionObjectView<'_>) -> bool
     ensures { result ≡ is_anonymous_spec identity.now }
 {
-    matches!(&identity.body, ExtensionObjectBody::Absent)
-        || is_structure::<AnonymousIdentityToken>(type_ids::ANONYMOUS_IDENTITY_TOKEN, identity)
+    if matches!(&identity.body, ExtensionObjectBodyView::Absent) {
+        return true;
+    }
+    let type_id = type_ids::ANONYMOUS_IDENTITY_TOKEN;
+    structure_view::<AnonymousIdentityTokenView<'_>>(type_id, identity).is_ok()
 }
 
 fn response(
@@ -33,7 +35,7 @@ fn response(
     ensures { IfOk result (λ response. response ≡ activate_session_response setting.now.clock handle nonce.now) }
 {
     Ok(ActivateSessionResponse {
-        response_header: ResponseHeader::new(handle, Status(0), setting.clock),
+        response_header: ResponseHeader::good(handle, setting.clock),
         server_nonce: ByteString::from_slice(alloc, &nonce[..])?,
         results: Array::new(Vec::new(alloc)),
         diagnostic_infos: DiagnosticInfos,
@@ -47,8 +49,8 @@ fn response(
 /// that it was made on, and `BAD_IDENTITY_TOKEN_REJECTED` for any user but an anonymous one.
 pub struct ActivateSession;
 
-impl Service for ActivateSession {
-    type Request = ActivateSessionRequest;
+impl<'a> Service<'a> for ActivateSession {
+    type Request = ActivateSessionRequestView<'a>;
 
     ghost meaning = { activate_session_meaning };
 
@@ -57,23 +59,15 @@ impl Service for ActivateSession {
         setting: &Setting,
         caller: &Caller,
         token: &NodeIdView<'_>,
-        request: ActivateSessionRequest,
+        request: ActivateSessionRequestView<'a>,
         services: &mut Services,
-    ) -> Result<Served, Unserved> {
+    ) -> Result<Served, Refusal> {
         let is_anonymous = is_anonymous(&request.user_identity_token);
-        match services
+        let nonce = services
             .sessions
-            .activate(token, caller.conn, &caller.key, is_anonymous)
-        {
-            Ok(nonce) => {
-                let response = response(alloc, setting, caller.handle, &nonce)?;
-                Ok(reply(
-                    alloc,
-                    caller,
-                    body(alloc, type_ids::ACTIVATE_SESSION_RESPONSE, &response)?,
-                )?)
-            }
-            Err(refusal) => Err(why_unserved(refusal)),
-        }
+            .activate(token, caller.conn, &caller.key, is_anonymous)?;
+        let response = response(alloc, setting, caller.handle, &nonce)?;
+        let body = body(alloc, type_ids::ACTIVATE_SESSION_RESPONSE, &response)?;
+        Ok(reply(alloc, caller, body)?)
     }
 }

@@ -9,21 +9,19 @@ ghost use Rattle.ua_services.specs.RisingSerials.{browse_rises};
 
 use crate::browse_results::tell;
 use crate::caller::Caller;
-use crate::operations::viewed_operations;
+use crate::operations::operations;
 use crate::paging::{Pages, serve_pages};
 use crate::services::Services;
-use crate::unserved::Unserved;
-use crate::viewed_service::ViewedService;
+use crate::session_service::SessionService;
 use server_messages::{Halt, Served, Setting};
 use std::alloc::Global;
 use ua_browse::{browse, page_size};
 use ua_history::History;
 use ua_messages::{MessageBody, type_ids};
-use ua_service_messages::BrowseResult;
-use ua_service_views::{BrowseDescriptionView, BrowseRequestView};
+use ua_service_messages::{BrowseDescriptionView, BrowseRequestView, BrowseResult};
 use ua_session::Points;
 use ua_space::Space;
-use ua_types::{Config, Status};
+use ua_types::{Config, Refusal, Status};
 
 // How many references a page has at most under this configuration.
 fn size_in(config: &Config, requested: u32) -> u32
@@ -79,7 +77,7 @@ impl<'a> Pages<'a> for FirstPages {
 /// ([`ua_browse::browse`]).
 pub struct Browse;
 
-impl<'a> ViewedService<'a> for Browse {
+impl<'a> SessionService<'a> for Browse {
     type Request = BrowseRequestView<'a>;
 
     ghost meaning = { browse_meaning };
@@ -91,14 +89,11 @@ impl<'a> ViewedService<'a> for Browse {
         session: u32,
         request: BrowseRequestView<'a>,
         services: &mut Services,
-    ) -> Result<Served, Unserved> {
+    ) -> Result<Served, Refusal> {
         if !request.view_id.is_null() {
-            return Err(Unserved::Fault(Status::BAD_VIEW_ID_UNKNOWN));
+            return Err(Refusal::Service(Status::BAD_VIEW_ID_UNKNOWN));
         }
-        let descriptions = match viewed_operations(&setting.config, request.nodes_to_browse) {
-            Ok(descriptions) => descriptions,
-            Err(status) => return Err(Unserved::Fault(status)),
-        };
+        let descriptions = operations(&setting.config, request.nodes_to_browse)?;
         let requested = request.requested_max_references_per_node;
         let pages = FirstPages {
             size: size_in(&setting.config, requested),

@@ -10,18 +10,16 @@ ghost use Rattle.ua_services.specs.RisingSerials.{go_on_rises};
 
 use crate::browse_results::tell;
 use crate::caller::Caller;
-use crate::operations::viewed_operations;
+use crate::operations::operations;
 use crate::paging::{Pages, serve_pages};
 use crate::services::Services;
-use crate::unserved::Unserved;
-use crate::viewed_service::ViewedService;
+use crate::session_service::SessionService;
 use server_messages::{Halt, Served, Setting};
 use std::alloc::Global;
 use ua_browse::{Page, browse_next, release};
 use ua_history::History;
 use ua_messages::{MessageBody, type_ids};
-use ua_service_messages::BrowseResult;
-use ua_service_views::BrowseNextRequestView;
+use ua_service_messages::{BrowseNextRequestView, BrowseResult};
 use ua_session::{Points, point_serial};
 use ua_space::Space;
 use ua_types::{Array, Refusal, Status};
@@ -104,7 +102,7 @@ impl<'a> Pages<'a> for NextPages {
 /// none.
 pub struct BrowseNext;
 
-impl<'a> ViewedService<'a> for BrowseNext {
+impl<'a> SessionService<'a> for BrowseNext {
     type Request = BrowseNextRequestView<'a>;
 
     ghost meaning = { browse_next_meaning };
@@ -116,11 +114,8 @@ impl<'a> ViewedService<'a> for BrowseNext {
         session: u32,
         request: BrowseNextRequestView<'a>,
         services: &mut Services,
-    ) -> Result<Served, Unserved> {
-        let named = match viewed_operations(&setting.config, request.continuation_points) {
-            Ok(named) => named,
-            Err(status) => return Err(Unserved::Fault(status)),
-        };
+    ) -> Result<Served, Refusal> {
+        let named = operations(&setting.config, request.continuation_points)?;
         let pages = NextPages {
             is_release: request.release_continuation_points,
         };

@@ -8,12 +8,11 @@ use crate::caller::Caller;
 use crate::service::{Service, reply};
 use crate::services::Services;
 use crate::sub_serving::{end_session, joined};
-use crate::unserved::Unserved;
 use server_messages::{Served, Setting};
 use std::alloc::{AllocError, Global};
 use ua_messages::{ResponseHeader, body, type_ids};
 use ua_service_messages::{CloseSessionRequest, CloseSessionResponse};
-use ua_types::Status;
+use ua_types::Refusal;
 use ua_views::NodeIdView;
 
 // The answer, once the session is no more.
@@ -21,7 +20,7 @@ fn closed(alloc: Global, setting: &Setting, caller: &Caller) -> Result<Served, A
     ensures { IfOk result (λ served. served ≡ replied (reply_of caller.now (close_session_body setting.now caller.now))) }
 {
     let response = CloseSessionResponse {
-        response_header: ResponseHeader::new(caller.handle, Status(0), setting.clock),
+        response_header: ResponseHeader::good(caller.handle, setting.clock),
     };
     let body = body(alloc, type_ids::CLOSE_SESSION_RESPONSE, &response)?;
     reply(alloc, caller, body)
@@ -34,7 +33,7 @@ fn closed(alloc: Global, setting: &Setting, caller: &Caller) -> Result<Served, A
 /// `BAD_SECURE_CHANNEL_ID_INVALID` on another connection than the session's.
 pub struct CloseSession;
 
-impl Service for CloseSession {
+impl<'a> Service<'a> for CloseSession {
     type Request = CloseSessionRequest;
 
     ghost meaning = { close_session_meaning };
@@ -46,11 +45,8 @@ impl Service for CloseSession {
         token: &NodeIdView<'_>,
         request: CloseSessionRequest,
         services: &mut Services,
-    ) -> Result<Served, Unserved> {
-        let number = match services.sessions.close(token, caller.conn) {
-            Ok(number) => number,
-            Err(status) => return Err(Unserved::Fault(status)),
-        };
+    ) -> Result<Served, Refusal> {
+        let number = services.sessions.close(token, caller.conn)?;
         let deleting = request.delete_subscriptions;
         let ended = end_session(alloc, setting, number, deleting, services)?;
         Ok(joined(ended, closed(alloc, setting, caller)?)?)

@@ -4,32 +4,31 @@ ghost use Rattle.ua_services.specs.CreateMonitoredItems.{items_created};
 
 use crate::caller::Caller;
 use crate::item_serving::ItemService;
-use crate::operations::into_operations;
+use crate::operations::operations;
 use crate::services::Services;
-use crate::unserved::Unserved;
 use server_messages::Setting;
 use std::alloc::Global;
 use ua_messages::{MessageBody, ResponseHeader, results_body, type_ids};
 use ua_read_write::Timestamps;
-use ua_subscription_messages::CreateMonitoredItemsRequest;
-use ua_types::Status;
+use ua_subscription_messages::CreateMonitoredItemsRequestView;
+use ua_types::{Refusal, Status};
 
 /// Makes monitored items of a subscription of the session, one after the other ([`ua_monitored_items::Items::create`]).
 ///
 /// The faults, in this order: `BAD_SUBSCRIPTION_ID_INVALID` where the session has no such subscription,
 /// `BAD_TIMESTAMPS_TO_RETURN_INVALID` where the choice of times is none of the four, those of a list that is null, empty or
-/// too long ([`into_operations`]). All but the first are signs of life of the subscription.
+/// too long ([`operations`]). All but the first are signs of life of the subscription.
 pub struct CreateMonitoredItems;
 
 #[tactic(auto, unfolding(crate::specs::CreateMonitoredItems::items_created))]
-impl ItemService for CreateMonitoredItems {
-    type Request = CreateMonitoredItemsRequest;
+impl<'a> ItemService<'a> for CreateMonitoredItems {
+    type Request = CreateMonitoredItemsRequestView<'a>;
 
     ghost subscription = { λ request. request.subscription_id };
 
     ghost change = { items_created };
 
-    fn subscription_id(request: &CreateMonitoredItemsRequest) -> u32 {
+    fn subscription_id(request: &CreateMonitoredItemsRequestView<'a>) -> u32 {
         request.subscription_id
     }
 
@@ -37,22 +36,19 @@ impl ItemService for CreateMonitoredItems {
         alloc: Global,
         setting: &Setting,
         caller: &Caller,
-        request: CreateMonitoredItemsRequest,
+        request: CreateMonitoredItemsRequestView<'a>,
         services: &mut Services,
-    ) -> Result<MessageBody, Unserved> {
+    ) -> Result<MessageBody, Refusal> {
         let Some(timestamps) = Timestamps::chosen(request.timestamps_to_return) else {
-            return Err(Unserved::Fault(Status::BAD_TIMESTAMPS_TO_RETURN_INVALID));
+            return Err(Refusal::Service(Status::BAD_TIMESTAMPS_TO_RETURN_INVALID));
         };
         let number = request.subscription_id;
-        let requests = match into_operations(&setting.config, request.items_to_create) {
-            Ok(requests) => requests,
-            Err(status) => return Err(Unserved::Fault(status)),
-        };
+        let requests = operations(&setting.config, request.items_to_create)?;
         let space = &services.space;
         let results = services
             .items
             .create(alloc, space, setting.clock, number, timestamps, requests)?;
-        let header = ResponseHeader::new(caller.handle, Status(0), setting.clock);
+        let header = ResponseHeader::good(caller.handle, setting.clock);
         let type_id = type_ids::CREATE_MONITORED_ITEMS_RESPONSE;
         Ok(results_body(alloc, type_id, &header, results.as_slice())?)
     }

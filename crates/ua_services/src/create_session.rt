@@ -10,14 +10,13 @@ use crate::caller::Caller;
 use crate::endpoint_list::Endpoint;
 use crate::service::{Service, reply};
 use crate::services::Services;
-use crate::unserved::{Unserved, why_unserved};
 use server_messages::{Served, Setting};
 use std::alloc::{AllocError, Global};
 use std::array;
 use ua_messages::{MessageBody, ResponseHeader, type_ids};
-use ua_service_messages::{CreateSessionRequest, SignatureData, SignedSoftwareCertificate};
+use ua_service_messages::{CreateSessionRequestView, SignatureData, SignedSoftwareCertificate};
 use ua_session::{Created, session_id};
-use ua_types::{Array, ByteString, NodeId, Status, Text};
+use ua_types::{Array, ByteString, NodeId, Refusal, Text};
 use ua_views::NodeIdView;
 
 // The body of the response that tells of a new session. The endpoint is written from where the configuration stands.
@@ -33,7 +32,7 @@ fn response_body(
     let config = &setting.config;
     let mut body = MessageBody::new(alloc)?;
     body.write(&NodeId::numeric(0, type_ids::CREATE_SESSION_RESPONSE))?;
-    body.write(&ResponseHeader::new(handle, Status(0), setting.clock))?;
+    body.write(&ResponseHeader::good(handle, setting.clock))?;
     body.write(&session_id(session.number))?;
     body.write(&session.token)?;
     body.write(&config.session_duration)?;
@@ -57,8 +56,8 @@ fn response_body(
 /// numbers are used up. Of the request nothing is used.
 pub struct CreateSession;
 
-impl Service for CreateSession {
-    type Request = CreateSessionRequest;
+impl<'a> Service<'a> for CreateSession {
+    type Request = CreateSessionRequestView<'a>;
 
     ghost meaning = { create_session_meaning };
 
@@ -67,15 +66,12 @@ impl Service for CreateSession {
         setting: &Setting,
         caller: &Caller,
         _token: &NodeIdView<'_>,
-        _request: CreateSessionRequest,
+        _request: CreateSessionRequestView<'a>,
         services: &mut Services,
-    ) -> Result<Served, Unserved> {
-        match services.sessions.create(alloc, caller.conn, &caller.key) {
-            Ok(session) => {
-                let body = response_body(alloc, setting, caller.handle, session)?;
-                Ok(reply(alloc, caller, body)?)
-            }
-            Err(refusal) => Err(why_unserved(refusal)),
-        }
+    ) -> Result<Served, Refusal> {
+        let conn = caller.conn;
+        let session = services.sessions.create(alloc, conn, &caller.key)?;
+        let body = response_body(alloc, setting, caller.handle, session)?;
+        Ok(reply(alloc, caller, body)?)
     }
 }

@@ -7,13 +7,12 @@ use crate::caller::Caller;
 use crate::services::Services;
 use crate::session_service::SessionService;
 use crate::sub_serving::{apart, reply_first};
-use crate::unserved::Unserved;
 use server_messages::{Served, Setting};
 use std::alloc::{AllocError, Global};
 use ua_messages::{MessageBody, ResponseHeader, body, fault, type_ids};
 use ua_subscription_messages::{CreateSubscriptionRequest, CreateSubscriptionResponse};
 use ua_subscriptions::{Created, Settings};
-use ua_types::Status;
+use ua_types::{Refusal, Status};
 
 // What a client is told of its new subscription, or why there is none.
 fn answer_body(
@@ -27,7 +26,7 @@ fn answer_body(
     match answer {
         Ok(created) => {
             let response = CreateSubscriptionResponse {
-                response_header: ResponseHeader::new(caller.handle, Status(0), setting.clock),
+                response_header: ResponseHeader::good(caller.handle, setting.clock),
                 subscription_id: created.number,
                 revised_publishing_interval: setting.config.publish_duration,
                 revised_lifetime_count: created.revised.lifetime_count,
@@ -46,7 +45,7 @@ fn answer_body(
 /// are used up.
 pub struct CreateSubscription;
 
-impl SessionService for CreateSubscription {
+impl<'a> SessionService<'a> for CreateSubscription {
     type Request = CreateSubscriptionRequest;
 
     ghost meaning = { create_subscription_meaning };
@@ -58,7 +57,7 @@ impl SessionService for CreateSubscription {
         session: u32,
         request: CreateSubscriptionRequest,
         services: &mut Services,
-    ) -> Result<Served, Unserved> {
+    ) -> Result<Served, Refusal> {
         let settings = Settings {
             keep_alive_count: request.requested_max_keep_alive_count,
             lifetime_count: request.requested_lifetime_count,

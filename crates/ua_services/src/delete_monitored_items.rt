@@ -7,11 +7,11 @@ use crate::item_serving::ItemService;
 use crate::operations::operations;
 use crate::services::Services;
 use crate::status_results::statuses_body;
-use crate::unserved::Unserved;
 use server_messages::Setting;
 use std::alloc::Global;
 use ua_messages::{MessageBody, type_ids};
-use ua_subscription_messages::DeleteMonitoredItemsRequest;
+use ua_subscription_messages::DeleteMonitoredItemsRequestView;
+use ua_types::Refusal;
 
 /// Deletes monitored items of a subscription of the session, one after the other ([`ua_monitored_items::Items::delete`]).
 ///
@@ -20,14 +20,14 @@ use ua_subscription_messages::DeleteMonitoredItemsRequest;
 pub struct DeleteMonitoredItems;
 
 #[tactic(auto, unfolding(crate::specs::DeleteMonitoredItems::items_deleted))]
-impl ItemService for DeleteMonitoredItems {
-    type Request = DeleteMonitoredItemsRequest;
+impl<'a> ItemService<'a> for DeleteMonitoredItems {
+    type Request = DeleteMonitoredItemsRequestView<'a>;
 
     ghost subscription = { λ request. request.subscription_id };
 
     ghost change = { items_deleted };
 
-    fn subscription_id(request: &DeleteMonitoredItemsRequest) -> u32 {
+    fn subscription_id(request: &DeleteMonitoredItemsRequestView<'a>) -> u32 {
         request.subscription_id
     }
 
@@ -35,16 +35,12 @@ impl ItemService for DeleteMonitoredItems {
         alloc: Global,
         setting: &Setting,
         caller: &Caller,
-        request: DeleteMonitoredItemsRequest,
+        request: DeleteMonitoredItemsRequestView<'a>,
         services: &mut Services,
-    ) -> Result<MessageBody, Unserved> {
-        let numbers = match operations(&setting.config, &request.monitored_item_ids) {
-            Ok(numbers) => numbers,
-            Err(status) => return Err(Unserved::Fault(status)),
-        };
-        let statuses = services
-            .items
-            .delete(alloc, request.subscription_id, numbers)?;
+    ) -> Result<MessageBody, Refusal> {
+        let number = request.subscription_id;
+        let numbers = operations(&setting.config, request.monitored_item_ids)?;
+        let statuses = services.items.delete(alloc, number, numbers)?;
         let type_id = type_ids::DELETE_MONITORED_ITEMS_RESPONSE;
         Ok(statuses_body(alloc, type_id, setting, caller, statuses.as_slice())?)
     }

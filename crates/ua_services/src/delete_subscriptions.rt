@@ -8,11 +8,11 @@ use crate::services::Services;
 use crate::session_service::SessionService;
 use crate::status_results::statuses_body;
 use crate::sub_serving::{apart, reply_first};
-use crate::unserved::Unserved;
 use server_messages::{Served, Setting};
 use std::alloc::Global;
 use ua_messages::type_ids;
-use ua_subscription_messages::DeleteSubscriptionsRequest;
+use ua_subscription_messages::DeleteSubscriptionsRequestView;
+use ua_types::Refusal;
 
 /// Deletes subscriptions of the session with their items, one after the other. Where the session has none left, its
 /// Publish requests that wait are answered `BAD_NO_SUBSCRIPTION`, behind the answer to this one.
@@ -21,8 +21,8 @@ use ua_subscription_messages::DeleteSubscriptionsRequest;
 /// session's has the result `BAD_SUBSCRIPTION_ID_INVALID`.
 pub struct DeleteSubscriptions;
 
-impl SessionService for DeleteSubscriptions {
-    type Request = DeleteSubscriptionsRequest;
+impl<'a> SessionService<'a> for DeleteSubscriptions {
+    type Request = DeleteSubscriptionsRequestView<'a>;
 
     ghost meaning = { delete_subscriptions_meaning };
 
@@ -31,13 +31,10 @@ impl SessionService for DeleteSubscriptions {
         setting: &Setting,
         caller: &Caller,
         session: u32,
-        request: DeleteSubscriptionsRequest,
+        request: DeleteSubscriptionsRequestView<'a>,
         services: &mut Services,
-    ) -> Result<Served, Unserved> {
-        let numbers = match operations(&setting.config, &request.subscription_ids) {
-            Ok(numbers) => numbers,
-            Err(status) => return Err(Unserved::Fault(status)),
-        };
+    ) -> Result<Served, Refusal> {
+        let numbers = operations(&setting.config, request.subscription_ids)?;
         let items = &mut services.items;
         let answered = services
             .subs

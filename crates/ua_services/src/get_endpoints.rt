@@ -6,17 +6,17 @@ use crate::caller::Caller;
 use crate::endpoint_list::endpoints_body;
 use crate::service::{Service, reply};
 use crate::services::Services;
-use crate::unserved::Unserved;
 use server_messages::{Served, Setting};
 use std::alloc::Global;
-use ua_messages::GetEndpointsRequest;
+use ua_messages::GetEndpointsRequestView;
+use ua_types::Refusal;
 use ua_views::NodeIdView;
 
 /// Says by which endpoints the server is reached.
 pub struct GetEndpoints;
 
-impl Service for GetEndpoints {
-    type Request = GetEndpointsRequest;
+impl<'a> Service<'a> for GetEndpoints {
+    type Request = GetEndpointsRequestView<'a>;
 
     ghost meaning = { get_endpoints_meaning };
 
@@ -25,15 +25,15 @@ impl Service for GetEndpoints {
         setting: &Setting,
         caller: &Caller,
         _token: &NodeIdView<'_>,
-        request: GetEndpointsRequest,
+        request: GetEndpointsRequestView<'a>,
         _services: &mut Services,
-    ) -> Result<Served, Unserved> {
+    ) -> Result<Served, Refusal> {
         let body = endpoints_body(
             alloc,
             &setting.config,
             setting.clock,
             caller.handle,
-            &request.profile_uris,
+            request.profile_uris,
         )?;
         Ok(reply(alloc, caller, body)?)
     }

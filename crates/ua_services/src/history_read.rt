@@ -12,24 +12,22 @@ ghost use Rattle.ua_services.specs.RisingSerials.{node_read_rises};
 
 use crate::caller::Caller;
 use crate::history_results::{tell, tell_release};
-use crate::operations::viewed_operations;
+use crate::operations::operations;
 use crate::paging::{Pages, serve_pages};
 use crate::services::Services;
-use crate::unserved::Unserved;
-use crate::viewed_service::ViewedService;
+use crate::session_service::SessionService;
 use server_messages::{Halt, Served, Setting};
 use std::alloc::Global;
 use ua_browse::page_size;
 use ua_history::{History, RawRange, read_raw, release};
-use ua_messages::{MessageBody, StructureFault, TimestampsToReturn, type_ids};
+use ua_messages::{MessageBody, StructureFault, TimestampsToReturn, structure_view, type_ids};
 use ua_read_write::Timestamps;
-use ua_service_messages::HistoryReadResult;
-use ua_service_views::{
-    HistoryReadRequestView, HistoryReadValueIdView, ReadRawModifiedDetailsView, structure_view,
+use ua_service_messages::{
+    HistoryReadRequestView, HistoryReadResult, HistoryReadValueIdView, ReadRawModifiedDetails,
 };
 use ua_session::Points;
 use ua_space::Space;
-use ua_types::{Config, Moment, Status};
+use ua_types::{Config, Moment, Refusal, Status};
 use ua_views::ExtensionObjectView;
 
 /// What a request wants of each of its nodes.
@@ -59,7 +57,7 @@ fn is_time_given(time: Moment) -> bool
 }
 
 // Whether at least two of start, end and count are given.
-fn is_bounded(details: &ReadRawModifiedDetailsView) -> bool
+fn is_bounded(details: &ReadRawModifiedDetails) -> bool
     ensures { result ≡ is_bounded_spec details.now }
 {
     let start = is_time_given(details.start_time);
@@ -69,7 +67,7 @@ fn is_bounded(details: &ReadRawModifiedDetailsView) -> bool
 }
 
 // What the details ask for, or why it isn't served.
-fn range_of(config: &Config, details: &ReadRawModifiedDetailsView) -> Result<RawRange, Status>
+fn range_of(config: &Config, details: &ReadRawModifiedDetails) -> Result<RawRange, Status>
     ensures { result ≡ range_of_spec config.now details.now }
 {
     if details.is_read_modified || details.return_bounds {
@@ -90,7 +88,7 @@ fn judged(config: &Config, object: &ExtensionObjectView<'_>) -> Result<RawRange,
     ensures { result ≡ details_judged config.now object.now }
 {
     let type_id = type_ids::READ_RAW_MODIFIED_DETAILS;
-    match structure_view::<ReadRawModifiedDetailsView>(type_id, object) {
+    match structure_view::<ReadRawModifiedDetails>(type_id, object) {
         Ok(details) => range_of(config, &details),
         Err(StructureFault::OtherType) => Err(Status::BAD_HISTORY_OPERATION_UNSUPPORTED),
         Err(StructureFault::Unreadable) => Err(Status::BAD_HISTORY_OPERATION_INVALID),
@@ -159,7 +157,7 @@ impl<'a> Pages<'a> for Wanted {
 /// is told in its result ([`ua_history::read_raw`]); where points are given up, the point of each is judged alone.
 pub struct HistoryRead;
 
-impl<'a> ViewedService<'a> for HistoryRead {
+impl<'a> SessionService<'a> for HistoryRead {
     type Request = HistoryReadRequestView<'a>;
 
     ghost meaning = { history_read_meaning };
@@ -171,24 +169,17 @@ impl<'a> ViewedService<'a> for HistoryRead {
         session: u32,
         request: HistoryReadRequestView<'a>,
         services: &mut Services,
-    ) -> Result<Served, Unserved> {
+    ) -> Result<Served, Refusal> {
         let Some(timestamps) = some_times(request.timestamps_to_return) else {
-            return Err(Unserved::Fault(Status::BAD_TIMESTAMPS_TO_RETURN_INVALID));
+            return Err(Refusal::Service(Status::BAD_TIMESTAMPS_TO_RETURN_INVALID));
         };
-        let nodes = match viewed_operations(&setting.config, request.nodes_to_read) {
-            Ok(nodes) => nodes,
-            Err(status) => return Err(Unserved::Fault(status)),
+        let nodes = operations(&setting.config, request.nodes_to_read)?;
+        let range = judged(&setting.config, &request.history_read_details)?;
+        let wanted = Wanted {
+            timestamps,
+            is_release: request.release_continuation_points,
+            range,
         };
-        match judged(&setting.config, &request.history_read_details) {
-            Ok(range) => {
-                let wanted = Wanted {
-                    timestamps,
-                    is_release: request.release_continuation_points,
-                    range,
-                };
-                serve_pages(alloc, setting, caller, session, services, &wanted, nodes)
-            }
-            Err(status) => Err(Unserved::Fault(status)),
-        }
+        serve_pages(alloc, setting, caller, session, services, &wanted, nodes)
     }
 }

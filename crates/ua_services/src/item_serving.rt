@@ -11,22 +11,21 @@ use crate::caller::Caller;
 use crate::services::Services;
 use crate::session_service::SessionService;
 use crate::sub_serving::{reply_first, served_alone};
-use crate::unserved::Unserved;
 use server_messages::{Served, Setting};
 use std::alloc::{AllocError, Global};
 use ua_messages::{MessageBody, fault};
 use ua_state_table::Vars;
-use ua_types::Status;
-use ua_walks::Walk;
+use ua_types::{Refusal, Status};
+use ua_views::View;
 
 /// A service of monitored items: a type of request, and what it changes of the items of a subscription.
 ///
 /// Each is a [`SessionService`] in one way: the subscription has to be one of the session's, else the fault is
 /// `BAD_SUBSCRIPTION_ID_INVALID`; then the items are changed; then the subscription fires its row, whatever became of
 /// the request.
-pub trait ItemService {
+pub trait ItemService<'a> {
     /// The request's fields.
-    type Request: Walk;
+    type Request: View<'a>;
 
     /// The subscription that a request names.
     ghost subscription: { Self.Request → ℕ };
@@ -38,15 +37,15 @@ pub trait ItemService {
     fn subscription_id(request: &Self::Request) -> u32
         ensures { result ≡ subscription request.now };
 
-    /// Changes the items as a request asks for, and gives the body of the answer. At an `Err` that isn't `Halted`
-    /// the items are as they were.
+    /// Changes the items as a request asks for, and gives the body of the answer. At `Service`
+    /// the items are as they were; `Exhausted` never comes.
     fn change_items(
         alloc: Global,
         setting: &Setting,
         caller: &Caller,
         request: Self::Request,
         services: &mut Services,
-    ) -> Result<MessageBody, Unserved>
+    ) -> Result<MessageBody, Refusal>
         ensures body { IfOk result (λ body. body ≡ (change setting.now caller.now request services.old).body) }
         ensures items { OnOk result (services.new ≡ with_items services.old (change setting.now caller.now request services.old).items) }
         ensures refused { IfErr result (λ e. Refuses setting.now caller.now e services.old services.new (change setting.now caller.now request services.old)) };
@@ -65,9 +64,9 @@ pub trait ItemService {
     {
         match Self::change_items(alloc, setting, caller, request, services) {
             Ok(body) => Ok(body),
-            Err(Unserved::Fault(status)) => fault(alloc, caller.handle, status, setting.clock),
+            Err(Refusal::Service(status)) => fault(alloc, caller.handle, status, setting.clock),
             // No serial is used up by what items are asked for.
-            Err(Unserved::Halted(_)) => Err(AllocError),
+            Err(_) => Err(AllocError),
         }
     }
 }
@@ -93,7 +92,7 @@ fn answer_items(
     before: Vars,
     body: MessageBody,
     services: &mut Services,
-) -> Result<Served, Unserved>
+) -> Result<Served, Refusal>
     ensures { Judges setting.now caller.now result services.new (fired_after setting.now caller.now number services.old before body) }
 {
     let items = &mut services.items;
@@ -103,7 +102,7 @@ fn answer_items(
     Ok(reply_first(alloc, caller, body, served_alone(alloc, answered))?)
 }
 
-impl<S: ItemService> SessionService for S {
+impl<'a, S: ItemService<'a>> SessionService<'a> for S {
     type Request = S::Request;
 
     ghost meaning = { λ setting caller session request state. items_called setting caller session (S.subscription request) state (S.change setting caller request state) };
@@ -115,10 +114,10 @@ impl<S: ItemService> SessionService for S {
         session: u32,
         request: S::Request,
         services: &mut Services,
-    ) -> Result<Served, Unserved> {
+    ) -> Result<Served, Refusal> {
         let number = S::subscription_id(&request);
         let Some(before) = own_vars(services, session, number) else {
-            return Err(Unserved::Fault(Status::BAD_SUBSCRIPTION_ID_INVALID));
+            return Err(Refusal::Service(Status::BAD_SUBSCRIPTION_ID_INVALID));
         };
         let body = S::answer_body(alloc, setting, caller, request, services)?;
         answer_items(alloc, setting, caller, number, before, body, services)

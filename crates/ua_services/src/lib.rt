@@ -4,18 +4,17 @@
 //! as time passes; [`Services::forget`] drops what a closed connection still waited for. Nothing here
 //! knows of frames, channels and sizes.
 //!
-//! Each service is a type that is a [`Service`], or a [`SessionService`] where it is one of a session, or a
-//! [`ViewedService`] where it looks at its requests in the bytes that came, in a file of its own, and its meaning
-//! is a file of `specs/` with the same name. Those of monitored items are services of a session by what they do
-//! with the items (`item_serving.rt`), and those with continuation points say how they answer one thing
-//! (`paging.rt`). `specs/Serving` has what all of them share, `InSession` what those of a session begin with,
+//! Each service is a type that is a [`Service`], by being a [`SessionService`] where it is one of a session, in a file of its
+//! own, and its meaning is a file of `specs/` with the same name. Each looks at its requests in the bytes that came. Those of
+//! monitored items are services of a session by what they do with the items (`item_serving.rt`), and those with continuation
+//! points say how they answer one thing (`paging.rt`). `specs/Serving` has what all of them share, `InSession` what those of a session begin with,
 //! `Services` the order in which a request is judged, and `Owing` to whom replies go. What the services leave of
 //! other sessions, and that each comes by calls of subscriptions and items, the crate `server_laws` says;
 //! `worked_examples` drives them.
 //!
 //! What a contract sees: the address space, the sessions, the histories, the items and the subscriptions.
 //!
-//! Read [`Services`] first, and `viewed_service.rt`, then `browse.rt` for a whole service.
+//! Read [`Services`] first, and `service.rt`, then `browse.rt` for a whole service.
 #![tactic(auto)]
 
 mod activate_session;
@@ -49,13 +48,9 @@ mod set_publishing_mode;
 mod set_triggering;
 mod status_results;
 mod sub_serving;
-mod unserved;
-mod viewed_service;
 mod write;
 
 pub use caller::Caller;
 pub use service::Service;
 pub use services::Services;
 pub use session_service::SessionService;
-pub use unserved::Unserved;
-pub use viewed_service::ViewedService;

@@ -7,13 +7,12 @@ use crate::caller::Caller;
 use crate::services::Services;
 use crate::session_service::SessionService;
 use crate::sub_serving::{apart, reply_first};
-use crate::unserved::Unserved;
 use server_messages::{Served, Setting};
 use std::alloc::{AllocError, Global};
 use ua_messages::{MessageBody, ResponseHeader, body, fault, type_ids};
 use ua_subscription_messages::{ModifySubscriptionRequest, ModifySubscriptionResponse};
 use ua_subscriptions::{Revised, Settings};
-use ua_types::Status;
+use ua_types::{Refusal, Status};
 
 // What a client is told of its subscription, or why nothing changed.
 fn answer_body(
@@ -27,7 +26,7 @@ fn answer_body(
     match answer {
         Ok(revised) => {
             let response = ModifySubscriptionResponse {
-                response_header: ResponseHeader::new(caller.handle, Status(0), setting.clock),
+                response_header: ResponseHeader::good(caller.handle, setting.clock),
                 revised_publishing_interval: setting.config.publish_duration,
                 revised_lifetime_count: revised.lifetime_count,
                 revised_max_keep_alive_count: revised.keep_alive_count,
@@ -44,7 +43,7 @@ fn answer_body(
 /// The fault is `BAD_SUBSCRIPTION_ID_INVALID` where the session has no such subscription.
 pub struct ModifySubscription;
 
-impl SessionService for ModifySubscription {
+impl<'a> SessionService<'a> for ModifySubscription {
     type Request = ModifySubscriptionRequest;
 
     ghost meaning = { modify_subscription_meaning };
@@ -56,7 +55,7 @@ impl SessionService for ModifySubscription {
         session: u32,
         request: ModifySubscriptionRequest,
         services: &mut Services,
-    ) -> Result<Served, Unserved> {
+    ) -> Result<Served, Refusal> {
         let settings = Settings {
             keep_alive_count: request.requested_max_keep_alive_count,
             lifetime_count: request.requested_lifetime_count,

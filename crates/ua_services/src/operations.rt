@@ -5,7 +5,7 @@ ghost use Rattle.std.specs.Result.{result_map_both};
 ghost use Rattle.ua_services.specs.Operations.{count_judged, operations_of};
 ghost use Rattle.ua_views.specs.Views.{or_none};
 
-use ua_types::{Array, Config, Status};
+use ua_types::{Config, Status};
 use ua_views::{ArrayView, View};
 
 /// Whether a request may ask for so many things: `BAD_NOTHING_TO_DO` for none, `BAD_TOO_MANY_OPERATIONS` for more than
@@ -26,19 +26,7 @@ pub(crate) fn judge(config: &Config, count: usize) -> Result<(), Status>
 ///
 /// `BAD_NOTHING_TO_DO` where the list is null or empty, `BAD_TOO_MANY_OPERATIONS` where it has more entries
 /// than the configuration's `operations` (IEC 62541-4, "StatusCode").
-pub(crate) fn operations<'a, T>(config: &Config, list: &'a Array<T>) -> Result<&'a [T], Status>
-    ensures entries { result_map_both (λ s. s.now) (λ code. code) result ≡ operations_of config.now list.now }
-    ensures short { IfOk result (λ entries. length entries.now < 2 ^ 31) }
-{
-    let Some(entries) = list.as_slice() else {
-        return Err(Status::BAD_NOTHING_TO_DO);
-    };
-    judge(config, entries.len())?;
-    Ok(entries)
-}
-
-/// What a request asks for, as [`operations`] gives it, where the list is looked at in the bytes that came.
-pub(crate) fn viewed_operations<'a, T: View<'a>>(
+pub(crate) fn operations<'a, T: View<'a>>(
     config: &Config,
     list: ArrayView<'a, T>,
 ) -> Result<ArrayView<'a, T>, Status>
@@ -47,16 +35,4 @@ pub(crate) fn viewed_operations<'a, T: View<'a>>(
 {
     judge(config, list.len())?;
     Ok(list)
-}
-
-/// What a request asks for, as [`operations`] gives it, where the list is used up.
-pub(crate) fn into_operations<T: Drop>(config: &Config, list: Array<T>) -> Result<Vec<T>, Status>
-    ensures entries { result_map_both (λ entries. entries.items) (λ code. code) result ≡ operations_of config.now list }
-    ensures short { IfOk result (λ entries. length entries.items < 2 ^ 31) }
-{
-    let Some(entries) = list.into_vec() else {
-        return Err(Status::BAD_NOTHING_TO_DO);
-    };
-    judge(config, entries.len())?;
-    Ok(entries)
 }

@@ -14,7 +14,6 @@ ghost use Rattle.ua_views.specs.Views.{or_none};
 use crate::caller::Caller;
 use crate::service::reply;
 use crate::services::Services;
-use crate::unserved::Unserved;
 use server_messages::{Halt, Served, Setting};
 use std::alloc::{AllocError, Global};
 use ua_binary::Wire;
@@ -22,7 +21,7 @@ use ua_history::History;
 use ua_messages::{DiagnosticInfos, MessageBody, ResponseHeader};
 use ua_session::Points;
 use ua_space::Space;
-use ua_types::{NodeId, Status};
+use ua_types::{NodeId, Refusal};
 use ua_views::{ArrayView, View};
 
 /// How a service answers each thing that it is asked for, page by page.
@@ -95,7 +94,7 @@ fn head(
 {
     let mut body = MessageBody::new(alloc)?;
     body.write(&NodeId::numeric(0, type_id))?;
-    body.write(&ResponseHeader::new(caller.handle, Status(0), setting.clock))?;
+    body.write(&ResponseHeader::good(caller.handle, setting.clock))?;
     body.write(&count)?;
     Ok(body)
 }
@@ -117,7 +116,7 @@ pub(crate) fn serve_pages<'a, P: Pages<'a>>(
     services: &mut Services,
     wanted: &P,
     list: ArrayView<'a, P::Asked>,
-) -> Result<Served, Unserved>
+) -> Result<Served, Refusal>
     ensures { Judges setting.now caller.now result services.new (paged P.Answer.encoding setting.now caller.now session P.RESPONSE services.old
         (all_done (P.meaning wanted.now services.old.space services.old.history) (points_of services.old.sessions session) (or_none list.entry))) }
 {
@@ -127,8 +126,6 @@ pub(crate) fn serve_pages<'a, P: Pages<'a>>(
         unreachable!();
     };
     let mut body = head(alloc, setting, caller, wanted.response(), list.len() as u32)?;
-    match all_pages(alloc, space, history, points, wanted, list, &mut body) {
-        Ok(()) => Ok(answer(alloc, caller, body)?),
-        Err(halt) => Err(Unserved::Halted(halt)),
-    }
+    all_pages(alloc, space, history, points, wanted, list, &mut body)?;
+    Ok(answer(alloc, caller, body)?)
 }

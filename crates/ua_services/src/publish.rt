@@ -2,32 +2,21 @@
 
 ghost use Rattle.std.specs.Prelude.{◌≡◌};
 ghost use Rattle.ua_subscriptions.specs.Publishing.{published};
-ghost use Rattle.ua_services.specs.Publish.{acknowledged_in, publish_call, publish_meaning};
+ghost use Rattle.ua_services.specs.Publish.{publish_call, publish_meaning};
 ghost use Rattle.ua_services.specs.Serving.{Judges};
 ghost use Rattle.ua_services.specs.SubServing.{told_alone, world_at};
+ghost use Rattle.ua_views.specs.Views.{or_none};
 
 use crate::caller::Caller;
 use crate::services::Services;
 use crate::session_service::SessionService;
 use crate::sub_serving::served_alone;
-use crate::unserved::Unserved;
 use server_messages::{Served, Setting};
 use std::alloc::Global;
-use ua_subscription_messages::{PublishRequest, SubscriptionAcknowledgement};
+use ua_subscription_messages::{PublishRequestView, SubscriptionAcknowledgement};
 use ua_subscriptions::PublishCall;
-use ua_types::{Array, Listed, Status};
-
-// The messages that the client has; none where the list is null.
-fn acknowledged(
-    acknowledgements: &Array<SubscriptionAcknowledgement>,
-) -> &[SubscriptionAcknowledgement]
-    ensures { result.now ≡ acknowledged_in acknowledgements.now }
-{
-    match acknowledgements.as_slice() {
-        None => &[],
-        Some(entries) => entries,
-    }
-}
+use ua_types::{Listed, Refusal, Status};
+use ua_views::ArrayView;
 
 // Takes a request whose acknowledgements aren't too many.
 fn taken(
@@ -35,10 +24,10 @@ fn taken(
     setting: &Setting,
     caller: &Caller,
     session: u32,
-    acknowledgements: &[SubscriptionAcknowledgement],
+    acknowledgements: ArrayView<'_, SubscriptionAcknowledgement>,
     services: &mut Services,
-) -> Result<Served, Unserved>
-    ensures { Judges setting.now caller.now result services.new (told_alone services.old (published session (publish_call caller.now) acknowledgements.now (world_at setting.now services.old))) }
+) -> Result<Served, Refusal>
+    ensures { Judges setting.now caller.now result services.new (told_alone services.old (published session (publish_call caller.now) (or_none acknowledgements.entry) (world_at setting.now services.old))) }
 {
     let publish = PublishCall {
         conn: caller.conn,
@@ -62,8 +51,8 @@ fn taken(
 /// where more wait than the configuration allows.
 pub struct Publish;
 
-impl SessionService for Publish {
-    type Request = PublishRequest;
+impl<'a> SessionService<'a> for Publish {
+    type Request = PublishRequestView<'a>;
 
     ghost meaning = { publish_meaning };
 
@@ -72,12 +61,12 @@ impl SessionService for Publish {
         setting: &Setting,
         caller: &Caller,
         session: u32,
-        request: PublishRequest,
+        request: PublishRequestView<'a>,
         services: &mut Services,
-    ) -> Result<Served, Unserved> {
-        let acknowledgements = acknowledged(&request.subscription_acknowledgements);
+    ) -> Result<Served, Refusal> {
+        let acknowledgements = request.subscription_acknowledgements;
         if acknowledgements.len() > setting.config.operations as usize {
-            return Err(Unserved::Fault(Status::BAD_TOO_MANY_OPERATIONS));
+            return Err(Refusal::Service(Status::BAD_TOO_MANY_OPERATIONS));
         }
         taken(alloc, setting, caller, session, acknowledgements, services)
     }

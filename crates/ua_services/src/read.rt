@@ -3,17 +3,16 @@
 ghost use Rattle.ua_services.specs.Read.{read_meaning};
 
 use crate::caller::Caller;
-use crate::operations::viewed_operations;
+use crate::operations::operations;
 use crate::service::reply;
 use crate::services::Services;
-use crate::unserved::Unserved;
-use crate::viewed_service::ViewedService;
+use crate::session_service::SessionService;
 use server_messages::{Served, Setting};
 use std::alloc::Global;
 use ua_messages::ResponseHeader;
 use ua_read_write::{Timestamps, read_body};
-use ua_service_views::ReadRequestView;
-use ua_types::Status;
+use ua_service_messages::ReadRequestView;
+use ua_types::{Refusal, Status};
 
 /// Reads attributes of nodes.
 ///
@@ -23,7 +22,7 @@ use ua_types::Status;
 /// result ([`ua_read_write::read`]).
 pub struct Read;
 
-impl<'a> ViewedService<'a> for Read {
+impl<'a> SessionService<'a> for Read {
     type Request = ReadRequestView<'a>;
 
     ghost meaning = { read_meaning };
@@ -35,18 +34,14 @@ impl<'a> ViewedService<'a> for Read {
         _session: u32,
         request: ReadRequestView<'a>,
         services: &mut Services,
-    ) -> Result<Served, Unserved> {
+    ) -> Result<Served, Refusal> {
         let Some(timestamps) = Timestamps::chosen(request.timestamps_to_return) else {
-            return Err(Unserved::Fault(Status::BAD_TIMESTAMPS_TO_RETURN_INVALID));
+            return Err(Refusal::Service(Status::BAD_TIMESTAMPS_TO_RETURN_INVALID));
         };
-        match viewed_operations(&setting.config, request.nodes_to_read) {
-            Ok(nodes) => {
-                let header = ResponseHeader::new(caller.handle, Status(0), setting.clock);
-                let space = &services.space;
-                let body = read_body(alloc, space, setting.clock, timestamps, &header, nodes)?;
-                Ok(reply(alloc, caller, body)?)
-            }
-            Err(status) => Err(Unserved::Fault(status)),
-        }
+        let nodes = operations(&setting.config, request.nodes_to_read)?;
+        let header = ResponseHeader::good(caller.handle, setting.clock);
+        let space = &services.space;
+        let body = read_body(alloc, space, setting.clock, timestamps, &header, nodes)?;
+        Ok(reply(alloc, caller, body)?)
     }
 }

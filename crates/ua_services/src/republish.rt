@@ -7,13 +7,12 @@ use crate::caller::Caller;
 use crate::services::Services;
 use crate::session_service::SessionService;
 use crate::sub_serving::{apart, reply_first};
-use crate::unserved::Unserved;
 use bytes::Bytes;
 use server_messages::{Served, Setting};
 use std::alloc::{AllocError, Global};
 use ua_messages::{MessageBody, ResponseHeader, fault};
 use ua_subscription_messages::{RepublishRequest, republish_body};
-use ua_types::Status;
+use ua_types::{Refusal, Status};
 
 // The response with a message's bytes as they were made, or why there is none.
 fn answer_body(
@@ -26,7 +25,7 @@ fn answer_body(
 {
     match answer {
         Ok(message) => {
-            let header = ResponseHeader::new(caller.handle, Status(0), setting.clock);
+            let header = ResponseHeader::good(caller.handle, setting.clock);
             republish_body(alloc, &header, message.as_slice())
         }
         Err(status) => fault(alloc, caller.handle, status, setting.clock),
@@ -39,7 +38,7 @@ fn answer_body(
 /// `BAD_MESSAGE_NOT_AVAILABLE` where the message isn't kept.
 pub struct Republish;
 
-impl SessionService for Republish {
+impl<'a> SessionService<'a> for Republish {
     type Request = RepublishRequest;
 
     ghost meaning = { republish_meaning };
@@ -51,7 +50,7 @@ impl SessionService for Republish {
         session: u32,
         request: RepublishRequest,
         services: &mut Services,
-    ) -> Result<Served, Unserved> {
+    ) -> Result<Served, Refusal> {
         let number = request.subscription_id;
         let wanted = request.retransmit_sequence_number;
         let items = &mut services.items;

@@ -2,7 +2,7 @@
 
 ghost use Rattle.std.specs.Prelude.{◌≡◌, true, IsOk, IfOk};
 ghost use Rattle.ua_space.specs.Histories.{without_histories};
-ghost use Rattle.ua_services.specs.Serving.{Answers, Serves};
+ghost use Rattle.ua_services.specs.Serving.{Judges, Serves};
 ghost use Rattle.ua_services.specs.ServicesState.{no_services_used};
 ghost use Rattle.ua_services.specs.Services.{serving_of, picked, ticking_of, is_idle, shutting_of, forgotten};
 
@@ -24,24 +24,20 @@ use crate::publish::Publish;
 use crate::read::Read;
 use crate::republish::Republish;
 use crate::service::{Service, refuse};
-use crate::session_service::SessionService;
 use crate::set_monitoring_mode::SetMonitoringMode;
 use crate::set_publishing_mode::SetPublishingMode;
 use crate::set_triggering::SetTriggering;
 use crate::sub_serving::{end_sessions, fire_timers, joined, served_alone};
-use crate::unserved::Unserved;
-use crate::viewed_service::ViewedService;
 use crate::write::Write;
 use server_messages::{Halt, Request, Served, Setting};
 use std::alloc::{AllocError, Global};
 use ua_history::History;
-use ua_messages::{message_id, type_ids};
+use ua_messages::{Headed, header_view, type_ids};
 use ua_monitored_items::Items;
-use ua_service_views::{Headed, header_view};
 use ua_session::Sessions;
 use ua_space::Space;
 use ua_subscriptions::Subscriptions;
-use ua_types::{Config, Status};
+use ua_types::{Config, Refusal, Status};
 
 /// The services, and what they keep.
 ///
@@ -101,17 +97,15 @@ impl Services {
             id: request.id,
             handle: 0,
         };
-        let Ok(type_id) = message_id(body) else {
-            return Ok(refuse(alloc, &caller, Status::BAD_DECODING_ERROR, setting.clock)?);
-        };
         let Ok(headed) = header_view(body) else {
             return Ok(refuse(alloc, &caller, Status::BAD_DECODING_ERROR, setting.clock)?);
         };
         caller.handle = headed.header.request_handle;
-        match self.pick(alloc, setting, &caller, type_id, &headed) {
+        match self.pick(alloc, setting, &caller, &headed) {
             Ok(served) => Ok(served),
-            Err(Unserved::Fault(status)) => Ok(refuse(alloc, &caller, status, setting.clock)?),
-            Err(Unserved::Halted(halt)) => Err(halt),
+            Err(Refusal::Service(status)) => Ok(refuse(alloc, &caller, status, setting.clock)?),
+            Err(Refusal::Memory) => Err(Halt::Memory),
+            Err(Refusal::Exhausted) => Err(Halt::Exhausted),
         }
     }
 
@@ -121,12 +115,11 @@ impl Services {
         alloc: Global,
         setting: &Setting,
         caller: &Caller,
-        type_id: u32,
         headed: &Headed<'_>,
-    ) -> Result<Served, Unserved>
-        ensures { Answers setting.now caller.now true result self.new (picked setting.now caller.now headed.now.header.authentication_token headed.now.fields.now self.old type_id) }
+    ) -> Result<Served, Refusal>
+        ensures { Judges setting.now caller.now result self.new (picked setting.now caller.now headed.now.header.authentication_token headed.now.fields.now self.old headed.now.type_id) }
     {
-        match type_id {
+        match headed.type_id {
             type_ids::GET_ENDPOINTS_REQUEST => {
                 GetEndpoints::take(alloc, setting, caller, headed, self)
             }
@@ -177,7 +170,7 @@ impl Services {
             }
             type_ids::PUBLISH_REQUEST => Publish::take(alloc, setting, caller, headed, self),
             type_ids::REPUBLISH_REQUEST => { Republish::take(alloc, setting, caller, headed, self) }
-            _ => Err(Unserved::Fault(Status::BAD_SERVICE_UNSUPPORTED)),
+            _ => Err(Refusal::Service(Status::BAD_SERVICE_UNSUPPORTED)),
         }
     }
 

@@ -2,30 +2,28 @@
 
 ghost use Rattle.std.specs.Prelude.{ℕ};
 ghost use Rattle.server_messages.specs.declared.setting.Setting.{Setting};
-ghost use Rattle.ua_services.specs.InSession.{TakesInSession};
+ghost use Rattle.ua_services.specs.InSession.{in_session};
 ghost use Rattle.ua_services.specs.ServicesState.{Services};
 ghost use Rattle.ua_services.specs.Serving.{Serving, Judges};
 ghost use Rattle.ua_services.specs.declared.caller.Caller.{Caller};
 
 use crate::caller::Caller;
+use crate::service::Service;
 use crate::services::Services;
-use crate::unserved::Unserved;
-use server_messages::{Halt, Served, Setting};
+use server_messages::{Served, Setting};
 use std::alloc::Global;
-use ua_binary::TakeFault;
-use ua_messages::received_fields;
-use ua_service_views::Headed;
-use ua_types::Status;
-use ua_walks::Walk;
+use ua_types::Refusal;
+use ua_views::{NodeIdView, View};
 
 /// A service of a session: a type of request, and what is done about it once its session is found.
 ///
-/// Implementors write `serve`, and say what it means. [`SessionService::take`] refuses, once for all of
-/// them, a request whose fields can't be read and one whose session may not be used
-/// ([`ua_session::Sessions::find`]).
-pub trait SessionService {
-    /// The request's fields.
-    type Request: Walk;
+/// Implementors write `serve`, and say what it means. Each is a [`Service`] in one way: the session that the token in the request's
+/// header names has to be one that may be used ([`ua_session::Sessions::find`]). The faults, behind that of fields that can't be
+/// read, in this order: `BAD_SESSION_ID_INVALID` where no session has the token, `BAD_SECURE_CHANNEL_ID_INVALID` on another
+/// connection than the session's, `BAD_SESSION_NOT_ACTIVATED` before ActivateSession. They come however little memory there is.
+pub trait SessionService<'a> {
+    /// The request's fields. Contracts see it as the request that was sent.
+    type Request: View<'a>;
 
     /// What a request comes to.
     ghost meaning: { Setting → Caller → ℕ → Self.Request → Services → Serving };
@@ -40,37 +38,24 @@ pub trait SessionService {
         session: u32,
         request: Self::Request,
         services: &mut Services,
-    ) -> Result<Served, Unserved>
+    ) -> Result<Served, Refusal>
         ensures { Judges setting.now caller.now result services.new (meaning setting.now caller.now session request services.old) };
+}
 
-    /// Reads a request's fields behind its header, finds the session that the token there names, and serves it.
-    ///
-    /// The faults, in this order: `BAD_DECODING_ERROR` where the fields can't be read,
-    /// `BAD_SESSION_ID_INVALID` where no session has the token, `BAD_SECURE_CHANNEL_ID_INVALID` on another
-    /// connection than the session's, `BAD_SESSION_NOT_ACTIVATED` before ActivateSession. They come however little
-    /// memory there is.
-    final fn take(
+impl<'a, S: SessionService<'a>> Service<'a> for S {
+    type Request = S::Request;
+
+    ghost meaning = { in_session S.meaning };
+
+    fn serve(
         alloc: Global,
         setting: &Setting,
         caller: &Caller,
-        headed: &Headed<'_>,
+        token: &NodeIdView<'_>,
+        request: S::Request,
         services: &mut Services,
-    ) -> Result<Served, Unserved>
-        ensures { TakesInSession meaning Self.Request.reading setting.now caller.now headed.now.header.authentication_token headed.now.fields.now services.old result services.new }
-    {
-        let request = match received_fields::<Self::Request>(alloc, headed.fields) {
-            Ok(request) => Some(request),
-            Err(TakeFault::Memory) => None,
-            Err(_) => return Err(Unserved::Fault(Status::BAD_DECODING_ERROR)),
-        };
-        let token = &headed.header.authentication_token;
-        let session = match services.sessions.find(token, caller.conn) {
-            Ok(session) => session,
-            Err(status) => return Err(Unserved::Fault(status)),
-        };
-        match request {
-            Some(request) => Self::serve(alloc, setting, caller, session, request, services),
-            None => Err(Unserved::Halted(Halt::Memory)),
-        }
+    ) -> Result<Served, Refusal> {
+        let session = services.sessions.find(token, caller.conn)?;
+        <S as SessionService<'a>>::serve(alloc, setting, caller, session, request, services)
     }
 }

@@ -7,13 +7,12 @@ use crate::item_serving::ItemService;
 use crate::operations::operations;
 use crate::services::Services;
 use crate::status_results::statuses_body;
-use crate::unserved::Unserved;
 use server_messages::Setting;
 use std::alloc::Global;
 use ua_messages::{MessageBody, type_ids};
 use ua_monitored_items::Mode;
-use ua_subscription_messages::SetMonitoringModeRequest;
-use ua_types::Status;
+use ua_subscription_messages::SetMonitoringModeRequestView;
+use ua_types::{Refusal, Status};
 
 /// Gives monitored items of a subscription of the session a mode, one after the other ([`ua_monitored_items::Items::set_mode`]).
 ///
@@ -23,14 +22,14 @@ use ua_types::Status;
 pub struct SetMonitoringMode;
 
 #[tactic(auto, unfolding(crate::specs::SetMonitoringMode::items_moded))]
-impl ItemService for SetMonitoringMode {
-    type Request = SetMonitoringModeRequest;
+impl<'a> ItemService<'a> for SetMonitoringMode {
+    type Request = SetMonitoringModeRequestView<'a>;
 
     ghost subscription = { λ request. request.subscription_id };
 
     ghost change = { items_moded };
 
-    fn subscription_id(request: &SetMonitoringModeRequest) -> u32 {
+    fn subscription_id(request: &SetMonitoringModeRequestView<'a>) -> u32 {
         request.subscription_id
     }
 
@@ -38,15 +37,12 @@ impl ItemService for SetMonitoringMode {
         alloc: Global,
         setting: &Setting,
         caller: &Caller,
-        request: SetMonitoringModeRequest,
+        request: SetMonitoringModeRequestView<'a>,
         services: &mut Services,
-    ) -> Result<MessageBody, Unserved> {
-        let numbers = match operations(&setting.config, &request.monitored_item_ids) {
-            Ok(numbers) => numbers,
-            Err(status) => return Err(Unserved::Fault(status)),
-        };
+    ) -> Result<MessageBody, Refusal> {
+        let numbers = operations(&setting.config, request.monitored_item_ids)?;
         let Some(mode) = Mode::numbered(request.monitoring_mode) else {
-            return Err(Unserved::Fault(Status::BAD_MONITORING_MODE_INVALID));
+            return Err(Refusal::Service(Status::BAD_MONITORING_MODE_INVALID));
         };
         let number = request.subscription_id;
         let space = &services.space;

@@ -8,11 +8,11 @@ use crate::services::Services;
 use crate::session_service::SessionService;
 use crate::status_results::statuses_body;
 use crate::sub_serving::{apart, reply_first};
-use crate::unserved::Unserved;
 use server_messages::{Served, Setting};
 use std::alloc::Global;
 use ua_messages::type_ids;
-use ua_subscription_messages::SetPublishingModeRequest;
+use ua_subscription_messages::SetPublishingModeRequestView;
+use ua_types::Refusal;
 
 /// Switches the notifications of subscriptions of the session on or off, one after the other.
 ///
@@ -20,8 +20,8 @@ use ua_subscription_messages::SetPublishingModeRequest;
 /// session's has the result `BAD_SUBSCRIPTION_ID_INVALID`.
 pub struct SetPublishingMode;
 
-impl SessionService for SetPublishingMode {
-    type Request = SetPublishingModeRequest;
+impl<'a> SessionService<'a> for SetPublishingMode {
+    type Request = SetPublishingModeRequestView<'a>;
 
     ghost meaning = { set_publishing_mode_meaning };
 
@@ -30,14 +30,11 @@ impl SessionService for SetPublishingMode {
         setting: &Setting,
         caller: &Caller,
         session: u32,
-        request: SetPublishingModeRequest,
+        request: SetPublishingModeRequestView<'a>,
         services: &mut Services,
-    ) -> Result<Served, Unserved> {
-        let numbers = match operations(&setting.config, &request.subscription_ids) {
-            Ok(numbers) => numbers,
-            Err(status) => return Err(Unserved::Fault(status)),
-        };
+    ) -> Result<Served, Refusal> {
         let enabled = request.publishing_enabled;
+        let numbers = operations(&setting.config, request.subscription_ids)?;
         let items = &mut services.items;
         let answered = services
             .subs

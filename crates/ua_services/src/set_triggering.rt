@@ -1,30 +1,18 @@
 //! The service SetTriggering (IEC 62541-4, "SetTriggering").
 
 ghost use Rattle.std.specs.Prelude.{◌≡◌, ◌<◌, ◌^◌, length, IfOk};
-ghost use Rattle.ua_services.specs.SetTriggering.{listed as listed_spec, links_body as links_body_spec, items_linked};
+ghost use Rattle.ua_services.specs.SetTriggering.{links_body as links_body_spec, items_linked};
 
 use crate::caller::Caller;
 use crate::item_serving::ItemService;
 use crate::operations::judge;
 use crate::services::Services;
-use crate::unserved::Unserved;
 use server_messages::Setting;
 use std::alloc::{AllocError, Global};
 use ua_messages::{DiagnosticInfos, MessageBody, ResponseHeader, body, type_ids};
 use ua_monitored_items::Linked;
-use ua_subscription_messages::{SetTriggeringRequest, SetTriggeringResponse};
-use ua_types::{Array, Status};
-
-// The items that a list names: none where it is null.
-fn listed(list: &Array<u32>) -> &[u32]
-    ensures numbers { result.now ≡ listed_spec list.now }
-    ensures short { length result.now < 2 ^ 31 }
-{
-    match list.as_slice() {
-        Some(numbers) => numbers,
-        None => &[],
-    }
-}
+use ua_subscription_messages::{SetTriggeringRequestView, SetTriggeringResponse};
+use ua_types::{Array, Refusal};
 
 // The answer to a request that isn't refused.
 fn links_body(
@@ -39,7 +27,7 @@ fn links_body(
 {
     let Linked { added, removed } = linked;
     let response = SetTriggeringResponse {
-        response_header: ResponseHeader::new(caller.handle, Status(0), setting.clock),
+        response_header: ResponseHeader::good(caller.handle, setting.clock),
         add_results: Array::new(added),
         add_diagnostic_infos: DiagnosticInfos,
         remove_results: Array::new(removed),
@@ -58,14 +46,14 @@ fn links_body(
 pub struct SetTriggering;
 
 #[tactic(auto, unfolding(crate::specs::SetTriggering::items_linked))]
-impl ItemService for SetTriggering {
-    type Request = SetTriggeringRequest;
+impl<'a> ItemService<'a> for SetTriggering {
+    type Request = SetTriggeringRequestView<'a>;
 
     ghost subscription = { λ request. request.subscription_id };
 
     ghost change = { items_linked };
 
-    fn subscription_id(request: &SetTriggeringRequest) -> u32 {
+    fn subscription_id(request: &SetTriggeringRequestView<'a>) -> u32 {
         request.subscription_id
     }
 
@@ -73,20 +61,17 @@ impl ItemService for SetTriggering {
         alloc: Global,
         setting: &Setting,
         caller: &Caller,
-        request: SetTriggeringRequest,
+        request: SetTriggeringRequestView<'a>,
         services: &mut Services,
-    ) -> Result<MessageBody, Unserved> {
-        let add = listed(&request.links_to_add);
-        let remove = listed(&request.links_to_remove);
-        match judge(&setting.config, add.len() + remove.len()) {
-            Ok(()) => {}
-            Err(status) => return Err(Unserved::Fault(status)),
-        }
+    ) -> Result<MessageBody, Refusal> {
+        let add = request.links_to_add;
+        let remove = request.links_to_remove;
+        judge(&setting.config, add.len() + remove.len())?;
         let number = request.subscription_id;
         let triggering = request.triggering_item_id;
         match services.items.link(alloc, number, triggering, add, remove)? {
             Ok(linked) => Ok(links_body(alloc, setting, caller, linked)?),
-            Err(status) => Err(Unserved::Fault(status)),
+            Err(status) => Err(Refusal::Service(status)),
         }
     }
 }

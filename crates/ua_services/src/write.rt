@@ -9,19 +9,18 @@ ghost use Rattle.ua_views.specs.Views.{or_none};
 ghost use Rattle.ua_services.specs.Write.{is_historizing as is_historizing_spec, history_with, dropped_by, stored_change, stored_judged, stored_written, for_store, with_accepted, with_judged, with_written, write_meaning};
 
 use crate::caller::Caller;
-use crate::operations::viewed_operations;
+use crate::operations::operations;
 use crate::service::reply;
 use crate::services::Services;
+use crate::session_service::SessionService;
 use crate::status_results::statuses_body;
-use crate::unserved::Unserved;
-use crate::viewed_service::ViewedService;
 use number_slots::Near;
 use server_messages::{Served, Setting, Stored};
 use std::alloc::{AllocError, Global};
 use ua_history::History;
 use ua_messages::type_ids;
 use ua_read_write::{AcceptedValue, accepted};
-use ua_service_views::{WriteRequestView, WriteValueView};
+use ua_service_messages::{WriteRequestView, WriteValueView};
 use ua_space::{Node, NodeDetails};
 use ua_types::{Copyable, Listed, Moment, Refusal, Status};
 use ua_values::DataValue;
@@ -154,7 +153,7 @@ fn write_all<'a>(
 /// values were written, shown and kept, from the first on, and the server halts.
 pub struct Write;
 
-impl<'a> ViewedService<'a> for Write {
+impl<'a> SessionService<'a> for Write {
     type Request = WriteRequestView<'a>;
 
     ghost meaning = { write_meaning };
@@ -166,11 +165,8 @@ impl<'a> ViewedService<'a> for Write {
         _session: u32,
         request: WriteRequestView<'a>,
         services: &mut Services,
-    ) -> Result<Served, Unserved> {
-        let values = match viewed_operations(&setting.config, request.nodes_to_write) {
-            Ok(values) => values,
-            Err(status) => return Err(Unserved::Fault(status)),
-        };
+    ) -> Result<Served, Refusal> {
+        let values = operations(&setting.config, request.nodes_to_write)?;
         let mut stored = Listed::new(alloc);
         let statuses = write_all(alloc, services, setting, values, &mut stored)?;
         let type_id = type_ids::WRITE_RESPONSE;

@@ -3,8 +3,7 @@
 
 ghost use Rattle.std.specs.Prelude.{refl};
 
-use ua_binary::{Cursor, Enumeration, TakeFault};
-use ua_walks::Walk;
+use ua_binary::Enumeration;
 
 /// What a monitored item does (MonitoringMode, IEC 62541-4, section 7).
 #[derive(Clone, Copy, Debug, PartialEq, Eq)]
@@ -37,14 +36,6 @@ impl Enumeration for MonitoringMode {
     ghost kept = { λ v. refl };
 }
 
-#[tactic(auto, unfolding(ua_binary::specs::Enumerations::enumeration_reading))]
-impl Walk for MonitoringMode {
-    fn walk(cursor: &mut Cursor<'_>) -> Result<(), TakeFault> {
-        i32::skip(cursor)?;
-        Ok(())
-    }
-}
-
 /// Which change of a value is reported (DataChangeTrigger, IEC 62541-4, section 7).
 #[derive(Clone, Copy, Debug, PartialEq, Eq)]
 pub struct DataChangeTrigger(pub i32);
@@ -74,12 +65,4 @@ impl Enumeration for DataChangeTrigger {
     }
 
     ghost kept = { λ v. refl };
-}
-
-#[tactic(auto, unfolding(ua_binary::specs::Enumerations::enumeration_reading))]
-impl Walk for DataChangeTrigger {
-    fn walk(cursor: &mut Cursor<'_>) -> Result<(), TakeFault> {
-        i32::skip(cursor)?;
-        Ok(())
-    }
 }

@@ -5,7 +5,8 @@
 //! `ua_messages`, whose `message` and `body` read and write all of these too. A filter and a
 //! notification travel inside an ExtensionObject, whose body is such a structure: [`notification_message`]
 //! writes one where it stands, and [`publish_body`] a response round a message that was written before. A message with
-//! values of items is written value by value ([`DataChangeMessage`]), each from where it stands.
+//! values of items is written value by value ([`DataChangeMessage`]), each from where it stands. What stands in a request has a
+//! view beside it, as [`PublishRequestView`], or is one itself where it is of fixed size, as [`RepublishRequest`].
 //!
 //! Nothing here decides anything: no number is revised, no item is looked up, and no queue is kept.
 //!
@@ -31,21 +32,24 @@ pub use data_change_messages::DataChangeMessage;
 pub use enumerations::{DataChangeTrigger, MonitoringMode};
 pub use kept_messages::{publish_body, republish_body};
 pub use monitored_items::{
-    CreateMonitoredItemsRequest, CreateMonitoredItemsResponse, DeleteMonitoredItemsRequest,
-    DeleteMonitoredItemsResponse, ModifyMonitoredItemsRequest, ModifyMonitoredItemsResponse,
-    MonitoredItemCreateRequest, MonitoredItemCreateResult, MonitoredItemModifyRequest,
-    MonitoredItemModifyResult, SetMonitoringModeRequest, SetMonitoringModeResponse,
+    CreateMonitoredItemsRequest, CreateMonitoredItemsRequestView, CreateMonitoredItemsResponse,
+    DeleteMonitoredItemsRequest, DeleteMonitoredItemsRequestView, DeleteMonitoredItemsResponse,
+    ModifyMonitoredItemsRequest, ModifyMonitoredItemsRequestView, ModifyMonitoredItemsResponse,
+    MonitoredItemCreateRequest, MonitoredItemCreateRequestView, MonitoredItemCreateResult,
+    MonitoredItemModifyRequest, MonitoredItemModifyRequestView, MonitoredItemModifyResult,
+    SetMonitoringModeRequest, SetMonitoringModeRequestView, SetMonitoringModeResponse,
 };
-pub use monitoring_parameters::{DataChangeFilter, MonitoringParameters};
+pub use monitoring_parameters::{DataChangeFilter, MonitoringParameters, MonitoringParametersView};
 pub use notification_messages::notification_message;
 pub use publishing::{
     DataChangeNotification, MonitoredItemNotification, NotificationMessage, PublishRequest,
-    PublishResponse, RepublishRequest, RepublishResponse, StatusChangeNotification,
-    SubscriptionAcknowledgement,
+    PublishRequestView, PublishResponse, RepublishRequest, RepublishResponse,
+    StatusChangeNotification, SubscriptionAcknowledgement,
 };
 pub use subscriptions::{
     CreateSubscriptionRequest, CreateSubscriptionResponse, DeleteSubscriptionsRequest,
-    DeleteSubscriptionsResponse, ModifySubscriptionRequest, ModifySubscriptionResponse,
-    SetPublishingModeRequest, SetPublishingModeResponse,
+    DeleteSubscriptionsRequestView, DeleteSubscriptionsResponse, ModifySubscriptionRequest,
+    ModifySubscriptionResponse, SetPublishingModeRequest, SetPublishingModeRequestView,
+    SetPublishingModeResponse,
 };
-pub use triggering::{SetTriggeringRequest, SetTriggeringResponse};
+pub use triggering::{SetTriggeringRequest, SetTriggeringRequestView, SetTriggeringResponse};

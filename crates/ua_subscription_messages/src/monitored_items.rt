@@ -3,12 +3,13 @@
 ghost use Rattle.ua_subscription_messages.specs.MonitoredItems.{monitored_item_create_request_reading, monitored_item_create_request_encoding, create_monitored_items_request_reading, create_monitored_items_request_encoding, monitored_item_create_result_reading, monitored_item_create_result_encoding, monitored_item_modify_request_reading, monitored_item_modify_request_encoding, modify_monitored_items_request_reading, modify_monitored_items_request_encoding, monitored_item_modify_result_reading, monitored_item_modify_result_encoding, set_monitoring_mode_request_reading, set_monitoring_mode_request_encoding, delete_monitored_items_request_reading, delete_monitored_items_request_encoding};
 
 use crate::enumerations::MonitoringMode;
-use crate::monitoring_parameters::MonitoringParameters;
+use crate::monitoring_parameters::{MonitoringParameters, MonitoringParametersView};
 use std::alloc::{AllocError, Global};
+use std::marker::Model;
 use ua_binary::{Cursor, TakeFault, Wire};
-use ua_messages::{ReadValueId, Results, TimestampsToReturn};
+use ua_messages::{ReadValueId, ReadValueIdView, Results, TimestampsToReturn};
 use ua_types::{Array, Duration, ExtensionObject, Status};
-use ua_walks::Walk;
+use ua_views::{ArrayView, Readable, View, look_enumeration};
 
 /// One item to make: an element of [`CreateMonitoredItemsRequest`].
 #[derive(Debug, Drop)]
@@ -45,13 +46,38 @@ impl Wire for MonitoredItemCreateRequest {
     }
 }
 
+/// A [`MonitoredItemCreateRequest`] in the bytes that it stands in.
+#[derive(Debug, Drop)]
+pub struct MonitoredItemCreateRequestView<'a> {
+    /// The attribute whose values are taken.
+    pub item_to_monitor: ReadValueIdView<'a>,
+    /// The mode in which the item begins.
+    pub monitoring_mode: MonitoringMode,
+    pub requested_parameters: MonitoringParametersView<'a>,
+}
+
+impl<'a> Model for MonitoredItemCreateRequestView<'a> {
+    ghost use Rattle.ua_subscription_messages.specs.declared.monitored_items.MonitoredItemCreateRequest.{MonitoredItemCreateRequest};
+
+    ghost Value = { MonitoredItemCreateRequest };
+
+    ghost view = { λ v. record { item_to_monitor = v.item_to_monitor; monitoring_mode = v.monitoring_mode; requested_parameters = v.requested_parameters } };
+}
+
+impl<'a> Readable for MonitoredItemCreateRequestView<'a> {
+    ghost reading = { monitored_item_create_request_reading };
+}
+
 #[tactic(auto, unfolding(crate::specs::MonitoredItems::monitored_item_create_request_reading))]
-impl Walk for MonitoredItemCreateRequest {
-    fn walk(cursor: &mut Cursor<'_>) -> Result<(), TakeFault> {
-        ReadValueId::skip(cursor)?;
-        MonitoringMode::skip(cursor)?;
-        MonitoringParameters::skip(cursor)?;
-        Ok(())
+impl<'a> View<'a> for MonitoredItemCreateRequestView<'a> {
+    // Inlined into the loop over a request's list: a call for each element costs more than it does.
+    #[inline(always)]
+    fn look(cursor: &mut Cursor<'a>) -> Result<MonitoredItemCreateRequestView<'a>, TakeFault> {
+        Ok(MonitoredItemCreateRequestView {
+            item_to_monitor: ReadValueIdView::look(cursor)?,
+            monitoring_mode: look_enumeration::<MonitoringMode>(cursor)?,
+            requested_parameters: MonitoringParametersView::look(cursor)?,
+        })
     }
 }
 
@@ -90,13 +116,35 @@ impl Wire for CreateMonitoredItemsRequest {
     }
 }
 
+/// A [`CreateMonitoredItemsRequest`] in the bytes that it stands in.
+#[derive(Debug, Drop)]
+pub struct CreateMonitoredItemsRequestView<'a> {
+    pub subscription_id: u32,
+    /// Which times the values in notifications are to have.
+    pub timestamps_to_return: TimestampsToReturn,
+    pub items_to_create: ArrayView<'a, MonitoredItemCreateRequestView<'a>>,
+}
+
+impl<'a> Model for CreateMonitoredItemsRequestView<'a> {
+    ghost use Rattle.ua_subscription_messages.specs.declared.monitored_items.CreateMonitoredItemsRequest.{CreateMonitoredItemsRequest};
+
+    ghost Value = { CreateMonitoredItemsRequest };
+
+    ghost view = { λ v. record { subscription_id = v.subscription_id; timestamps_to_return = v.timestamps_to_return; items_to_create = v.items_to_create } };
+}
+
+impl<'a> Readable for CreateMonitoredItemsRequestView<'a> {
+    ghost reading = { create_monitored_items_request_reading };
+}
+
 #[tactic(auto, unfolding(crate::specs::MonitoredItems::create_monitored_items_request_reading))]
-impl Walk for CreateMonitoredItemsRequest {
-    fn walk(cursor: &mut Cursor<'_>) -> Result<(), TakeFault> {
-        u32::skip(cursor)?;
-        TimestampsToReturn::skip(cursor)?;
-        Array::<MonitoredItemCreateRequest>::skip(cursor)?;
-        Ok(())
+impl<'a> View<'a> for CreateMonitoredItemsRequestView<'a> {
+    fn look(cursor: &mut Cursor<'a>) -> Result<CreateMonitoredItemsRequestView<'a>, TakeFault> {
+        Ok(CreateMonitoredItemsRequestView {
+            subscription_id: u32::look(cursor)?,
+            timestamps_to_return: look_enumeration::<TimestampsToReturn>(cursor)?,
+            items_to_create: ArrayView::<MonitoredItemCreateRequestView<'a>>::look(cursor)?,
+        })
     }
 }
 
@@ -180,12 +228,35 @@ impl Wire for MonitoredItemModifyRequest {
     }
 }
 
+/// A [`MonitoredItemModifyRequest`] in the bytes that it stands in.
+#[derive(Debug, Drop)]
+pub struct MonitoredItemModifyRequestView<'a> {
+    pub monitored_item_id: u32,
+    /// They take the place of all that the item had.
+    pub requested_parameters: MonitoringParametersView<'a>,
+}
+
+impl<'a> Model for MonitoredItemModifyRequestView<'a> {
+    ghost use Rattle.ua_subscription_messages.specs.declared.monitored_items.MonitoredItemModifyRequest.{MonitoredItemModifyRequest};
+
+    ghost Value = { MonitoredItemModifyRequest };
+
+    ghost view = { λ v. record { monitored_item_id = v.monitored_item_id; requested_parameters = v.requested_parameters } };
+}
+
+impl<'a> Readable for MonitoredItemModifyRequestView<'a> {
+    ghost reading = { monitored_item_modify_request_reading };
+}
+
 #[tactic(auto, unfolding(crate::specs::MonitoredItems::monitored_item_modify_request_reading))]
-impl Walk for MonitoredItemModifyRequest {
-    fn walk(cursor: &mut Cursor<'_>) -> Result<(), TakeFault> {
-        u32::skip(cursor)?;
-        MonitoringParameters::skip(cursor)?;
-        Ok(())
+impl<'a> View<'a> for MonitoredItemModifyRequestView<'a> {
+    // Inlined into the loop over a request's list: a call for each element costs more than it does.
+    #[inline(always)]
+    fn look(cursor: &mut Cursor<'a>) -> Result<MonitoredItemModifyRequestView<'a>, TakeFault> {
+        Ok(MonitoredItemModifyRequestView {
+            monitored_item_id: u32::look(cursor)?,
+            requested_parameters: MonitoringParametersView::look(cursor)?,
+        })
     }
 }
 
@@ -224,13 +295,35 @@ impl Wire for ModifyMonitoredItemsRequest {
     }
 }
 
+/// A [`ModifyMonitoredItemsRequest`] in the bytes that it stands in.
+#[derive(Debug, Drop)]
+pub struct ModifyMonitoredItemsRequestView<'a> {
+    pub subscription_id: u32,
+    /// Which times the values in notifications are to have.
+    pub timestamps_to_return: TimestampsToReturn,
+    pub items_to_modify: ArrayView<'a, MonitoredItemModifyRequestView<'a>>,
+}
+
+impl<'a> Model for ModifyMonitoredItemsRequestView<'a> {
+    ghost use Rattle.ua_subscription_messages.specs.declared.monitored_items.ModifyMonitoredItemsRequest.{ModifyMonitoredItemsRequest};
+
+    ghost Value = { ModifyMonitoredItemsRequest };
+
+    ghost view = { λ v. record { subscription_id = v.subscription_id; timestamps_to_return = v.timestamps_to_return; items_to_modify = v.items_to_modify } };
+}
+
+impl<'a> Readable for ModifyMonitoredItemsRequestView<'a> {
+    ghost reading = { modify_monitored_items_request_reading };
+}
+
 #[tactic(auto, unfolding(crate::specs::MonitoredItems::modify_monitored_items_request_reading))]
-impl Walk for ModifyMonitoredItemsRequest {
-    fn walk(cursor: &mut Cursor<'_>) -> Result<(), TakeFault> {
-        u32::skip(cursor)?;
-        TimestampsToReturn::skip(cursor)?;
-        Array::<MonitoredItemModifyRequest>::skip(cursor)?;
-        Ok(())
+impl<'a> View<'a> for ModifyMonitoredItemsRequestView<'a> {
+    fn look(cursor: &mut Cursor<'a>) -> Result<ModifyMonitoredItemsRequestView<'a>, TakeFault> {
+        Ok(ModifyMonitoredItemsRequestView {
+            subscription_id: u32::look(cursor)?,
+            timestamps_to_return: look_enumeration::<TimestampsToReturn>(cursor)?,
+            items_to_modify: ArrayView::<MonitoredItemModifyRequestView<'a>>::look(cursor)?,
+        })
     }
 }
 
@@ -313,13 +406,34 @@ impl Wire for SetMonitoringModeRequest {
     }
 }
 
+/// A [`SetMonitoringModeRequest`] in the bytes that it stands in.
+#[derive(Debug, Drop)]
+pub struct SetMonitoringModeRequestView<'a> {
+    pub subscription_id: u32,
+    pub monitoring_mode: MonitoringMode,
+    pub monitored_item_ids: ArrayView<'a, u32>,
+}
+
+impl<'a> Model for SetMonitoringModeRequestView<'a> {
+    ghost use Rattle.ua_subscription_messages.specs.declared.monitored_items.SetMonitoringModeRequest.{SetMonitoringModeRequest};
+
+    ghost Value = { SetMonitoringModeRequest };
+
+    ghost view = { λ v. record { subscription_id = v.subscription_id; monitoring_mode = v.monitoring_mode; monitored_item_ids = v.monitored_item_ids } };
+}
+
+impl<'a> Readable for SetMonitoringModeRequestView<'a> {
+    ghost reading = { set_monitoring_mode_request_reading };
+}
+
 #[tactic(auto, unfolding(crate::specs::MonitoredItems::set_monitoring_mode_request_reading))]
-impl Walk for SetMonitoringModeRequest {
-    fn walk(cursor: &mut Cursor<'_>) -> Result<(), TakeFault> {
-        u32::skip(cursor)?;
-        MonitoringMode::skip(cursor)?;
-        Array::<u32>::skip(cursor)?;
-        Ok(())
+impl<'a> View<'a> for SetMonitoringModeRequestView<'a> {
+    fn look(cursor: &mut Cursor<'a>) -> Result<SetMonitoringModeRequestView<'a>, TakeFault> {
+        Ok(SetMonitoringModeRequestView {
+            subscription_id: u32::look(cursor)?,
+            monitoring_mode: look_enumeration::<MonitoringMode>(cursor)?,
+            monitored_item_ids: ArrayView::<u32>::look(cursor)?,
+        })
     }
 }
 
@@ -358,12 +472,32 @@ impl Wire for DeleteMonitoredItemsRequest {
     }
 }
 
+/// A [`DeleteMonitoredItemsRequest`] in the bytes that it stands in.
+#[derive(Debug, Drop)]
+pub struct DeleteMonitoredItemsRequestView<'a> {
+    pub subscription_id: u32,
+    pub monitored_item_ids: ArrayView<'a, u32>,
+}
+
+impl<'a> Model for DeleteMonitoredItemsRequestView<'a> {
+    ghost use Rattle.ua_subscription_messages.specs.declared.monitored_items.DeleteMonitoredItemsRequest.{DeleteMonitoredItemsRequest};
+
+    ghost Value = { DeleteMonitoredItemsRequest };
+
+    ghost view = { λ v. record { subscription_id = v.subscription_id; monitored_item_ids = v.monitored_item_ids } };
+}
+
+impl<'a> Readable for DeleteMonitoredItemsRequestView<'a> {
+    ghost reading = { delete_monitored_items_request_reading };
+}
+
 #[tactic(auto, unfolding(crate::specs::MonitoredItems::delete_monitored_items_request_reading))]
-impl Walk for DeleteMonitoredItemsRequest {
-    fn walk(cursor: &mut Cursor<'_>) -> Result<(), TakeFault> {
-        u32::skip(cursor)?;
-        Array::<u32>::skip(cursor)?;
-        Ok(())
+impl<'a> View<'a> for DeleteMonitoredItemsRequestView<'a> {
+    fn look(cursor: &mut Cursor<'a>) -> Result<DeleteMonitoredItemsRequestView<'a>, TakeFault> {
+        Ok(DeleteMonitoredItemsRequestView {
+            subscription_id: u32::look(cursor)?,
+            monitored_item_ids: ArrayView::<u32>::look(cursor)?,
+        })
     }
 }
 

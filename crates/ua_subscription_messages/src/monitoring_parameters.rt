@@ -5,10 +5,11 @@ ghost use Rattle.ua_subscription_messages.specs.MonitoringParameters.{monitoring
 
 use crate::enumerations::DataChangeTrigger;
 use std::alloc::{AllocError, Global};
+use std::marker::Model;
 use ua_binary::{Cursor, TakeFault, Wire};
 use ua_types::{Duration, ExtensionObject};
 use ua_values::Double;
-use ua_walks::Walk;
+use ua_views::{ExtensionObjectView, Readable, View, look_enumeration};
 
 /// How a client wants an item to be monitored (MonitoringParameters, IEC 62541-4, section 7).
 #[derive(Debug, Drop)]
@@ -51,15 +52,45 @@ impl Wire for MonitoringParameters {
     }
 }
 
+/// A [`MonitoringParameters`] in the bytes that it stands in.
+#[derive(Debug, Drop)]
+pub struct MonitoringParametersView<'a> {
+    /// The number by which the client knows the item. Notifications repeat it.
+    pub client_handle: u32,
+    /// How often a value is to be taken, as a double of milliseconds.
+    pub sampling_interval: Duration,
+    /// Which values are queued: null, or a [`DataChangeFilter`] for the value of a node.
+    pub filter: ExtensionObjectView<'a>,
+    /// How many values the item is to keep; 0 is 1.
+    pub queue_size: u32,
+    /// Which value makes room in a full queue: the oldest, or else the newest.
+    pub discard_oldest: bool,
+}
+
+impl<'a> Model for MonitoringParametersView<'a> {
+    ghost use Rattle.ua_subscription_messages.specs.declared.monitoring_parameters.MonitoringParameters.{MonitoringParameters};
+
+    ghost Value = { MonitoringParameters };
+
+    ghost view = { λ v. record { client_handle = v.client_handle; sampling_interval = v.sampling_interval; filter = v.filter; queue_size = v.queue_size; discard_oldest = v.discard_oldest } };
+}
+
+impl<'a> Readable for MonitoringParametersView<'a> {
+    ghost reading = { monitoring_parameters_reading };
+}
+
 #[tactic(auto, unfolding(crate::specs::MonitoringParameters::monitoring_parameters_reading))]
-impl Walk for MonitoringParameters {
-    fn walk(cursor: &mut Cursor<'_>) -> Result<(), TakeFault> {
-        u32::skip(cursor)?;
-        Duration::skip(cursor)?;
-        ExtensionObject::skip(cursor)?;
-        u32::skip(cursor)?;
-        bool::skip(cursor)?;
-        Ok(())
+impl<'a> View<'a> for MonitoringParametersView<'a> {
+    // Inlined into the loop over a request's list: a call for each element costs more than it does.
+    #[inline(always)]
+    fn look(cursor: &mut Cursor<'a>) -> Result<MonitoringParametersView<'a>, TakeFault> {
+        Ok(MonitoringParametersView {
+            client_handle: u32::look(cursor)?,
+            sampling_interval: Duration::look(cursor)?,
+            filter: ExtensionObjectView::look(cursor)?,
+            queue_size: u32::look(cursor)?,
+            discard_oldest: bool::look(cursor)?,
+        })
     }
 }
 
@@ -107,12 +138,17 @@ impl Wire for DataChangeFilter {
     }
 }
 
+impl Readable for DataChangeFilter {
+    ghost reading = { data_change_filter_reading };
+}
+
 #[tactic(auto, unfolding(crate::specs::MonitoringParameters::data_change_filter_reading))]
-impl Walk for DataChangeFilter {
-    fn walk(cursor: &mut Cursor<'_>) -> Result<(), TakeFault> {
-        DataChangeTrigger::skip(cursor)?;
-        u32::skip(cursor)?;
-        Double::skip(cursor)?;
-        Ok(())
+impl<'a> View<'a> for DataChangeFilter {
+    fn look(cursor: &mut Cursor<'a>) -> Result<DataChangeFilter, TakeFault> {
+        Ok(DataChangeFilter {
+            trigger: look_enumeration::<DataChangeTrigger>(cursor)?,
+            deadband_type: u32::look(cursor)?,
+            deadband_value: Double::look(cursor)?,
+        })
     }
 }

@@ -5,11 +5,12 @@ ghost use Rattle.ua_binary.specs.Backing.{IsBackedOrBoxed};
 ghost use Rattle.ua_subscription_messages.specs.Publishing.{subscription_acknowledgement_reading, subscription_acknowledgement_encoding, publish_request_reading, publish_request_encoding, notification_message_reading, notification_message_encoding, publish_response_reading, publish_response_encoding, monitored_item_notification_reading, monitored_item_notification_encoding, data_change_notification_reading, data_change_notification_encoding, status_change_notification_reading, status_change_notification_encoding, republish_request_reading, republish_request_encoding, republish_response_reading, republish_response_encoding};
 
 use std::alloc::{AllocError, Global};
+use std::marker::Model;
 use ua_binary::{Cursor, TakeFault, Wire};
 use ua_messages::{DiagnosticInfo, DiagnosticInfos, ResponseHeader};
 use ua_types::{Array, ExtensionObject, Moment, Status};
 use ua_values::DataValue;
-use ua_walks::Walk;
+use ua_views::{ArrayView, Readable, View};
 
 /// A message that the client has and the server need not keep: an element of [`PublishRequest`]
 /// (SubscriptionAcknowledgement, IEC 62541-4, section 5, Subscription Service Set, Publish).
@@ -45,12 +46,17 @@ impl Wire for SubscriptionAcknowledgement {
     }
 }
 
+impl Readable for SubscriptionAcknowledgement {
+    ghost reading = { subscription_acknowledgement_reading };
+}
+
 #[tactic(auto, unfolding(crate::specs::Publishing::subscription_acknowledgement_reading))]
-impl Walk for SubscriptionAcknowledgement {
-    fn walk(cursor: &mut Cursor<'_>) -> Result<(), TakeFault> {
-        u32::skip(cursor)?;
-        u32::skip(cursor)?;
-        Ok(())
+impl<'a> View<'a> for SubscriptionAcknowledgement {
+    fn look(cursor: &mut Cursor<'a>) -> Result<SubscriptionAcknowledgement, TakeFault> {
+        Ok(SubscriptionAcknowledgement {
+            subscription_id: u32::look(cursor)?,
+            sequence_number: u32::look(cursor)?,
+        })
     }
 }
 
@@ -81,11 +87,30 @@ impl Wire for PublishRequest {
     }
 }
 
+/// A [`PublishRequest`] in the bytes that it stands in.
+#[derive(Debug, Drop)]
+pub struct PublishRequestView<'a> {
+    pub subscription_acknowledgements: ArrayView<'a, SubscriptionAcknowledgement>,
+}
+
+impl<'a> Model for PublishRequestView<'a> {
+    ghost use Rattle.ua_subscription_messages.specs.declared.publishing.PublishRequest.{PublishRequest};
+
+    ghost Value = { PublishRequest };
+
+    ghost view = { λ v. record { subscription_acknowledgements = v.subscription_acknowledgements } };
+}
+
+impl<'a> Readable for PublishRequestView<'a> {
+    ghost reading = { publish_request_reading };
+}
+
 #[tactic(auto, unfolding(crate::specs::Publishing::publish_request_reading))]
-impl Walk for PublishRequest {
-    fn walk(cursor: &mut Cursor<'_>) -> Result<(), TakeFault> {
-        Array::<SubscriptionAcknowledgement>::skip(cursor)?;
-        Ok(())
+impl<'a> View<'a> for PublishRequestView<'a> {
+    fn look(cursor: &mut Cursor<'a>) -> Result<PublishRequestView<'a>, TakeFault> {
+        Ok(PublishRequestView {
+            subscription_acknowledgements: ArrayView::<SubscriptionAcknowledgement>::look(cursor)?,
+        })
     }
 }
 
@@ -295,12 +320,17 @@ impl Wire for RepublishRequest {
     }
 }
 
+impl Readable for RepublishRequest {
+    ghost reading = { republish_request_reading };
+}
+
 #[tactic(auto, unfolding(crate::specs::Publishing::republish_request_reading))]
-impl Walk for RepublishRequest {
-    fn walk(cursor: &mut Cursor<'_>) -> Result<(), TakeFault> {
-        u32::skip(cursor)?;
-        u32::skip(cursor)?;
-        Ok(())
+impl<'a> View<'a> for RepublishRequest {
+    fn look(cursor: &mut Cursor<'a>) -> Result<RepublishRequest, TakeFault> {
+        Ok(RepublishRequest {
+            subscription_id: u32::look(cursor)?,
+            retransmit_sequence_number: u32::look(cursor)?,
+        })
     }
 }
 

@@ -3,10 +3,11 @@
 ghost use Rattle.ua_subscription_messages.specs.Subscriptions.{create_subscription_request_reading, create_subscription_request_encoding, create_subscription_response_reading, create_subscription_response_encoding, modify_subscription_request_reading, modify_subscription_request_encoding, modify_subscription_response_reading, modify_subscription_response_encoding, set_publishing_mode_request_reading, set_publishing_mode_request_encoding, delete_subscriptions_request_reading, delete_subscriptions_request_encoding};
 
 use std::alloc::{AllocError, Global};
+use std::marker::Model;
 use ua_binary::{Cursor, TakeFault, Wire};
 use ua_messages::{ResponseHeader, Results};
 use ua_types::{Array, Duration, Status};
-use ua_walks::Walk;
+use ua_views::{ArrayView, Readable, View};
 
 /// Asks for a subscription (CreateSubscription, IEC 62541-4, section 5, Subscription Service Set).
 #[derive(Debug, Drop)]
@@ -56,16 +57,21 @@ impl Wire for CreateSubscriptionRequest {
     }
 }
 
+impl Readable for CreateSubscriptionRequest {
+    ghost reading = { create_subscription_request_reading };
+}
+
 #[tactic(auto, unfolding(crate::specs::Subscriptions::create_subscription_request_reading))]
-impl Walk for CreateSubscriptionRequest {
-    fn walk(cursor: &mut Cursor<'_>) -> Result<(), TakeFault> {
-        Duration::skip(cursor)?;
-        u32::skip(cursor)?;
-        u32::skip(cursor)?;
-        u32::skip(cursor)?;
-        bool::skip(cursor)?;
-        u8::skip(cursor)?;
-        Ok(())
+impl<'a> View<'a> for CreateSubscriptionRequest {
+    fn look(cursor: &mut Cursor<'a>) -> Result<CreateSubscriptionRequest, TakeFault> {
+        Ok(CreateSubscriptionRequest {
+            requested_publishing_interval: Duration::look(cursor)?,
+            requested_lifetime_count: u32::look(cursor)?,
+            requested_max_keep_alive_count: u32::look(cursor)?,
+            max_notifications_per_publish: u32::look(cursor)?,
+            publishing_enabled: bool::look(cursor)?,
+            priority: u8::look(cursor)?,
+        })
     }
 }
 
@@ -156,16 +162,21 @@ impl Wire for ModifySubscriptionRequest {
     }
 }
 
+impl Readable for ModifySubscriptionRequest {
+    ghost reading = { modify_subscription_request_reading };
+}
+
 #[tactic(auto, unfolding(crate::specs::Subscriptions::modify_subscription_request_reading))]
-impl Walk for ModifySubscriptionRequest {
-    fn walk(cursor: &mut Cursor<'_>) -> Result<(), TakeFault> {
-        u32::skip(cursor)?;
-        Duration::skip(cursor)?;
-        u32::skip(cursor)?;
-        u32::skip(cursor)?;
-        u32::skip(cursor)?;
-        u8::skip(cursor)?;
-        Ok(())
+impl<'a> View<'a> for ModifySubscriptionRequest {
+    fn look(cursor: &mut Cursor<'a>) -> Result<ModifySubscriptionRequest, TakeFault> {
+        Ok(ModifySubscriptionRequest {
+            subscription_id: u32::look(cursor)?,
+            requested_publishing_interval: Duration::look(cursor)?,
+            requested_lifetime_count: u32::look(cursor)?,
+            requested_max_keep_alive_count: u32::look(cursor)?,
+            max_notifications_per_publish: u32::look(cursor)?,
+            priority: u8::look(cursor)?,
+        })
     }
 }
 
@@ -237,12 +248,32 @@ impl Wire for SetPublishingModeRequest {
     }
 }
 
+/// A [`SetPublishingModeRequest`] in the bytes that it stands in.
+#[derive(Debug, Drop)]
+pub struct SetPublishingModeRequestView<'a> {
+    pub publishing_enabled: bool,
+    pub subscription_ids: ArrayView<'a, u32>,
+}
+
+impl<'a> Model for SetPublishingModeRequestView<'a> {
+    ghost use Rattle.ua_subscription_messages.specs.declared.subscriptions.SetPublishingModeRequest.{SetPublishingModeRequest};
+
+    ghost Value = { SetPublishingModeRequest };
+
+    ghost view = { λ v. record { publishing_enabled = v.publishing_enabled; subscription_ids = v.subscription_ids } };
+}
+
+impl<'a> Readable for SetPublishingModeRequestView<'a> {
+    ghost reading = { set_publishing_mode_request_reading };
+}
+
 #[tactic(auto, unfolding(crate::specs::Subscriptions::set_publishing_mode_request_reading))]
-impl Walk for SetPublishingModeRequest {
-    fn walk(cursor: &mut Cursor<'_>) -> Result<(), TakeFault> {
-        bool::skip(cursor)?;
-        Array::<u32>::skip(cursor)?;
-        Ok(())
+impl<'a> View<'a> for SetPublishingModeRequestView<'a> {
+    fn look(cursor: &mut Cursor<'a>) -> Result<SetPublishingModeRequestView<'a>, TakeFault> {
+        Ok(SetPublishingModeRequestView {
+            publishing_enabled: bool::look(cursor)?,
+            subscription_ids: ArrayView::<u32>::look(cursor)?,
+        })
     }
 }
 
@@ -277,11 +308,30 @@ impl Wire for DeleteSubscriptionsRequest {
     }
 }
 
+/// A [`DeleteSubscriptionsRequest`] in the bytes that it stands in.
+#[derive(Debug, Drop)]
+pub struct DeleteSubscriptionsRequestView<'a> {
+    pub subscription_ids: ArrayView<'a, u32>,
+}
+
+impl<'a> Model for DeleteSubscriptionsRequestView<'a> {
+    ghost use Rattle.ua_subscription_messages.specs.declared.subscriptions.DeleteSubscriptionsRequest.{DeleteSubscriptionsRequest};
+
+    ghost Value = { DeleteSubscriptionsRequest };
+
+    ghost view = { λ v. record { subscription_ids = v.subscription_ids } };
+}
+
+impl<'a> Readable for DeleteSubscriptionsRequestView<'a> {
+    ghost reading = { delete_subscriptions_request_reading };
+}
+
 #[tactic(auto, unfolding(crate::specs::Subscriptions::delete_subscriptions_request_reading))]
-impl Walk for DeleteSubscriptionsRequest {
-    fn walk(cursor: &mut Cursor<'_>) -> Result<(), TakeFault> {
-        Array::<u32>::skip(cursor)?;
-        Ok(())
+impl<'a> View<'a> for DeleteSubscriptionsRequestView<'a> {
+    fn look(cursor: &mut Cursor<'a>) -> Result<DeleteSubscriptionsRequestView<'a>, TakeFault> {
+        Ok(DeleteSubscriptionsRequestView {
+            subscription_ids: ArrayView::<u32>::look(cursor)?,
+        })
     }
 }
 

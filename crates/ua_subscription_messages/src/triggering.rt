@@ -3,10 +3,11 @@
 ghost use Rattle.ua_subscription_messages.specs.Triggering.{set_triggering_request_reading, set_triggering_request_encoding, set_triggering_response_reading, set_triggering_response_encoding};
 
 use std::alloc::{AllocError, Global};
+use std::marker::Model;
 use ua_binary::{Cursor, TakeFault, Wire};
 use ua_messages::{DiagnosticInfos, ResponseHeader};
 use ua_types::{Array, Status};
-use ua_walks::Walk;
+use ua_views::{ArrayView, Readable, View};
 
 /// Adds and removes links from one monitored item to others, whose values are reported when it reports
 /// (SetTriggering, IEC 62541-4, section 5, MonitoredItem Service Set).
@@ -45,14 +46,39 @@ impl Wire for SetTriggeringRequest {
     }
 }
 
+/// A [`SetTriggeringRequest`] in the bytes that it stands in.
+#[derive(Debug, Drop)]
+pub struct SetTriggeringRequestView<'a> {
+    pub subscription_id: u32,
+    /// The item that triggers the others.
+    pub triggering_item_id: u32,
+    /// The items that it is to trigger from now on.
+    pub links_to_add: ArrayView<'a, u32>,
+    /// The items that it is to trigger no longer. They are removed before the others are added.
+    pub links_to_remove: ArrayView<'a, u32>,
+}
+
+impl<'a> Model for SetTriggeringRequestView<'a> {
+    ghost use Rattle.ua_subscription_messages.specs.declared.triggering.SetTriggeringRequest.{SetTriggeringRequest};
+
+    ghost Value = { SetTriggeringRequest };
+
+    ghost view = { λ v. record { subscription_id = v.subscription_id; triggering_item_id = v.triggering_item_id; links_to_add = v.links_to_add; links_to_remove = v.links_to_remove } };
+}
+
+impl<'a> Readable for SetTriggeringRequestView<'a> {
+    ghost reading = { set_triggering_request_reading };
+}
+
 #[tactic(auto, unfolding(crate::specs::Triggering::set_triggering_request_reading))]
-impl Walk for SetTriggeringRequest {
-    fn walk(cursor: &mut Cursor<'_>) -> Result<(), TakeFault> {
-        u32::skip(cursor)?;
-        u32::skip(cursor)?;
-        Array::<u32>::skip(cursor)?;
-        Array::<u32>::skip(cursor)?;
-        Ok(())
+impl<'a> View<'a> for SetTriggeringRequestView<'a> {
+    fn look(cursor: &mut Cursor<'a>) -> Result<SetTriggeringRequestView<'a>, TakeFault> {
+        Ok(SetTriggeringRequestView {
+            subscription_id: u32::look(cursor)?,
+            triggering_item_id: u32::look(cursor)?,
+            links_to_add: ArrayView::<u32>::look(cursor)?,
+            links_to_remove: ArrayView::<u32>::look(cursor)?,
+        })
     }
 }
 

@@ -1,5 +1,5 @@
 -- A number that only rises while things are done one after the other.
-use Rattle.std.proofs.Common.{◌≤◌, ◌<◌, ℕ, zero, suc, List, [], ◌∷◌, length, take, fold, slice_index_or, arith}
+use Rattle.std.proofs.Common.{◌≤◌, ◌<◌, ◌++◌, ℕ, zero, suc, List, [], ◌∷◌, length, take, fold, slice_index_or, arith}
 
 module _ {S A : Type 0} (f : S → A → S) (height : S → ℕ) (rises : (s : S) (x : A) → height s ≤ height (f s x)) where
   pub fold_rises : (xs : List A) (s : S) → height s ≤ height (fold f s xs)
@@ -11,3 +11,8 @@ module _ {S A : Type 0} (f : S → A → S) (height : S → ℕ) (rises : (s : S
   reaches [] i s d most lt h = absurd (grind (arith, lt))
   reaches (x ∷ xs) zero s d most lt h = grind (arith, h, fold_rises xs (f s x))
   reaches (x ∷ xs) (suc i) s d most lt h = reaches xs i (f s x) d most (grind (arith, lt)) h
+
+  -- the same where what is done and what is left are named
+  pub reaches_on : (done : List A) (x : A) (rest : List A) (s : S) (most : ℕ) → most ≤ height (f (fold f s done) x) → most ≤ height (fold f s (done ++ x ∷ rest))
+  reaches_on [] x rest s most h = grind (arith, h, fold_rises rest (f s x))
+  reaches_on (d ∷ done) x rest s most h = reaches_on done x rest (f s d) most h

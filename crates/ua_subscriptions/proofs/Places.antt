@@ -1,5 +1,5 @@
 -- Places only rise while what comes to subscriptions fires rows.
-use Rattle.std.proofs.Common.{◌≡◌, ◌≤◌, ◌<◌, ℕ, ◌^◌, Bool, true, false, List, [], length, take, slice_index, Option, Some, None, Err, refl, arith, cond, subst}
+use Rattle.std.proofs.Common.{◌≡◌, ◌≤◌, ◌<◌, ◌++◌, ◌∷◌, ℕ, ◌^◌, Bool, true, false, List, [], length, take, slice_index, Option, Some, None, Err, refl, arith, cond, subst}
 use Rattle.ua_state_table.specs.StateTable.{actions_of}
 use Rattle.ua_state_table.specs.declared.row.RowId.{RowId}
 use Rattle.ua_types.specs.declared.status.Status.{Status}
@@ -18,7 +18,7 @@ use Rattle.ua_subscriptions.specs.Named.{Outcome, outcome, Comes, own_met, named
 use Rattle.ua_subscriptions.specs.Scenes.{Scene, scene, row_done, is_overspent}
 use Rattle.ua_subscriptions.specs.Tables.{met_found, part_of, World, with_call, met, meet_each, all_met, part_at, subscription_at, Meets}
 use Rattle.ua_subscriptions.proofs.Doings.{all_place}
-use Rattle.ua_subscriptions.proofs.Folding.{fold_rises, reaches}
+use Rattle.ua_subscriptions.proofs.Folding.{fold_rises, reaches, reaches_on}
 
 row_place : (row : RowId) (c : Scene) → c.round.message_count ≤ (row_done row c).round.message_count
 unfolding row_done
@@ -60,12 +60,14 @@ own_place session call w number = own_place_by (is_own w.table session number) _
 named_place : (session : ℕ) (call : Call) (before : Outcome (List Status)) (number : ℕ) → before.world.round.message_count ≤ (named_one session call before number).world.round.message_count
 named_place session call before number = own_place session call before.world number
 
-named_spent_at : (session : ℕ) (call : Call) (numbers : List ℕ) (i : ℕ) (w : World) → i < length numbers → is_overspent (own_met session call (named_all session call w (take i numbers)).world (slice_index numbers i)).world.round ≡ true → is_overspent (named_all session call w numbers).world.round ≡ true
-named_spent_at session call numbers i w lt h = grind (arith, reaches (named_one session call) (λ o. o.world.round.message_count) (named_place session call) numbers i (outcome [] w) 0 (2 ^ 64) lt (grind (arith, h)))
+named_spent_at : (session : ℕ) (call : Call) (done : List ℕ) (number : ℕ) (rest : List ℕ) (w : World) → is_overspent (own_met session call (named_all session call w done).world number).world.round ≡ true → is_overspent (named_all session call w (done ++ number ∷ rest)).world.round ≡ true
+named_spent_at session call done number rest w h = grind (arith, reaches_on (named_one session call) (λ o. o.world.round.message_count) (named_place session call) done number rest (outcome [] w) (2 ^ 64) (grind (arith, h)))
 
-pub named_stops : (halt : Halt) (session : ℕ) (call : Call) (numbers : List ℕ) (i : ℕ) (w before new all : World) (results : List Status) → outcome results before ≡ named_all session call w (take i numbers) → i < length numbers → Comes {A = Status} (Err halt) new (own_met session call before (slice_index numbers i)) → Comes {A = List Status} (Err halt) all (named_all session call w numbers)
-named_stops Memory session call numbers i w before new all results so_far lt h = tt
-named_stops Exhausted session call numbers i w before new all results so_far lt h = named_spent_at session call numbers i w lt (subst (λ o. is_overspent (own_met session call o.world (slice_index numbers i)).world.round ≡ true) so_far h)
+pub named_stops : (halt : Halt) (session : ℕ) (call : Call) (done : List ℕ) (number : ℕ) (rest numbers : List ℕ) (w before new all : World) (results : List Status) → outcome results before ≡ named_all session call w done → done ++ number ∷ rest ≡ numbers → Comes {A = Status} (Err halt) new (own_met session call before number) → Comes {A = List Status} (Err halt) all (named_all session call w numbers)
+named_stops Memory session call done number rest numbers w before new all results so_far whole h = tt
+named_stops Exhausted session call done number rest numbers w before new all results so_far whole h =
+    subst (λ (list : List ℕ). is_overspent (named_all session call w list).world.round ≡ true) whole
+    (named_spent_at session call done number rest w (subst (λ o. is_overspent (own_met session call o.world number).world.round ≡ true) so_far h))
 
 left_place_by : (none : Bool) (session : ℕ) (w : World) → (cond none (all_refused session status.BAD_NO_SUBSCRIPTION w) w).round.message_count ≡ w.round.message_count
 unfolding all_refused

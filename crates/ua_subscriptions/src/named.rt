@@ -7,6 +7,7 @@ ghost use Rattle.ua_subscriptions.specs.Named.{is_own as is_own_spec, is_own_in,
 ghost use Rattle.ua_subscriptions.specs.Answers.{refused_of};
 ghost use Rattle.ua_subscriptions.specs.Tables.{world, subscription_at};
 ghost use Rattle.ua_monitored_items.specs.Items.{ItemsState};
+ghost use Rattle.ua_views.specs.Views.{or_none};
 
 use crate::call::Call;
 use crate::publish_call::PublishCall;
@@ -21,6 +22,7 @@ use std::collections::BTreeMap;
 use std::mem::replace;
 use ua_monitored_items::Items;
 use ua_types::{Listed, Status};
+use ua_views::ArrayView;
 
 /// Answers requests with a fault, the oldest first.
 pub(crate) fn refuse_requests(
@@ -89,14 +91,14 @@ impl LiveSubscriptions {
         round: &mut Round,
         items: &mut Items,
         session: u32,
-        numbers: &[u32],
+        numbers: ArrayView<'_, u32>,
         call: Call,
     ) -> Result<Listed<Status>, Halt>
-        ensures { Comes result (world round.new self.new items.new) (named_all session call (world round.old self.old items.old) numbers.now) }
+        ensures { Comes result (world round.new self.new items.new) (named_all session call (world round.old self.old items.old) (or_none numbers.entry)) }
     {
         let mut results = Listed::new(alloc);
         for number in numbers {
-            match self.fire_own(alloc, round, items, session, *number, call) {
+            match self.fire_own(alloc, round, items, session, number, call) {
                 Ok(status) => results.push(status)?,
                 Err(halt) => return Err(halt),
             }
@@ -137,9 +139,9 @@ impl LiveSubscriptions {
         round: &mut Round,
         items: &mut Items,
         session: u32,
-        numbers: &[u32],
+        numbers: ArrayView<'_, u32>,
     ) -> Result<Listed<Status>, Halt>
-        ensures { Comes result (world round.new self.new items.new) (deleted session (world round.old self.old items.old) numbers.now) }
+        ensures { Comes result (world round.new self.new items.new) (deleted session (world round.old self.old items.old) (or_none numbers.entry)) }
     {
         match self.fire_named(alloc, round, items, session, numbers, Call::Delete) {
             Ok(results) => {

@@ -43,7 +43,7 @@ impl PublishCall {
         if numbers.len() >= 1 << 31 || results.len() >= 1 << 31 {
             return Err(AllocError);
         }
-        let header = ResponseHeader::new(self.handle, Status(0), clock);
+        let header = ResponseHeader::good(self.handle, clock);
         let body = publish_body(
             alloc,
             &header,

@@ -7,6 +7,7 @@ ghost use Rattle.ua_subscriptions.specs.declared.askers.Asker.{Asker as AskerLem
 ghost use Rattle.ua_subscriptions.specs.declared.due_list.Due.{Due as DueLem};
 ghost use Rattle.ua_subscriptions.specs.Publishing.{acknowledged, acknowledged_all, note_of, without_note, note_told, answered_to, published};
 ghost use Rattle.ua_subscriptions.specs.Tables.{world, Meets};
+ghost use Rattle.ua_views.specs.Views.{or_none};
 
 use crate::call::Call;
 use crate::kept::Kept;
@@ -23,6 +24,7 @@ use std::collections::BTreeMap;
 use ua_monitored_items::Items;
 use ua_subscription_messages::SubscriptionAcknowledgement;
 use ua_types::{Listed, Status};
+use ua_views::ArrayView;
 
 #[tactic(auto, unfolding(crate::specs::Publishing::acknowledged))]
 fn acknowledge(
@@ -54,15 +56,15 @@ fn acknowledge_all(
     alloc: Global,
     subscriptions: &mut BTreeMap<u32, Subscription>,
     session: u32,
-    acknowledgements: &[SubscriptionAcknowledgement],
+    acknowledgements: ArrayView<'_, SubscriptionAcknowledgement>,
 ) -> Result<Listed<Status>, AllocError>
-    ensures results { IfOk result (λ results. results ≡ (acknowledged_all session subscriptions.old.entries acknowledgements.now).results) }
-    ensures subscriptions { OnOk result (subscriptions.new.entries ≡ (acknowledged_all session subscriptions.old.entries acknowledgements.now).subscriptions) }
+    ensures results { IfOk result (λ results. results ≡ (acknowledged_all session subscriptions.old.entries (or_none acknowledgements.entry)).results) }
+    ensures subscriptions { OnOk result (subscriptions.new.entries ≡ (acknowledged_all session subscriptions.old.entries (or_none acknowledgements.entry)).subscriptions) }
     ensures listed { (dues : List DueLem) → AreListed subscriptions.old.entries dues → AreListed subscriptions.new.entries dues }
 {
     let mut results = Listed::new(alloc);
     for acknowledgement in acknowledgements {
-        results.push(acknowledge(subscriptions, session, *acknowledgement))?;
+        results.push(acknowledge(subscriptions, session, acknowledgement))?;
     }
     Ok(results)
 }
@@ -135,9 +137,9 @@ impl LiveSubscriptions {
         items: &mut Items,
         session: u32,
         call: PublishCall,
-        acknowledgements: &[SubscriptionAcknowledgement],
+        acknowledgements: ArrayView<'_, SubscriptionAcknowledgement>,
     ) -> Result<(), Halt>
-        ensures { Meets result (world round.new self.new items.new) (published session call acknowledgements.now (world round.old self.old items.old)) }
+        ensures { Meets result (world round.new self.new items.new) (published session call (or_none acknowledgements.entry) (world round.old self.old items.old)) }
     {
         let subscriptions = &mut self.subscriptions;
         let results = acknowledge_all(alloc, subscriptions, session, acknowledgements)?;

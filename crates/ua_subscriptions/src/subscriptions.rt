@@ -11,6 +11,7 @@ ghost use Rattle.ua_subscriptions.specs.Scenes.{is_overspent};
 ghost use Rattle.ua_subscriptions.specs.SubscriptionCalls.{no_subscriptions, round_of, world_of, settled as settled_spec, Serves, said, told, is_full as is_full_spec, refused, created_one, created};
 ghost use Rattle.ua_subscriptions.specs.Tables.{no_table, met, subscription_at, vars_found, kept_found};
 ghost use Rattle.ua_subscriptions.specs.declared.call.Call.TheVariants.{Items as ItemsCall, SetMode};
+ghost use Rattle.ua_views.specs.Views.{or_none};
 
 use crate::answered::Answered;
 use crate::call::Call;
@@ -28,6 +29,7 @@ use ua_monitored_items::Items;
 use ua_state_table::Vars;
 use ua_subscription_messages::SubscriptionAcknowledgement;
 use ua_types::{Config, Listed, Moment, Status};
+use ua_views::ArrayView;
 
 /// A subscription that was made.
 #[derive(Clone, Copy, Debug, PartialEq, Eq, Drop)]
@@ -250,10 +252,10 @@ impl Subscriptions {
         items: &mut Items,
         clock: Moment,
         session: u32,
-        numbers: &[u32],
+        numbers: ArrayView<'_, u32>,
         enabled: bool,
     ) -> Result<Answered<Listed<Status>>, Halt>
-        ensures { Serves result self.old self.new items.new (said self.old (named_all session (SetMode enabled) (world_of self.old items.old clock) numbers.now)) }
+        ensures { Serves result self.old self.new items.new (said self.old (named_all session (SetMode enabled) (world_of self.old items.old clock) (or_none numbers.entry))) }
     {
         if let Some(halt) = self.halted {
             return Err(halt);
@@ -277,9 +279,9 @@ impl Subscriptions {
         items: &mut Items,
         clock: Moment,
         session: u32,
-        numbers: &[u32],
+        numbers: ArrayView<'_, u32>,
     ) -> Result<Answered<Listed<Status>>, Halt>
-        ensures { Serves result self.old self.new items.new (said self.old (deleted session (world_of self.old items.old clock) numbers.now)) }
+        ensures { Serves result self.old self.new items.new (said self.old (deleted session (world_of self.old items.old clock) (or_none numbers.entry))) }
     {
         if let Some(halt) = self.halted {
             return Err(halt);
@@ -304,9 +306,9 @@ impl Subscriptions {
         clock: Moment,
         session: u32,
         call: PublishCall,
-        acknowledgements: &[SubscriptionAcknowledgement],
+        acknowledgements: ArrayView<'_, SubscriptionAcknowledgement>,
     ) -> Result<Answered<()>, Halt>
-        ensures { Serves result self.old self.new items.new (told self.old (published session call acknowledgements.now (world_of self.old items.old clock))) }
+        ensures { Serves result self.old self.new items.new (told self.old (published session call (or_none acknowledgements.entry) (world_of self.old items.old clock))) }
     {
         if let Some(halt) = self.halted {
             return Err(halt);

@@ -5,8 +5,8 @@ use Rattle.ua_binary.specs.declared.fault.TakeFault.{TakeFault}
 use Rattle.ua_binary.specs.declared.fault.TakeFault.TheVariants.{Memory}
 use Rattle.ua_binary.specs.Reading.{Reading, Reads, go_on}
 use Rattle.ua_binary.specs.Arrays.{elements_reading}
-use Rattle.ua_walks.specs.Walks.{IsRead}
-use Rattle.ua_walks.proofs.Elements.{seen, was_seen}
+use Rattle.ua_views.specs.Passing.{IsRead}
+use Rattle.ua_views.proofs.Elements.{seen, was_seen}
 use Rattle.ua_views.specs.Views.{value_or, elements_at, AreThere, or_none, first_in}
 
 module _ {A : Type 0} where

@@ -5,7 +5,7 @@ ghost use Rattle.std.specs.Prelude.{◌≡◌, ◌≢◌, ◌<◌, ◌^◌, Err,
 ghost use Rattle.ua_binary.specs.declared.fault.TakeFault.TheVariants.{Memory};
 ghost use Rattle.ua_binary.specs.Arrays.{array_reading, elements_reading};
 ghost use Rattle.ua_views.specs.Views.{first_in, or_none};
-ghost use Rattle.ua_walks.specs.Walks.{Skips};
+ghost use Rattle.ua_views.specs.Passing.{Skips};
 
 use crate::view::{Readable, View};
 use std::marker::{Model, PhantomData};
@@ -118,10 +118,5 @@ impl<'a, T: View<'a>> View<'a> for ArrayView<'a, T> {
             at,
             element: PhantomData,
         })
-    }
-
-    fn pass(cursor: &mut Cursor<'a>) -> Result<(), TakeFault> {
-        Self::look(cursor)?;
-        Ok(())
     }
 }

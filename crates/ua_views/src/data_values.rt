@@ -12,7 +12,6 @@ use std::marker::Model;
 use ua_binary::{Cursor, TakeFault};
 use ua_types::{Moment, Status};
 use ua_values::DataValue;
-use ua_walks::Walk;
 
 /// A [`DataValue`] in the bytes that it stands in.
 #[derive(Debug)]
@@ -65,8 +64,9 @@ impl<'a> DataValueView<'a> {
     }
 }
 
-// Looks at a part where its bit is set.
+// Looks at a part where its bit is set. Inlined, as the values are that it looks at in a request's list.
 #[tactic(auto, unfolding(ua_binary::specs::DataValues::optional_reading))]
+#[inline(always)]
 fn look_where_set<'a, T: View<'a>>(bit: u8, cursor: &mut Cursor<'a>) -> Result<Option<T>, TakeFault>
     ensures reads { Reads result cursor.new (optional_reading bit T.reading cursor.old) }
     ensures no_memory { result ≢ Err Memory }
@@ -99,9 +99,5 @@ impl<'a> View<'a> for DataValueView<'a> {
             source_time,
             server_time,
         })
-    }
-
-    fn pass(cursor: &mut Cursor<'a>) -> Result<(), TakeFault> {
-        DataValue::skip(cursor)
     }
 }

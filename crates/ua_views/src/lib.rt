@@ -3,10 +3,11 @@
 //! [`ua_binary::Wire::take`] makes a value, and copies each text and list of it. A view ([`View::view`]) stands in
 //! its place where a value is only looked at: its texts and byte strings are slices of the bytes, a list
 //! ([`ArrayView`]) gives its elements one by one, and a Variant ([`VariantView`]) is read where a copy is made. No
-//! view takes memory, and `to_value` makes a copy to keep.
+//! view takes memory, and `to_value` makes a copy to keep. [`View::pass`] moves past a value, and keeps nothing of it.
 //!
 //! What a contract sees of a view is the value that `take` gives, by the one *reading* that both cite; so what is said
-//! of a request says the same of its view. `specs/Views.antt` says how a list stands in bytes.
+//! of a request says the same of its view. `specs/Views.antt` says how a list stands in bytes, `specs/Passing.antt` what is said of a
+//! value that is passed.
 //!
 //! Nothing here knows messages. A structure's view stands beside those of its service, in the crates above.
 //!
@@ -19,6 +20,7 @@ mod comparing;
 mod data_values;
 mod node_ids;
 mod parts;
+mod passing;
 mod scalars;
 mod structures;
 mod texts;

@@ -16,7 +16,6 @@ use std::alloc::{AllocError, Global};
 use std::marker::Model;
 use ua_binary::{Cursor, TakeFault};
 use ua_types::{ExpandedNodeId, Guid, Identifier, NodeId};
-use ua_walks::Walk;
 
 /// An [`Identifier`] in the bytes that it stands in.
 #[derive(Debug)]
@@ -200,10 +199,6 @@ impl<'a> View<'a> for NodeIdView<'a> {
         let form = cursor.byte()?;
         look_form(form, cursor)
     }
-
-    fn pass(cursor: &mut Cursor<'a>) -> Result<(), TakeFault> {
-        NodeId::skip(cursor)
-    }
 }
 
 /// An [`ExpandedNodeId`] in the bytes that it stands in.
@@ -250,9 +245,5 @@ impl<'a> View<'a> for ExpandedNodeIdView<'a> {
             namespace_uri: look_text_where_set(form / 128, cursor)?,
             server_index: look_number_where_set(form / 64 % 2, cursor)?,
         })
-    }
-
-    fn pass(cursor: &mut Cursor<'a>) -> Result<(), TakeFault> {
-        ExpandedNodeId::skip(cursor)
     }
 }

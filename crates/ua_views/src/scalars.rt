@@ -1,17 +1,19 @@
 //! Numbers and the like, which are the same looked at and read.
 
 ghost use Rattle.std.specs.Prelude.{◌≡◌, ◌≢◌, Err};
-ghost use Rattle.std.specs.Int.{w16, w32};
+ghost use Rattle.std.specs.Int.{w16, w32, w64};
 ghost use Rattle.ua_binary.specs.declared.fault.TakeFault.TheVariants.{Memory};
 ghost use Rattle.ua_binary.specs.Reading.{Reads};
-ghost use Rattle.ua_binary.specs.Numbers.{number_reading, boolean_reading};
+ghost use Rattle.ua_binary.specs.Numbers.{byte_reading, sbyte_reading, number_reading, signed_reading, boolean_reading};
+ghost use Rattle.ua_binary.specs.Floats.{float_reading, double_reading};
 ghost use Rattle.ua_binary.specs.Enumerations.{enumeration_reading};
+ghost use Rattle.ua_binary.specs.Guids.{guid_reading};
 ghost use Rattle.ua_binary.specs.Scalars.{moment_reading, status_reading, duration_reading};
 
 use crate::view::{Readable, View};
 use ua_binary::{Cursor, Enumeration, TakeFault};
-use ua_types::{Duration, Moment, Status};
-use ua_walks::Walk;
+use ua_types::{Duration, Guid, Moment, Status};
+use ua_values::{Double, Float};
 
 impl Readable for bool {
     ghost reading = { boolean_reading };
@@ -23,9 +25,15 @@ impl<'a> View<'a> for bool {
         let byte = cursor.byte()?;
         Ok(byte != 0)
     }
+}
 
-    fn pass(cursor: &mut Cursor<'a>) -> Result<(), TakeFault> {
-        bool::skip(cursor)
+impl Readable for u8 {
+    ghost reading = { byte_reading };
+}
+
+impl<'a> View<'a> for u8 {
+    fn look(cursor: &mut Cursor<'a>) -> Result<u8, TakeFault> {
+        cursor.byte()
     }
 }
 
@@ -37,10 +45,6 @@ impl<'a> View<'a> for u16 {
     fn look(cursor: &mut Cursor<'a>) -> Result<u16, TakeFault> {
         cursor.short_number()
     }
-
-    fn pass(cursor: &mut Cursor<'a>) -> Result<(), TakeFault> {
-        u16::skip(cursor)
-    }
 }
 
 impl Readable for u32 {
@@ -51,9 +55,73 @@ impl<'a> View<'a> for u32 {
     fn look(cursor: &mut Cursor<'a>) -> Result<u32, TakeFault> {
         cursor.number()
     }
+}
 
-    fn pass(cursor: &mut Cursor<'a>) -> Result<(), TakeFault> {
-        u32::skip(cursor)
+impl Readable for u64 {
+    ghost reading = { number_reading w64 };
+}
+
+impl<'a> View<'a> for u64 {
+    fn look(cursor: &mut Cursor<'a>) -> Result<u64, TakeFault> {
+        cursor.long_number()
+    }
+}
+
+impl Readable for i8 {
+    ghost reading = { sbyte_reading };
+}
+
+#[tactic(auto, unfolding(ua_binary::specs::Numbers::sbyte_reading))]
+impl<'a> View<'a> for i8 {
+    fn look(cursor: &mut Cursor<'a>) -> Result<i8, TakeFault> {
+        let byte = cursor.byte()?;
+        Ok(byte.cast_signed())
+    }
+}
+
+impl Readable for i16 {
+    ghost reading = { signed_reading w16 };
+}
+
+#[tactic(auto, unfolding(ua_binary::specs::Numbers::signed_reading))]
+impl<'a> View<'a> for i16 {
+    fn look(cursor: &mut Cursor<'a>) -> Result<i16, TakeFault> {
+        let number = cursor.short_number()?;
+        Ok(number.cast_signed())
+    }
+}
+
+impl Readable for i32 {
+    ghost reading = { signed_reading w32 };
+}
+
+#[tactic(auto, unfolding(ua_binary::specs::Numbers::signed_reading))]
+impl<'a> View<'a> for i32 {
+    fn look(cursor: &mut Cursor<'a>) -> Result<i32, TakeFault> {
+        let number = cursor.number()?;
+        Ok(number.cast_signed())
+    }
+}
+
+impl Readable for i64 {
+    ghost reading = { signed_reading w64 };
+}
+
+#[tactic(auto, unfolding(ua_binary::specs::Numbers::signed_reading))]
+impl<'a> View<'a> for i64 {
+    fn look(cursor: &mut Cursor<'a>) -> Result<i64, TakeFault> {
+        let number = cursor.long_number()?;
+        Ok(number.cast_signed())
+    }
+}
+
+impl Readable for Guid {
+    ghost reading = { guid_reading };
+}
+
+impl<'a> View<'a> for Guid {
+    fn look(cursor: &mut Cursor<'a>) -> Result<Guid, TakeFault> {
+        cursor.guid()
     }
 }
 
@@ -67,10 +135,6 @@ impl<'a> View<'a> for Moment {
         let number = cursor.long_number()?;
         Ok(Moment(number.cast_signed()))
     }
-
-    fn pass(cursor: &mut Cursor<'a>) -> Result<(), TakeFault> {
-        Moment::skip(cursor)
-    }
 }
 
 impl Readable for Status {
@@ -81,10 +145,6 @@ impl Readable for Status {
 impl<'a> View<'a> for Status {
     fn look(cursor: &mut Cursor<'a>) -> Result<Status, TakeFault> {
         Ok(Status(cursor.number()?))
-    }
-
-    fn pass(cursor: &mut Cursor<'a>) -> Result<(), TakeFault> {
-        Status::skip(cursor)
     }
 }
 
@@ -97,9 +157,27 @@ impl<'a> View<'a> for Duration {
     fn look(cursor: &mut Cursor<'a>) -> Result<Duration, TakeFault> {
         Ok(Duration(cursor.eight_octets()?))
     }
+}
 
-    fn pass(cursor: &mut Cursor<'a>) -> Result<(), TakeFault> {
-        Duration::skip(cursor)
+impl Readable for Float {
+    ghost reading = { float_reading };
+}
+
+#[tactic(auto, unfolding(ua_binary::specs::Floats::float_reading))]
+impl<'a> View<'a> for Float {
+    fn look(cursor: &mut Cursor<'a>) -> Result<Float, TakeFault> {
+        Ok(Float(cursor.four_octets()?))
+    }
+}
+
+impl Readable for Double {
+    ghost reading = { double_reading };
+}
+
+#[tactic(auto, unfolding(ua_binary::specs::Floats::double_reading))]
+impl<'a> View<'a> for Double {
+    fn look(cursor: &mut Cursor<'a>) -> Result<Double, TakeFault> {
+        Ok(Double(cursor.eight_octets()?))
     }
 }
 

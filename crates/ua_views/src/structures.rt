@@ -16,7 +16,6 @@ use std::alloc::{AllocError, Global};
 use std::marker::Model;
 use ua_binary::{Cursor, TakeFault};
 use ua_types::{ExtensionObject, ExtensionObjectBody, LocalizedText, QualifiedName};
-use ua_walks::Walk;
 
 /// A [`QualifiedName`] in the bytes that it stands in.
 #[derive(Debug, Drop)]
@@ -57,10 +56,6 @@ impl<'a> View<'a> for QualifiedNameView<'a> {
             namespace: u16::look(cursor)?,
             name: TextView::look(cursor)?,
         })
-    }
-
-    fn pass(cursor: &mut Cursor<'a>) -> Result<(), TakeFault> {
-        QualifiedName::skip(cursor)
     }
 }
 
@@ -104,10 +99,6 @@ impl<'a> View<'a> for LocalizedTextView<'a> {
             locale: look_text_where_set(mask % 2, cursor)?,
             text: look_text_where_set(mask / 2 % 2, cursor)?,
         })
-    }
-
-    fn pass(cursor: &mut Cursor<'a>) -> Result<(), TakeFault> {
-        LocalizedText::skip(cursor)
     }
 }
 
@@ -201,14 +192,12 @@ impl<'a> Readable for ExtensionObjectView<'a> {
 
 #[tactic(auto, unfolding(ua_binary::specs::ExtensionObjects::extension_object_reading))]
 impl<'a> View<'a> for ExtensionObjectView<'a> {
+    // Inlined into the loop over a request's list: a call for each element costs more than it does.
+    #[inline(always)]
     fn look(cursor: &mut Cursor<'a>) -> Result<ExtensionObjectView<'a>, TakeFault> {
         let type_id = NodeIdView::look(cursor)?;
         let form = cursor.byte()?;
         let body = look_body(form, cursor)?;
         Ok(ExtensionObjectView { type_id, body })
-    }
-
-    fn pass(cursor: &mut Cursor<'a>) -> Result<(), TakeFault> {
-        ExtensionObject::skip(cursor)
     }
 }

@@ -9,7 +9,6 @@ use std::alloc::{AllocError, Global};
 use std::marker::Model;
 use ua_binary::{Cursor, TakeFault};
 use ua_types::{ByteString, Text};
-use ua_walks::Walk;
 
 /// A [`Text`] in the bytes that it stands in.
 #[derive(Debug, Drop)]
@@ -88,10 +87,6 @@ impl<'a> View<'a> for TextView<'a> {
         let inside = cursor.text()?;
         Ok(TextView { inside })
     }
-
-    fn pass(cursor: &mut Cursor<'a>) -> Result<(), TakeFault> {
-        Text::skip(cursor)
-    }
 }
 
 /// A [`ByteString`] in the bytes that it stands in.
@@ -163,9 +158,5 @@ impl<'a> View<'a> for ByteStringView<'a> {
     fn look(cursor: &mut Cursor<'a>) -> Result<ByteStringView<'a>, TakeFault> {
         let inside = cursor.byte_string()?;
         Ok(ByteStringView { inside })
-    }
-
-    fn pass(cursor: &mut Cursor<'a>) -> Result<(), TakeFault> {
-        ByteString::skip(cursor)
     }
 }

@@ -7,12 +7,12 @@ ghost use Rattle.ua_values.specs.Shapes.{shape_of};
 ghost use Rattle.ua_values.specs.Variants.{type_number};
 ghost use Rattle.ua_views.specs.VariantBytes.{shape_announced};
 
+use crate::passing::pass_variant;
 use crate::view::{Readable, View};
 use std::alloc::{AllocError, Global};
 use std::marker::Model;
 use ua_binary::{Cursor, TakeFault, decode_variant};
 use ua_values::{Shape, Variant};
-use ua_walks::{Walk, skip_variant};
 
 /// A [`Variant`] in the bytes that it stands in.
 ///
@@ -79,7 +79,7 @@ impl<'a> VariantView<'a> {
     pub fn flat_len(&self) -> Option<u32>
         ensures { result ≡ flat_len self.now }
     {
-        match skip_variant(&mut Cursor::new(self.bytes)) {
+        match pass_variant(&mut Cursor::new(self.bytes)) {
             Ok(len) => len,
             Err(_) => unreachable!(),
         }
@@ -105,13 +105,11 @@ impl<'a> Readable for VariantView<'a> {
 }
 
 impl<'a> View<'a> for VariantView<'a> {
+    // Inlined into the loop over a request's list: a call for each element costs more than it does.
+    #[inline(always)]
     fn look(cursor: &mut Cursor<'a>) -> Result<VariantView<'a>, TakeFault> {
         let bytes = cursor.rest();
-        Variant::skip(cursor)?;
+        pass_variant(cursor)?;
         Ok(VariantView { bytes })
-    }
-
-    fn pass(cursor: &mut Cursor<'a>) -> Result<(), TakeFault> {
-        Variant::skip(cursor)
     }
 }

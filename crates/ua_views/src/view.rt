@@ -3,7 +3,7 @@
 ghost use Rattle.std.specs.Prelude.{◌≡◌, ◌≢◌, Err, OnErr};
 ghost use Rattle.ua_binary.specs.declared.fault.TakeFault.TheVariants.{Memory};
 ghost use Rattle.ua_binary.specs.Reading.{Reading, Reads};
-ghost use Rattle.ua_walks.specs.Walks.{Skips};
+ghost use Rattle.ua_views.specs.Passing.{Skips};
 
 use ua_binary::{Cursor, TakeFault};
 
@@ -21,7 +21,7 @@ pub trait Readable {
 /// reading. So what is said of the value holds of the view. No call takes memory.
 ///
 /// Callers use [`View::view`], which at an `Err` leaves the cursor as it was. Implementors write `look`, a plain chain
-/// of `?` over the fields, and `pass`, the walk over the value's own type.
+/// of `?` over the fields.
 pub trait View<'a>: Readable + Drop {
     /// Looks at the fields in order. At an `Err`, the first fault, the cursor stands where the fault is.
     fn look(cursor: &mut Cursor<'a>) -> Result<Self, TakeFault>
@@ -30,9 +30,14 @@ pub trait View<'a>: Readable + Drop {
 
     /// Moves past the fields in order, for a caller that keeps no view. At an `Err`, the first fault, the cursor stands where the fault
     /// is.
-    fn pass(cursor: &mut Cursor<'a>) -> Result<(), TakeFault>
+    #[inline(always)]
+    final fn pass(cursor: &mut Cursor<'a>) -> Result<(), TakeFault>
         ensures skips { Skips result cursor.new (Self.reading cursor.old) }
-        ensures no_memory { result ≢ Err Memory };
+        ensures no_memory { result ≢ Err Memory }
+    {
+        Self::look(cursor)?;
+        Ok(())
+    }
 
     /// Looks at a value and moves past it; what follows it isn't looked at.
     ///

@@ -12,6 +12,7 @@ ghost use Rattle.ua_subscriptions.specs.Ending.{shut_down, without_conn};
 ghost use Rattle.ua_subscriptions.specs.Making.{republished, timed};
 ghost use Rattle.ua_subscriptions.specs.Publishing.{published};
 ghost use Rattle.ua_subscriptions.specs.SubscriptionCalls.{Serves, said, told, world_of};
+ghost use Rattle.ua_views.specs.Views.{or_none};
 
 use bytes::Bytes;
 use server_messages::Halt;
@@ -24,6 +25,7 @@ use ua_space::Space;
 use ua_subscription_messages::SubscriptionAcknowledgement;
 use ua_subscriptions::{Answered, PublishCall, Subscriptions};
 use ua_types::{Moment, Refusal, Status};
+use ua_views::ArrayView;
 
 /// As [`browse_next`].
 pub fn page_given<'a>(
@@ -59,9 +61,9 @@ pub fn publish_taken(
     clock: Moment,
     session: u32,
     call: PublishCall,
-    acknowledgements: &[SubscriptionAcknowledgement],
+    acknowledgements: ArrayView<'_, SubscriptionAcknowledgement>,
 ) -> Result<Answered<()>, Halt>
-    ensures { Serves result subscriptions.old subscriptions.new items.new (told subscriptions.old (published session call acknowledgements.now (world_of subscriptions.old items.old clock))) }
+    ensures { Serves result subscriptions.old subscriptions.new items.new (told subscriptions.old (published session call (or_none acknowledgements.entry) (world_of subscriptions.old items.old clock))) }
 {
     subscriptions.publish(alloc, items, clock, session, call, acknowledgements)
 }

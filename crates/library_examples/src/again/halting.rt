@@ -9,9 +9,12 @@ use std::alloc::Global;
 use std::io::Write;
 use std::rt::Files;
 use std::{fs, io};
+use ua_binary::Cursor;
 use ua_monitored_items::Items;
-use ua_subscriptions::{PublishCall, Settings, Subscriptions};
+use ua_subscription_messages::SubscriptionAcknowledgement;
+use ua_subscriptions::{Answered, PublishCall, Settings, Subscriptions};
 use ua_types::{Config, Listed, Moment};
+use ua_views::{ArrayView, View};
 
 /// Writes how many events a scenario brings.
 pub(super) fn write_scenario<R: Files + AllocGlobal>(
@@ -54,6 +57,28 @@ const SETTINGS: Settings = Settings {
     priority: 0,
 };
 
+// The bytes of a list that is null.
+const NULL_LIST: &[u8] = &[0xff; 4];
+
+// Has a Publish taken that acknowledges nothing.
+fn publish(
+    alloc: Global,
+    subscriptions: &mut Subscriptions,
+    items: &mut Items,
+    id: u32,
+) -> Result<Answered<()>, Halt> {
+    let call = PublishCall {
+        conn: 1,
+        id,
+        handle: id,
+        results: Listed::new(alloc),
+    };
+    match ArrayView::<SubscriptionAcknowledgement>::view(&mut Cursor::new(NULL_LIST)) {
+        Ok(none) => subscriptions.publish(alloc, items, Moment(0), 1, call, none),
+        Err(_) => Err(Halt::Exhausted),
+    }
+}
+
 // Whether each call is answered, or want of memory from one on.
 fn go_on(alloc: Global, subscriptions: &mut Subscriptions, items: &mut Items) -> bool {
     let now = Moment(0);
@@ -62,13 +87,7 @@ fn go_on(alloc: Global, subscriptions: &mut Subscriptions, items: &mut Items) ->
     for id in 1..4 {
         let created = subscriptions.create(alloc, items, now, 1, SETTINGS, true);
         so = goes_on(&mut halted, created) && so;
-        let call = PublishCall {
-            conn: 1,
-            id,
-            handle: id,
-            results: Listed::new(alloc),
-        };
-        let published = subscriptions.publish(alloc, items, now, 1, call, &[]);
+        let published = publish(alloc, subscriptions, items, id);
         so = goes_on(&mut halted, published) && so;
         let modified = subscriptions.modify(alloc, items, now, 1, 1, SETTINGS);
         so = goes_on(&mut halted, modified) && so;

@@ -13,12 +13,13 @@ use ua_monitored_items::Items;
 use ua_read_write::{Change, Timestamps};
 use ua_space::Space;
 use ua_subscription_messages::{
-    DataChangeMessage, DataChangeNotification, MonitoredItemCreateRequest,
-    MonitoredItemCreateResult, MonitoredItemModifyRequest, MonitoredItemNotification,
-    NotificationMessage,
+    DataChangeMessage, DataChangeNotification, MonitoredItemCreateRequestView,
+    MonitoredItemCreateResult, MonitoredItemModifyRequestView, MonitoredItemModifyResult,
+    MonitoredItemNotification, NotificationMessage,
 };
-use ua_types::{Array, Moment, NodeId, Status};
+use ua_types::{Moment, NodeId, Status};
 use ua_values::{Content, DataValue, Variant};
+use ua_views::{ArrayView, View};
 
 // Two items, of Count and of Speed, which report up to three values each; and for both a queue of one value.
 const CREATED: &str =
@@ -27,15 +28,9 @@ const CREATED: &str =
 const MODIFIED: &str =
     "02000000010000000100000000000000000000000000000100000001020000000200000000000000000000000000000100000001";
 
-// The entries of a request.
-fn entries<T: Wire + Drop>(alloc: Global, digits: &str) -> io::Result<Vec<T>> {
-    let Ok(bytes) = hex::decode(alloc, digits) else {
-        return Err(failed());
-    };
-    match Array::<T>::take(alloc, &mut Cursor::new(bytes.as_slice())) {
-        Ok(list) => Ok(list.into_vec().unwrap_or(Vec::new(alloc))),
-        Err(_) => Err(failed()),
-    }
+// The bytes of a request's list.
+fn bytes_of(alloc: Global, digits: &str) -> io::Result<Vec<u8>> {
+    hex::decode(alloc, digits).map_err(|_| failed())
 }
 
 fn create(
@@ -43,9 +38,12 @@ fn create(
     items: &mut Items,
     space: &Space,
 ) -> io::Result<Result<Vec<MonitoredItemCreateResult>, AllocError>> {
-    let requests = entries::<MonitoredItemCreateRequest>(alloc, CREATED)?;
-    let both = Timestamps::Both;
-    Ok(items.create(alloc, space, Moment(0), 1, both, requests))
+    let bytes = bytes_of(alloc, CREATED)?;
+    let mut cursor = Cursor::new(bytes.as_slice());
+    match ArrayView::<MonitoredItemCreateRequestView<'_>>::view(&mut cursor) {
+        Ok(requests) => Ok(items.create(alloc, space, Moment(0), 1, Timestamps::Both, requests)),
+        Err(_) => Err(failed()),
+    }
 }
 
 // What becomes of the items that are made.
@@ -70,13 +68,23 @@ fn write_created(
     Ok(())
 }
 
+fn modify(
+    alloc: Global,
+    items: &mut Items,
+) -> io::Result<Result<Vec<MonitoredItemModifyResult>, AllocError>> {
+    let bytes = bytes_of(alloc, MODIFIED)?;
+    let mut cursor = Cursor::new(bytes.as_slice());
+    match ArrayView::<MonitoredItemModifyRequestView<'_>>::view(&mut cursor) {
+        Ok(requests) => Ok(items.modify(alloc, 1, Timestamps::Both, requests)),
+        Err(_) => Err(failed()),
+    }
+}
+
 // What becomes of the items that are changed.
 fn write_modified(alloc: Global, items: &mut Items, output: &mut Vec<u8>) -> io::Result<()> {
-    let requests = entries::<MonitoredItemModifyRequest>(alloc, MODIFIED)?;
-    let requests = requests.as_slice();
-    let mut modified = items.modify(alloc, 1, Timestamps::Both, requests);
+    let mut modified = modify(alloc, items)?;
     if modified.is_err() {
-        modified = items.modify(alloc, 1, Timestamps::Both, requests);
+        modified = modify(alloc, items)?;
     }
     let Ok(results) = modified else {
         return output.write_all(TWICE);

@@ -8,7 +8,7 @@ use std::rt::Files;
 use std::{fs, io};
 use ua_binary::Cursor;
 use ua_read_write::write as write_values;
-use ua_service_views::WriteValueView;
+use ua_service_messages::WriteValueView;
 use ua_space::{Node, NodeDetails, Space, SpaceFault};
 use ua_types::{Moment, NodeId};
 use ua_views::{ArrayView, View};

@@ -1,5 +1,6 @@
 use Rattle.std.proofs.Common.{◌≡◌, ◌∙◌, ◌++◌, Ok, length, arith, ap, refl, subst}
 use Rattle.std.specs.List.{flat_map}
+use Rattle.std.proofs.lemmas.Result.{err_from_is_err_and}
 use Rattle.number_slots.proofs.NumberMaps.{lent_found, given_back}
 use Rattle.ua_messages.specs.Diagnostics.{diagnostic_infos_encoding}
 use Rattle.ua_session.specs.Points.{GivesInRange}
@@ -13,8 +14,8 @@ use Rattle.ua_services.proofs.paging.serve_pages.Goals as goal
 pub unreachable-requires : goal.unreachable-requires
 unreachable-requires g c = some_lent c.args.services.now.sessions c.open_points.new.self c.args.session _ c.points_mut.result c.in_ok-open_points.ensures.ok c.points_mut.ensures.found c.in_default.is
 
-pub returns-in_ok-answer-in-Ok : goal.returns-in_ok-answer-in-Ok
-returns-in_ok-answer-in-Ok g c =
+pub returns : goal.returns
+returns g c =
     let encoding = g.P.Answer.Wire.encoding in
     let setting = c.args.setting.now in
     let caller = c.args.caller.now in
@@ -26,7 +27,7 @@ returns-in_ok-answer-in-Ok g c =
     let found = lent_found c.points_mut.result _ c.in-Some.points c.in-Some.is c.points_mut.ensures.found in
     let same = lent_points state.sessions c.open_points.new.self c.args.session _ _ c.in_ok-open_points.ensures.ok found in
     let did : DoesAll encoding (Ok tt) c.in_ok-body.body c.all_pages.new.body before c.all_pages.new.points done =
-    subst (λ p. DoesAll encoding (Ok tt) c.in_ok-body.body c.all_pages.new.body p c.all_pages.new.points (all_done meaning p list)) same c.in-Ok.ensures in
+    subst (λ p. DoesAll encoding (Ok tt) c.in_ok-body.body c.all_pages.new.body p c.all_pages.new.points (all_done meaning p list)) same c.in_ok-all_pages.ensures in
     let head : c.in_ok-body.body ≡ results_head_of setting caller g.P.Pages.RESPONSE c.len.result = rw c.response.ensures at c.in_ok-body.ensures in
     let counted = all_counted meaning before list in
     let count : length done.results ≡ c.len.result = omega (arith, counted, c.len.ensures.len) in
@@ -36,14 +37,15 @@ returns-in_ok-answer-in-Ok g c =
     served_all encoding setting caller c.args.session g.P.Pages.RESPONSE state c.open_points.new.self _ _ done done
     c.in_ok-open_points.ensures.ok
     (given_back _ c.points_mut.result c.in-Some.points c.in-Some.is (c.points_mut.follows.holds c.all_pages.new.points) ∙ ap (with_points c.open_points.new.self c.args.session) did.1)
-    (c.in_ok-answer-in-Ok.ensures ∙ ap (λ b. replied (reply_of caller b)) body)
+    (c.in_ok-answer.ensures ∙ ap (λ b. replied (reply_of caller b)) body)
     refl
     (subst (GivesInRange before) did.1 did.2)
 
-pub returns-in-Err : goal.returns-in-Err
-returns-in-Err g c =
+pub returns-in_err-all_pages : goal.returns-in_err-all_pages
+returns-in_err-all_pages g c =
     let found = lent_found c.points_mut.result _ c.in-Some.points c.in-Some.is c.points_mut.ensures.found in
     let same = lent_points c.args.services.now.sessions c.open_points.new.self c.args.session _ _ c.in_ok-open_points.ensures.ok found in
     let meaning = g.P.Pages.meaning c.args.wanted.now c.args.services.now.space c.args.services.now.history in
-    halted_all g.P.Answer.Wire.encoding c.args.setting.now c.args.caller.now c.args.session g.P.Pages.RESPONSE c.args.services.now _ c.in-Err.halt _
-    (subst (λ p. Halts c.in-Err.halt p (all_done meaning p (or_none c.args.list)).points) same c.in-Err.ensures)
+    let p = err_from_is_err_and c.from_residual-in_err-all_pages.result c.from_residual-in_err-all_pages.ensures.1 in
+    rw (p.1, p.2) (halted_all g.P.Answer.Wire.encoding c.args.setting.now c.args.caller.now c.args.session g.P.Pages.RESPONSE c.args.services.now _ c.in_err-all_pages.field-0.0 _
+    (subst (λ p. Halts c.in_err-all_pages.field-0.0 p (all_done meaning p (or_none c.args.list)).points) same c.in_err-all_pages.ensures))

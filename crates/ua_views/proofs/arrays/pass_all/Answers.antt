@@ -1,7 +1,7 @@
 use Rattle.std.proofs.Common.{refl}
 use Rattle.std.proofs.lemmas.Result.{err_from_is_err_and}
 use Rattle.ua_binary.specs.Arrays.{elements_reading}
-use Rattle.ua_walks.proofs.Elements.{seen, walks_on, walk_ends, walk_is_done, was_faulty}
+use Rattle.ua_views.proofs.Elements.{seen, walks_on, walk_ends, walk_is_done, was_faulty}
 use Rattle.ua_views.proofs.Looking.{unseen, was_read}
 use Rattle.ua_views.proofs.arrays.pass_all.Goals as goal
 

@@ -1,6 +1,6 @@
 use Rattle.std.proofs.Common.{◌≡◌, ◌-◌}
 use Rattle.ua_binary.specs.Arrays.{elements_reading}
-use Rattle.ua_walks.proofs.Elements.{seen}
+use Rattle.ua_views.proofs.Elements.{seen}
 use Rattle.ua_views.proofs.Looking.{unseen}
 use Rattle.ua_views.proofs.arrays.pass_all.Given as goal
 

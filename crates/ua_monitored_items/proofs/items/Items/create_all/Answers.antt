@@ -1,5 +1,5 @@
 use Rattle.std.proofs.Common.{◌∷◌, [], ◌++◌, arith, length, ap, sym, ◌∙◌, append_assoc}
-use Rattle.std.specs.Vec.Iter.{into_iter_items}
+use Rattle.ua_views.specs.Views.{or_none}
 use Rattle.ua_monitored_items.specs.Items.{create_one}
 use Rattle.ua_monitored_items.proofs.Serving.{results_then, state_then}
 use Rattle.ua_monitored_items.proofs.Undoing.{undone_then}
@@ -10,11 +10,11 @@ loop-request-preserved c =
     let serve = create_one c.args.space.now.nodes c.args.clock c.args.subscription c.args.timestamps in
     let front = c.loop-request.yielded in
     let x = c.in-Some.request in
-    let rest = into_iter_items c.next.new.self in
+    let rest = or_none c.next.new.self in
     let before = c.loop-request.invariant in
     let old = c.args.self.now in
     let mid = c.loop-request.self in
-    let next = c.in-Some.ensures.steps.0 in
+    let next = c.in-Some.ensures.steps in
     let count = ap length next in
     record {
       results = c.push_reserved.ensures.items ∙ results_then serve old mid front x c.loop-request.results.items c.in_ok-made.made before.results before.state c.in_ok-made.ensures.result;

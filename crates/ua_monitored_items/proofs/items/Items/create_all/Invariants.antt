@@ -1,6 +1,6 @@
 use Rattle.std.proofs.Common.{◌≡◌, ◌≤◌, ◌+◌, ◌++◌, length}
 use Rattle.std.specs.Vec.{vec_len, vec_capacity}
-use Rattle.std.specs.Vec.Iter.{into_iter_items}
+use Rattle.ua_views.specs.Views.{or_none}
 use Rattle.ua_monitored_items.specs.Items.{create_one, all_served}
 use Rattle.ua_monitored_items.specs.Undoing.{CanBeUndone}
 use Rattle.ua_monitored_items.proofs.items.Items.create_all.Given as goal
@@ -10,7 +10,7 @@ abbrev pub invariant-loop-request : goal.invariant-loop-request
 invariant-loop-request l = record {
   results : l.results.items ≡ (all_served (create_one l.space.nodes l.clock l.subscription l.timestamps) l.fn.self l.yielded).results;
   state : l.self ≡ (all_served (create_one l.space.nodes l.clock l.subscription l.timestamps) l.fn.self l.yielded).state;
-  left : l.yielded ++ into_iter_items l.request-iterator ≡ l.fn.requests.items;
+  left : l.yielded ++ or_none l.request-iterator ≡ or_none l.fn.requests;
   back : CanBeUndone l.fn.self l.self;
-  room : vec_len l.results + length (into_iter_items l.request-iterator) ≤ vec_capacity l.results;
+  room : vec_len l.results + length (or_none l.request-iterator) ≤ vec_capacity l.results;
 }

@@ -1,11 +1,13 @@
-use Rattle.std.proofs.Common.{◌≡◌, [], take}
+use Rattle.std.proofs.Common.{◌≡◌, ◌++◌, []}
 use Rattle.std.specs.Prelude.{fold}
+use Rattle.ua_views.specs.Views.{or_none}
 use Rattle.ua_monitored_items.specs.Links.{linked}
 use Rattle.ua_monitored_items.proofs.items.Items.link_all.Given as goal
 
--- so many are linked
+-- so many are linked, and the rest is left
 abbrev pub invariant-loop-number : goal.invariant-loop-number
 invariant-loop-number l = record {
-  statuses : l.statuses.items ≡ (fold (linked l.self l.fn.subscription l.fn.triggering) (record { statuses = []; numbers = l.fn.links }) (take l.number-index l.add)).statuses;
-  links : l.links ≡ (fold (linked l.self l.fn.subscription l.fn.triggering) (record { statuses = []; numbers = l.fn.links }) (take l.number-index l.add)).numbers;
+  statuses : l.statuses.items ≡ (fold (linked l.self l.fn.subscription l.fn.triggering) (record { statuses = []; numbers = l.fn.links }) l.yielded).statuses;
+  links : l.links ≡ (fold (linked l.self l.fn.subscription l.fn.triggering) (record { statuses = []; numbers = l.fn.links }) l.yielded).numbers;
+  left : l.yielded ++ or_none l.number-iterator ≡ or_none l.fn.add;
 }

@@ -1,6 +1,7 @@
 use Rattle.std.proofs.Common.{◌≡◌, ◌≤◌, ◌+◌, ◌++◌, length, map}
 use Rattle.std.specs.Vec.{vec_len, vec_capacity}
 use Rattle.std.specs.Vec.Iter.{into_iter_items}
+use Rattle.ua_views.specs.Views.{or_none}
 use Rattle.ua_monitored_items.specs.Items.{mode_one, all_served}
 use Rattle.ua_monitored_items.specs.Preparing.{AreReady}
 use Rattle.ua_monitored_items.specs.declared.preparing.Prepared.{Prepared}
@@ -11,7 +12,7 @@ abbrev pub invariant-loop-prepared : goal.invariant-loop-prepared
 invariant-loop-prepared l = record {
   results : l.results.items ≡ (all_served (mode_one l.space.nodes l.fn.clock l.subscription l.mode) l.fn.self (map (λ (e : Prepared). e.number) l.yielded)).results;
   state : l.self ≡ (all_served (mode_one l.space.nodes l.fn.clock l.subscription l.mode) l.fn.self (map (λ (e : Prepared). e.number) l.yielded)).state;
-  left : map (λ (e : Prepared). e.number) (l.yielded ++ into_iter_items l.prepared-iterator) ≡ l.numbers;
+  left : map (λ (e : Prepared). e.number) (l.yielded ++ into_iter_items l.prepared-iterator) ≡ or_none l.fn.numbers;
   ready : AreReady l.space.nodes l.fn.clock l.subscription l.mode l.self (into_iter_items l.prepared-iterator);
   room : vec_len l.results + length (into_iter_items l.prepared-iterator) ≤ vec_capacity l.results;
 }

@@ -1,7 +1,8 @@
-use Rattle.std.proofs.Common.{◌∷◌, [], ◌++◌, List, ℕ, map, take, slice_index_or, ap, sym, subst, ◌∙◌, append_assoc}
-use Rattle.std.proofs.lemmas.List.{map-append, take_more}
+use Rattle.std.proofs.Common.{◌∷◌, [], ◌++◌, List, ℕ, map, ap, sym, subst, ◌∙◌, append_assoc}
+use Rattle.std.proofs.lemmas.List.{map-append}
 use Rattle.std.proofs.lemmas.List.Sums.{fold-append}
 use Rattle.std.specs.BTreeSet.{insert_key}
+use Rattle.ua_views.specs.Views.{or_none}
 use Rattle.ua_monitored_items.specs.Items.{own_item}
 use Rattle.ua_monitored_items.specs.Preparing.{IsReady, AreReady}
 use Rattle.ua_monitored_items.specs.Releases.{release_cmp, with_releases, mode_releases, modes_release}
@@ -15,8 +16,8 @@ pub loop-number-preserved : goal.loop-number-preserved
 loop-number-preserved c =
     let es = c.loop-number.entries.items in
     let e = c.in_ok-prepared.prepared in
-    let xs = c.args.numbers.now in
-    let i = c.loop-number.number-index in
+    let done = c.loop-number.yielded in
+    let n = c.in-Some.number in
     let nodes = c.args.space.now.nodes in
     let number = λ (p : Prepared). p.number in
     record {
@@ -24,19 +25,17 @@ loop-number-preserved c =
           ap (map number) c.in_ok-push.ensures.items
           ∙ map-append number es (e ∷ [])
           ∙ ap (λ (ns : List ℕ). ns ++ e.number ∷ []) c.loop-number.invariant.numbers
-          ∙ ap (λ (n : ℕ). take i xs ++ n ∷ []) c.in_ok-prepared.ensures.number
-          ∙ sym (take_more xs i 0 c.loop-number-test.true);
+          ∙ ap (λ (n : ℕ). done ++ n ∷ []) c.in_ok-prepared.ensures.number;
       releases =
           let before = c.args.releases.now in
-          let n = slice_index_or xs i 0 in
           let one = mode_releases c.args.mode (own_item c.args.self.now c.args.subscription n) in
           c.in_ok-prepared.ensures.releases
           ∙ ap (λ (rs : List Release). with_releases rs one) c.loop-number.invariant.releases
-          ∙ sym (fold-append (insert_key release_cmp) before (modes_release c.args.self.now c.args.subscription c.args.mode (take i xs)) one)
-          ∙ ap (with_releases before) (sym (modes_more c.args.self.now c.args.subscription c.args.mode (take i xs) n))
-          ∙ ap (λ (ns : List ℕ). with_releases before (modes_release c.args.self.now c.args.subscription c.args.mode ns)) (sym (take_more xs i 0 c.loop-number-test.true));
+          ∙ sym (fold-append (insert_key release_cmp) before (modes_release c.args.self.now c.args.subscription c.args.mode done) one)
+          ∙ ap (with_releases before) (sym (modes_more c.args.self.now c.args.subscription c.args.mode done n));
       ready =
           subst (AreReady nodes c.args.clock c.args.subscription c.args.mode c.args.self.now) (sym c.in_ok-push.ensures.items)
           (ready_more nodes c.args.clock c.args.mode c.args.subscription c.args.self.now es e c.loop-number.invariant.ready
           (subst (λ (n : ℕ). IsReady nodes c.args.clock c.args.mode (own_item c.args.self.now c.args.subscription n) e.first) (sym c.in_ok-prepared.ensures.number) c.in_ok-prepared.ensures.ready));
+      left = append_assoc done (n ∷ []) (or_none c.next.new.self) ∙ ap (λ (list : List ℕ). done ++ list) (sym c.in-Some.ensures.steps) ∙ c.loop-number.invariant.left;
     }

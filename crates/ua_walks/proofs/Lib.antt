@@ -1,4 +1,0 @@
-pub mod Walking
-pub mod Elements
-pub mod Shapes
-pub mod Flat
