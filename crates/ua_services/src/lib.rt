@@ -7,8 +7,8 @@
 //! Each service is a type that is a [`Service`], by being a [`SessionService`] where it is one of a session, in a file of its
 //! own, and its meaning is a file of `specs/` with the same name. Each looks at its requests in the bytes that came. Those of
 //! monitored items are services of a session by what they do with the items (`item_serving.rt`), and those with continuation
-//! points say how they answer one thing (`paging.rt`). `specs/Serving` has what all of them share, `InSession` what those of a session begin with,
-//! `Services` the order in which a request is judged, and `Owing` to whom replies go. What the services leave of
+//! points say how they answer one thing (`paging.rt`). `specs/Serving` has what all of them share, `InSession` what those of a
+//! session begin with, `Services` the order in which a request is judged, and `Owing` to whom replies go. What the services leave of
 //! other sessions, and that each comes by calls of subscriptions and items, the crate `server_laws` says;
 //! `worked_examples` drives them.
 //!

@@ -13,7 +13,7 @@ use ua_binary::{Cursor, TakeFault};
 
 /// A list in the bytes that it stands in, or null (arrays, IEC 62541-6, 5.2.5).
 ///
-/// Its elements are looked at one by one, and contracts see those that are left. All of them were walked over once as the
+/// Its elements are looked at one by one, and contracts see those that are left. All of them were passed once as the
 /// list was looked at, so none can be faulty.
 #[derive(Debug, Drop)]
 pub struct ArrayView<'a, T: Readable> {

@@ -16,7 +16,7 @@ use ua_values::{Shape, Variant};
 
 /// A [`Variant`] in the bytes that it stands in.
 ///
-/// It was walked over once, so that it can be read. Its type and its shape stand in its first byte; its content is read
+/// It was passed once, so that it can be read. Its type and its shape stand in its first byte; its content is read
 /// where a copy is made.
 #[derive(Debug, Drop)]
 pub struct VariantView<'a> {
@@ -75,7 +75,7 @@ impl<'a> VariantView<'a> {
     }
 
     /// How many elements it has where it is a flat list: one that isn't null, and has at most one dimension. None of
-    /// everything else. Its content is walked over, without memory.
+    /// everything else. Its content is passed, without memory.
     pub fn flat_len(&self) -> Option<u32>
         ensures { result ≡ flat_len self.now }
     {
