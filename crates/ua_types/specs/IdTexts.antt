@@ -1,5 +1,5 @@
 -- The texts of node ids: what a text says, and the one text that is written for an id.
-use Rattle.std.specs.Prelude.{◌≡◌, ◌<◌, ℕ, ◌^◌, List, [], ◌∷◌, ◌++◌, ◌==◌, ◌&&◌, nat_lt, length, codes, Option, Some, None, Result, Ok, Err, if◌then◌else◌}
+use Rattle.std.specs.Prelude.{◌≡◌, ◌≢◌, ◌<◌, ℕ, ◌^◌, List, [], ◌∷◌, ◌++◌, ◌==◌, ◌&&◌, nat_lt, length, codes, Option, Some, None, Result, Ok, Err, if◌then◌else◌}
 use Rattle.std.specs.Option.{ok_or}
 use Rattle.std.specs.List.{before_first, after_first, list_all}
 use Rattle.std.specs.Char.{is_ascii_digit}
@@ -74,6 +74,11 @@ unspaced t = do
 -- the id that a text says, or its leftmost fault
 unfoldable pub id_of : List ℕ → Result NodeId IdFault
 id_of t = or_else (behind (codes "ns=") t) spaced (unspaced t)
+
+-- what is said without memory: what is plain, and each fault but that of bytes
+abbrev pub IsSaidFreely : {A : Type 0} → (A → Type 0) → Result A IdFault → Type 0
+IsSaidFreely Plain (Ok x) = Plain x
+IsSaidFreely Plain (Err e) = e ≢ fault.Bytes
 
 -- the text that is written for an id
 abbrev pub identifier_text : Identifier → List ℕ

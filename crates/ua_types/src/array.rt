@@ -78,6 +78,8 @@ impl<T: Drop> Drop for Array<T> {
 }
 
 impl<T: Copyable> Copyable for Array<T> {
+    ghost is_plain = { λ list. list ≡ None };
+
     fn copy(&self, alloc: Global) -> Result<Array<T>, AllocError> {
         match self.as_slice() {
             None => Ok(Array::null()),

@@ -98,6 +98,8 @@ impl Drop for ByteString {
 }
 
 impl Copyable for ByteString {
+    ghost is_plain = { λ value. value ≡ None };
+
     fn copy(&self, _alloc: Global) -> Result<ByteString, AllocError> {
         match &self.inside {
             None => Ok(ByteString::null()),

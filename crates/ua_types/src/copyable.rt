@@ -1,6 +1,6 @@
 //! Copies of values that hold memory of their own.
 
-ghost use Rattle.std.specs.Prelude.{◌≡◌, length, IfOk};
+ghost use Rattle.std.specs.Prelude.{◌≡◌, ⊤, length, IfOk, IsOk};
 ghost use Rattle.std.specs.Vec.{vec_len};
 
 use crate::duration::Duration;
@@ -11,9 +11,13 @@ use std::alloc::{AllocError, Global};
 
 /// A value that can be copied, where the copy may want memory.
 pub trait Copyable: Drop {
-    /// An equal value. An `Err` leaves nothing behind.
+    /// Values that hold no text, no bytes and no list.
+    ghost is_plain: { Self → Type 0 } = { λ _. ⊥ };
+
+    /// An equal value. Takes no memory where the value holds no text, no bytes and no list. An `Err` leaves nothing behind.
     fn copy(&self, alloc: Global) -> Result<Self, AllocError>
-        ensures { IfOk result (λ copy. copy ≡ self.now) };
+        ensures copy { IfOk result (λ copy. copy ≡ self.now) }
+        ensures plain { is_plain self.now → IsOk result };
 }
 
 /// Copies of these elements, in order.
@@ -29,78 +33,104 @@ pub fn copy_all<T: Copyable>(alloc: Global, items: &[T]) -> Result<Vec<T>, Alloc
 }
 
 impl Copyable for bool {
+    ghost is_plain = { λ _. ⊤ };
+
     fn copy(&self, _alloc: Global) -> Result<bool, AllocError> {
         Ok(*self)
     }
 }
 
 impl Copyable for u8 {
+    ghost is_plain = { λ _. ⊤ };
+
     fn copy(&self, _alloc: Global) -> Result<u8, AllocError> {
         Ok(*self)
     }
 }
 
 impl Copyable for u16 {
+    ghost is_plain = { λ _. ⊤ };
+
     fn copy(&self, _alloc: Global) -> Result<u16, AllocError> {
         Ok(*self)
     }
 }
 
 impl Copyable for u32 {
+    ghost is_plain = { λ _. ⊤ };
+
     fn copy(&self, _alloc: Global) -> Result<u32, AllocError> {
         Ok(*self)
     }
 }
 
 impl Copyable for u64 {
+    ghost is_plain = { λ _. ⊤ };
+
     fn copy(&self, _alloc: Global) -> Result<u64, AllocError> {
         Ok(*self)
     }
 }
 
 impl Copyable for i8 {
+    ghost is_plain = { λ _. ⊤ };
+
     fn copy(&self, _alloc: Global) -> Result<i8, AllocError> {
         Ok(*self)
     }
 }
 
 impl Copyable for i16 {
+    ghost is_plain = { λ _. ⊤ };
+
     fn copy(&self, _alloc: Global) -> Result<i16, AllocError> {
         Ok(*self)
     }
 }
 
 impl Copyable for i32 {
+    ghost is_plain = { λ _. ⊤ };
+
     fn copy(&self, _alloc: Global) -> Result<i32, AllocError> {
         Ok(*self)
     }
 }
 
 impl Copyable for i64 {
+    ghost is_plain = { λ _. ⊤ };
+
     fn copy(&self, _alloc: Global) -> Result<i64, AllocError> {
         Ok(*self)
     }
 }
 
 impl Copyable for Status {
+    ghost is_plain = { λ _. ⊤ };
+
     fn copy(&self, _alloc: Global) -> Result<Status, AllocError> {
         Ok(*self)
     }
 }
 
 impl Copyable for Moment {
+    ghost is_plain = { λ _. ⊤ };
+
     fn copy(&self, _alloc: Global) -> Result<Moment, AllocError> {
         Ok(*self)
     }
 }
 
 impl Copyable for Duration {
+    ghost is_plain = { λ _. ⊤ };
+
     fn copy(&self, _alloc: Global) -> Result<Duration, AllocError> {
         Ok(*self)
     }
 }
 
 impl Copyable for Guid {
+    ghost is_plain = { λ _. ⊤ };
+
     fn copy(&self, _alloc: Global) -> Result<Guid, AllocError> {
         Ok(*self)
     }

@@ -1,10 +1,11 @@
 //! The texts of node ids: `i=85`, `ns=2;s=Line`, `ns=1;b=0aff`.
 
-ghost use Rattle.std.specs.Prelude.{◌≡◌, ◌^◌, ◌<◌, ◌≤◌, IfOk, ◌++◌, codes, OnOk, string_bytes, Ok};
+ghost use Rattle.std.specs.Prelude.{◌≡◌, ◌≢◌, ◌^◌, ◌<◌, ◌≤◌, IfOk, ◌++◌, codes, OnOk, string_bytes, Ok, Err};
 ghost use Rattle.hex.specs.Hex.{decode_of, encode_lower, IsBytes};
 ghost use Rattle.ua_types.specs.Answers.{Gives};
 ghost use Rattle.ua_types.specs.declared.id_texts.IdFault.TheVariants.{Memory};
-ghost use Rattle.ua_types.specs.IdTexts.{opaque_of, identifier_of, id_of, namespace_text, identifier_text, id_text, IsNamed, IsReadable};
+ghost use Rattle.ua_types.specs.IdTexts.{opaque_of, identifier_of, id_of, namespace_text, identifier_text, id_text, IsNamed, IsReadable, IsSaidFreely};
+ghost use Rattle.ua_types.specs.NodeIds.{IsPlain, IsPlainId};
 
 use crate::byte_string::ByteString;
 use crate::guid::Guid;
@@ -67,7 +68,8 @@ fn opaque(alloc: Global, text: &str) -> Result<Identifier, IdFault>
 
 #[tactic(auto, unfolding(crate::specs::IdTexts::identifier_of))]
 fn identifier(alloc: Global, text: &str) -> Result<Identifier, IdFault>
-    ensures { Gives Memory result (identifier_of text.now) }
+    ensures said { Gives Memory result (identifier_of text.now) }
+    ensures free { IsSaidFreely IsPlain (identifier_of text.now) → result ≢ Err Memory }
 {
     if let Some(digits) = behind(text, "i=") {
         return match decimal_up_to(0xffff_ffff, digits) {
@@ -97,10 +99,12 @@ impl NodeId {
     /// The id that a text says: `ns=n;` where the namespace isn't 0, then `i=` and decimal digits,
     /// `s=` and the text, `g=` and a Guid, or `b=` and hex digits.
     ///
-    /// The leftmost fault is answered; `Memory` only where an allocation failed.
+    /// The leftmost fault is answered; `Memory` only where an allocation failed. A number and a Guid take no memory, and
+    /// no fault but `Bytes` is found with any.
     #[tactic(auto, unfolding(crate::specs::IdTexts::id_of, crate::specs::IdTexts::spaced))]
     pub fn parse(alloc: Global, text: &str) -> Result<NodeId, IdFault>
-        ensures { Gives Memory result (id_of text.now) }
+        ensures said { Gives Memory result (id_of text.now) }
+        ensures free { IsSaidFreely IsPlainId (id_of text.now) → result ≢ Err Memory }
     {
         let Some(rest) = behind(text, "ns=") else {
             let identifier = identifier(alloc, text)?;

@@ -1,5 +1,7 @@
 //! Texts for people.
 
+ghost use Rattle.std.specs.Prelude.{◌≡◌, None};
+
 use crate::copyable::Copyable;
 use crate::text::Text;
 use std::alloc::{AllocError, Global};
@@ -13,6 +15,8 @@ pub struct LocalizedText {
 }
 
 impl Copyable for LocalizedText {
+    ghost is_plain = { λ text. (text.locale ≡ None) × (text.text ≡ None) };
+
     fn copy(&self, alloc: Global) -> Result<LocalizedText, AllocError> {
         Ok(LocalizedText {
             locale: self.locale.copy(alloc)?,

@@ -1,6 +1,7 @@
 //! Ids of nodes.
 
-ghost use Rattle.std.specs.Prelude.{◌≡◌, ◌==◌, ◌&&◌, Bool};
+ghost use Rattle.std.specs.Prelude.{◌≡◌, ◌==◌, ◌&&◌, Bool, None};
+ghost use Rattle.ua_types.specs.NodeIds.{IsPlain, IsPlainId};
 
 use crate::byte_string::ByteString;
 use crate::copyable::Copyable;
@@ -30,6 +31,8 @@ impl Drop for Identifier {
 }
 
 impl Copyable for Identifier {
+    ghost is_plain = { IsPlain };
+
     fn copy(&self, alloc: Global) -> Result<Identifier, AllocError> {
         match self {
             Identifier::Numeric(number) => Ok(Identifier::Numeric(*number)),
@@ -79,6 +82,8 @@ impl NodeId {
 }
 
 impl Copyable for NodeId {
+    ghost is_plain = { IsPlainId };
+
     fn copy(&self, alloc: Global) -> Result<NodeId, AllocError> {
         Ok(NodeId {
             namespace: self.namespace,
@@ -98,6 +103,8 @@ pub struct ExpandedNodeId {
 }
 
 impl Copyable for ExpandedNodeId {
+    ghost is_plain = { λ id. IsPlainId id.node_id × (id.namespace_uri ≡ None) };
+
     fn copy(&self, alloc: Global) -> Result<ExpandedNodeId, AllocError> {
         Ok(ExpandedNodeId {
             node_id: self.node_id.copy(alloc)?,

@@ -1,5 +1,7 @@
 //! Names in a namespace.
 
+ghost use Rattle.std.specs.Prelude.{◌≡◌, None};
+
 use crate::copyable::Copyable;
 use crate::text::Text;
 use std::alloc::{AllocError, Global};
@@ -13,6 +15,8 @@ pub struct QualifiedName {
 }
 
 impl Copyable for QualifiedName {
+    ghost is_plain = { λ name. name.name ≡ None };
+
     fn copy(&self, alloc: Global) -> Result<QualifiedName, AllocError> {
         Ok(QualifiedName {
             namespace: self.namespace,

@@ -103,6 +103,8 @@ impl<T: Drop> Drop for SharedList<T> {
 }
 
 impl<T: Drop> Copyable for SharedList<T> {
+    ghost is_plain = { λ list. list ≡ None };
+
     fn copy(&self, _alloc: Global) -> Result<SharedList<T>, AllocError> {
         match &self.inside {
             None => Ok(SharedList::null()),

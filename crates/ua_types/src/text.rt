@@ -98,6 +98,8 @@ impl Drop for Text {
 }
 
 impl Copyable for Text {
+    ghost is_plain = { λ value. value ≡ None };
+
     fn copy(&self, _alloc: Global) -> Result<Text, AllocError> {
         match &self.inside {
             None => Ok(Text::null()),

@@ -13,7 +13,7 @@ returns-then-not-is_history c =
 
 pub loop-node-preserved : goal.loop-node-preserved
 loop-node-preserved c = (
-  rw (c.in_ok-insert.ensures.entries, c.in_ok-id.ensures)
+  rw (c.in_ok-insert.ensures.entries, c.in_ok-id.ensures.copy)
       (named_once c.loop-node.number c.loop-node.known.entries (into_iter_items c.loop-node.node-iterator) (into_iter_items c.next.new.self) c.in-Some.node _ c.in-Some.ensures.steps.0 (sym c.contains_key.ensures ∙ c.if-contains_key.false) (sym c.is_history.ensures ∙ c.if-not-is_history.false) c.loop-node.invariant.0),
   omega (arith, c.in-Some.ensures.steps.1, c.loop-node.invariant.1),
 )

@@ -14,6 +14,6 @@ returns-in_ok-push-in-Some c =
 pub returns-in_ok-insert-in-None : goal.returns-in_ok-insert-in-None
 returns-in_ok-insert-in-None c =
     λ q. added_first (λ (v : Vec ℕ Global). v.items) c.args.index.now.entries c.get_mut.follows.lender-at-none.entries c.insert.new.self.entries c.args.id.now c.in_ok-copy-in-None.field-0 q c.push-in-None.new.self c.args.place
-    (ap (λ (m : BTreeMap NodeId (Vec ℕ Global)). m.entries) c.get_mut.follows.holds-at-none) c.in_ok-copy-in-None.ensures c.in-None.ensures.value
+    (ap (λ (m : BTreeMap NodeId (Vec ℕ Global)). m.entries) c.get_mut.follows.holds-at-none) c.in_ok-copy-in-None.ensures.copy c.in-None.ensures.value
     (c.in_ok-push-in-None.ensures.items ∙ ap (λ xs. xs ++ c.args.place ∷ []) c.new-places.ensures.items)
     (c.in_ok-insert-in-None.ensures.updates.0 q)

@@ -11,7 +11,7 @@ added : (c : goal.In_ok-push) → AddedAt c.args.numbers.now.entries c.insert.ne
 added c =
     let n : c.len.result ≡ length c.args.types.now.items = omega (arith, c.len.ensures, c.args.types.now.ok.0) in
     let old = c.args.numbers.now.entries in
-    added_copy old c.insert.new.self.entries c.args.id.now c.in_ok-copy.field-0 (length c.args.types.now.items) c.in_ok-copy.ensures
+    added_copy old c.insert.new.self.entries c.args.id.now c.in_ok-copy.field-0 (length c.args.types.now.items) c.in_ok-copy.ensures.copy
     (λ q. c.in_ok-insert.ensures.updates.0 q ∙ ap (λ b. cond b (Some c.len.result) (number_at old q)) (sym (matches_eq-law c.in_ok-copy.field-0 q)) ∙ ap (λ m. cond (same_id c.in_ok-copy.field-0 q) (Some m) (number_at old q)) n)
 
 none : (c : goal.In_ok-push) → None ≡ number_at c.args.numbers.now.entries c.args.id.now
@@ -20,7 +20,7 @@ none c = none_there (number_at c.args.numbers.now.entries c.args.id.now) (sym c.
 pub returns-in_ok-push-clause-numbers : goal.returns-in_ok-push-clause-numbers
 returns-in_ok-push-clause-numbers c =
     let P : List NodeId → Type 0 = λ types. AreNumbers types c.insert.new.self.entries in
-    subst P (ap (λ id. c.args.types.now.items ++ id ∷ []) (sym c.in_ok-copy-2.ensures) ∙ sym c.in_ok-push.ensures.items)
+    subst P (ap (λ id. c.args.types.now.items ++ id ∷ []) (sym c.in_ok-copy-2.ensures.copy) ∙ sym c.in_ok-push.ensures.items)
     (numbers_more c.args.types.now.items c.args.numbers.now.entries c.insert.new.self.entries c.args.id.now c.requires (none c) (added c))
 
 pub returns-in_ok-push-clause-kept : goal.returns-in_ok-push-clause-kept

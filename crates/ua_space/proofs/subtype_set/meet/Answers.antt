@@ -31,7 +31,7 @@ loop-place-preserved c =
           record {
             met = grown ∙ ap (λ m. with_id m t.target) c.loop-place.invariant.met ∙ sym (after_more before c.args.list.now c.loop-place.place t w.in-Some.ensures);
             ids = λ id. ap (λ (s : BTreeSet NodeId). list_any (is_at (id_cmp id)) s.keys) w.ids-is
-                ∙ set_grows met c.loop-place.ids.keys w.insert.new.self.keys t.target c.loop-place.invariant.ids (subst P w.in_ok-copy-in-Some.ensures w.in_ok-insert-in-Some.ensures.updates.0) id
+                ∙ set_grows met c.loop-place.ids.keys w.insert.new.self.keys t.target c.loop-place.invariant.ids (subst P w.in_ok-copy-in-Some.ensures.copy w.in_ok-insert-in-Some.ensures.updates.0) id
                 ∙ ap (λ m. has_id m id) (sym pushed);
           }
       | in-Some+else-not-contains w ↦

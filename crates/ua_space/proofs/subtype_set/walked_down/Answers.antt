@@ -23,7 +23,7 @@ loop-next-init c =
       ids = λ id.
           set_grows [] c.new-ids.result.keys c.insert.new.self.keys c.args.upper.now (λ q. ap (list_any (is_at (id_cmp q))) c.new-ids.ensures.empty)
           (let P : NodeId → Type 0 = λ k. (q : NodeId) → list_any (is_at (id_cmp q)) c.insert.new.self.keys ≡ cond (is_eq (id_cmp k q)) true (list_any (is_at (id_cmp q)) c.new-ids.result.keys) in
-          subst P c.in_ok-copy.ensures c.in_ok-insert.ensures.updates.0) id
+          subst P c.in_ok-copy.ensures.copy c.in_ok-insert.ensures.updates.0) id
           ∙ ap (λ m. has_id m id) (sym first);
     }
 
