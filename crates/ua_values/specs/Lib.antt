@@ -5,3 +5,4 @@ pub mod Contents
 pub mod ValueTypes
 pub mod DataValues
 pub mod Parts
+pub mod Plain

@@ -5,6 +5,7 @@ ghost use Rattle.std.specs.Cmp.{partial_equiv_from_equiv, po};
 ghost use Rattle.std.specs.Vec.{vec_len};
 ghost use Rattle.std.specs.Ordering.{as_partial_cmp};
 ghost use Rattle.ua_values.specs.Contents.{place_of, scalar_of, elements_of, dimensions_of, same_content, content_cmp, same_content_equiv, content_cmp_total, content_ties};
+ghost use Rattle.ua_values.specs.Plain.{IsOne};
 
 use crate::matrix::Matrix;
 use crate::shape::Shape;
@@ -141,6 +142,8 @@ impl<T: Drop> Drop for Content<T> {
 }
 
 impl<T: Copyable> Copyable for Content<T> {
+    ghost is_plain = { IsOne T.is_plain };
+
     fn copy(&self, alloc: Global) -> Result<Content<T>, AllocError> {
         match self {
             Content::Scalar(value) => Ok(Content::Scalar(value.copy(alloc)?)),

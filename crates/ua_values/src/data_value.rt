@@ -1,7 +1,8 @@
 //! Values with their status and times.
 
-ghost use Rattle.std.specs.Prelude.{◌≡◌};
+ghost use Rattle.std.specs.Prelude.{◌≡◌, IfSome};
 ghost use Rattle.ua_values.specs.DataValues.{value_since};
+ghost use Rattle.ua_values.specs.Plain.{IsPlainValue};
 
 use crate::variant::Variant;
 use std::alloc::{AllocError, Global};
@@ -62,6 +63,8 @@ impl Drop for DataValue {
 }
 
 impl Copyable for DataValue {
+    ghost is_plain = { λ value. IfSome value.value IsPlainValue };
+
     fn copy(&self, alloc: Global) -> Result<DataValue, AllocError> {
         let value = match &self.value {
             None => None,

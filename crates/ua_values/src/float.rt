@@ -1,5 +1,7 @@
 //! Floating-point numbers, which are carried and never computed with.
 
+ghost use Rattle.std.specs.Prelude.{⊤};
+
 use std::alloc::{AllocError, Global};
 use ua_types::Copyable;
 
@@ -16,12 +18,16 @@ pub struct Float(pub [u8; 4]);
 pub struct Double(pub [u8; 8]);
 
 impl Copyable for Float {
+    ghost is_plain = { λ _. ⊤ };
+
     fn copy(&self, _alloc: Global) -> Result<Float, AllocError> {
         Ok(*self)
     }
 }
 
 impl Copyable for Double {
+    ghost is_plain = { λ _. ⊤ };
+
     fn copy(&self, _alloc: Global) -> Result<Double, AllocError> {
         Ok(*self)
     }

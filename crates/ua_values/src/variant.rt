@@ -2,6 +2,7 @@
 
 ghost use Rattle.std.specs.Prelude.{◌≡◌, ◌<◌, IfOk};
 ghost use Rattle.ua_values.specs.Parts.{list_len_in, flattened_in, with_part_in, list_len, flattened, with_part, HasRoom};
+ghost use Rattle.ua_values.specs.Plain.{IsPlainValue};
 ghost use Rattle.ua_values.specs.Variants.{type_number};
 ghost use Rattle.ua_values.specs.Shapes.{shape_of};
 
@@ -324,6 +325,8 @@ impl Drop for Variant {
 }
 
 impl Copyable for Variant {
+    ghost is_plain = { IsPlainValue };
+
     fn copy(&self, alloc: Global) -> Result<Variant, AllocError> {
         match self {
             Variant::Null => Ok(Variant::Null),
