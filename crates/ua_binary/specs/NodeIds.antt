@@ -1,5 +1,5 @@
 -- Ids of nodes (IEC 62541-6, 5.2.2.9): a byte that says the form, and what this form has.
-use Rattle.std.specs.Prelude.{ℕ, ◌^◌, ◌&&◌, List, ◌++◌, nat_lt, ◌==◌, if◌then◌else◌}
+use Rattle.std.specs.Prelude.{◌≢◌, ℕ, ◌^◌, ◌&&◌, List, [], ◌∷◌, ◌++◌, nat_lt, ◌==◌, if◌then◌else◌}
 use Rattle.std.specs.Int.{w16, w32}
 use Rattle.ua_types.specs.declared.node_id.Identifier.{Identifier}
 use Rattle.ua_types.specs.declared.node_id.Identifier.TheVariants as identifier
@@ -45,6 +45,11 @@ unfoldable pub node_id_reading : Reading NodeId
 node_id_reading = do
   form ← byte_reading
   after_form_reading form
+
+-- a first byte that announces a number or a Guid, or nothing that is known
+abbrev pub SaysNumberOrGuid : List ℕ → Type 0
+SaysNumberOrGuid [] = ⊥
+SaysNumberOrGuid (form ∷ rest) = (form ≢ 3) × (form ≢ 5)
 
 -- the shortest form of a number in a namespace
 abbrev pub numeric_form : ℕ → ℕ → ℕ

@@ -1,7 +1,7 @@
 -- Values of any type (IEC 62541-6, 5.2.2.16): a byte, and what it announces. Its low six bits are the
 -- number of the type, and 0 means no value. 128 says that a list follows in place of one value, and 64
 -- that dimensions follow the list.
-use Rattle.std.specs.Prelude.{ℕ, ◌≤◌, ◌*◌, ◌+◌, ◌/◌, ◌%◌, List, [], ◌∷◌, ◌++◌, length, Option, Some, None, ◌==◌, if◌then◌else◌}
+use Rattle.std.specs.Prelude.{◌≡◌, ◌⊎◌, ℕ, ◌≤◌, ◌*◌, ◌+◌, ◌/◌, ◌%◌, List, [], ◌∷◌, ◌++◌, length, Option, Some, None, ◌==◌, if◌then◌else◌}
 use Rattle.std.specs.Int.{w16, w32, w64}
 use Rattle.ua_values.specs.declared.content.Content.{Content}
 use Rattle.ua_values.specs.declared.content.Content.TheVariants.{Scalar, Array, Matrix}
@@ -16,7 +16,7 @@ use Rattle.ua_binary.specs.Texts.{text_reading, text_encoding, byte_string_readi
 use Rattle.ua_binary.specs.Arrays.{array_reading, array_encoding}
 use Rattle.ua_binary.specs.Scalars.{moment_reading, moment_encoding, status_reading, status_encoding}
 use Rattle.ua_binary.specs.Guids.{guid_reading, guid_encoding}
-use Rattle.ua_binary.specs.NodeIds.{node_id_reading, node_id_encoding}
+use Rattle.ua_binary.specs.NodeIds.{node_id_reading, node_id_encoding, SaysNumberOrGuid}
 use Rattle.ua_binary.specs.ExpandedNodeIds.{expanded_node_id_reading, expanded_node_id_encoding}
 use Rattle.ua_binary.specs.QualifiedNames.{qualified_name_reading, qualified_name_encoding}
 use Rattle.ua_binary.specs.LocalizedTexts.{localized_text_reading, localized_text_encoding}
@@ -87,6 +87,19 @@ variant_reading = do
 abbrev pub ClaimsTooManyElements : List ℕ → Type 0
 ClaimsTooManyElements [] = ⊥
 ClaimsTooManyElements (first ∷ rest) = (128 ≤ first) × ClaimsTooMany rest
+
+-- the numbers of the types of fixed size: Boolean, numbers, moments, Guids and statuses
+abbrev pub HasFixedSize : ℕ → Type 0
+HasFixedSize number = (number ≤ 11) ⊎ ((number ≡ 13) ⊎ ((number ≡ 14) ⊎ (number ≡ 19)))
+
+-- behind a first byte with this number and these flags stands no value, or one of fixed size, or an id that is a number or a
+-- Guid
+unfoldable pub IsPlainBehind : ℕ → ℕ → List ℕ → Type 0
+IsPlainBehind number flags bytes = (number ≡ 0) ⊎ ((flags ≡ 0) × (HasFixedSize number ⊎ ((number ≡ 17) × SaysNumberOrGuid bytes)))
+
+abbrev pub AnnouncesPlain : List ℕ → Type 0
+AnnouncesPlain [] = ⊥
+AnnouncesPlain (first ∷ rest) = IsPlainBehind (first % 64) (first / 64) rest
 
 -- ---- writing
 

@@ -1,11 +1,11 @@
 //! Ids of nodes.
 
-ghost use Rattle.std.specs.Prelude.{◌≡◌, ◌<◌, ℕ, List, ◌++◌, length, Ok, Err, OnOk, OnErr};
+ghost use Rattle.std.specs.Prelude.{◌≡◌, ◌≢◌, ◌<◌, ℕ, List, ◌++◌, length, Ok, Err, OnOk, OnErr};
 ghost use Rattle.ua_types.specs.NodeIds.{numeric_id};
 ghost use Rattle.ua_binary.specs.declared.fault.TakeFault.TheVariants.{Memory};
 ghost use Rattle.ua_binary.specs.Reading.{Reads, Extends, IsReadAgain};
 ghost use Rattle.ua_binary.specs.Texts.{IsBacked};
-ghost use Rattle.ua_binary.specs.NodeIds.{node_id_reading, after_form_reading, node_id_encoding, form_of, after_form_encoding};
+ghost use Rattle.ua_binary.specs.NodeIds.{node_id_reading, after_form_reading, node_id_encoding, form_of, after_form_encoding, SaysNumberOrGuid};
 
 use crate::cursor::Cursor;
 use crate::fault::TakeFault;
@@ -22,6 +22,7 @@ pub(crate) fn decode_form(
     cursor: &mut Cursor<'_>,
 ) -> Result<NodeId, TakeFault>
     ensures reads { Reads result cursor.new (after_form_reading form cursor.old) }
+    ensures plain { (form ≢ 3) × (form ≢ 5) → result ≢ Err Memory }
     ensures backed { result ≡ Err Memory → IsBacked cursor.new }
 {
     match form {
@@ -157,11 +158,13 @@ fn encode_numeric(namespace: u16, number: u32, out: &mut Vec<u8>) -> Result<(), 
     }
 }
 
-#[tactic(auto, unfolding(crate::specs::NodeIds::node_id_reading))]
+#[tactic(auto, using(crate::proofs::TypeBytes::form_is_said), unfolding(crate::specs::NodeIds::node_id_reading))]
 impl Wire for NodeId {
     ghost reading = { node_id_reading };
 
     ghost encoding = { node_id_encoding };
+
+    ghost spares_memory = { SaysNumberOrGuid };
 
     fn decode(alloc: Global, cursor: &mut Cursor<'_>) -> Result<NodeId, TakeFault> {
         let form = u8::decode(alloc, cursor)?;

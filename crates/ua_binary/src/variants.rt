@@ -5,9 +5,10 @@ ghost use Rattle.ua_values.specs.Matrices.{or_none};
 ghost use Rattle.ua_values.specs.declared.content.Content.TheVariants as contents;
 ghost use Rattle.ua_binary.specs.declared.fault.TakeFault.TheVariants.{Memory};
 ghost use Rattle.ua_binary.specs.Reading.{Reads, ReadsInto, Extends};
+ghost use Rattle.ua_binary.specs.NodeIds.{SaysNumberOrGuid};
 ghost use Rattle.ua_binary.specs.Texts.{ClaimsTooMany, IsBacked};
 ghost use Rattle.ua_binary.specs.Backing.{IsBackedOrBoxed, IsContent, IsBoxedContent, FoundNoRoom};
-ghost use Rattle.ua_binary.specs.Variants.{in_dimensions, content_reading, typed_reading, variant_reading, ClaimsTooManyElements, flags_of, content_encoding, typed_encoding, variant_encoding};
+ghost use Rattle.ua_binary.specs.Variants.{in_dimensions, content_reading, typed_reading, variant_reading, ClaimsTooManyElements, IsPlainBehind, AnnouncesPlain, flags_of, content_encoding, typed_encoding, variant_encoding};
 
 use crate::arrays::write_list;
 use crate::cursor::Cursor;
@@ -45,6 +46,7 @@ fn decode_content<T: Wire>(
     requires backed { (bytes : List ℕ) → T.wants_memory bytes → IsBacked bytes }
     ensures reads { Reads result cursor.new (content_reading T.reading flags cursor.old) }
     ensures claim { 2 ≤ flags → ClaimsTooMany cursor.old → result ≢ Err Memory }
+    ensures one { flags ≡ 0 → T.spares_memory cursor.old → result ≢ Err Memory }
     ensures backed { result ≡ Err Memory → IsBacked cursor.new }
 {
     match flags {
@@ -105,6 +107,7 @@ fn decode_integer(
     requires most { number ≤ 7 }
     ensures reads { ReadsInto result place.new cursor.new (typed_reading number flags cursor.old) }
     ensures claim { 2 ≤ flags → ClaimsTooMany cursor.old → result ≢ Err Memory }
+    ensures one { flags ≡ 0 → result ≢ Err Memory }
     ensures backed { result ≡ Err Memory → IsBacked cursor.new }
 {
     *place = match number {
@@ -133,6 +136,7 @@ fn decode_number(
     requires most { number ≤ 11 }
     ensures reads { ReadsInto result place.new cursor.new (typed_reading number flags cursor.old) }
     ensures claim { 2 ≤ flags → ClaimsTooMany cursor.old → result ≢ Err Memory }
+    ensures one { flags ≡ 0 → result ≢ Err Memory }
     ensures backed { result ≡ Err Memory → IsBacked cursor.new }
 {
     *place = match number {
@@ -158,6 +162,7 @@ fn decode_sized(
     requires most { number ≤ 16 }
     ensures reads { ReadsInto result place.new cursor.new (typed_reading number flags cursor.old) }
     ensures claim { 2 ≤ flags → ClaimsTooMany cursor.old → result ≢ Err Memory }
+    ensures one { flags ≡ 0 → number ≡ 13 ⊎ number ≡ 14 → result ≢ Err Memory }
     ensures backed { result ≡ Err Memory → IsBacked cursor.new }
 {
     *place = match number {
@@ -183,6 +188,7 @@ fn decode_named(
     requires { number ≡ 17 ⊎ number ≡ 19 ⊎ number ≡ 20 }
     ensures reads { ReadsInto result place.new cursor.new (typed_reading number flags cursor.old) }
     ensures claim { 2 ≤ flags → ClaimsTooMany cursor.old → result ≢ Err Memory }
+    ensures one { flags ≡ 0 → number ≡ 19 ⊎ ((number ≡ 17) × SaysNumberOrGuid cursor.old) → result ≢ Err Memory }
     ensures backed { result ≡ Err Memory → IsBacked cursor.new }
 {
     *place = match number {
@@ -220,7 +226,7 @@ fn decode_large<'a>(
 }
 
 // Reads what follows a first byte with this number and these flags. The Variant begins at the start.
-#[tactic(auto, using(crate::proofs::Backing::length_found_no_room), unfolding(crate::specs::Variants::typed_reading))]
+#[tactic(auto, using(crate::proofs::Backing::length_found_no_room, crate::proofs::TypeBytes::plain_is_one, crate::proofs::TypeBytes::plain_sized, crate::proofs::TypeBytes::plain_named, crate::proofs::TypeBytes::never_plain), unfolding(crate::specs::Variants::typed_reading))]
 fn decode_typed<'a>(
     alloc: Global,
     number: u8,
@@ -231,6 +237,7 @@ fn decode_typed<'a>(
 ) -> Result<(), TakeFault>
     ensures reads { ReadsInto result place.new cursor.new (typed_reading number flags cursor.old) }
     ensures claim { 2 ≤ flags → ClaimsTooMany cursor.old → result ≢ Err Memory }
+    ensures plain { IsPlainBehind number flags cursor.old → result ≢ Err Memory }
     ensures backed { result ≡ Err Memory → FoundNoRoom start.now (IsBoxedContent number flags cursor.old) cursor.new }
 {
     match number {
@@ -252,8 +259,9 @@ fn decode_typed<'a>(
 }
 
 /// Reads a value into a place, where it is looked at next: a value that is returned is moved once more for each `Result` that
-/// hands it up. At an `Err` the cursor stands as after [`Wire::decode`], and any value may be in the place.
-#[tactic(auto, using(crate::proofs::TypeBytes::announced_claim, crate::proofs::Backing::variant_found_no_room), unfolding(crate::specs::Variants::variant_reading))]
+/// hands it up. At an `Err` the cursor stands as after [`Wire::decode`], and any value may be in the place. No value, and one
+/// number, moment, Guid, status, or id that is a number or a Guid take no memory.
+#[tactic(auto, using(crate::proofs::TypeBytes::announced_claim, crate::proofs::TypeBytes::announced_plain, crate::proofs::Backing::variant_found_no_room), unfolding(crate::specs::Variants::variant_reading))]
 pub fn decode_variant(
     alloc: Global,
     cursor: &mut Cursor<'_>,
@@ -261,6 +269,7 @@ pub fn decode_variant(
 ) -> Result<(), TakeFault>
     ensures reads { ReadsInto result place.new cursor.new (variant_reading cursor.old) }
     ensures claim { ClaimsTooManyElements cursor.old → result ≢ Err Memory }
+    ensures plain { AnnouncesPlain cursor.old → result ≢ Err Memory }
     ensures backed { result ≡ Err Memory → IsBackedOrBoxed cursor.new }
 {
     let start = cursor.rest();

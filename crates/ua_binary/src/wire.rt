@@ -21,7 +21,8 @@ pub trait Wire: Drop {
     ghost encoding: { Self → List ℕ };
 
     /// Bytes of which a value is read or refused without memory: all of them for a type of fixed size, for a
-    /// text, a byte string, a list and a Variant those that claim more than is left, and else none.
+    /// text, a byte string, a list and a Variant those that claim more than is left, for an id those that say a number
+    /// or a Guid, and else none.
     ghost spares_memory: { List ℕ → Type 0 } = { λ _. ⊥ };
 
     /// Bytes before which an allocation may fail: a length and at least so many bytes after it. For a Variant, and
