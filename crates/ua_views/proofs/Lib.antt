@@ -4,3 +4,4 @@ pub mod VariantBytes
 pub mod Elements
 pub mod Shapes
 pub mod Flat
+pub mod PlainBytes

@@ -25,7 +25,7 @@ use Rattle.ua_views.specs.VariantBytes.{shape_flagged, shape_announced}
 -- ---- contents, by their flags
 
 -- what was read, if anything, has this shape
-abbrev HasShape : {A : Type 0} → Shape → Result (Content A × List ℕ) TakeFault → Type 0
+abbrev pub HasShape : {A : Type 0} → Shape → Result (Content A × List ℕ) TakeFault → Type 0
 HasShape shape (Ok x) = shape_in x.0 ≡ shape
 HasShape shape (Err e) = Unit {0}
 
@@ -64,7 +64,7 @@ module _ {A : Type 0} where
   by_flags false false true scalar list matrix bytes s l m = m
   by_flags false false false scalar list matrix bytes s l m = tt
 
-  flagged : (element : Reading A) (flags : ℕ) (bytes : List ℕ)
+  pub flagged : (element : Reading A) (flags : ℕ) (bytes : List ℕ)
       → HasShape (cond (eqb flags 0) shapes.Scalar (cond (eqb flags 2) shapes.List shapes.Matrix)) (content_reading element flags bytes)
   unfolding content_reading
   flagged element flags bytes = by_flags (eqb flags 0) (eqb flags 2) (eqb flags 3) _ _ _ bytes (of_scalar (element bytes)) (of_list (array_reading element bytes)) (of_matrix (array_reading element bytes) (array_reading (number_reading w32)))

@@ -1,5 +1,4 @@
 -- Identifiers that are looked at in place, as the identifiers that they are.
-use Rattle.std.specs.Prelude.{⊤}
 use Rattle.ua_types.specs.declared.node_id.Identifier.{Identifier}
 use Rattle.ua_types.specs.declared.node_id.Identifier.TheVariants as identifiers
 use Rattle.ua_views.specs.declared.node_ids.IdentifierView.{IdentifierView}
@@ -10,10 +9,3 @@ identifier_of (views.Numeric n) = identifiers.Numeric n
 identifier_of (views.String t) = identifiers.String t
 identifier_of (views.Guid g) = identifiers.Guid g
 identifier_of (views.Opaque b) = identifiers.Opaque b
-
--- an identifier whose copy takes no memory
-abbrev pub IsPlain : Identifier → Type 0
-IsPlain (identifiers.Numeric n) = ⊤
-IsPlain (identifiers.String t) = ⊥
-IsPlain (identifiers.Guid g) = ⊤
-IsPlain (identifiers.Opaque b) = ⊥

@@ -1,9 +1,10 @@
 //! Values with their status and times.
 
-ghost use Rattle.std.specs.Prelude.{◌≡◌, ◌≢◌, Err, IfOk};
+ghost use Rattle.std.specs.Prelude.{◌≡◌, ◌≢◌, Err, IfSome, IfOk, IsOk};
 ghost use Rattle.ua_binary.specs.declared.fault.TakeFault.TheVariants.{Memory};
 ghost use Rattle.ua_binary.specs.DataValues.{optional_reading, data_value_reading};
 ghost use Rattle.ua_binary.specs.Reading.{Reads};
+ghost use Rattle.ua_values.specs.Plain.{IsPlainValue};
 
 use crate::variants::VariantView;
 use crate::view::{Readable, View};
@@ -47,9 +48,10 @@ impl<'a> Drop for DataValueView<'a> {
 }
 
 impl<'a> DataValueView<'a> {
-    /// A copy to keep.
+    /// A copy to keep. It takes no memory where that of its value takes none ([`VariantView::to_value`]).
     pub fn to_value(&self, alloc: Global) -> Result<DataValue, AllocError>
-        ensures { IfOk result (λ value. value ≡ self.now) }
+        ensures copy { IfOk result (λ value. value ≡ self.now) }
+        ensures plain { IfSome self.now.value IsPlainValue → IsOk result }
     {
         let value = match &self.value {
             None => None,

@@ -5,8 +5,8 @@ ghost use Rattle.ua_binary.specs.declared.fault.TakeFault.TheVariants.{Memory};
 ghost use Rattle.ua_binary.specs.ExpandedNodeIds.{expanded_node_id_reading};
 ghost use Rattle.ua_binary.specs.NodeIds.{node_id_reading, after_form_reading};
 ghost use Rattle.ua_binary.specs.Reading.{Reads};
-ghost use Rattle.ua_types.specs.NodeIds.{numeric_id, is_null_id};
-ghost use Rattle.ua_views.specs.Identifiers.{identifier_of, IsPlain};
+ghost use Rattle.ua_types.specs.NodeIds.{numeric_id, is_null_id, IsPlain, IsPlainId};
+ghost use Rattle.ua_views.specs.Identifiers.{identifier_of};
 
 use crate::aligned::Aligned;
 use crate::parts::{look_number_where_set, look_text_where_set};
@@ -106,7 +106,7 @@ impl<'a> NodeIdView<'a> {
     /// A copy to keep. That of a number or a Guid takes no memory.
     pub fn to_value(&self, alloc: Global) -> Result<NodeId, AllocError>
         ensures copy { IfOk result (λ id. id ≡ self.now) }
-        ensures plain { IsPlain self.now.identifier → IsOk result }
+        ensures plain { IsPlainId self.now → IsOk result }
     {
         Ok(NodeId {
             namespace: self.namespace,

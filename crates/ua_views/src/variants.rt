@@ -1,8 +1,9 @@
 //! Values of any type.
 
-ghost use Rattle.std.specs.Prelude.{◌≡◌, ◌%◌, IfOk};
+ghost use Rattle.std.specs.Prelude.{◌≡◌, ◌%◌, IfOk, IsOk};
 ghost use Rattle.ua_binary.specs.Variants.{variant_reading};
 ghost use Rattle.ua_values.specs.Parts.{flat_len};
+ghost use Rattle.ua_values.specs.Plain.{IsPlainValue};
 ghost use Rattle.ua_values.specs.Shapes.{shape_of};
 ghost use Rattle.ua_values.specs.Variants.{type_number};
 ghost use Rattle.ua_views.specs.VariantBytes.{shape_announced};
@@ -85,11 +86,13 @@ impl<'a> VariantView<'a> {
         }
     }
 
-    /// A copy to keep.
+    /// A copy to keep. That of no value, and of one number, moment, Guid, status, or id that is a number or a Guid, takes no memory.
     // Inlined into the loop over a request's list: a call for each element costs more than it does.
+    #[tactic(auto, using(crate::proofs::PlainBytes::plain_is_announced))]
     #[inline(always)]
     pub fn to_value(&self, alloc: Global) -> Result<Variant, AllocError>
-        ensures { IfOk result (λ value. value ≡ self.now) }
+        ensures copy { IfOk result (λ value. value ≡ self.now) }
+        ensures plain { IsPlainValue self.now → IsOk result }
     {
         let mut value = Variant::Null;
         match decode_variant(alloc, &mut Cursor::new(self.bytes), &mut value) {
