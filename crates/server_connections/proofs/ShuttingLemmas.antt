@@ -1,14 +1,14 @@
 -- What a shutdown leaves of the connections: each is known as it was, and closed.
-use Rattle.std.proofs.Common.{◌≡◌, ◌≢◌, ℕ, Bool, true, false, cond, List, [], ◌∷◌, Option, Some, None, is_some, refl, sym, ap, subst, ◌∙◌}
+use Rattle.std.proofs.Common.{◌≡◌, ◌≢◌, ℕ, Bool, true, false, cond, List, [], ◌∷◌, length, Option, Some, None, is_some, refl, sym, ap, subst, ◌∙◌, arith}
 use Rattle.std.proofs.lemmas.Bool.{false≢true}
-use Rattle.std.specs.FinMap.{find, get, entries, get-entries, get-insert}
+use Rattle.std.specs.FinMap.{find, get, len, entries, get-entries, len-entries, get-insert}
 use Rattle.std.specs.Map.{keys_of}
 use Rattle.std.specs.Ordering.{nat_cmp, eq_by_cmp}
 use Rattle.std.specs.Cmp.{nat_cmp_total}
 use Rattle.number_slots.proofs.NumberMaps.{same_number}
 use Rattle.ua_types.specs.Configuration.{Configuration}
 use Rattle.server_connections.specs.Coherent.{IsAgreedAt, AreAgreed, IsFresh, AreNumbered, number_at, is_open_at, is_open}
-use Rattle.server_connections.specs.Connecting.{is_new}
+use Rattle.server_connections.specs.Connecting.{is_new, refusing}
 use Rattle.server_connections.specs.Shutting.{shut_by, shut_at, shut_one, all_shut, shut, ended}
 use Rattle.server_connections.specs.declared.connection.Connection.{Connection}
 use Rattle.server_connections.specs.declared.connection.Phase.{Phase}
@@ -19,6 +19,15 @@ closes : (conn : ℕ) (phase : Phase) → (shut_by conn phase).phase ≡ Closed
 closes conn Greeting = refl
 closes conn (Talking s) = refl
 closes conn Closed = refl
+
+nothing : {A : Type 0} (xs : List A) → length xs ≡ 0 → xs ≡ []
+nothing [] e = refl
+nothing (x ∷ xs) e = grind arith
+
+-- where none is known, none is shut
+pub none_shut : (connections : Connections) → len connections.known ≡ 0 → shut connections ≡ refusing connections []
+none_shut connections none =
+    ap (λ es. all_shut connections (keys_of es)) (nothing (entries connections.known) (sym (len-entries connections.known) ∙ none))
 
 unknown_stays : (b : Bool) (x : Option Connection) → x ≡ None → x ≡ cond b (ended x) x
 unknown_stays true None e = refl

@@ -1,7 +1,7 @@
 //! Who is connected.
 
 ghost use Rattle.std.specs.Prelude.{◌≡◌, ◌++◌, ℕ, [], IfOk, OnOk, IsOk};
-ghost use Rattle.std.specs.FinMap.{get};
+ghost use Rattle.std.specs.FinMap.{get, len};
 ghost use Rattle.server_connections.specs.Connecting.{no_connections, is_known as is_known_spec, is_new as is_new_spec, welcomed, refusing, turned_away, gone, taking, taking_after, taking_of, break_of};
 ghost use Rattle.server_connections.specs.Connecting as connecting;
 ghost use Rattle.server_connections.specs.Delivering.{sending, sending_after, delivered, delivery_of};
@@ -109,10 +109,14 @@ impl Connections {
         close_open(alloc, conn, &mut connection.phase, outs)
     }
 
-    // Closes all connections that are open, by rising number.
+    // Closes all connections that are open, by rising number. Takes no memory where none is known.
     fn shut_each(&mut self, alloc: Global, outs: &mut ShortList<Out>) -> Result<(), AllocError>
-        ensures { OnOk result (refusing self.new outs.new ≡ refusing_after outs.old (shut self.old)) }
+        ensures shut { OnOk result (refusing self.new outs.new ≡ refusing_after outs.old (shut self.old)) }
+        ensures none { len self.old.known ≡ 0 → IsOk result }
     {
+        if self.known.len() == 0 {
+            return Ok(());
+        }
         for conn in self.known.numbers(alloc)? {
             self.shut_one(alloc, conn, outs)?;
         }
@@ -120,10 +124,11 @@ impl Connections {
     }
 
     /// Closes all connections that are open, by rising number, as the server shuts down: each is told
-    /// `BAD_SHUTDOWN`. They stay known until they are gone.
+    /// `BAD_SHUTDOWN`. They stay known until they are gone. Takes no memory where none is known.
     pub fn shut(&mut self, alloc: Global, outs: &mut ShortList<Out>) -> Result<(), AllocError>
         ensures shut { OnOk result (refusing self.new outs.new ≡ refusing_after outs.old (shut self.old)) }
         ensures ended { OnOk result ((conn : ℕ) → get self.new.known conn ≡ ended (get self.old.known conn)) }
+        ensures none { len self.old.known ≡ 0 → IsOk result }
     {
         self.shut_each(alloc, outs)
     }

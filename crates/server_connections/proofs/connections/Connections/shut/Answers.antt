@@ -7,4 +7,4 @@ use Rattle.server_connections.proofs.connections.Connections.shut.Goals as goal
 
 pub returns-clause-ended : goal.returns-clause-ended
 returns-clause-ended c =
-    on_ok_weaker c.shut_each.result (λ e conn. ap (λ (r : Refusing). get r.connections.known conn) e ∙ shut_ends c.args.self.now conn) c.shut_each.ensures
+    on_ok_weaker c.shut_each.result (λ e conn. ap (λ (r : Refusing). get r.connections.known conn) e ∙ shut_ends c.args.self.now conn) c.shut_each.ensures.shut
