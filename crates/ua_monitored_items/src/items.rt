@@ -1,6 +1,6 @@
 //! The monitored items of a server.
 
-ghost use Rattle.std.specs.Prelude.{◌≡◌, ◌-◌, ◌^◌, ◌<◌, ◌≤◌, [], false, true, filter, fold, length, map, IsOk, OnOk, OnErr, IfOk, if◌then◌else◌};
+ghost use Rattle.std.specs.Prelude.{◌≡◌, ◌-◌, ◌^◌, ◌<◌, ◌≤◌, [], false, true, filter, fold, length, map, IsOk, OnOk, OnErr, IfOk, IfSome, if◌then◌else◌};
 ghost use Rattle.std.specs.BTreeSet.{insert_key};
 ghost use Rattle.std.specs.Option.{option_copied};
 ghost use Rattle.std.specs.Ordering.{nat_cmp};
@@ -557,7 +557,8 @@ impl Items {
         subscription: u32,
         numbers: &BTreeSet<u32>,
     ) -> Result<Links, AllocError>
-        ensures { IfOk result (λ own. own ≡ in_order (filter (is_own_spec self.now subscription) numbers.now.keys)) }
+        ensures own { IfOk result (λ own. own ≡ in_order (filter (is_own_spec self.now subscription) numbers.now.keys)) }
+        ensures none { numbers.now.keys ≡ [] → IsOk result }
     {
         let mut own = Links::new(alloc);
         for number in numbers {
@@ -573,7 +574,8 @@ impl Items {
         subscription: u32,
         links: &Links,
     ) -> Result<Links, AllocError>
-        ensures { IfOk result (λ yet. yet ≡ in_order (filter (is_own_spec self.now subscription) links.now)) }
+        ensures yet { IfOk result (λ yet. yet ≡ in_order (filter (is_own_spec self.now subscription) links.now)) }
+        ensures none { links.now ≡ [] → IsOk result }
     {
         match links.numbers() {
             Some(numbers) => self.own_of(alloc, subscription, numbers),
@@ -617,6 +619,7 @@ impl Items {
     ) -> Result<Vec<Status>, AllocError>
         ensures statuses { IfOk result (λ statuses. statuses.items ≡ (fold (linked self.now subscription triggering) (record { statuses = []; numbers = links.old }) (or_none add.entry)).statuses) }
         ensures links { OnOk result (links.new ≡ (fold (linked self.now subscription triggering) (record { statuses = []; numbers = links.old }) (or_none add.entry)).numbers) }
+        ensures none { or_none add.entry ≡ [] → IsOk result }
     {
         let mut statuses = Vec::with_capacity(alloc, add.len())?;
         for number in add {
@@ -633,7 +636,7 @@ impl Items {
     /// All is refused by `BAD_MONITORED_ITEM_ID_INVALID` where the subscription has no such triggering item. So is
     /// an entry of `remove` that isn't linked, and one of `add` that is no item of the subscription, or the
     /// triggering item itself; one that is linked already is good. Want of memory is answered where the triggering item
-    /// is known.
+    /// is known, and either it has links, which are copied, or there is an entry.
     #[tactic(auto, unfolding(crate::specs::Links::link))]
     pub fn link(
         &mut self,
@@ -647,6 +650,7 @@ impl Items {
         ensures ok { OnOk result (self.new ≡ after_link self.old (link_spec self.old subscription triggering (or_none add.entry) (or_none remove.entry))) }
         ensures err { OnErr result (self.new ≡ self.old) }
         ensures good { OnErr result (IsOk (link_spec self.old subscription triggering (or_none add.entry) (or_none remove.entry))) }
+        ensures none { or_none add.entry ≡ [] → or_none remove.entry ≡ [] → IfSome (own_item self.old subscription triggering) (λ item. item.links ≡ []) → IsOk result }
     {
         let Some(item) = self.own_item(subscription, triggering) else {
             return Ok(Err(Status::BAD_MONITORED_ITEM_ID_INVALID));

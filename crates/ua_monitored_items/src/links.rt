@@ -1,6 +1,6 @@
 //! Links from an item to others of its subscription.
 
-ghost use Rattle.std.specs.Prelude.{◌≡◌, [], fold, OnOk, OnErr, IfOk};
+ghost use Rattle.std.specs.Prelude.{◌≡◌, [], fold, OnOk, OnErr, IfOk, IsOk};
 ghost use Rattle.std.specs.BTreeMap.{is_at};
 ghost use Rattle.std.specs.BTreeSet.{insert_key};
 ghost use Rattle.std.specs.List.{list_any};
@@ -104,6 +104,7 @@ pub(crate) fn unlink_all(
 ) -> Result<Vec<Status>, AllocError>
     ensures statuses { IfOk result (λ statuses. statuses.items ≡ (fold unlinked (record { statuses = []; numbers = links.old }) (or_none remove.entry)).statuses) }
     ensures links { OnOk result (links.new ≡ (fold unlinked (record { statuses = []; numbers = links.old }) (or_none remove.entry)).numbers) }
+    ensures none { or_none remove.entry ≡ [] → IsOk result }
 {
     let mut statuses = Vec::with_capacity(alloc, remove.len())?;
     for number in remove {
