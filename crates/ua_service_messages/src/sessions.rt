@@ -1,6 +1,7 @@
 //! The services CreateSession, ActivateSession and CloseSession, and what proves who a client or a
 //! user is.
 
+ghost use Rattle.std.specs.Prelude.{⊤};
 ghost use Rattle.ua_service_messages.specs.Sessions.{signature_data_reading, signature_data_encoding, signed_software_certificate_reading, signed_software_certificate_encoding, anonymous_identity_token_reading, anonymous_identity_token_encoding, create_session_request_reading, create_session_request_encoding, create_session_response_reading, create_session_response_encoding, activate_session_request_reading, activate_session_request_encoding, activate_session_response_reading, activate_session_response_encoding, close_session_request_reading, close_session_request_encoding, close_session_response_reading, close_session_response_encoding};
 
 use std::alloc::{AllocError, Global};
@@ -475,6 +476,8 @@ impl Wire for CloseSessionRequest {
     ghost reading = { close_session_request_reading };
 
     ghost encoding = { close_session_request_encoding };
+
+    ghost spares_memory = { λ _. ⊤ };
 
     fn decode(alloc: Global, cursor: &mut Cursor<'_>) -> Result<CloseSessionRequest, TakeFault> {
         Ok(CloseSessionRequest {

@@ -306,6 +306,8 @@ impl Wire for RepublishRequest {
 
     ghost encoding = { republish_request_encoding };
 
+    ghost spares_memory = { λ _. ⊤ };
+
     fn decode(alloc: Global, cursor: &mut Cursor<'_>) -> Result<RepublishRequest, TakeFault> {
         Ok(RepublishRequest {
             subscription_id: u32::decode(alloc, cursor)?,

@@ -1,5 +1,6 @@
 //! The services that make, change and delete subscriptions.
 
+ghost use Rattle.std.specs.Prelude.{⊤};
 ghost use Rattle.ua_subscription_messages.specs.Subscriptions.{create_subscription_request_reading, create_subscription_request_encoding, create_subscription_response_reading, create_subscription_response_encoding, modify_subscription_request_reading, modify_subscription_request_encoding, modify_subscription_response_reading, modify_subscription_response_encoding, set_publishing_mode_request_reading, set_publishing_mode_request_encoding, delete_subscriptions_request_reading, delete_subscriptions_request_encoding};
 
 use std::alloc::{AllocError, Global};
@@ -31,6 +32,8 @@ impl Wire for CreateSubscriptionRequest {
     ghost reading = { create_subscription_request_reading };
 
     ghost encoding = { create_subscription_request_encoding };
+
+    ghost spares_memory = { λ _. ⊤ };
 
     fn decode(
         alloc: Global,
@@ -136,6 +139,8 @@ impl Wire for ModifySubscriptionRequest {
     ghost reading = { modify_subscription_request_reading };
 
     ghost encoding = { modify_subscription_request_encoding };
+
+    ghost spares_memory = { λ _. ⊤ };
 
     fn decode(
         alloc: Global,
