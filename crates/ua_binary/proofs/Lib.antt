@@ -6,6 +6,7 @@ pub mod Extending
 pub mod Flags
 pub mod Fields
 pub mod TypeBytes
+pub mod Typed
 pub mod Masks
 pub mod Counts
 pub mod Backing
