@@ -26,6 +26,7 @@ use Rattle.ua_channel.specs.ChannelStates.{ChannelState, granted_by, granted_of,
 use Rattle.ua_channel.specs.Cutting.{send_of, send_opening_of}
 use Rattle.ua_channel.specs.declared.send_fault.SendFault.{SendFault}
 use Rattle.ua_channel.proofs.LimitLemmas.{kept_within}
+use Rattle.server_messages.specs.declared.origin.Origin.{Origin}
 use Rattle.server_messages.specs.declared.reply.Reply.{Reply}
 use Rattle.server_messages.specs.declared.setting.Setting.{Setting}
 use Rattle.server_connections.specs.Coherent.{IsAgreed}
@@ -135,32 +136,32 @@ or_unchanged : (s t : ChannelState) (r : Result (List (List ℕ)) SendFault) (ot
 or_unchanged s t (Ok frames) otherwise p q = p
 or_unchanged s t (Err fault) otherwise p q = q
 
-too_large_unchanged : (s : ChannelState) (id handle : ℕ) (clock : Moment) → Unchanged s (too_large_sent s id handle clock).channel
+too_large_unchanged : (s : ChannelState) (origin : Origin) (clock : Moment) → Unchanged s (too_large_sent s origin clock).channel
 unfolding too_large_sent
-too_large_unchanged s id handle clock =
-    let step = send_of s id (fault_body handle status.BAD_RESPONSE_TOO_LARGE clock) in
-    let p = send_unchanged s id (fault_body handle status.BAD_RESPONSE_TOO_LARGE clock) in
+too_large_unchanged s origin clock =
+    let step = send_of s origin.id (fault_body origin.handle status.BAD_RESPONSE_TOO_LARGE clock) in
+    let p = send_unchanged s origin.id (fault_body origin.handle status.BAD_RESPONSE_TOO_LARGE clock) in
     or_unchanged s step.state step.answer (sent_nothing step.state) p p
 
 pub reply_unchanged : (s : ChannelState) (reply : Reply) (clock : Moment) → Unchanged s (reply_sent s reply clock).channel
 unfolding reply_sent
 reply_unchanged s reply clock =
-    let step = send_of s reply.id reply.body in
-    let p = send_unchanged s reply.id reply.body in
-    or_unchanged s step.state step.answer (too_large_sent step.state reply.id reply.handle clock) p
-    (then_unchanged s step.state _ p (too_large_unchanged step.state reply.id reply.handle clock))
+    let step = send_of s reply.origin.id reply.body in
+    let p = send_unchanged s reply.origin.id reply.body in
+    or_unchanged s step.state step.answer (too_large_sent step.state reply.origin clock) p
+    (then_unchanged s step.state _ p (too_large_unchanged step.state reply.origin clock))
 
 granted_by_unchanged : (o : Option ℕ) (number : ℕ) (s : ChannelState) → Unchanged s (granted_by o number s)
 granted_by_unchanged None number s = record { agreed = refl; unfinished = refl }
 granted_by_unchanged (Some x) number s = record { agreed = refl; unfinished = refl }
 
-pub granted_unchanged : (setting : Setting) (s : ChannelState) (id handle number : ℕ) → Unchanged s (granted setting s id handle number).channel
+pub granted_unchanged : (setting : Setting) (s : ChannelState) (origin : Origin) (number : ℕ) → Unchanged s (granted setting s origin number).channel
 unfolding granted opening_sent
-granted_unchanged setting s id handle number =
+granted_unchanged setting s origin number =
     let at = granted_of s number in
-    let body = opening_body setting handle number (token_after s.newest_token) in
-    let step = send_opening_of at id body in
-    let p = then_unchanged s at step.state (granted_by_unchanged s.channel_id number s) (opening_unchanged at id body) in
+    let body = opening_body setting origin.handle number (token_after s.newest_token) in
+    let step = send_opening_of at origin.id body in
+    let p = then_unchanged s at step.state (granted_by_unchanged s.channel_id number s) (opening_unchanged at origin.id body) in
     or_unchanged s step.state step.answer (sent_nothing step.state) p p
 
 -- ---- what is agreed is good

@@ -80,22 +80,22 @@ pub record DeliversAlike (conn : ℕ) (d e : Delivery) : Type 0 where
   pub outs : filter (is_on conn) d.outs ≡ filter (is_on conn) e.outs
   pub lost : filter (is_for conn) d.lost ≡ filter (is_for conn) e.lost
 
-to_alike : (setting : Setting) (a b : Connections) (reply : Reply) (found : Option Connection) → SeesAlike reply.conn a b → DeliversAlike reply.conn (delivered_to setting a reply found) (delivered_to setting b reply found)
+to_alike : (setting : Setting) (a b : Connections) (reply : Reply) (found : Option Connection) → SeesAlike reply.origin.conn a b → DeliversAlike reply.origin.conn (delivered_to setting a reply found) (delivered_to setting b reply found)
 to_alike setting a b reply None p = record { sees = p; outs = refl; lost = refl }
 to_alike setting a b reply (Some connection) p =
     let after : Connection = record connection { phase = (said_by setting reply connection.phase).phase } in
     record {
-      sees = record { known = get_inserted a.known reply.conn after ∙ sym (get_inserted b.known reply.conn after); channels = p.channels };
+      sees = record { known = get_inserted a.known reply.origin.conn after ∙ sym (get_inserted b.known reply.origin.conn after); channels = p.channels };
       outs = refl;
       lost = refl;
     }
 
 -- a reply for this connection
-own_alike : (setting : Setting) (a b : Connections) (reply : Reply) → SeesAlike reply.conn a b → DeliversAlike reply.conn (delivered setting a reply) (delivered setting b reply)
+own_alike : (setting : Setting) (a b : Connections) (reply : Reply) → SeesAlike reply.origin.conn a b → DeliversAlike reply.origin.conn (delivered setting a reply) (delivered setting b reply)
 unfolding delivered
 own_alike setting a b reply p =
-    subst (λ (found : Option Connection). DeliversAlike reply.conn (delivered_to setting a reply (get a.known reply.conn)) (delivered_to setting b reply found)) p.known
-    (to_alike setting a b reply (get a.known reply.conn) p)
+    subst (λ (found : Option Connection). DeliversAlike reply.origin.conn (delivered_to setting a reply (get a.known reply.origin.conn)) (delivered_to setting b reply found)) p.known
+    (to_alike setting a b reply (get a.known reply.origin.conn) p)
 
 none_sent : (conn other : ℕ) (frames : List (List ℕ)) → (other == conn) ≡ false → filter (is_on conn) (sends other frames) ≡ []
 none_sent conn other [] e = refl
@@ -103,7 +103,7 @@ none_sent conn other (frame ∷ frames) e =
     let rest = filter (is_on conn) (sends other frames) in
     ap (λ (b : Bool). cond b (Send other frame ∷ rest) rest) e ∙ none_sent conn other frames e
 
-none_lost : (conn : ℕ) (reply : Reply) → (reply.conn == conn) ≡ false → filter (is_for conn) (reply ∷ []) ≡ []
+none_lost : (conn : ℕ) (reply : Reply) → (reply.origin.conn == conn) ≡ false → filter (is_for conn) (reply ∷ []) ≡ []
 none_lost conn reply e = ap (λ (b : Bool). cond b (reply ∷ []) []) e
 
 -- a reply for another connection is nothing to this one
@@ -113,30 +113,30 @@ record LeavesAlone (conn : ℕ) (old : Connections) (d : Delivery) : Type 0 wher
   outs : filter (is_on conn) d.outs ≡ []
   lost : filter (is_for conn) d.lost ≡ []
 
-said_elsewhere : (setting : Setting) (conn : ℕ) (reply : Reply) (phase : Phase) → (reply.conn == conn) ≡ false →
+said_elsewhere : (setting : Setting) (conn : ℕ) (reply : Reply) (phase : Phase) → (reply.origin.conn == conn) ≡ false →
     (filter (is_on conn) (said_by setting reply phase).outs ≡ []) × (filter (is_for conn) (said_by setting reply phase).lost ≡ [])
 said_elsewhere setting conn reply Greeting e = (refl, none_lost conn reply e)
 said_elsewhere setting conn reply Closed e = (refl, none_lost conn reply e)
-said_elsewhere setting conn reply (Talking s) e = (none_sent conn reply.conn (reply_sent s reply setting.clock).frames e, refl)
+said_elsewhere setting conn reply (Talking s) e = (none_sent conn reply.origin.conn (reply_sent s reply setting.clock).frames e, refl)
 
-to_elsewhere : (setting : Setting) (conn : ℕ) (connections : Connections) (reply : Reply) (found : Option Connection) → (reply.conn == conn) ≡ false → LeavesAlone conn connections (delivered_to setting connections reply found)
+to_elsewhere : (setting : Setting) (conn : ℕ) (connections : Connections) (reply : Reply) (found : Option Connection) → (reply.origin.conn == conn) ≡ false → LeavesAlone conn connections (delivered_to setting connections reply found)
 to_elsewhere setting conn connections reply None e = record { known = refl; channels = refl; outs = refl; lost = none_lost conn reply e }
 to_elsewhere setting conn connections reply (Some connection) e =
     let said = said_by setting reply connection.phase in
     let none = said_elsewhere setting conn reply connection.phase e in
-    let apart : conn ≢ reply.conn = λ same. false≢true (sym e ∙ eq-eqb reply.conn conn (sym same)) in
-    record { known = get_inserted_elsewhere connections.known reply.conn (record connection { phase = said.phase }) conn apart; channels = refl; outs = none.0; lost = none.1 }
+    let apart : conn ≢ reply.origin.conn = λ same. false≢true (sym e ∙ eq-eqb reply.origin.conn conn (sym same)) in
+    record { known = get_inserted_elsewhere connections.known reply.origin.conn (record connection { phase = said.phase }) conn apart; channels = refl; outs = none.0; lost = none.1 }
 
-leaves_alone : (setting : Setting) (conn : ℕ) (connections : Connections) (reply : Reply) → (reply.conn == conn) ≡ false → LeavesAlone conn connections (delivered setting connections reply)
+leaves_alone : (setting : Setting) (conn : ℕ) (connections : Connections) (reply : Reply) → (reply.origin.conn == conn) ≡ false → LeavesAlone conn connections (delivered setting connections reply)
 unfolding delivered
-leaves_alone setting conn connections reply e = to_elsewhere setting conn connections reply (get connections.known reply.conn) e
+leaves_alone setting conn connections reply e = to_elsewhere setting conn connections reply (get connections.known reply.origin.conn) e
 
 one_alike : (setting : Setting) (conn : ℕ) (a b : Connections) (reply : Reply) → SeesAlike conn a b → DeliversAlike conn (delivered setting a reply) (delivered setting b reply)
-one_alike setting conn a b reply p = by (reply.conn == conn) refl
+one_alike setting conn a b reply p = by (reply.origin.conn == conn) refl
   where
-    by : (same : Bool) → (reply.conn == conn) ≡ same → DeliversAlike conn (delivered setting a reply) (delivered setting b reply)
+    by : (same : Bool) → (reply.origin.conn == conn) ≡ same → DeliversAlike conn (delivered setting a reply) (delivered setting b reply)
     by true e =
-        let is = eqb-true reply.conn conn e in
+        let is = eqb-true reply.origin.conn conn e in
         subst (λ (n : ℕ). DeliversAlike n (delivered setting a reply) (delivered setting b reply)) is (own_alike setting a b reply (subst (λ (n : ℕ). SeesAlike n a b) (sym is) p))
     by false e =
         let x = leaves_alone setting conn a reply e in

@@ -10,6 +10,7 @@ use Rattle.ua_tcp.specs.declared.frame.FrameFault.{FrameFault}
 use Rattle.ua_channel.specs.ChannelStates.{ChannelState}
 use Rattle.ua_channel.specs.Cutting.{send_of}
 use Rattle.ua_channel.specs.declared.send_fault.SendFault.{SendFault}
+use Rattle.server_messages.specs.declared.origin.Origin.{Origin}
 use Rattle.server_messages.specs.declared.reply.Reply.{Reply}
 use Rattle.server_messages.specs.declared.setting.Setting.{Setting}
 use Rattle.server_connections.specs.declared.connection.Connection.{Connection}
@@ -66,19 +67,19 @@ or_unsent : (s t : ChannelState) (r : Result (List (List ℕ)) SendFault) (other
 or_unsent s t (Ok frames) otherwise p q = p
 or_unsent s t (Err fault) otherwise p q = q
 
-too_large_unsent : (s : ChannelState) (id handle : ℕ) (clock : Moment) → unsent_channel (too_large_sent s id handle clock).channel ≡ unsent_channel s
+too_large_unsent : (s : ChannelState) (origin : Origin) (clock : Moment) → unsent_channel (too_large_sent s origin clock).channel ≡ unsent_channel s
 unfolding too_large_sent
-too_large_unsent s id handle clock =
-    let body = fault_body handle status.BAD_RESPONSE_TOO_LARGE clock in
-    let step = send_of s id body in
-    or_unsent s step.state step.answer (sent_nothing step.state) (send_unsent s id body) (send_unsent s id body)
+too_large_unsent s origin clock =
+    let body = fault_body origin.handle status.BAD_RESPONSE_TOO_LARGE clock in
+    let step = send_of s origin.id body in
+    or_unsent s step.state step.answer (sent_nothing step.state) (send_unsent s origin.id body) (send_unsent s origin.id body)
 
 reply_unsent : (s : ChannelState) (reply : Reply) (clock : Moment) → unsent_channel (reply_sent s reply clock).channel ≡ unsent_channel s
 unfolding reply_sent
 reply_unsent s reply clock =
-    let step = send_of s reply.id reply.body in
-    or_unsent s step.state step.answer (too_large_sent step.state reply.id reply.handle clock) (send_unsent s reply.id reply.body)
-    (too_large_unsent step.state reply.id reply.handle clock ∙ send_unsent s reply.id reply.body)
+    let step = send_of s reply.origin.id reply.body in
+    or_unsent s step.state step.answer (too_large_sent step.state reply.origin clock) (send_unsent s reply.origin.id reply.body)
+    (too_large_unsent step.state reply.origin clock ∙ send_unsent s reply.origin.id reply.body)
 
 said_unsent : (setting : Setting) (reply : Reply) (phase : Phase) → unsent_phase (said_by setting reply phase).phase ≡ unsent_phase phase
 said_unsent setting reply Greeting = refl
@@ -91,7 +92,7 @@ pub record SendsAlone (old new : Connections) : Type 0 where
   pub channels : new.channels ≡ old.channels
   pub all : (conn : ℕ) → unsent (get new.known conn) ≡ unsent (get old.known conn)
 
-delivered_to_apart : (setting : Setting) (connections : Connections) (reply : Reply) (found : Option Connection) → get connections.known reply.conn ≡ found →
+delivered_to_apart : (setting : Setting) (connections : Connections) (reply : Reply) (found : Option Connection) → get connections.known reply.origin.conn ≡ found →
     SendsAlone connections (delivered_to setting connections reply found).connections
 delivered_to_apart setting connections reply None e = record { rest = refl; channels = refl; all = λ conn. refl }
 delivered_to_apart setting connections reply (Some connection) e =
@@ -101,7 +102,7 @@ delivered_to_apart setting connections reply (Some connection) e =
     record {
       rest = refl;
       channels = refl;
-      all = λ q. at_insert_at (λ (o : Option Connection). unsent o ≡ unsent (get connections.known q)) connections.known reply.conn new q
+      all = λ q. at_insert_at (λ (o : Option Connection). unsent o ≡ unsent (get connections.known q)) connections.known reply.origin.conn new q
           (λ same. ap with_phase (said_unsent setting reply connection.phase) ∙ ap unsent (sym e) ∙ ap (λ (c : ℕ). unsent (get connections.known c)) (sym same)) refl;
     }
 
@@ -110,7 +111,7 @@ unfolding delivered
 delivery_apart setting connections [] = record { rest = refl; channels = refl; all = λ conn. refl }
 delivery_apart setting connections (reply ∷ replies) =
     let first = delivered setting connections reply in
-    let one = delivered_to_apart setting connections reply (get connections.known reply.conn) refl in
+    let one = delivered_to_apart setting connections reply (get connections.known reply.origin.conn) refl in
     let rest = delivery_apart setting first.connections replies in
     record {
       rest = rest.rest ∙ ap (λ (c : Connections). with_known c (delivery_of setting first.connections replies).connections) one.rest;

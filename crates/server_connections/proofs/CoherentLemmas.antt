@@ -20,6 +20,7 @@ use Rattle.ua_channel.specs.declared.taken.Taken.TheVariants as taken
 use Rattle.ua_channel.specs.ChannelStates.{ChannelState}
 use Rattle.ua_channel.specs.Acceptance.{is_error, take_of}
 use Rattle.ua_channel.specs.Cutting.{written_id}
+use Rattle.server_messages.specs.declared.origin.Origin.{Origin}
 use Rattle.server_messages.specs.declared.reply.Reply.{Reply}
 use Rattle.server_messages.specs.declared.setting.Setting.{Setting}
 use Rattle.server_connections.specs.declared.frame_outcome.FrameOutcome.{FrameOutcome}
@@ -109,16 +110,16 @@ module _ (setting : Setting) (conn : ℕ) (ranges : AreInRange (limits_of settin
       right_if setting.config conn (is_error frame.message_type) _ _ (right_closed setting.config conn _)
       (right_greeted setting.config conn (outcome_of_frame (limits_of setting.config) frame) (good_frame (limits_of setting.config) frame ranges))
 
-  right_granted : (s : ChannelState) (id handle number : ℕ) (outs : List Out) → IsAgreed setting.config s →
-      IsRight setting.config conn (reaction (Talking (granted setting s id handle number).channel) outs outcome.Nothing)
-  right_granted s id handle number outs p =
-      right_talking setting.config conn _ outs (of_unchanged setting.config s _ (granted_unchanged setting s id handle number) p)
+  right_granted : (s : ChannelState) (origin : Origin) (number : ℕ) (outs : List Out) → IsAgreed setting.config s →
+      IsRight setting.config conn (reaction (Talking (granted setting s origin number).channel) outs outcome.Nothing)
+  right_granted s origin number outs p =
+      right_talking setting.config conn _ outs (of_unchanged setting.config s _ (granted_unchanged setting s origin number) p)
 
-  right_opening : (channels : ℕ) (s : ChannelState) (id handle : ℕ) (renew : Bool) → IsAgreed setting.config s → IsRight setting.config conn (opening_reaction setting channels conn s id handle renew).reaction
+  right_opening : (channels : ℕ) (s : ChannelState) (id handle : ℕ) (renew : Bool) → IsAgreed setting.config s → IsRight setting.config conn (opening_reaction setting channels s (record { conn = conn; id = id; handle = handle }) renew).reaction
   unfolding opening_reaction
   right_opening channels s id handle renew p =
-      right_counted setting.config conn renew _ _ (right_granted s id handle (written_id s.channel_id) _ p)
-      (right_counted setting.config conn _ _ _ (right_closed setting.config conn _) (right_granted s id handle _ _ p))
+      right_counted setting.config conn renew _ _ (right_granted s _ (written_id s.channel_id) _ p)
+      (right_counted setting.config conn _ _ _ (right_closed setting.config conn _) (right_granted s _ _ _ p))
 
   right_taken : (channels : ℕ) (key : List ℕ) (s : ChannelState) (r : Result Taken Status) → IsAgreed setting.config s → IsRight setting.config conn (taken_reaction setting channels conn key s r).reaction
   right_taken channels key s (Ok taken.Nothing) p = right_talking setting.config conn s [] p
@@ -229,7 +230,7 @@ pub record IsDelivered (config : Configuration) (old : Connections) (d : Deliver
   pub lost : d.lost ≡ []
   pub fresh : IsFresh old → IsFresh d.connections
 
-said_right : (setting : Setting) (connections : Connections) (reply : Reply) (connection : Connection) (phase : Phase) → get connections.known reply.conn ≡ Some connection → is_going_on connection.phase ≡ true → AreAgreed setting.config connections → IsAgreedIn setting.config phase → is_talking phase ≡ true →
+said_right : (setting : Setting) (connections : Connections) (reply : Reply) (connection : Connection) (phase : Phase) → get connections.known reply.origin.conn ≡ Some connection → is_going_on connection.phase ≡ true → AreAgreed setting.config connections → IsAgreedIn setting.config phase → is_talking phase ≡ true →
     IsDelivered setting.config connections (delivered_on connections reply connection (said_by setting reply phase))
 said_right setting connections reply connection Greeting found is p a e = absurd (false≢true e)
 said_right setting connections reply connection Closed found is p a e = absurd (false≢true e)
@@ -237,29 +238,29 @@ said_right setting connections reply connection (Talking s) found is p a e =
     let sent = (reply_sent s reply setting.clock).channel in
     let new : Connection = record connection { phase = Talking sent } in
     record {
-      agreed = λ q. at_insert (IsAgreedAt setting.config) connections.known reply.conn new q (of_unchanged setting.config s sent (reply_unchanged s reply setting.clock) a) (p q);
-      talks = λ q talks. at_insert (λ (o : Option Connection). has_channel o ≡ true) connections.known reply.conn new q refl talks;
-      opened = λ q. at_insert_at (λ (o : Option Connection). is_open_at o ≡ is_open connections q) connections.known reply.conn new q
+      agreed = λ q. at_insert (IsAgreedAt setting.config) connections.known reply.origin.conn new q (of_unchanged setting.config s sent (reply_unchanged s reply setting.clock) a) (p q);
+      talks = λ q talks. at_insert (λ (o : Option Connection). has_channel o ≡ true) connections.known reply.origin.conn new q refl talks;
+      opened = λ q. at_insert_at (λ (o : Option Connection). is_open_at o ≡ is_open connections q) connections.known reply.origin.conn new q
           (λ same. sym (ap (is_open connections) same ∙ ap is_open_at found ∙ is)) refl;
       lost = refl;
-      fresh = λ f. fresh_at connections reply.conn connection new found f;
+      fresh = λ f. fresh_at connections reply.origin.conn connection new found f;
     }
 
-reply_right : (setting : Setting) (connections : Connections) (reply : Reply) (found : Option Connection) → get connections.known reply.conn ≡ found → AreAgreed setting.config connections → IsAgreedAt setting.config found → has_channel found ≡ true →
+reply_right : (setting : Setting) (connections : Connections) (reply : Reply) (found : Option Connection) → get connections.known reply.origin.conn ≡ found → AreAgreed setting.config connections → IsAgreedAt setting.config found → has_channel found ≡ true →
     IsDelivered setting.config connections (delivered_to setting connections reply found)
 reply_right setting connections reply None is p a e = absurd (false≢true e)
 reply_right setting connections reply (Some connection) is p a e = said_right setting connections reply connection connection.phase is (open_at (Some connection) e) p a e
 
-one_right : (setting : Setting) (connections : Connections) (reply : Reply) → AreAgreed setting.config connections → Talks connections reply.conn → IsDelivered setting.config connections (delivered setting connections reply)
+one_right : (setting : Setting) (connections : Connections) (reply : Reply) → AreAgreed setting.config connections → Talks connections reply.origin.conn → IsDelivered setting.config connections (delivered setting connections reply)
 unfolding delivered
-one_right setting connections reply p e = reply_right setting connections reply (get connections.known reply.conn) refl p (p reply.conn) e
+one_right setting connections reply p e = reply_right setting connections reply (get connections.known reply.origin.conn) refl p (p reply.origin.conn) e
 
-still : (old new : Connections) (replies : List Reply) → ((conn : ℕ) → Talks old conn → Talks new conn) → AllByRecursion (λ (reply : Reply). Talks old reply.conn) replies → AllByRecursion (λ (reply : Reply). Talks new reply.conn) replies
+still : (old new : Connections) (replies : List Reply) → ((conn : ℕ) → Talks old conn → Talks new conn) → AllByRecursion (λ (reply : Reply). Talks old reply.origin.conn) replies → AllByRecursion (λ (reply : Reply). Talks new reply.origin.conn) replies
 still old new [] f p = tt
-still old new (reply ∷ replies) f p = (f reply.conn p.0, still old new replies f p.1)
+still old new (reply ∷ replies) f p = (f reply.origin.conn p.0, still old new replies f p.1)
 
 -- replies on connections that talk are sent, and none is lost
-pub delivered_right : (setting : Setting) (connections : Connections) (replies : List Reply) → AreAgreed setting.config connections → AllByRecursion (λ (reply : Reply). Talks connections reply.conn) replies →
+pub delivered_right : (setting : Setting) (connections : Connections) (replies : List Reply) → AreAgreed setting.config connections → AllByRecursion (λ (reply : Reply). Talks connections reply.origin.conn) replies →
     IsDelivered setting.config connections (delivery_of setting connections replies)
 delivered_right setting connections [] p all = record { agreed = p; talks = λ conn talks. talks; opened = λ conn. refl; lost = refl; fresh = λ f. f }
 delivered_right setting connections (reply ∷ replies) p all =

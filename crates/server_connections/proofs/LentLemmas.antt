@@ -38,7 +38,7 @@ module _ (old : Connections) (conn : ℕ) (connection : Connection) (known : Fin
       ∙ ap (λ o. (break_by conn old fault o).connections) (sym there)
 
   -- after a reply
-  pub said_back : (setting : Setting) (reply : Reply) (before after : List Out) → reply.conn ≡ conn → said phase after ≡ said_after before (said_by setting reply connection.phase)
+  pub said_back : (setting : Setting) (reply : Reply) (before after : List Out) → reply.origin.conn ≡ conn → said phase after ≡ said_after before (said_by setting reply connection.phase)
       → sending (record old { known = known }) after ≡ sending_after before (delivered setting old reply)
   unfolding delivered
   said_back setting reply before after same e =

@@ -28,6 +28,7 @@ use Rattle.ua_channel.specs.ChannelStates.{ChannelState, is_channel, granted_by,
 use Rattle.ua_channel.specs.Cutting.{written_id, send_opening_of}
 use Rattle.ua_channel.specs.Openings.{is_open as is_opened, is_issue, is_renew, is_mode_none, is_policy_none, opening_request_of, renewal_of}
 use Rattle.ua_channel.specs.Acceptance.{admission_of, with_unfinished, message_taken, close_taken, renewal_taken, request_taken, opening_by, opening_taken, taken_by_type, is_error, comes_by_channel, acceptance_of, unless_refused, take_of}
+use Rattle.server_messages.specs.declared.origin.Origin.{Origin}
 use Rattle.server_messages.specs.declared.setting.Setting.{Setting}
 use Rattle.server_connections.specs.Apart.{unsent_phase, unsent}
 use Rattle.server_connections.specs.Coherent.{number_in, number_at, AreNumbered}
@@ -180,13 +181,13 @@ or_sent_number : (s t : ChannelState) (r : Result (List (List ℕ)) SendFault) (
 or_sent_number s t (Ok frames) otherwise p q = p
 or_sent_number s t (Err fault) otherwise p q = q
 
-granted_number : (setting : Setting) (s : ChannelState) (id handle number : ℕ) → (granted setting s id handle number).channel.channel_id ≡ or_number s.channel_id number
+granted_number : (setting : Setting) (s : ChannelState) (origin : Origin) (number : ℕ) → (granted setting s origin number).channel.channel_id ≡ or_number s.channel_id number
 unfolding granted opening_sent
-granted_number setting s id handle number =
+granted_number setting s origin number =
     let at = granted_of s number in
-    let body = opening_body setting handle number (token_after s.newest_token) in
-    let step = send_opening_of at id body in
-    or_sent_number at step.state step.answer (sent_nothing step.state) (opened_number at id body) (opened_number at id body)
+    let body = opening_body setting origin.handle number (token_after s.newest_token) in
+    let step = send_opening_of at origin.id body in
+    or_sent_number at step.state step.answer (sent_nothing step.state) (opened_number at origin.id body) (opened_number at origin.id body)
     ∙ granted_by_number s number s.channel_id refl
 
 or_same : (o : Option ℕ) (number : ℕ) → is_opened o ≡ true → or_number o number ≡ o
@@ -202,15 +203,15 @@ or_new None number n e = inr (sym (ap (λ (x : Option ℕ). unwrap x) e))
 or_new (Some k) number n e = inl e
 
 module _ (setting : Setting) (conn : ℕ) where
-  opening_numbers : (channels : ℕ) (s : ChannelState) (id handle : ℕ) (renew : Bool) → (renew ≡ true → is_opened s.channel_id ≡ true) → Numbers channels s.channel_id (opening_reaction setting channels conn s id handle renew)
+  opening_numbers : (channels : ℕ) (s : ChannelState) (origin : Origin) (renew : Bool) → (renew ≡ true → is_opened s.channel_id ≡ true) → Numbers channels s.channel_id (opening_reaction setting channels s origin renew)
   unfolding opening_reaction
-  opening_numbers channels s id handle renew f =
+  opening_numbers channels s origin renew f =
       numbers_if channels s.channel_id renew _ _
-      (λ r. numbers_kept channels s.channel_id _ (granted_number setting s id handle (written_id s.channel_id) ∙ or_same s.channel_id (written_id s.channel_id) (f r)))
+      (λ r. numbers_kept channels s.channel_id _ (granted_number setting s origin (written_id s.channel_id) ∙ or_same s.channel_id (written_id s.channel_id) (f r)))
       (numbers_if channels s.channel_id (channels == 4294967295) _ _ (λ e. numbers_none channels s.channel_id _ refl)
       (record {
         rises = omega arith;
-        number = λ n e. new channels s n (or_new s.channel_id (channels + 1) n (sym (granted_number setting s id handle (channels + 1)) ∙ e));
+        number = λ n e. new channels s n (or_new s.channel_id (channels + 1) n (sym (granted_number setting s origin (channels + 1)) ∙ e));
       }))
     where
       new : (channels : ℕ) (s : ChannelState) (n : ℕ) → (s.channel_id ≡ Some n) ⊎ (n ≡ channels + 1) → (s.channel_id ≡ Some n) ⊎ ((channels < n) × (n ≤ channels + 1))
@@ -222,11 +223,11 @@ module _ (setting : Setting) (conn : ℕ) where
   taken_numbers channels key old s (Ok (taken.Aborted id)) e r = numbers_kept channels old _ e
   taken_numbers channels key old s (Ok taken.Closed) e r = numbers_none channels old _ refl
   taken_numbers channels key old s (Ok (taken.Opening id handle true)) e r =
-      subst (λ (o : Option ℕ). Numbers channels o (opening_reaction setting channels conn s id handle true)) e
-      (opening_numbers channels s id handle true (λ t. subst (λ (o : Option ℕ). is_opened o ≡ true) (sym e) r))
+      subst (λ (o : Option ℕ). Numbers channels o (opening_reaction setting channels s (record { conn = conn; id = id; handle = handle }) true)) e
+      (opening_numbers channels s (record { conn = conn; id = id; handle = handle }) true (λ t. subst (λ (o : Option ℕ). is_opened o ≡ true) (sym e) r))
   taken_numbers channels key old s (Ok (taken.Opening id handle false)) e r =
-      subst (λ (o : Option ℕ). Numbers channels o (opening_reaction setting channels conn s id handle false)) e
-      (opening_numbers channels s id handle false (λ t. absurd (false≢true t)))
+      subst (λ (o : Option ℕ). Numbers channels o (opening_reaction setting channels s (record { conn = conn; id = id; handle = handle }) false)) e
+      (opening_numbers channels s (record { conn = conn; id = id; handle = handle }) false (λ t. absurd (false≢true t)))
   taken_numbers channels key old s (Ok (taken.Request id body)) e r = numbers_kept channels old _ e
   taken_numbers channels key old s (Err code) e r = numbers_none channels old _ refl
 

@@ -46,4 +46,4 @@ is_on conn (Close other) = other == conn
 
 -- a reply is for this connection
 abbrev pub is_for : ℕ → Reply → Bool
-is_for conn reply = reply.conn == conn
+is_for conn reply = reply.origin.conn == conn

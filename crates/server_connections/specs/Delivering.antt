@@ -1,11 +1,12 @@
 -- How replies are sent, each on the connection that its request came by.
-use Rattle.std.specs.Prelude.{ℕ, List, [], ◌∷◌, ◌++◌, Option, Some, None}
+use Rattle.std.specs.Prelude.{List, [], ◌∷◌, ◌++◌, Option, Some, None}
 use Rattle.std.specs.FinMap.{get}
 use Rattle.ua_types.specs.declared.moment.Moment.{Moment}
 use Rattle.ua_types.specs.declared.status.TheConstants.Status as status
 use Rattle.ua_messages.specs.ServiceFaults.{fault_body}
 use Rattle.ua_channel.specs.ChannelStates.{ChannelState}
 use Rattle.ua_channel.specs.Cutting.{send_of}
+use Rattle.server_messages.specs.declared.origin.Origin.{Origin}
 use Rattle.server_messages.specs.declared.reply.Reply.{Reply}
 use Rattle.server_messages.specs.declared.setting.Setting.{Setting}
 use Rattle.server_connections.specs.declared.connection.Connection.{Connection}
@@ -17,15 +18,15 @@ use Rattle.server_connections.specs.Reactions.{Sent, sent_nothing, sent_or, send
 use Rattle.server_connections.specs.Connecting.{with_phase}
 
 -- a fault in the place of a reply that is too large for the client
-unfoldable pub too_large_sent : ChannelState → ℕ → ℕ → Moment → Sent
-too_large_sent s id handle clock =
-    let step = send_of s id (fault_body handle status.BAD_RESPONSE_TOO_LARGE clock) in
+unfoldable pub too_large_sent : ChannelState → Origin → Moment → Sent
+too_large_sent s origin clock =
+    let step = send_of s origin.id (fault_body origin.handle status.BAD_RESPONSE_TOO_LARGE clock) in
     sent_or step.answer step.state (sent_nothing step.state)
 
 unfoldable pub reply_sent : ChannelState → Reply → Moment → Sent
 reply_sent s reply clock =
-    let step = send_of s reply.id reply.body in
-    sent_or step.answer step.state (too_large_sent step.state reply.id reply.handle clock)
+    let step = send_of s reply.origin.id reply.body in
+    sent_or step.answer step.state (too_large_sent step.state reply.origin clock)
 
 -- the connections after replies were sent, what goes out, and the replies that had no channel to go by
 pub record Delivery : Type 0 where
@@ -43,12 +44,12 @@ pub record Saying : Type 0 where
 abbrev pub said_by : Setting → Reply → Phase → Saying
 said_by setting reply (Talking s) =
     let sent = reply_sent s reply setting.clock in
-    record { phase = Talking sent.channel; outs = sends reply.conn sent.frames; lost = [] }
+    record { phase = Talking sent.channel; outs = sends reply.origin.conn sent.frames; lost = [] }
 said_by setting reply phase = record { phase = phase; outs = []; lost = reply ∷ [] }
 
 abbrev pub delivered_on : Connections → Reply → Connection → Saying → Delivery
 delivered_on connections reply connection said =
-    record { connections = with_phase connections reply.conn connection said.phase; outs = said.outs; lost = said.lost }
+    record { connections = with_phase connections reply.origin.conn connection said.phase; outs = said.outs; lost = said.lost }
 
 abbrev pub delivered_to : Setting → Connections → Reply → Option Connection → Delivery
 delivered_to setting connections reply None = record { connections = connections; outs = []; lost = reply ∷ [] }
@@ -56,7 +57,7 @@ delivered_to setting connections reply (Some connection) =
     delivered_on connections reply connection (said_by setting reply connection.phase)
 
 unfoldable pub delivered : Setting → Connections → Reply → Delivery
-delivered setting connections reply = delivered_to setting connections reply (get connections.known reply.conn)
+delivered setting connections reply = delivered_to setting connections reply (get connections.known reply.origin.conn)
 
 abbrev pub and_delivery : Delivery → (Connections → Delivery) → Delivery
 and_delivery first more =

@@ -16,6 +16,7 @@ use Rattle.ua_channel.specs.declared.taken.Taken.TheVariants as taken
 use Rattle.ua_channel.specs.ChannelStates.{ChannelState, new_channel, token_after, granted_of}
 use Rattle.ua_channel.specs.Acceptance.{is_error, take_of}
 use Rattle.ua_channel.specs.Cutting.{written_id, send_opening_of}
+use Rattle.server_messages.specs.declared.origin.Origin.{Origin}
 use Rattle.server_messages.specs.declared.setting.Setting.{Setting}
 use Rattle.server_messages.specs.declared.request.Request.{Request}
 use Rattle.server_connections.specs.declared.frame_outcome.FrameOutcome.{FrameOutcome}
@@ -123,16 +124,16 @@ opening_sent s id body =
     sent_or step.answer step.state (sent_nothing step.state)
 
 -- the token is granted, under this number where the channel isn't open yet
-unfoldable pub granted : Setting → ChannelState → ℕ → ℕ → ℕ → Sent
-granted setting s id handle number =
-    opening_sent (granted_of s number) id (opening_body setting handle number (token_after s.newest_token))
+unfoldable pub granted : Setting → ChannelState → Origin → ℕ → Sent
+granted setting s origin number =
+    opening_sent (granted_of s number) origin.id (opening_body setting origin.handle number (token_after s.newest_token))
 
 -- A channel that is opened has the next number, and the numbers end. One that is renewed keeps its own.
-unfoldable pub opening_reaction : Setting → ℕ → ℕ → ChannelState → ℕ → ℕ → Bool → Counted
-opening_reaction setting channels conn s id handle renew =
-    if renew then counted channels (sent_reaction conn (granted setting s id handle (written_id s.channel_id)))
-    else if channels == 4294967295 then counted channels (refused conn status.BAD_TCP_NOT_ENOUGH_RESOURCES)
-    else counted (channels + 1) (sent_reaction conn (granted setting s id handle (channels + 1)))
+unfoldable pub opening_reaction : Setting → ℕ → ChannelState → Origin → Bool → Counted
+opening_reaction setting channels s origin renew =
+    if renew then counted channels (sent_reaction origin.conn (granted setting s origin (written_id s.channel_id)))
+    else if channels == 4294967295 then counted channels (refused origin.conn status.BAD_TCP_NOT_ENOUGH_RESOURCES)
+    else counted (channels + 1) (sent_reaction origin.conn (granted setting s origin (channels + 1)))
 
 -- ---- every later frame
 
@@ -143,7 +144,7 @@ abbrev pub taken_reaction : Setting → ℕ → ℕ → List ℕ → ChannelStat
 taken_reaction setting channels conn key s (Ok taken.Nothing) = counted channels (reaction (Talking s) [] outcome.Nothing)
 taken_reaction setting channels conn key s (Ok (taken.Aborted id)) = counted channels (reaction (Talking s) [] outcome.Nothing)
 taken_reaction setting channels conn key s (Ok taken.Closed) = counted channels (closed conn)
-taken_reaction setting channels conn key s (Ok (taken.Opening id handle renew)) = opening_reaction setting channels conn s id handle renew
+taken_reaction setting channels conn key s (Ok (taken.Opening id handle renew)) = opening_reaction setting channels s (record { conn = conn; id = id; handle = handle }) renew
 taken_reaction setting channels conn key s (Ok (taken.Request id body)) = counted channels (reaction (Talking s) [] (outcome.Request (request_of conn key id body)))
 taken_reaction setting channels conn key s (Err code) = counted channels (refused conn code)
 

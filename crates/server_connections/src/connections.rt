@@ -199,7 +199,7 @@ impl Connections {
         ensures { OnOk result (sending self.new outs.new
             ≡ sending_after outs.old (delivered setting.now self.old reply)) }
     {
-        let Some(connection) = self.known.get_mut(reply.conn) else {
+        let Some(connection) = self.known.get_mut(reply.origin.conn) else {
             return Ok(());
         };
         say(alloc, setting, &mut connection.phase, reply, outs)

@@ -6,7 +6,7 @@ ghost use Rattle.server_connections.specs.Reactions.{reaction, reaction_after, c
 use crate::connection::Phase;
 use crate::frame_outcome::FrameOutcome;
 use bytes::Bytes;
-use server_messages::{Out, Request, Setting};
+use server_messages::{Origin, Out, Request, Setting};
 use short_lists::ShortList;
 use std::alloc::{AllocError, Global};
 use ua_channel::{Channel, SendFault, Taken};
@@ -138,15 +138,14 @@ fn grant(
     alloc: Global,
     setting: &Setting,
     channel: &mut Channel,
-    id: u32,
-    handle: u32,
+    origin: Origin,
     number: u32,
 ) -> Result<ShortList<Bytes>, AllocError>
-    ensures { IfOk result (λ chunks. record { frames = chunks; channel = channel.new } ≡ granted setting.now channel.old id handle number) }
+    ensures { IfOk result (λ chunks. record { frames = chunks; channel = channel.new } ≡ granted setting.now channel.old origin number) }
 {
     let token_id = channel.grant(number);
-    let body = opening_response(alloc, setting, handle, number, token_id)?;
-    match channel.send_opening(alloc, id, body.as_slice()) {
+    let body = opening_response(alloc, setting, origin.handle, number, token_id)?;
+    match channel.send_opening(alloc, origin.id, body.as_slice()) {
         Ok(chunks) => Ok(chunks),
         Err(SendFault::TooLarge) => Ok(ShortList::new(alloc)),
         Err(SendFault::Memory) => Err(AllocError),
@@ -156,10 +155,7 @@ fn grant(
 // A request to open the channel or to renew its token.
 #[derive(Clone, Copy, Debug)]
 struct Opening {
-    // The request's number on the connection.
-    id: u32,
-    // The handle in the request's header.
-    handle: u32,
+    origin: Origin,
     // Whether it is a renewal.
     renew: bool,
 }
@@ -170,25 +166,29 @@ fn open(
     alloc: Global,
     setting: &Setting,
     channels: &mut u32,
-    conn: u64,
     channel: &mut Channel,
     opening: Opening,
     outs: &mut ShortList<Out>,
 ) -> Result<FrameOutcome, AllocError>
     ensures { IfOk result (λ asked. counted channels.new (reaction (left_by asked (Phase.Talking channel.new)) outs.new asked)
-        ≡ counted_after outs.old (opening_reaction setting.now channels.old conn channel.old opening.id opening.handle opening.renew)) }
+        ≡ counted_after outs.old (opening_reaction setting.now channels.old channel.old opening.origin opening.renew)) }
 {
-    let Opening { id, handle, renew } = opening;
+    let Opening { origin, renew } = opening;
     let number = if renew {
         channel.number().unwrap_or(0)
     } else if *channels == u32::MAX {
-        return refuse(alloc, conn, Status::BAD_TCP_NOT_ENOUGH_RESOURCES, outs);
+        return refuse(
+            alloc,
+            origin.conn,
+            Status::BAD_TCP_NOT_ENOUGH_RESOURCES,
+            outs,
+        );
     } else {
         *channels += 1;
         *channels
     };
-    let chunks = grant(alloc, setting, channel, id, handle, number)?;
-    send_all(conn, chunks, outs)?;
+    let chunks = grant(alloc, setting, channel, origin, number)?;
+    send_all(origin.conn, chunks, outs)?;
     Ok(FrameOutcome::Nothing)
 }
 
@@ -220,15 +220,11 @@ fn talk(
         Ok(Taken::Nothing) => Ok(FrameOutcome::Nothing),
         Ok(Taken::Aborted { id: _ }) => Ok(FrameOutcome::Nothing),
         Ok(Taken::Closed) => close(conn, outs),
-        Ok(Taken::Opening { id, handle, renew }) => open(
-            alloc,
-            setting,
-            channels,
-            conn,
-            channel,
-            Opening { id, handle, renew },
-            outs,
-        ),
+        Ok(Taken::Opening { id, handle, renew }) => {
+            let origin = Origin { conn, id, handle };
+            let opening = Opening { origin, renew };
+            open(alloc, setting, channels, channel, opening, outs)
+        }
         Ok(Taken::Request { id, body }) => Ok(FrameOutcome::Request(Request {
             conn,
             key,

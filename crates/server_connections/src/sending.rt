@@ -6,7 +6,7 @@ ghost use Rattle.server_connections.specs.Delivering.{too_large_sent, reply_sent
 use crate::connection::Phase;
 use crate::reactions::send_all;
 use bytes::Bytes;
-use server_messages::{Out, Reply, Setting};
+use server_messages::{Origin, Out, Reply, Setting};
 use short_lists::ShortList;
 use std::alloc::{AllocError, Global};
 use ua_channel::{Channel, SendFault};
@@ -18,14 +18,13 @@ use ua_types::{Moment, Status};
 fn too_large(
     alloc: Global,
     channel: &mut Channel,
-    id: u32,
-    handle: u32,
+    origin: Origin,
     clock: Moment,
 ) -> Result<ShortList<Bytes>, AllocError>
-    ensures { IfOk result (λ chunks. record { frames = chunks; channel = channel.new } ≡ too_large_sent channel.old id handle clock) }
+    ensures { IfOk result (λ chunks. record { frames = chunks; channel = channel.new } ≡ too_large_sent channel.old origin clock) }
 {
-    let body = fault(alloc, handle, Status::BAD_RESPONSE_TOO_LARGE, clock)?;
-    match channel.send(alloc, id, body) {
+    let body = fault(alloc, origin.handle, Status::BAD_RESPONSE_TOO_LARGE, clock)?;
+    match channel.send(alloc, origin.id, body) {
         Ok(chunks) => Ok(chunks),
         Err(SendFault::TooLarge) => Ok(ShortList::new(alloc)),
         Err(SendFault::Memory) => Err(AllocError),
@@ -43,15 +42,10 @@ fn reply_chunks(
     ensures { IfOk result (λ chunks. record { frames = chunks; channel = channel.new }
         ≡ reply_sent channel.old reply clock) }
 {
-    let Reply {
-        conn: _,
-        id,
-        handle,
-        body,
-    } = reply;
-    match channel.send(alloc, id, body) {
+    let Reply { origin, body } = reply;
+    match channel.send(alloc, origin.id, body) {
         Ok(chunks) => Ok(chunks),
-        Err(SendFault::TooLarge) => too_large(alloc, channel, id, handle, clock),
+        Err(SendFault::TooLarge) => too_large(alloc, channel, origin, clock),
         Err(SendFault::Memory) => Err(AllocError),
     }
 }
@@ -69,7 +63,7 @@ pub(crate) fn say(
     match phase {
         Phase::Greeting => Ok(()),
         Phase::Talking(channel) => {
-            let conn = reply.conn;
+            let conn = reply.origin.conn;
             let chunks = reply_chunks(alloc, channel, reply, setting.clock)?;
             send_all(conn, chunks, outs)
         }

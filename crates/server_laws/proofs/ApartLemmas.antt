@@ -195,16 +195,16 @@ taken_stays session caller state clock occurrences body (Err code) sessions p = 
 
 create_session_stays : (session : ℕ) (setting : Setting) (caller : Caller) (token : NodeId) (state : Services) (request : CreateSessionRequest) → KeepsRest session state (create_session_meaning setting caller token request state).state
 create_session_stays session setting caller token state request =
-    let s = create_of state.sessions caller.conn caller.key in
-    taken_stays session caller state setting.clock (spent_by state.sessions) (create_session_body setting caller) s.answer s.state (create_stays session state.sessions caller.conn caller.key)
+    let s = create_of state.sessions caller.origin.conn caller.key in
+    taken_stays session caller state setting.clock (spent_by state.sessions) (create_session_body setting caller) s.answer s.state (create_stays session state.sessions caller.origin.conn caller.key)
 
 activate_session_stays : (session : ℕ) (setting : Setting) (caller : Caller) (token : NodeId) (state : Services) (request : ActivateSessionRequest) → NamesIn session state token →
     KeepsRest session state (activate_session_meaning setting caller token request state).state
 activate_session_stays session setting caller token state request only =
     let is_free = is_anonymous request.user_identity_token in
-    let s = activate_of state.sessions token caller.conn caller.key is_free in
+    let s = activate_of state.sessions token caller.origin.conn caller.key is_free in
     taken_stays session caller state setting.clock (spent_by state.sessions) (activate_session_body setting caller) s.answer s.state
-    (activate_leaves session state.sessions token caller.conn caller.key is_free only).stay
+    (activate_leaves session state.sessions token caller.origin.conn caller.key is_free only).stay
 
 closed_stays : (session : ℕ) (setting : Setting) (caller : Caller) (deleting : Bool) (state : Services) (from : CameBy state.subs state.items) (answer : Result ℕ Status) (sessions : SessionsState) →
     sessions.made ≡ state.sessions.made → Keeps session state.sessions sessions → IfOk answer (λ number. number ≡ session) → KeepsRest session state (closed_by setting caller deleting state answer sessions).state
@@ -217,8 +217,8 @@ closed_stays session setting caller deleting state from (Err code) sessions made
 close_session_stays : (session : ℕ) (setting : Setting) (caller : Caller) (token : NodeId) (state : Services) (from : CameBy state.subs state.items) (request : CloseSessionRequest) → NamesIn session state token →
     KeepsRest session state (close_session_meaning setting caller token request state).state
 close_session_stays session setting caller token state from request only =
-    let s = close_of state.sessions token caller.conn in
-    let h = close_leaves session state.sessions token caller.conn only in
+    let s = close_of state.sessions token caller.origin.conn in
+    let h = close_leaves session state.sessions token caller.origin.conn only in
     closed_stays session setting caller request.delete_subscriptions state from s.answer s.state h.made h.stay h.answer
 
 -- ---- every service of a session
@@ -233,8 +233,8 @@ if_found_stays session serve setting caller state (Err code) sessions made p is 
 by_session : {A : Type 0} (session : ℕ) (meaning : Setting → Caller → ℕ → A → Services → Serving) (setting : Setting) (caller : Caller) (token : NodeId) (state : Services) (from : CameBy state.subs state.items) → NamesIn session state token →
     ((request : A) (after : Services) → CameBy after.subs after.items → KeepsRest session after (meaning setting caller session request after).state) → (r : Result A TakeFault) → Apart session state (served_in_session meaning setting caller token state r)
 by_session session meaning setting caller token state from only f (Ok request) =
-    let s = find_of state.sessions token caller.conn in
-    let h = find_leaves session state.sessions token caller.conn only in
+    let s = find_of state.sessions token caller.origin.conn in
+    let h = find_leaves session state.sessions token caller.origin.conn only in
     record { stays = if_found_stays session (λ number. meaning setting caller number request) setting caller state s.answer s.state h.made h.stay h.answer (f request (with_sessions state s.state) from) }
 by_session session meaning setting caller token state from only f (Err fault) = record { stays = none_stays session state }
 

@@ -102,43 +102,43 @@ module _ (setting : Setting) (reply : Reply) where
 
   module _ (s : ChannelState) (body : List ℕ) where
     abbrev cut : Cut
-    cut = cut_of Final (header_of s reply.id) (room_of s.agreed) body
+    cut = cut_of Final (header_of s reply.origin.id) (room_of s.agreed) body
 
     -- what is sent of it, or else that
     abbrev tried : Bool → Step (List (List ℕ)) SendFault ChannelState
     tried b = cond b (step (Err TooLarge) s) (sent_by s cut)
 
     -- where it isn't too large
-    goes_by : (otherwise : Sent) → is_too_large s.agreed (length body) ≡ false → GoesBy s (posting (Some s) (sends reply.conn (sent_or (tried false).answer (tried false).state otherwise).frames)) body
+    goes_by : (otherwise : Sent) → is_too_large s.agreed (length body) ≡ false → GoesBy s (posting (Some s) (sends reply.origin.conn (sent_or (tried false).answer (tried false).state otherwise).frames)) body
     goes_by otherwise e =
-        let chunks = has_chunks Final (header_of s reply.id) (room_of s.agreed) body in
+        let chunks = has_chunks Final (header_of s reply.origin.id) (room_of s.agreed) body in
         record {
           first = chunks.first;
           more = chunks.more;
           chunks = ap (λ (b : Bool). (tried b).answer) e ∙ ap Ok chunks.are;
-          sent = ap (sends reply.conn) chunks.are;
+          sent = ap (sends reply.origin.conn) chunks.are;
         }
 
-  fault_goes : (s : ChannelState) → IsAgreement s.agreed → let fault = fault_body reply.handle status.BAD_RESPONSE_TOO_LARGE setting.clock in
-      GoesBy s (posting (Some s) (sends reply.conn (too_large_sent s reply.id reply.handle setting.clock).frames)) fault
+  fault_goes : (s : ChannelState) → IsAgreement s.agreed → let fault = fault_body reply.origin.handle status.BAD_RESPONSE_TOO_LARGE setting.clock in
+      GoesBy s (posting (Some s) (sends reply.origin.conn (too_large_sent s reply.origin setting.clock).frames)) fault
   unfolding too_large_sent
-  fault_goes s agreed = by (is_too_large s.agreed (length fault)) refl (fault_fits s reply.id reply.handle status.BAD_RESPONSE_TOO_LARGE setting.clock agreed)
+  fault_goes s agreed = by (is_too_large s.agreed (length fault)) refl (fault_fits s reply.origin.id reply.origin.handle status.BAD_RESPONSE_TOO_LARGE setting.clock agreed)
     where
       fault : List ℕ
-      fault = fault_body reply.handle status.BAD_RESPONSE_TOO_LARGE setting.clock
+      fault = fault_body reply.origin.handle status.BAD_RESPONSE_TOO_LARGE setting.clock
 
-      by : (b : Bool) → is_too_large s.agreed (length fault) ≡ b → IsOk (tried s fault b).answer → GoesBy s (posting (Some s) (sends reply.conn (sent_or (tried s fault b).answer (tried s fault b).state (sent_nothing (tried s fault b).state)).frames)) fault
+      by : (b : Bool) → is_too_large s.agreed (length fault) ≡ b → IsOk (tried s fault b).answer → GoesBy s (posting (Some s) (sends reply.origin.conn (sent_or (tried s fault b).answer (tried s fault b).state (sent_nothing (tried s fault b).state)).frames)) fault
       by true e ok = absurd (false≢true ok)
       by false e ok = goes_by s fault (sent_nothing s) e
 
-  by_channel : (s : ChannelState) → IsAgreement s.agreed → IsSent (posting (Some s) (sends reply.conn (reply_sent s reply setting.clock).frames))
+  by_channel : (s : ChannelState) → IsAgreement s.agreed → IsSent (posting (Some s) (sends reply.origin.conn (reply_sent s reply setting.clock).frames))
   unfolding reply_sent
   by_channel s agreed = by (is_too_large s.agreed (length reply.body)) refl
     where
       by : (b : Bool) → is_too_large s.agreed (length reply.body) ≡ b →
-          IsSent (posting (Some s) (sends reply.conn (sent_or (tried s reply.body b).answer (tried s reply.body b).state (too_large_sent (tried s reply.body b).state reply.id reply.handle setting.clock)).frames))
+          IsSent (posting (Some s) (sends reply.origin.conn (sent_or (tried s reply.body b).answer (tried s reply.body b).state (too_large_sent (tried s reply.body b).state reply.origin setting.clock)).frames))
       by true e = inr (ap (λ (b : Bool). (tried s reply.body b).answer) e, fault_goes s agreed)
-      by false e = inl (goes_by s reply.body (too_large_sent s reply.id reply.handle setting.clock) e)
+      by false e = inl (goes_by s reply.body (too_large_sent s reply.origin setting.clock) e)
 
   module _ (connections : Connections) where
     in_phase : (phase : Phase) → IsAgreedIn setting.config phase → (said_by setting reply phase).lost ≡ [] → (is_talking phase ≡ true) × IsSent (posting (channel_in phase) (said_by setting reply phase).outs)
@@ -150,9 +150,9 @@ module _ (setting : Setting) (reply : Reply) where
     at None agreed none = absurd (cc)
     at (Some connection) agreed none = in_phase connection.phase agreed none
 
-    one_sent : AreAgreed setting.config connections → (delivered setting connections reply).lost ≡ [] → Talks connections reply.conn × IsSent (posting (channel_of (get connections.known reply.conn)) (delivered setting connections reply).outs)
+    one_sent : AreAgreed setting.config connections → (delivered setting connections reply).lost ≡ [] → Talks connections reply.origin.conn × IsSent (posting (channel_of (get connections.known reply.origin.conn)) (delivered setting connections reply).outs)
     unfolding delivered
-    one_sent agreed none = at (get connections.known reply.conn) (agreed reply.conn) none
+    one_sent agreed none = at (get connections.known reply.origin.conn) (agreed reply.origin.conn) none
 
 no_front : (xs ys : List Reply) → xs ++ ys ≡ [] → (xs ≡ []) × (ys ≡ [])
 no_front [] ys e = (refl, e)

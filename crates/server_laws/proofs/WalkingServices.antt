@@ -355,33 +355,33 @@ module _ (setting : Setting) (R : Services → List Move → Serving → Type 0)
     taken_so step spends body (Ok x) = step_taken state step _ spends false
     taken_so step spends body (Err code) = step_taken state step _ false true
 
-    closed_so : (deleting : Bool) (answer : Result ℕ Status) → R state (close_moves setting deleting answer) (closed_by setting caller deleting state answer (close_of state.sessions token caller.conn).state)
+    closed_so : (deleting : Bool) (answer : Result ℕ Status) → R state (close_moves setting deleting answer) (closed_by setting caller deleting state answer (close_of state.sessions token caller.origin.conn).state)
     closed_so deleting (Ok number) =
-        let step = SessionStep.Close token caller.conn in
+        let step = SessionStep.Close token caller.origin.conn in
         let at = stepped state step in
         let gone : Serving = session_over setting deleting number at in
         f.steps state step _ _ (f.next at (Move.EndSession setting.clock number deleting ∷ []) [] gone (λ (after : Services). answered after caller (close_session_body setting caller)) (over deleting number at) (f.still gone.state _ false false))
-    closed_so deleting (Err code) = step_taken state (SessionStep.Close token caller.conn) _ false true
+    closed_so deleting (Err code) = step_taken state (SessionStep.Close token caller.origin.conn) _ false true
 
     found_so : (serve : ℕ → Services → Serving) (moves : ℕ → Services → List Move) → ((number : ℕ) (after : Services) → R after (moves number after) (serve number after)) → (answer : Result ℕ Status) →
-        (let sessions = (find_of state.sessions token caller.conn).state in R state (of_events.if_found moves state answer sessions) (if_found serve setting caller state answer sessions))
-    found_so serve moves g (Ok number) = let step = SessionStep.Find token caller.conn in f.steps state step _ _ (g number (stepped state step))
-    found_so serve moves g (Err code) = step_taken state (SessionStep.Find token caller.conn) _ false true
+        (let sessions = (find_of state.sessions token caller.origin.conn).state in R state (of_events.if_found moves state answer sessions) (if_found serve setting caller state answer sessions))
+    found_so serve moves g (Ok number) = let step = SessionStep.Find token caller.origin.conn in f.steps state step _ _ (g number (stepped state step))
+    found_so serve moves g (Err code) = step_taken state (SessionStep.Find token caller.origin.conn) _ false true
 
     by_session : {A : Type 0} (meaning : Setting → Caller → ℕ → A → Services → Serving) (moves : ℕ → A → Services → List Move) →
         ((number : ℕ) (request : A) (after : Services) → R after (moves number request after) (meaning setting caller number request after)) → (r : Result A TakeFault) →
         R state (if_read (in_session moves caller token state) r) (served_in_session meaning setting caller token state r)
     by_session meaning moves g (Ok request) =
-        found_so (λ number. meaning setting caller number request) (λ number. moves number request) (λ number. g number request) (find_of state.sessions token caller.conn).answer
+        found_so (λ number. meaning setting caller number request) (λ number. moves number request) (λ number. g number request) (find_of state.sessions token caller.origin.conn).answer
     by_session meaning moves g (Err fault) = refused state _
 
-    none_found : (serve : ℕ → Services → Serving) → ((number : ℕ) (after : Services) → R after [] (serve number after)) → (answer : Result ℕ Status) → R state [] (if_found serve setting caller state answer (find_of state.sessions token caller.conn).state)
-    none_found serve g (Ok number) = let step = SessionStep.Find token caller.conn in f.steps state step _ _ (g number (stepped state step))
-    none_found serve g (Err code) = step_taken state (SessionStep.Find token caller.conn) _ false true
+    none_found : (serve : ℕ → Services → Serving) → ((number : ℕ) (after : Services) → R after [] (serve number after)) → (answer : Result ℕ Status) → R state [] (if_found serve setting caller state answer (find_of state.sessions token caller.origin.conn).state)
+    none_found serve g (Ok number) = let step = SessionStep.Find token caller.origin.conn in f.steps state step _ _ (g number (stepped state step))
+    none_found serve g (Err code) = step_taken state (SessionStep.Find token caller.origin.conn) _ false true
 
     none_by_session : {A : Type 0} (meaning : Setting → Caller → ℕ → A → Services → Serving) → ((number : ℕ) (request : A) (after : Services) → R after [] (meaning setting caller number request after)) →
         (r : Result A TakeFault) → R state [] (served_in_session meaning setting caller token state r)
-    none_by_session meaning g (Ok request) = none_found (λ number. meaning setting caller number request) (λ number. g number request) (find_of state.sessions token caller.conn).answer
+    none_by_session meaning g (Ok request) = none_found (λ number. meaning setting caller number request) (λ number. g number request) (find_of state.sessions token caller.origin.conn).answer
     none_by_session meaning g (Err fault) = refused state _
 
     of_subscriptions_so : (fields : List ℕ) (id : ℕ) → R state (moves_of_subscriptions setting caller token fields state id) (picked_of_subscriptions setting caller token fields state id)
@@ -419,12 +419,12 @@ module _ (setting : Setting) (R : Services → List Move → Serving → Type 0)
     picked_so writes fields id =
         either _ _ _ _ _ (none_by_fields get_endpoints_meaning (λ request. f.still state _ false false) (fields_of get_endpoints_request_reading fields))
         (either _ _ _ _ _ (none_by_fields create_session_meaning
-        (λ request. taken_so (SessionStep.Create caller.conn caller.key) (is_spent state.sessions) (create_session_body setting caller) (create_of state.sessions caller.conn caller.key).answer) (fields_of create_session_request_reading fields))
+        (λ request. taken_so (SessionStep.Create caller.origin.conn caller.key) (is_spent state.sessions) (create_session_body setting caller) (create_of state.sessions caller.origin.conn caller.key).answer) (fields_of create_session_request_reading fields))
         (either _ _ _ _ _ (none_by_fields activate_session_meaning
         (λ request. let is_free = is_anonymous request.user_identity_token in
-        taken_so (SessionStep.Activate token caller.conn caller.key is_free) (is_spent state.sessions) (activate_session_body setting caller) (activate_of state.sessions token caller.conn caller.key is_free).answer) (fields_of activate_session_request_reading fields))
+        taken_so (SessionStep.Activate token caller.origin.conn caller.key is_free) (is_spent state.sessions) (activate_session_body setting caller) (activate_of state.sessions token caller.origin.conn caller.key is_free).answer) (fields_of activate_session_request_reading fields))
         (either _ _ _ _ _ (by_fields close_session_meaning (close_session_moves setting caller token state)
-        (λ request. closed_so request.delete_subscriptions (close_of state.sessions token caller.conn).answer) (fields_of close_session_request_reading fields))
+        (λ request. closed_so request.delete_subscriptions (close_of state.sessions token caller.origin.conn).answer) (fields_of close_session_request_reading fields))
         (either _ _ _ _ _ (none_by_session read_meaning (λ session request after. read_timed_so caller after request.nodes_to_read (timestamps_of request.timestamps_to_return)) (fields_of read_request_reading fields))
         (either _ _ _ _ _ (by_session write_meaning (write_moves setting) (λ session request after. write_listed_so caller writes after (operations_of setting.config request.nodes_to_write)) (fields_of write_request_reading fields))
         (either _ _ _ _ _ (none_by_session browse_meaning (browse_so caller) (fields_of browse_request_reading fields))

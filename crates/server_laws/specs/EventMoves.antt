@@ -71,7 +71,7 @@ if_found moves state (Err code) sessions = []
 
 abbrev pub in_session : {A : Type 0} → (ℕ → A → Services → List Move) → Caller → NodeId → Services → A → List Move
 in_session moves caller token state request =
-    let s = find_of state.sessions token caller.conn in
+    let s = find_of state.sessions token caller.origin.conn in
     if_found (λ number. moves number request) state s.answer s.state
 
 -- nor one whose list is refused
@@ -88,7 +88,7 @@ close_moves setting deleting (Err code) = []
 
 abbrev pub close_session_moves : Setting → Caller → NodeId → Services → CloseSessionRequest → List Move
 close_session_moves setting caller token state request =
-    close_moves setting request.delete_subscriptions (close_of state.sessions token caller.conn).answer
+    close_moves setting request.delete_subscriptions (close_of state.sessions token caller.origin.conn).answer
 
 -- the items are shown every value that is accepted
 abbrev pub write_moves : Setting → ℕ → WriteRequest → Services → List Move

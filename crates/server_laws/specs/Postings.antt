@@ -51,7 +51,7 @@ abbrev pub postings : Setting → Connections → List Reply → List Posting
 postings setting connections [] = []
 postings setting connections (reply ∷ replies) =
     let d = delivered setting connections reply in
-    record { reply = reply; channel = channel_of (get connections.known reply.conn); clock = setting.clock; outs = d.outs } ∷
+    record { reply = reply; channel = channel_of (get connections.known reply.origin.conn); clock = setting.clock; outs = d.outs } ∷
     postings setting d.connections replies
 
 -- ---- of a run
@@ -86,14 +86,14 @@ outs_of_run r = outs_of (joined_effects r.steps)
 pub record GoesBy (s : ChannelState) (p : Posting) (body : List ℕ) : Type 0 where
   pub first : List ℕ
   pub more : List (List ℕ)
-  pub chunks : (send_of s p.reply.id body).answer ≡ Ok (first ∷ more)
-  pub sent : p.outs ≡ sends p.reply.conn (first ∷ more)
+  pub chunks : (send_of s p.reply.origin.id body).answer ≡ Ok (first ∷ more)
+  pub sent : p.outs ≡ sends p.reply.origin.conn (first ∷ more)
 
 abbrev pub IsSentBy : Posting → Option ChannelState → Type 0
 IsSentBy p None = ⊥
 IsSentBy p (Some s) =
     GoesBy s p p.reply.body
-    ⊎ (((send_of s p.reply.id p.reply.body).answer ≡ Err TooLarge) × GoesBy s p (fault_body p.reply.handle status.BAD_RESPONSE_TOO_LARGE p.clock))
+    ⊎ (((send_of s p.reply.origin.id p.reply.body).answer ≡ Err TooLarge) × GoesBy s p (fault_body p.reply.origin.handle status.BAD_RESPONSE_TOO_LARGE p.clock))
 
 -- an answer goes out by its channel; or, where it is too large for that one, the fault BAD_RESPONSE_TOO_LARGE does, in its place
 abbrev pub IsSent : Posting → Type 0

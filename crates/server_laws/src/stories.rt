@@ -32,7 +32,6 @@ ghost use Rattle.subscription_laws.specs.Encounters.{Meets, encounters};
 ghost use Rattle.subscription_laws.specs.Histories.{counts_at, life_at};
 ghost use Rattle.subscription_laws.specs.Messaging.{messages_for};
 ghost use Rattle.subscription_laws.specs.OwnRequests.{CameIn};
-ghost use Rattle.subscription_laws.specs.Requests.{name_of};
 ghost use Rattle.subscription_laws.specs.Runs.{Move, run};
 ghost use Rattle.subscription_laws.specs.Tellings.{Telling, told_at};
 ghost use Rattle.subscription_laws.specs.Tellings.Told.{KeepAlive};
@@ -128,7 +127,7 @@ pub fn a_request_left_beside_a_waiting_subscription()
 pub fn an_answer_across_sessions()
     ensures { (config : Configuration) (space : SpaceState) (events : List Event) (before : List Move) (m : Move) (rest : List Move) (c : Scene) (answer : Telling) →
         before ++ m ∷ rest ≡ moves_of config space events → encounters (run config before) m ≡ Meets c ∷ [] → told_at (Meets c) ≡ answer ∷ [] →
-        ((session : ℕ) → c.subscription.session ≡ Some session → CameIn session (name_of answer.call) (before ++ m ∷ []) → ⊥) → ⊥ }
+        ((session : ℕ) → c.subscription.session ≡ Some session → CameIn session answer.call.origin (before ++ m ∷ []) → ⊥) → ⊥ }
 {
     table();
 }
@@ -154,8 +153,8 @@ pub fn an_answer_that_is_swallowed()
 /// An answer fits by the channel of its client, and something else goes out: the fault for one that is too large, for instance.
 pub fn an_answer_that_fits_is_refused()
     ensures { (config : Configuration) (space : SpaceState) (events : List Event) (p : Posting) (channel : ChannelState) (chunks : List (List ℕ)) → IsConfigured config →
-        posted config space events ≡ p ∷ [] → p.channel ≡ Some channel → (send_of channel p.reply.id p.reply.body).answer ≡ Ok chunks →
-        p.outs ≢ sends p.reply.conn chunks → ⊥ }
+        posted config space events ≡ p ∷ [] → p.channel ≡ Some channel → (send_of channel p.reply.origin.id p.reply.body).answer ≡ Ok chunks →
+        p.outs ≢ sends p.reply.origin.conn chunks → ⊥ }
 {
     losses();
 }

@@ -45,7 +45,6 @@ use Rattle.subscription_laws.specs.Calm.{AreRising}
 use Rattle.subscription_laws.specs.Encounters.{Beside, Acknowledges, TellsNote, Refuses, Leaves, LeavesAll, Loses, beside, Encounter, Meets, Does, scene_at, is_meant, met_if, made_scene, encounters, encounters_from, all_encounters}
 use Rattle.subscription_laws.specs.OwnRequests.{CameIn, WasOf, AnswersItsOwn, AreOwnAnswers}
 use Rattle.subscription_laws.specs.Numbering.{messages_of}
-use Rattle.subscription_laws.specs.Requests.{name_of}
 use Rattle.subscription_laws.specs.Runs.{Move, Ran, start, moved, run}
 use Rattle.subscription_laws.specs.Tellings.{Told, Telling, told_at, if_asked, queued_told, note_told, rest_told, notes_told, row_told}
 use Rattle.subscription_laws.proofs.Entries.{some_same}
@@ -486,16 +485,16 @@ module _ (P : ℕ → PublishCall → Type 0) (Q : ℕ → ℕ → Type 0) where
 -- ---- what came, and what was met
 
 abbrev CameAmong : List Move → ℕ → PublishCall → Type 0
-CameAmong moves session asked = CameIn session (name_of asked) moves
+CameAmong moves session asked = CameIn session asked.origin moves
 
 abbrev WasAmong : List Encounter → ℕ → ℕ → Type 0
 WasAmong es session number = WasOf session number es
 
-came_here : (front : List Move) (clock : Moment) (session : ℕ) (asked : PublishCall) (acks : List SubscriptionAcknowledgement) (rest : List Move) (x : PublishCall) → name_of asked ≡ name_of x → CameIn session (name_of x) (front ++ Move.Publish clock session asked acks ∷ rest)
+came_here : (front : List Move) (clock : Moment) (session : ℕ) (asked : PublishCall) (acks : List SubscriptionAcknowledgement) (rest : List Move) (x : PublishCall) → asked.origin ≡ x.origin → CameIn session x.origin (front ++ Move.Publish clock session asked acks ∷ rest)
 came_here [] clock session asked acks rest x is = inl (refl, is)
 came_here (m ∷ front) clock session asked acks rest x is = by m (came_here front clock session asked acks rest x is)
   where
-    by : (m : Move) → CameIn session (name_of x) (front ++ Move.Publish clock session asked acks ∷ rest) → CameIn session (name_of x) (m ∷ front ++ Move.Publish clock session asked acks ∷ rest)
+    by : (m : Move) → CameIn session x.origin (front ++ Move.Publish clock session asked acks ∷ rest) → CameIn session x.origin (m ∷ front ++ Move.Publish clock session asked acks ∷ rest)
     by (Move.Publish c own y a) h = inr h
     by m h = h
 

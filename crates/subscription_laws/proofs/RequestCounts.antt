@@ -9,6 +9,7 @@ use Rattle.std.specs.declared.cmp.Ordering.TheVariants.{Less, Equal, Greater}
 use Rattle.ua_types.specs.Configuration.{Configuration}
 use Rattle.ua_types.specs.declared.moment.Moment.{Moment}
 use Rattle.ua_types.specs.declared.status.Status.{Status}
+use Rattle.server_messages.specs.declared.origin.Origin.{Origin}
 use Rattle.server_messages.specs.declared.reply.Reply.{Reply}
 use Rattle.ua_subscription_messages.specs.declared.publishing.SubscriptionAcknowledgement.{SubscriptionAcknowledgement}
 use Rattle.ua_state_table.specs.StateTable.{actions_of}
@@ -34,14 +35,14 @@ use Rattle.ua_subscriptions.specs.Scenes.{Scene, Noting, Queueing, Sending, noti
 use Rattle.ua_subscriptions.specs.SubscriptionCalls.{world_of}
 use Rattle.ua_subscriptions.specs.Subscriptions.{no_part}
 use Rattle.ua_subscriptions.specs.Tables.{TableState, World, part_at, part_of, set_part}
-use Rattle.subscription_laws.specs.Requests.{Name, name_of, one_if, such_calls, such_waiting, such_answers, came_by, such_came}
+use Rattle.subscription_laws.specs.Requests.{one_if, such_calls, such_waiting, such_answers, came_by, such_came}
 use Rattle.ua_subscriptions.proofs.Choosing.{either}
 use Rattle.subscription_laws.proofs.Keeping.{world_after}
 use Rattle.subscription_laws.proofs.Walks.{left, left_is, Follows, FollowsMaking, Any, any_begins, walked, DoneBy, OnBeside, meet_done, each_done}
 use Rattle.subscription_laws.specs.Runs.{Move, Ran, start, moved, run}
 use Rattle.subscription_laws.specs.Encounters.{Beside, Acknowledges, Asks, TellsNote, TellsNone, Refuses, Leaves, LeavesAll, Loses, beside, Encounter, Meets, Does, scene_at, all_meet, asked_encounters, noted_encounters, encounters}
 
-module _ (such : Name → Bool) where
+module _ (such : Origin → Bool) where
   -- ---- lists
 
   answers-append : (xs ys : List Reply) → such_answers such (xs ++ ys) ≡ such_answers such xs + such_answers such ys
@@ -54,13 +55,13 @@ module _ (such : Name → Bool) where
 
   all_same : (clock : Moment) (code : Status) (calls : List PublishCall) → such_answers such (map (refused_of clock code) calls) ≡ such_calls such calls
   all_same clock code [] = refl
-  all_same clock code (x ∷ xs) = ap (λ (n : ℕ). one_if (such (name_of x)) + n) (all_same clock code xs)
+  all_same clock code (x ∷ xs) = ap (λ (n : ℕ). one_if (such x.origin) + n) (all_same clock code xs)
 
   -- ---- a round, and what a row sees
 
   abbrev asked_one : Option PublishCall → ℕ
   asked_one None = 0
-  asked_one (Some asked) = one_if (such (name_of asked))
+  asked_one (Some asked) = one_if (such asked.origin)
 
   abbrev of_round : Round → ℕ
   of_round round = such_answers such round.replies + asked_one round.asked
@@ -71,8 +72,8 @@ module _ (such : Name → Bool) where
   answered_less : (o : Option PublishCall) (round : Round) (s : Subscription) (more : Bool) (message : List ℕ) → round.asked ≡ o → of_round (scenes.answered_by o round s more message) ≤ of_round round
   answered_less None round s more message is = omega arith
   answered_less (Some asked) round s more message is =
-      let one : asked_one round.asked ≡ one_if (such (name_of asked)) = ap asked_one is in
-      let sum : such_answers such (scenes.answered_by (Some asked) round s more message).replies ≡ such_answers such round.replies + (one_if (such (name_of asked)) + 0) = answers-append round.replies _ in
+      let one : asked_one round.asked ≡ one_if (such asked.origin) = ap asked_one is in
+      let sum : such_answers such (scenes.answered_by (Some asked) round s more message).replies ≡ such_answers such round.replies + (one_if (such asked.origin) + 0) = answers-append round.replies _ in
       omega (arith, one, sum)
 
   note_less : (n : Noting) → of_round (note_sent n).round ≤ of_round n.round
@@ -91,8 +92,8 @@ module _ (such : Name → Bool) where
       next : Noting
       next = note_sent (with_asked n asked)
 
-      by : (more : Bool) → of_sending (rest_sent calls next) ≤ of_round next.round + such_calls such calls → of_round next.round ≤ such_answers such n.round.replies + one_if (such (name_of asked)) →
-          of_sending (cond more (rest_sent calls next) (sending n (asked ∷ calls))) ≤ of_round n.round + (one_if (such (name_of asked)) + such_calls such calls)
+      by : (more : Bool) → of_sending (rest_sent calls next) ≤ of_round next.round + such_calls such calls → of_round next.round ≤ such_answers such n.round.replies + one_if (such asked.origin) →
+          of_sending (cond more (rest_sent calls next) (sending n (asked ∷ calls))) ≤ of_round n.round + (one_if (such asked.origin) + such_calls such calls)
       by true h k = omega (arith, h, k)
       by false h k = omega arith
 
@@ -112,17 +113,17 @@ module _ (such : Name → Bool) where
     where
       full : (asked : PublishCall) (calls : List PublishCall) → round.asked ≡ Some asked →
           of_round (with_refused (record round { asked = None }) (first_of calls)) + such_calls such (drop 1 calls ++ asked ∷ []) ≤ of_round round + such_calls such calls
-      full asked [] is = let one : asked_one round.asked ≡ one_if (such (name_of asked)) = ap asked_one is in omega (arith, one)
+      full asked [] is = let one : asked_one round.asked ≡ one_if (such asked.origin) = ap asked_one is in omega (arith, one)
       full asked (x ∷ xs) is =
-          let one : asked_one round.asked ≡ one_if (such (name_of asked)) = ap asked_one is in
-          let sum : such_answers such (with_refused (record round { asked = None }) (Some x)).replies ≡ such_answers such round.replies + (one_if (such (name_of x)) + 0) = answers-append round.replies _ in
-          let queue : such_calls such (xs ++ asked ∷ []) ≡ such_calls such xs + (one_if (such (name_of asked)) + 0) = calls-append xs (asked ∷ []) in
+          let one : asked_one round.asked ≡ one_if (such asked.origin) = ap asked_one is in
+          let sum : such_answers such (with_refused (record round { asked = None }) (Some x)).replies ≡ such_answers such round.replies + (one_if (such x.origin) + 0) = answers-append round.replies _ in
+          let queue : such_calls such (xs ++ asked ∷ []) ≡ such_calls such xs + (one_if (such asked.origin) + 0) = calls-append xs (asked ∷ []) in
           omega (arith, one, sum, queue)
 
       room : (asked : PublishCall) → round.asked ≡ Some asked → such_answers such round.replies + 0 + such_calls such (part.requests ++ asked ∷ []) ≤ of_round round + such_calls such part.requests
       room asked is =
-          let one : asked_one round.asked ≡ one_if (such (name_of asked)) = ap asked_one is in
-          let queue : such_calls such (part.requests ++ asked ∷ []) ≡ such_calls such part.requests + (one_if (such (name_of asked)) + 0) = calls-append part.requests (asked ∷ []) in
+          let one : asked_one round.asked ≡ one_if (such asked.origin) = ap asked_one is in
+          let queue : such_calls such (part.requests ++ asked ∷ []) ≡ such_calls such part.requests + (one_if (such asked.origin) + 0) = calls-append part.requests (asked ∷ []) in
           omega (arith, one, queue)
 
       by : (o : Option PublishCall) → round.asked ≡ o → of_queueing (enqueued_by o round part) ≤ of_round round + such_calls such part.requests
@@ -220,7 +221,7 @@ module _ (such : Name → Bool) where
   fewer_calls conn [] = omega arith
   fewer_calls conn (x ∷ xs) =
       let h = fewer_calls conn xs in
-      either (λ (calls : List PublishCall). such_calls such calls ≤ one_if (such (name_of x)) + such_calls such xs) (came_by_other conn x) (x ∷ filter (came_by_other conn) xs) (filter (came_by_other conn) xs) (omega (arith, h)) (omega (arith, h))
+      either (λ (calls : List PublishCall). such_calls such calls ≤ one_if (such x.origin) + such_calls such xs) (came_by_other conn x) (x ∷ filter (came_by_other conn) xs) (filter (came_by_other conn) xs) (omega (arith, h)) (omega (arith, h))
 
   gone_less : (conn : ℕ) (sessions : List (ℕ × SessionSubscriptions)) → such_waiting such (map (entry_without_conn conn) sessions) ≤ such_waiting such sessions
   gone_less conn [] = omega arith
@@ -261,9 +262,9 @@ module _ (such : Name → Bool) where
   -- ---- the requests that come
 
   abbrev asked_beside : Beside → ℕ
-  asked_beside (Asks asked) = one_if (such (name_of asked))
-  asked_beside (TellsNote session asked note) = one_if (such (name_of asked))
-  asked_beside (TellsNone asked) = one_if (such (name_of asked))
+  asked_beside (Asks asked) = one_if (such asked.origin)
+  asked_beside (TellsNote session asked note) = one_if (such asked.origin)
+  asked_beside (TellsNone asked) = one_if (such asked.origin)
   asked_beside b = 0
 
   abbrev asked_at : Encounter → ℕ
@@ -286,16 +287,16 @@ module _ (such : Name → Bool) where
   none_asked (Meets c ∷ es) h = let rest : such_asked es ≡ 0 = none_asked es h.1 in omega (arith, rest)
   none_asked (Does w b ∷ es) h = let first : asked_beside b ≡ 0 = h.0 in let rest : such_asked es ≡ 0 = none_asked es h.1 in omega (arith, first, rest)
 
-  asked_once : (ns : List ℕ) (asked : PublishCall) (w : World) → such_asked (asked_encounters ns asked w) ≤ one_if (such (name_of asked))
+  asked_once : (ns : List ℕ) (asked : PublishCall) (w : World) → such_asked (asked_encounters ns asked w) ≤ one_if (such asked.origin)
   asked_once [] asked w = omega arith
   asked_once (n ∷ ns) asked w =
       let met = all_meet None call.Publish (asked_by w asked) (asked_numbers w (n ∷ ns)) in
       let h : such_asked met ≡ 0 = none_asked met (meet_done AsksNone None call.Publish (asked_numbers w (n ∷ ns)) (asked_by w asked)) in
       omega (arith, h)
 
-  noted_once : (note : Option TimeoutNote) (session : ℕ) (asked : PublishCall) (acks : List SubscriptionAcknowledgement) (w : World) → such_asked (noted_encounters note session asked acks w) ≤ one_if (such (name_of asked))
+  noted_once : (note : Option TimeoutNote) (session : ℕ) (asked : PublishCall) (acks : List SubscriptionAcknowledgement) (w : World) → such_asked (noted_encounters note session asked acks w) ≤ one_if (such asked.origin)
   noted_once (Some note) session asked acks w = omega arith
-  noted_once None session asked acks w = let v = ready session acks w in let h : such_asked (asked_encounters (part_at session v.table.sessions).numbers asked v) ≤ one_if (such (name_of asked)) = asked_once (part_at session v.table.sessions).numbers asked v in omega (arith, h)
+  noted_once None session asked acks w = let v = ready session acks w in let h : such_asked (asked_encounters (part_at session v.table.sessions).numbers asked v) ≤ one_if (such asked.origin) = asked_once (part_at session v.table.sessions).numbers asked v in omega (arith, h)
 
   none_comes : (r : Ran) (m : Move) → DoneBy AsksNone m → such_asked (encounters r m) ≤ came_by such m
   none_comes r m done = let h : such_asked (encounters r m) ≡ 0 = none_asked (encounters r m) (each_done AsksNone r m done) in omega (arith, h)
@@ -324,10 +325,10 @@ module _ (such : Name → Bool) where
       set_less session (part_without_note part) w.table.sessions in
       omega (arith, k)
   beside_less w (TellsNote session asked note) =
-      let sum : such_answers such (beside w (TellsNote session asked note)).round.replies ≡ such_answers such w.round.replies + (one_if (such (name_of asked)) + 0) = answers-append w.round.replies _ in
+      let sum : such_answers such (beside w (TellsNote session asked note)).round.replies ≡ such_answers such w.round.replies + (one_if (such asked.origin) + 0) = answers-append w.round.replies _ in
       omega (arith, sum)
   beside_less w (TellsNone asked) =
-      let sum : such_answers such (beside w (TellsNone asked)).round.replies ≡ such_answers such w.round.replies + (one_if (such (name_of asked)) + 0) = answers-append w.round.replies _ in
+      let sum : such_answers such (beside w (TellsNone asked)).round.replies ≡ such_answers such w.round.replies + (one_if (such asked.origin) + 0) = answers-append w.round.replies _ in
       omega (arith, sum)
   beside_less w (Refuses session code) = let h : of_world (all_refused session code w) ≤ of_world w = refused_less session code w in omega (arith, h)
   beside_less w (Leaves session) =
@@ -379,7 +380,7 @@ module _ (such : Name → Bool) where
       let k : of_ran (moved r m) ≤ of_ran r + came_by such m = call_less r m in
       omega (arith, h, k)
 
-pub answered_once : (config : Configuration) (moves : List Move) (such : Name → Bool) → let r = run config moves in such_answers such r.replies + such_waiting such r.subs.table.sessions ≤ such_came such moves
+pub answered_once : (config : Configuration) (moves : List Move) (such : Origin → Bool) → let r = run config moves in such_answers such r.replies + such_waiting such r.subs.table.sessions ≤ such_came such moves
 answered_once config moves such =
     let r = run config moves in
     let h : such_answers such r.replies + such_waiting such r.subs.table.sessions ≤ 0 + such_came such moves = runs_less such moves (start config) in

@@ -46,7 +46,8 @@ ghost use Rattle.subscription_laws.specs.Messaging.{messages_for, run_made, IsAm
 ghost use Rattle.subscription_laws.specs.Numbering.{AreNumbered, IsMade, messages_of, begins_or_ends};
 ghost use Rattle.subscription_laws.specs.Precedence.{precedence, ComesToTheBest, ComesBestFirst};
 ghost use Rattle.ua_subscriptions.specs.Ranks.{number_of as rank_number, is_waiting, waiting_of, is_due, rank_cmp, due_numbers};
-ghost use Rattle.subscription_laws.specs.Requests.{Name, such_answers, such_waiting, such_came};
+ghost use Rattle.server_messages.specs.declared.origin.Origin.{Origin};
+ghost use Rattle.subscription_laws.specs.Requests.{such_answers, such_waiting, such_came};
 ghost use Rattle.subscription_laws.specs.Runs.{Move, Ran, run, moved, start};
 ghost use Rattle.ua_subscriptions.specs.Scenes.{Scene, row_done};
 ghost use Rattle.ua_subscriptions.specs.SubscriptionCalls.{world_of};
@@ -206,7 +207,7 @@ pub fn messages_are_answers()
 /// requests of any kind, told by their connections, their numbers there and their handles, the answers and those that wait
 /// are together no more than those that came.
 pub fn requests_are_answered_once()
-    ensures { (config : Configuration) (moves : List Move) (such : Name → Bool) → let r = run config moves in
+    ensures { (config : Configuration) (moves : List Move) (such : Origin → Bool) → let r = run config moves in
         such_answers such r.replies + such_waiting such r.subs.table.sessions ≤ such_came such moves }
 {}
 

@@ -106,26 +106,26 @@ module _ (Such : ℕ → Type 0) where
   either true x y p q = p
   either false x y p q = q
 
-  by_fields : {A : Type 0} (meaning : Setting → Caller → NodeId → A → Services → Serving) (setting : Setting) (caller : Caller) (token : NodeId) (state : Services) → OwesOnly Such state → Such caller.conn →
+  by_fields : {A : Type 0} (meaning : Setting → Caller → NodeId → A → Services → Serving) (setting : Setting) (caller : Caller) (token : NodeId) (state : Services) → OwesOnly Such state → Such caller.origin.conn →
       ((request : A) → ServesOnly Such (meaning setting caller token request state)) → (r : Result A TakeFault) → ServesOnly Such (served_by meaning setting caller token state r)
   by_fields meaning setting caller token state p q f (Ok request) = f request
   by_fields meaning setting caller token state p q f (Err fault) = record { state = p; replies = (q, tt) }
 
-  get_endpoints_only : (setting : Setting) (caller : Caller) (token : NodeId) (state : Services) → OwesOnly Such state → Such caller.conn → (request : GetEndpointsRequest) → ServesOnly Such (get_endpoints_meaning setting caller token request state)
+  get_endpoints_only : (setting : Setting) (caller : Caller) (token : NodeId) (state : Services) → OwesOnly Such state → Such caller.origin.conn → (request : GetEndpointsRequest) → ServesOnly Such (get_endpoints_meaning setting caller token request state)
   get_endpoints_only setting caller token state p q request = record { state = p; replies = (q, tt) }
 
-  taken_only : {A : Type 0} (caller : Caller) (state : Services) (clock : Moment) (occurrences : List Occurrence) (body : A → List ℕ) → OwesOnly Such state → Such caller.conn → (answer : Result A Status) (sessions : SessionsState) → ServesOnly Such (taken state caller clock occurrences body answer sessions)
+  taken_only : {A : Type 0} (caller : Caller) (state : Services) (clock : Moment) (occurrences : List Occurrence) (body : A → List ℕ) → OwesOnly Such state → Such caller.origin.conn → (answer : Result A Status) (sessions : SessionsState) → ServesOnly Such (taken state caller clock occurrences body answer sessions)
   taken_only caller state clock occurrences body p q (Ok x) sessions = record { state = p; replies = (q, tt) }
   taken_only caller state clock occurrences body p q (Err code) sessions = record { state = p; replies = (q, tt) }
 
-  create_session_only : (setting : Setting) (caller : Caller) (token : NodeId) (state : Services) → OwesOnly Such state → Such caller.conn → (request : CreateSessionRequest) → ServesOnly Such (create_session_meaning setting caller token request state)
+  create_session_only : (setting : Setting) (caller : Caller) (token : NodeId) (state : Services) → OwesOnly Such state → Such caller.origin.conn → (request : CreateSessionRequest) → ServesOnly Such (create_session_meaning setting caller token request state)
   create_session_only setting caller token state p q request =
-      let s = create_of state.sessions caller.conn caller.key in
+      let s = create_of state.sessions caller.origin.conn caller.key in
       taken_only caller state setting.clock (spent_by state.sessions) (create_session_body setting caller) p q s.answer s.state
 
-  activate_session_only : (setting : Setting) (caller : Caller) (token : NodeId) (state : Services) → OwesOnly Such state → Such caller.conn → (request : ActivateSessionRequest) → ServesOnly Such (activate_session_meaning setting caller token request state)
+  activate_session_only : (setting : Setting) (caller : Caller) (token : NodeId) (state : Services) → OwesOnly Such state → Such caller.origin.conn → (request : ActivateSessionRequest) → ServesOnly Such (activate_session_meaning setting caller token request state)
   activate_session_only setting caller token state p q request =
-      let s = activate_of state.sessions token caller.conn caller.key (is_anonymous request.user_identity_token) in
+      let s = activate_of state.sessions token caller.origin.conn caller.key (is_anonymous request.user_identity_token) in
       taken_only caller state setting.clock (spent_by state.sessions) (activate_session_body setting caller) p q s.answer s.state
 
   -- ---- calls of the subscriptions
@@ -137,7 +137,7 @@ module _ (Such : ℕ → Type 0) where
   called_only : {A : Type 0} (state : Services) (own : A → List Reply) (said : Said A) → ((x : A) → RepliedTo Such (own x)) → SaysOnly Such said → said.state.halted ≡ None → ServesOnly Such (called state own said)
   called_only state own said q p going = record { state = (p.queued, going); replies = both_replied (own said.outcome.answer) said.outcome.world.round.replies (q said.outcome.answer) p.replies }
 
-  first_only : {A : Type 0} (state : Services) (caller : Caller) (body : A → List ℕ) (said : Said A) → Such caller.conn → SaysOnly Such said → said.state.halted ≡ None → ServesOnly Such (called state (λ answer. reply_of caller (body answer) ∷ []) said)
+  first_only : {A : Type 0} (state : Services) (caller : Caller) (body : A → List ℕ) (said : Said A) → Such caller.origin.conn → SaysOnly Such said → said.state.halted ≡ None → ServesOnly Such (called state (λ answer. reply_of caller (body answer) ∷ []) said)
   first_only state caller body said q p going = record { state = (p.queued, going); replies = (q, p.replies) }
 
   told_only : (state : Services) (w : World) → SaysOnly Such (told state.subs w) → state.subs.halted ≡ None → ServesOnly Such (told_alone state w)
@@ -157,126 +157,126 @@ module _ (Such : ℕ → Type 0) where
 
   -- ---- sessions
 
-  closed_only : (setting : Setting) (caller : Caller) (deleting : Bool) (state : Services) → OwesOnly Such state → Such caller.conn → (answer : Result ℕ Status) (sessions : SessionsState) → ServesOnly Such (closed_by setting caller deleting state answer sessions)
+  closed_only : (setting : Setting) (caller : Caller) (deleting : Bool) (state : Services) → OwesOnly Such state → Such caller.origin.conn → (answer : Result ℕ Status) (sessions : SessionsState) → ServesOnly Such (closed_by setting caller deleting state answer sessions)
   closed_only setting caller deleting state p q (Ok number) sessions =
       then_only (session_over setting deleting number (with_sessions state sessions)) (λ (after : Services). answered after caller (close_session_body setting caller))
       (over_only setting deleting number (with_sessions state sessions) p) (λ after owes. record { state = owes; replies = (q, tt) })
   closed_only setting caller deleting state p q (Err code) sessions = record { state = p; replies = (q, tt) }
 
-  close_session_only : (setting : Setting) (caller : Caller) (token : NodeId) (state : Services) → OwesOnly Such state → Such caller.conn → (request : CloseSessionRequest) → ServesOnly Such (close_session_meaning setting caller token request state)
+  close_session_only : (setting : Setting) (caller : Caller) (token : NodeId) (state : Services) → OwesOnly Such state → Such caller.origin.conn → (request : CloseSessionRequest) → ServesOnly Such (close_session_meaning setting caller token request state)
   close_session_only setting caller token state p q request =
-      let s = close_of state.sessions token caller.conn in
+      let s = close_of state.sessions token caller.origin.conn in
       closed_only setting caller request.delete_subscriptions state p q s.answer s.state
 
-  if_found_only : (serve : ℕ → Services → Serving) (setting : Setting) (caller : Caller) (state : Services) → OwesOnly Such state → Such caller.conn → ((number : ℕ) (after : Services) → OwesOnly Such after → ServesOnly Such (serve number after)) → (answer : Result ℕ Status) (sessions : SessionsState) →
+  if_found_only : (serve : ℕ → Services → Serving) (setting : Setting) (caller : Caller) (state : Services) → OwesOnly Such state → Such caller.origin.conn → ((number : ℕ) (after : Services) → OwesOnly Such after → ServesOnly Such (serve number after)) → (answer : Result ℕ Status) (sessions : SessionsState) →
       ServesOnly Such (if_found serve setting caller state answer sessions)
   if_found_only serve setting caller state p q f (Ok number) sessions = f number (with_sessions state sessions) p
   if_found_only serve setting caller state p q f (Err code) sessions = record { state = p; replies = (q, tt) }
 
-  by_session : {A : Type 0} (meaning : Setting → Caller → ℕ → A → Services → Serving) (setting : Setting) (caller : Caller) (token : NodeId) (state : Services) → OwesOnly Such state → Such caller.conn →
+  by_session : {A : Type 0} (meaning : Setting → Caller → ℕ → A → Services → Serving) (setting : Setting) (caller : Caller) (token : NodeId) (state : Services) → OwesOnly Such state → Such caller.origin.conn →
       ((number : ℕ) (request : A) (after : Services) → OwesOnly Such after → ServesOnly Such (meaning setting caller number request after)) → (r : Result A TakeFault) → ServesOnly Such (served_in_session meaning setting caller token state r)
   by_session meaning setting caller token state p q f (Ok request) =
-      let s = find_of state.sessions token caller.conn in
+      let s = find_of state.sessions token caller.origin.conn in
       if_found_only (λ number. meaning setting caller number request) setting caller state p q (λ number. f number request) s.answer s.state
   by_session meaning setting caller token state p q f (Err fault) = record { state = p; replies = (q, tt) }
 
-  read_listed_only : (setting : Setting) (caller : Caller) (state : Services) (timestamps : Timestamps) → OwesOnly Such state → Such caller.conn → (r : Result (List ReadValueId) Status) → ServesOnly Such (read_listed setting caller state timestamps r)
+  read_listed_only : (setting : Setting) (caller : Caller) (state : Services) (timestamps : Timestamps) → OwesOnly Such state → Such caller.origin.conn → (r : Result (List ReadValueId) Status) → ServesOnly Such (read_listed setting caller state timestamps r)
   read_listed_only setting caller state timestamps p q (Ok nodes) = record { state = p; replies = (q, tt) }
   read_listed_only setting caller state timestamps p q (Err code) = record { state = p; replies = (q, tt) }
 
-  read_timed_only : (setting : Setting) (caller : Caller) (state : Services) (nodes : Option (List ReadValueId)) → OwesOnly Such state → Such caller.conn → (choice : Option Timestamps) → ServesOnly Such (read_timed setting caller state nodes choice)
+  read_timed_only : (setting : Setting) (caller : Caller) (state : Services) (nodes : Option (List ReadValueId)) → OwesOnly Such state → Such caller.origin.conn → (choice : Option Timestamps) → ServesOnly Such (read_timed setting caller state nodes choice)
   read_timed_only setting caller state nodes p q None = record { state = p; replies = (q, tt) }
   read_timed_only setting caller state nodes p q (Some timestamps) = read_listed_only setting caller state timestamps p q (operations_of setting.config nodes)
 
-  read_only : (setting : Setting) (caller : Caller) → Such caller.conn → (session : ℕ) (request : ReadRequest) (state : Services) → OwesOnly Such state → ServesOnly Such (read_meaning setting caller session request state)
+  read_only : (setting : Setting) (caller : Caller) → Such caller.origin.conn → (session : ℕ) (request : ReadRequest) (state : Services) → OwesOnly Such state → ServesOnly Such (read_meaning setting caller session request state)
   read_only setting caller q session request state p = read_timed_only setting caller state request.nodes_to_read p q (timestamps_of request.timestamps_to_return)
 
-  write_listed_only : (setting : Setting) (caller : Caller) (state : Services) → OwesOnly Such state → Such caller.conn → (r : Result (List WriteValue) Status) → ServesOnly Such (write_listed setting caller state r)
+  write_listed_only : (setting : Setting) (caller : Caller) (state : Services) → OwesOnly Such state → Such caller.origin.conn → (r : Result (List WriteValue) Status) → ServesOnly Such (write_listed setting caller state r)
   write_listed_only setting caller state p q (Ok values) = record { state = p; replies = (q, tt) }
   write_listed_only setting caller state p q (Err code) = record { state = p; replies = (q, tt) }
 
-  write_only : (setting : Setting) (caller : Caller) → Such caller.conn → (session : ℕ) (request : WriteRequest) (state : Services) → OwesOnly Such state → ServesOnly Such (write_meaning setting caller session request state)
+  write_only : (setting : Setting) (caller : Caller) → Such caller.origin.conn → (session : ℕ) (request : WriteRequest) (state : Services) → OwesOnly Such state → ServesOnly Such (write_meaning setting caller session request state)
   write_only setting caller q session request state p = write_listed_only setting caller state p q (operations_of setting.config request.nodes_to_write)
 
-  browse_listed_only : (setting : Setting) (caller : Caller) (session requested : ℕ) (state : Services) → OwesOnly Such state → Such caller.conn → (r : Result (List BrowseDescription) Status) → ServesOnly Such (browse_listed setting caller session requested state r)
+  browse_listed_only : (setting : Setting) (caller : Caller) (session requested : ℕ) (state : Services) → OwesOnly Such state → Such caller.origin.conn → (r : Result (List BrowseDescription) Status) → ServesOnly Such (browse_listed setting caller session requested state r)
   browse_listed_only setting caller session requested state p q (Ok descriptions) = record { state = p; replies = (q, tt) }
   browse_listed_only setting caller session requested state p q (Err code) = record { state = p; replies = (q, tt) }
 
-  browse_only : (setting : Setting) (caller : Caller) → Such caller.conn → (session : ℕ) (request : BrowseRequest) (state : Services) → OwesOnly Such state → ServesOnly Such (browse_meaning setting caller session request state)
+  browse_only : (setting : Setting) (caller : Caller) → Such caller.origin.conn → (session : ℕ) (request : BrowseRequest) (state : Services) → OwesOnly Such state → ServesOnly Such (browse_meaning setting caller session request state)
   browse_only setting caller q session request state p =
       either (not (is_null_id request.view_id)) _ _ (record { state = p; replies = (q, tt) })
       (browse_listed_only setting caller session request.requested_max_references_per_node state p q (operations_of setting.config request.nodes_to_browse))
 
-  browse_next_listed_only : (setting : Setting) (caller : Caller) (session : ℕ) (is_release : Bool) (state : Services) → OwesOnly Such state → Such caller.conn → (r : Result (List (Option (List ℕ))) Status) →
+  browse_next_listed_only : (setting : Setting) (caller : Caller) (session : ℕ) (is_release : Bool) (state : Services) → OwesOnly Such state → Such caller.origin.conn → (r : Result (List (Option (List ℕ))) Status) →
       ServesOnly Such (browse_next_listed setting caller session is_release state r)
   browse_next_listed_only setting caller session is_release state p q (Ok points) = record { state = p; replies = (q, tt) }
   browse_next_listed_only setting caller session is_release state p q (Err code) = record { state = p; replies = (q, tt) }
 
-  browse_next_only : (setting : Setting) (caller : Caller) → Such caller.conn → (session : ℕ) (request : BrowseNextRequest) (state : Services) → OwesOnly Such state → ServesOnly Such (browse_next_meaning setting caller session request state)
+  browse_next_only : (setting : Setting) (caller : Caller) → Such caller.origin.conn → (session : ℕ) (request : BrowseNextRequest) (state : Services) → OwesOnly Such state → ServesOnly Such (browse_next_meaning setting caller session request state)
   browse_next_only setting caller q session request state p =
       browse_next_listed_only setting caller session request.release_continuation_points state p q (operations_of setting.config request.continuation_points)
 
-  history_ranged_only : (setting : Setting) (caller : Caller) (session : ℕ) (request : HistoryReadRequest) (state : Services) (times : Timestamps) (nodes : List HistoryReadValueId) → OwesOnly Such state → Such caller.conn → (r : Result RawRange Status) →
+  history_ranged_only : (setting : Setting) (caller : Caller) (session : ℕ) (request : HistoryReadRequest) (state : Services) (times : Timestamps) (nodes : List HistoryReadValueId) → OwesOnly Such state → Such caller.origin.conn → (r : Result RawRange Status) →
       ServesOnly Such (history_ranged setting caller session request state times nodes r)
   history_ranged_only setting caller session request state times nodes p q (Ok range) = record { state = p; replies = (q, tt) }
   history_ranged_only setting caller session request state times nodes p q (Err code) = record { state = p; replies = (q, tt) }
 
-  history_listed_only : (setting : Setting) (caller : Caller) (session : ℕ) (request : HistoryReadRequest) (state : Services) (times : Timestamps) → OwesOnly Such state → Such caller.conn → (r : Result (List HistoryReadValueId) Status) →
+  history_listed_only : (setting : Setting) (caller : Caller) (session : ℕ) (request : HistoryReadRequest) (state : Services) (times : Timestamps) → OwesOnly Such state → Such caller.origin.conn → (r : Result (List HistoryReadValueId) Status) →
       ServesOnly Such (history_listed setting caller session request state times r)
   history_listed_only setting caller session request state times p q (Ok nodes) = history_ranged_only setting caller session request state times nodes p q (details_judged setting.config request.history_read_details)
   history_listed_only setting caller session request state times p q (Err code) = record { state = p; replies = (q, tt) }
 
-  history_timed_only : (setting : Setting) (caller : Caller) (session : ℕ) (request : HistoryReadRequest) (state : Services) → OwesOnly Such state → Such caller.conn → (choice : Option Timestamps) → ServesOnly Such (history_timed setting caller session request state choice)
+  history_timed_only : (setting : Setting) (caller : Caller) (session : ℕ) (request : HistoryReadRequest) (state : Services) → OwesOnly Such state → Such caller.origin.conn → (choice : Option Timestamps) → ServesOnly Such (history_timed setting caller session request state choice)
   history_timed_only setting caller session request state p q None = record { state = p; replies = (q, tt) }
   history_timed_only setting caller session request state p q (Some times) = history_listed_only setting caller session request state times p q (operations_of setting.config request.nodes_to_read)
 
-  history_read_only : (setting : Setting) (caller : Caller) → Such caller.conn → (session : ℕ) (request : HistoryReadRequest) (state : Services) → OwesOnly Such state → ServesOnly Such (history_read_meaning setting caller session request state)
+  history_read_only : (setting : Setting) (caller : Caller) → Such caller.origin.conn → (session : ℕ) (request : HistoryReadRequest) (state : Services) → OwesOnly Such state → ServesOnly Such (history_read_meaning setting caller session request state)
   history_read_only setting caller q session request state p = history_timed_only setting caller session request state p q (some_times (timestamps_of request.timestamps_to_return))
 
   -- ---- subscriptions
 
-  create_subscription_only : (setting : Setting) (caller : Caller) → Such caller.conn → (session : ℕ) (request : CreateSubscriptionRequest) (state : Services) → OwesOnly Such state → ServesOnly Such (create_subscription_meaning setting caller session request state)
+  create_subscription_only : (setting : Setting) (caller : Caller) → Such caller.origin.conn → (session : ℕ) (request : CreateSubscriptionRequest) (state : Services) → OwesOnly Such state → ServesOnly Such (create_subscription_meaning setting caller session request state)
   create_subscription_only setting caller q session request state p =
       first_only state caller (create_subscription_body setting caller) (created session (settings_asked request) request.publishing_enabled state.subs state.items setting.clock) q (create_owes_only Such state.subs state.items setting.clock session (settings_asked request) request.publishing_enabled p.0) (created_halts session (settings_asked request) request.publishing_enabled state.subs state.items setting.clock ∙ p.1)
 
-  modify_subscription_only : (setting : Setting) (caller : Caller) → Such caller.conn → (session : ℕ) (request : ModifySubscriptionRequest) (state : Services) → OwesOnly Such state → ServesOnly Such (modify_subscription_meaning setting caller session request state)
+  modify_subscription_only : (setting : Setting) (caller : Caller) → Such caller.origin.conn → (session : ℕ) (request : ModifySubscriptionRequest) (state : Services) → OwesOnly Such state → ServesOnly Such (modify_subscription_meaning setting caller session request state)
   modify_subscription_only setting caller q session request state p =
       first_only state caller (modify_subscription_body setting caller) (said state.subs (modified session request.subscription_id (settings_wanted request) (world_at setting state))) q (modify_owes_only Such state.subs state.items setting.clock session request.subscription_id (settings_wanted request) p.0) p.1
 
-  publishing_listed_only : (setting : Setting) (caller : Caller) (session : ℕ) (enabled : Bool) (state : Services) → OwesOnly Such state → Such caller.conn → (r : Result (List ℕ) Status) → ServesOnly Such (set_publishing_listed setting caller session enabled state r)
+  publishing_listed_only : (setting : Setting) (caller : Caller) (session : ℕ) (enabled : Bool) (state : Services) → OwesOnly Such state → Such caller.origin.conn → (r : Result (List ℕ) Status) → ServesOnly Such (set_publishing_listed setting caller session enabled state r)
   publishing_listed_only setting caller session enabled state p q (Ok numbers) =
       first_only state caller (statuses_body SET_PUBLISHING_MODE_RESPONSE setting caller) (said state.subs (named_all session (SetMode enabled) (world_at setting state) numbers)) q (set_mode_owes_only Such state.subs state.items setting.clock session numbers enabled p.0) p.1
   publishing_listed_only setting caller session enabled state p q (Err code) = record { state = p; replies = (q, tt) }
 
-  set_publishing_mode_only : (setting : Setting) (caller : Caller) → Such caller.conn → (session : ℕ) (request : SetPublishingModeRequest) (state : Services) → OwesOnly Such state → ServesOnly Such (set_publishing_mode_meaning setting caller session request state)
+  set_publishing_mode_only : (setting : Setting) (caller : Caller) → Such caller.origin.conn → (session : ℕ) (request : SetPublishingModeRequest) (state : Services) → OwesOnly Such state → ServesOnly Such (set_publishing_mode_meaning setting caller session request state)
   set_publishing_mode_only setting caller q session request state p = publishing_listed_only setting caller session request.publishing_enabled state p q (operations_of setting.config request.subscription_ids)
 
-  subscriptions_deleted_only : (setting : Setting) (caller : Caller) (session : ℕ) (state : Services) → OwesOnly Such state → Such caller.conn → (r : Result (List ℕ) Status) → ServesOnly Such (delete_subscriptions_listed setting caller session state r)
+  subscriptions_deleted_only : (setting : Setting) (caller : Caller) (session : ℕ) (state : Services) → OwesOnly Such state → Such caller.origin.conn → (r : Result (List ℕ) Status) → ServesOnly Such (delete_subscriptions_listed setting caller session state r)
   subscriptions_deleted_only setting caller session state p q (Ok numbers) =
       first_only state caller (statuses_body DELETE_SUBSCRIPTIONS_RESPONSE setting caller) (said state.subs (deleted session (world_at setting state) numbers)) q (delete_owes_only Such state.subs state.items setting.clock session numbers p.0) p.1
   subscriptions_deleted_only setting caller session state p q (Err code) = record { state = p; replies = (q, tt) }
 
-  delete_subscriptions_only : (setting : Setting) (caller : Caller) → Such caller.conn → (session : ℕ) (request : DeleteSubscriptionsRequest) (state : Services) → OwesOnly Such state → ServesOnly Such (delete_subscriptions_meaning setting caller session request state)
+  delete_subscriptions_only : (setting : Setting) (caller : Caller) → Such caller.origin.conn → (session : ℕ) (request : DeleteSubscriptionsRequest) (state : Services) → OwesOnly Such state → ServesOnly Such (delete_subscriptions_meaning setting caller session request state)
   delete_subscriptions_only setting caller q session request state p = subscriptions_deleted_only setting caller session state p q (operations_of setting.config request.subscription_ids)
 
-  publish_only : (setting : Setting) (caller : Caller) → Such caller.conn → (session : ℕ) (request : PublishRequest) (state : Services) → OwesOnly Such state → ServesOnly Such (publish_meaning setting caller session request state)
+  publish_only : (setting : Setting) (caller : Caller) → Such caller.origin.conn → (session : ℕ) (request : PublishRequest) (state : Services) → OwesOnly Such state → ServesOnly Such (publish_meaning setting caller session request state)
   publish_only setting caller q session request state p =
       let acks = or_none request.subscription_acknowledgements in
       either (nat_lt setting.config.operations (length acks)) _ _ (record { state = p; replies = (q, tt) })
       (told_only state _ (publish_owes_only Such state.subs state.items setting.clock session (publish_call caller) acks q p.0) p.1)
 
-  republish_only : (setting : Setting) (caller : Caller) → Such caller.conn → (session : ℕ) (request : RepublishRequest) (state : Services) → OwesOnly Such state → ServesOnly Such (republish_meaning setting caller session request state)
+  republish_only : (setting : Setting) (caller : Caller) → Such caller.origin.conn → (session : ℕ) (request : RepublishRequest) (state : Services) → OwesOnly Such state → ServesOnly Such (republish_meaning setting caller session request state)
   republish_only setting caller q session request state p =
       first_only state caller (republish_answer setting caller) (said state.subs (republished session request.subscription_id request.retransmit_sequence_number (world_at setting state))) q (republish_owes_only Such state.subs state.items setting.clock session request.subscription_id request.retransmit_sequence_number p.0) p.1
 
   -- ---- monitored items
 
-  items_called_only : (setting : Setting) (caller : Caller) (number : ℕ) (state : Services) (done : Itemed) → OwesOnly Such state → Such caller.conn → (before : Option Vars) → ServesOnly Such (items_called_by setting caller number state done before)
+  items_called_only : (setting : Setting) (caller : Caller) (number : ℕ) (state : Services) (done : Itemed) → OwesOnly Such state → Such caller.origin.conn → (before : Option Vars) → ServesOnly Such (items_called_by setting caller number state done before)
   items_called_only setting caller number state done p q None = record { state = p; replies = (q, tt) }
   items_called_only setting caller number state done p q (Some before) =
       first_only (with_items state done.items) caller (λ (x : Unit {0}). done.body) (told state.subs (met (world_at setting (with_items state done.items)) number (Items before))) q (items_owes_only Such state.subs done.items setting.clock number before p.0) p.1
 
-  subscriptions_only : (setting : Setting) (caller : Caller) (token : NodeId) (fields : List ℕ) (state : Services) (id : ℕ) → OwesOnly Such state → Such caller.conn → ServesOnly Such (picked_of_subscriptions setting caller token fields state id)
+  subscriptions_only : (setting : Setting) (caller : Caller) (token : NodeId) (fields : List ℕ) (state : Services) (id : ℕ) → OwesOnly Such state → Such caller.origin.conn → ServesOnly Such (picked_of_subscriptions setting caller token fields state id)
   subscriptions_only setting caller token fields state id p q =
       let none : ServesOnly Such (faulted state caller status.BAD_SERVICE_UNSUPPORTED setting.clock) = record { state = p; replies = (q, tt) } in
       either _ _ _ (by_session create_subscription_meaning setting caller token state p q (create_subscription_only setting caller q) (fields_of create_subscription_request_reading fields))
@@ -287,7 +287,7 @@ module _ (Such : ℕ → Type 0) where
       (either _ _ _ (by_session republish_meaning setting caller token state p q (republish_only setting caller q) (fields_of republish_request_reading fields))
       none)))))
 
-  items_only : (setting : Setting) (caller : Caller) (token : NodeId) (fields : List ℕ) (state : Services) (id : ℕ) → OwesOnly Such state → Such caller.conn → ServesOnly Such (picked_of_items setting caller token fields state id)
+  items_only : (setting : Setting) (caller : Caller) (token : NodeId) (fields : List ℕ) (state : Services) (id : ℕ) → OwesOnly Such state → Such caller.origin.conn → ServesOnly Such (picked_of_items setting caller token fields state id)
   items_only setting caller token fields state id p q =
       either _ _ _ (by_session create_monitored_items_meaning setting caller token state p q (λ session request after owes. items_called_only setting caller request.subscription_id after (items_created setting caller request after) owes q (own_vars session request.subscription_id after)) (fields_of create_monitored_items_request_reading fields))
       (either _ _ _ (by_session modify_monitored_items_meaning setting caller token state p q (λ session request after owes. items_called_only setting caller request.subscription_id after (items_modified setting caller request after) owes q (own_vars session request.subscription_id after)) (fields_of modify_monitored_items_request_reading fields))
@@ -296,7 +296,7 @@ module _ (Such : ℕ → Type 0) where
       (either _ _ _ (by_session delete_monitored_items_meaning setting caller token state p q (λ session request after owes. items_called_only setting caller request.subscription_id after (items_deleted setting caller request after) owes q (own_vars session request.subscription_id after)) (fields_of delete_monitored_items_request_reading fields))
       (subscriptions_only setting caller token fields state id p q)))))
 
-  picked_only : (setting : Setting) (caller : Caller) (token : NodeId) (fields : List ℕ) (state : Services) (id : ℕ) → OwesOnly Such state → Such caller.conn → ServesOnly Such (picked setting caller token fields state id)
+  picked_only : (setting : Setting) (caller : Caller) (token : NodeId) (fields : List ℕ) (state : Services) (id : ℕ) → OwesOnly Such state → Such caller.origin.conn → ServesOnly Such (picked setting caller token fields state id)
   picked_only setting caller token fields state id p q =
       either _ _ _ (by_fields get_endpoints_meaning setting caller token state p q (get_endpoints_only setting caller token state p q) (fields_of get_endpoints_request_reading fields))
       (either _ _ _ (by_fields create_session_meaning setting caller token state p q (create_session_only setting caller token state p q) (fields_of create_session_request_reading fields))

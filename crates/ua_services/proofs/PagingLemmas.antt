@@ -160,7 +160,7 @@ pub body_written : {R : Type 0} (encoding : R → List ℕ) (setting : Setting) 
     (results_head_of setting caller type_id count ++ flat_map encoding results) ++ diagnostic_infos_encoding (record {}) ≡ results_body_of encoding setting caller type_id results
 unfolding results_encoding array_encoding
 body_written encoding setting caller type_id count results e =
-    let header = plain_header caller.handle (record { 0 = 0 }) setting.clock in
+    let header = plain_header caller.origin.handle (record { 0 = 0 }) setting.clock in
     whole (node_id_encoding (numeric_id 0 type_id)) (response_header_encoding header) (number_encoding w32 count) (flat_map encoding results) (diagnostic_infos_encoding (record {}))
     ∙ ap (λ n. node_id_encoding (numeric_id 0 type_id) ++ ((response_header_encoding header ++ (number_encoding w32 n ++ flat_map encoding results)) ++ diagnostic_infos_encoding (record {}))) (sym e)
 

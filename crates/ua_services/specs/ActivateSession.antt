@@ -41,10 +41,10 @@ activate_session_response clock handle nonce = record {
 
 abbrev pub activate_session_body : Setting → Caller → List ℕ → List ℕ
 activate_session_body setting caller nonce =
-    body_encoding activate_session_response_encoding ACTIVATE_SESSION_RESPONSE (activate_session_response setting.clock caller.handle nonce)
+    body_encoding activate_session_response_encoding ACTIVATE_SESSION_RESPONSE (activate_session_response setting.clock caller.origin.handle nonce)
 
 -- the session that the token in the request's header names belongs to the connection that the request came by
 abbrev pub activate_session_meaning : Setting → Caller → NodeId → ActivateSessionRequest → Services → Serving
 activate_session_meaning setting caller token request state =
     stepped state caller setting.clock (spent_by state.sessions) (activate_session_body setting caller)
-    (activate_of state.sessions token caller.conn caller.key (is_anonymous request.user_identity_token))
+    (activate_of state.sessions token caller.origin.conn caller.key (is_anonymous request.user_identity_token))

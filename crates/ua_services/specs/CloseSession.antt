@@ -18,7 +18,7 @@ use Rattle.ua_services.specs.declared.caller.Caller.{Caller}
 
 abbrev pub close_session_body : Setting → Caller → List ℕ
 close_session_body setting caller =
-    body_encoding close_session_response_encoding CLOSE_SESSION_RESPONSE (record { response_header = plain_header caller.handle (record { 0 = 0 }) setting.clock })
+    body_encoding close_session_response_encoding CLOSE_SESSION_RESPONSE (record { response_header = plain_header caller.origin.handle (record { 0 = 0 }) setting.clock })
 
 -- the Publish requests that wait are answered before the close itself
 abbrev pub closed_by : Setting → Caller → Bool → Services → Result ℕ Status → SessionsState → Serving
@@ -32,4 +32,4 @@ closed setting caller deleting state step = closed_by setting caller deleting st
 -- the session that the token in the request's header names is no more; its subscriptions are deleted, or left to their lifetime
 abbrev pub close_session_meaning : Setting → Caller → NodeId → CloseSessionRequest → Services → Serving
 close_session_meaning setting caller token request state =
-    closed setting caller request.delete_subscriptions state (close_of state.sessions token caller.conn)
+    closed setting caller request.delete_subscriptions state (close_of state.sessions token caller.origin.conn)

@@ -36,9 +36,9 @@ create_session_response config clock handle session = record {
 
 abbrev pub create_session_body : Setting → Caller → Created → List ℕ
 create_session_body setting caller session =
-    body_encoding create_session_response_encoding CREATE_SESSION_RESPONSE (create_session_response setting.config setting.clock caller.handle session)
+    body_encoding create_session_response_encoding CREATE_SESSION_RESPONSE (create_session_response setting.config setting.clock caller.origin.handle session)
 
 -- a session for the client of the connection that the request came by
 abbrev pub create_session_meaning : Setting → Caller → NodeId → CreateSessionRequest → Services → Serving
 create_session_meaning setting caller token request state =
-    stepped state caller setting.clock (spent_by state.sessions) (create_session_body setting caller) (create_of state.sessions caller.conn caller.key)
+    stepped state caller setting.clock (spent_by state.sessions) (create_session_body setting caller) (create_of state.sessions caller.origin.conn caller.key)

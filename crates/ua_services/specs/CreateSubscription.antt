@@ -29,13 +29,13 @@ settings_asked request = record {
 abbrev pub create_subscription_body : Setting → Caller → Result Created Status → List ℕ
 create_subscription_body setting caller (Ok created) =
     body_encoding create_subscription_response_encoding CREATE_SUBSCRIPTION_RESPONSE (record {
-      response_header = plain_header caller.handle (record { 0 = 0 }) setting.clock;
+      response_header = plain_header caller.origin.handle (record { 0 = 0 }) setting.clock;
       subscription_id = created.number;
       revised_publishing_interval = setting.config.publish_duration;
       revised_lifetime_count = created.revised.lifetime_count;
       revised_max_keep_alive_count = created.revised.keep_alive_count;
     })
-create_subscription_body setting caller (Err code) = fault_body caller.handle code setting.clock
+create_subscription_body setting caller (Err code) = fault_body caller.origin.handle code setting.clock
 
 -- a subscription for the session
 abbrev pub create_subscription_meaning : Setting → Caller → ℕ → CreateSubscriptionRequest → Services → Serving

@@ -13,4 +13,4 @@ use Rattle.ua_services.specs.declared.caller.Caller.{Caller}
 abbrev pub get_endpoints_meaning : Setting → Caller → NodeId → GetEndpointsRequest → Services → Serving
 get_endpoints_meaning setting caller token request state =
     answered state caller (body_encoding get_endpoints_response_encoding GET_ENDPOINTS_RESPONSE
-    (endpoints_response setting.config setting.clock caller.handle request.profile_uris))
+    (endpoints_response setting.config setting.clock caller.origin.handle request.profile_uris))

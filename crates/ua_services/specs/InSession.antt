@@ -18,7 +18,7 @@ if_found serve setting caller state (Err code) sessions = faulted (with_sessions
 -- the session that the token in the request's header names, and then the service, which is told the session's number
 abbrev pub in_session : {A : Type 0} → (Setting → Caller → ℕ → A → Services → Serving) → Setting → Caller → NodeId → A → Services → Serving
 in_session meaning setting caller token request state =
-    let found = find_of state.sessions token caller.conn in
+    let found = find_of state.sessions token caller.origin.conn in
     if_found (λ number. meaning setting caller number request) setting caller state found.answer found.state
 
 -- every service of a session: the request's fields, then its session

@@ -33,13 +33,13 @@ pub record Itemed : Type 0 where
 
 -- a request that is refused leaves the items as they were
 abbrev pub items_refused : Setting → Caller → Services → Status → Itemed
-items_refused setting caller state code = record { items = state.items; body = fault_body caller.handle code setting.clock; is_refused = true }
+items_refused setting caller state code = record { items = state.items; body = fault_body caller.origin.handle code setting.clock; is_refused = true }
 
 -- one result for each thing, in the order of the request
 abbrev pub items_answered : {R : Type 0} → (R → List ℕ) → ℕ → Setting → Caller → Served R → Itemed
 items_answered encoding type_id setting caller served = record {
   items = served.state;
-  body = body_encoding (results_encoding encoding) type_id (results_of (plain_header caller.handle (record { 0 = 0 }) setting.clock) served.results);
+  body = body_encoding (results_encoding encoding) type_id (results_of (plain_header caller.origin.handle (record { 0 = 0 }) setting.clock) served.results);
   is_refused = false;
 }
 

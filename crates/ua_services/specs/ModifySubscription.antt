@@ -30,12 +30,12 @@ settings_wanted request = record {
 abbrev pub modify_subscription_body : Setting → Caller → Result Revised Status → List ℕ
 modify_subscription_body setting caller (Ok revised) =
     body_encoding modify_subscription_response_encoding MODIFY_SUBSCRIPTION_RESPONSE (record {
-      response_header = plain_header caller.handle (record { 0 = 0 }) setting.clock;
+      response_header = plain_header caller.origin.handle (record { 0 = 0 }) setting.clock;
       revised_publishing_interval = setting.config.publish_duration;
       revised_lifetime_count = revised.lifetime_count;
       revised_max_keep_alive_count = revised.keep_alive_count;
     })
-modify_subscription_body setting caller (Err code) = fault_body caller.handle code setting.clock
+modify_subscription_body setting caller (Err code) = fault_body caller.origin.handle code setting.clock
 
 -- the session's subscription gets other counts, another size of messages and another priority
 abbrev pub modify_subscription_meaning : Setting → Caller → ℕ → ModifySubscriptionRequest → Services → Serving

@@ -61,11 +61,11 @@ Rises {A = A} f = (points : PointsState) (x : A) → points.made ≤ (f points x
 -- what stands before the results of so many things, and behind them
 abbrev pub results_head_of : Setting → Caller → ℕ → ℕ → List ℕ
 results_head_of setting caller type_id count =
-    node_id_encoding (numeric_id 0 type_id) ++ response_header_encoding (plain_header caller.handle (record { 0 = 0 }) setting.clock) ++ number_encoding w32 count
+    node_id_encoding (numeric_id 0 type_id) ++ response_header_encoding (plain_header caller.origin.handle (record { 0 = 0 }) setting.clock) ++ number_encoding w32 count
 
 abbrev pub results_body_of : {R : Type 0} → (R → List ℕ) → Setting → Caller → ℕ → List R → List ℕ
 results_body_of encoding setting caller type_id results =
-    body_encoding (results_encoding encoding) type_id (results_of (plain_header caller.handle (record { 0 = 0 }) setting.clock) results)
+    body_encoding (results_encoding encoding) type_id (results_of (plain_header caller.origin.handle (record { 0 = 0 }) setting.clock) results)
 
 -- a point takes a serial, and none may be left for it
 abbrev pub spent_by_points : PointsState → PointsState → List Occurrence

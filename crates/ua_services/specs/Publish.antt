@@ -14,7 +14,7 @@ use Rattle.ua_services.specs.declared.caller.Caller.{Caller}
 
 -- the request as it waits, before its acknowledgements are applied
 abbrev pub publish_call : Caller → PublishCall
-publish_call caller = record { conn = caller.conn; id = caller.id; handle = caller.handle; results = [] }
+publish_call caller = record { origin = caller.origin; results = [] }
 
 abbrev pub publish_acknowledged : Setting → Caller → ℕ → Services → List SubscriptionAcknowledgement → Serving
 publish_acknowledged setting caller session state acks =

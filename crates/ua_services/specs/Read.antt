@@ -22,7 +22,7 @@ use Rattle.ua_services.specs.declared.caller.Caller.{Caller}
 abbrev pub read_response_body : Setting → Caller → Services → Timestamps → List ReadValueId → List ℕ
 read_response_body setting caller state timestamps nodes =
     body_encoding (results_encoding data_value_encoding) READ_RESPONSE
-    (results_of (plain_header caller.handle (record { 0 = 0 }) setting.clock) (all_read state.space.nodes setting.clock timestamps nodes))
+    (results_of (plain_header caller.origin.handle (record { 0 = 0 }) setting.clock) (all_read state.space.nodes setting.clock timestamps nodes))
 
 abbrev pub read_listed : Setting → Caller → Services → Timestamps → Result (List ReadValueId) Status → Serving
 read_listed setting caller state timestamps (Ok nodes) = answered state caller (read_response_body setting caller state timestamps nodes)

@@ -15,8 +15,8 @@ use Rattle.ua_services.specs.declared.caller.Caller.{Caller}
 
 -- the message's bytes as they were made, or why there are none
 abbrev pub republish_answer : Setting → Caller → Result (List ℕ) Status → List ℕ
-republish_answer setting caller (Ok message) = republish_body_around (plain_header caller.handle (record { 0 = 0 }) setting.clock) message
-republish_answer setting caller (Err code) = fault_body caller.handle code setting.clock
+republish_answer setting caller (Ok message) = republish_body_around (plain_header caller.origin.handle (record { 0 = 0 }) setting.clock) message
+republish_answer setting caller (Err code) = fault_body caller.origin.handle code setting.clock
 
 -- a message of the session's subscription, once more
 abbrev pub republish_meaning : Setting → Caller → ℕ → RepublishRequest → Services → Serving

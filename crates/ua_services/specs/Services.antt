@@ -52,7 +52,7 @@ use Rattle.ua_services.specs.Serving.{Serving, faulted, served_by}
 use Rattle.ua_services.specs.declared.caller.Caller.{Caller}
 
 abbrev pub call_of : Request → ℕ → Caller
-call_of request handle = record { conn = request.conn; key = request.key; id = request.id; handle = handle }
+call_of request handle = record { origin = record { conn = request.conn; id = request.id; handle = handle }; key = request.key }
 
 -- by its type id, from the token in its header and the bytes behind that: what is watched, and what is told of it
 abbrev pub picked_of_subscriptions : Setting → Caller → NodeId → List ℕ → Services → ℕ → Serving

@@ -19,7 +19,7 @@ use Rattle.ua_services.specs.declared.caller.Caller.{Caller}
 abbrev pub links_body : Setting → Caller → List Status → List Status → List ℕ
 links_body setting caller added removed =
     body_encoding set_triggering_response_encoding SET_TRIGGERING_RESPONSE (record {
-      response_header = plain_header caller.handle (record { 0 = 0 }) setting.clock;
+      response_header = plain_header caller.origin.handle (record { 0 = 0 }) setting.clock;
       add_results = Some added;
       add_diagnostic_infos = record {};
       remove_results = Some removed;

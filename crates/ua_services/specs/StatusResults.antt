@@ -11,4 +11,4 @@ use Rattle.ua_services.specs.declared.caller.Caller.{Caller}
 -- what became of each, in the order of the request
 abbrev pub statuses_body : ℕ → Setting → Caller → List Status → List ℕ
 statuses_body type_id setting caller statuses =
-    body_encoding (results_encoding status_encoding) type_id (results_of (plain_header caller.handle (record { 0 = 0 }) setting.clock) statuses)
+    body_encoding (results_encoding status_encoding) type_id (results_of (plain_header caller.origin.handle (record { 0 = 0 }) setting.clock) statuses)

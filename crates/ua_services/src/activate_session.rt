@@ -65,8 +65,8 @@ impl<'a> Service<'a> for ActivateSession {
         let is_anonymous = is_anonymous(&request.user_identity_token);
         let nonce = services
             .sessions
-            .activate(token, caller.conn, &caller.key, is_anonymous)?;
-        let response = response(alloc, setting, caller.handle, &nonce)?;
+            .activate(token, caller.origin.conn, &caller.key, is_anonymous)?;
+        let response = response(alloc, setting, caller.origin.handle, &nonce)?;
         let body = body(alloc, type_ids::ACTIVATE_SESSION_RESPONSE, &response)?;
         Ok(reply(alloc, caller, body)?)
     }

@@ -20,7 +20,7 @@ fn closed(alloc: Global, setting: &Setting, caller: &Caller) -> Result<Served, A
     ensures { IfOk result (λ served. served ≡ replied (reply_of caller.now (close_session_body setting.now caller.now))) }
 {
     let response = CloseSessionResponse {
-        response_header: ResponseHeader::good(caller.handle, setting.clock),
+        response_header: ResponseHeader::good(caller.origin.handle, setting.clock),
     };
     let body = body(alloc, type_ids::CLOSE_SESSION_RESPONSE, &response)?;
     reply(alloc, caller, body)
@@ -46,7 +46,7 @@ impl<'a> Service<'a> for CloseSession {
         request: CloseSessionRequest,
         services: &mut Services,
     ) -> Result<Served, Refusal> {
-        let number = services.sessions.close(token, caller.conn)?;
+        let number = services.sessions.close(token, caller.origin.conn)?;
         let deleting = request.delete_subscriptions;
         let ended = end_session(alloc, setting, number, deleting, services)?;
         Ok(joined(ended, closed(alloc, setting, caller)?)?)

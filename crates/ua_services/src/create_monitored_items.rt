@@ -48,7 +48,7 @@ impl<'a> ItemService<'a> for CreateMonitoredItems {
         let results = services
             .items
             .create(alloc, space, setting.clock, number, timestamps, requests)?;
-        let header = ResponseHeader::good(caller.handle, setting.clock);
+        let header = ResponseHeader::good(caller.origin.handle, setting.clock);
         let type_id = type_ids::CREATE_MONITORED_ITEMS_RESPONSE;
         Ok(results_body(alloc, type_id, &header, results.as_slice())?)
     }

@@ -69,9 +69,9 @@ impl<'a> Service<'a> for CreateSession {
         _request: CreateSessionRequestView<'a>,
         services: &mut Services,
     ) -> Result<Served, Refusal> {
-        let conn = caller.conn;
+        let conn = caller.origin.conn;
         let session = services.sessions.create(alloc, conn, &caller.key)?;
-        let body = response_body(alloc, setting, caller.handle, session)?;
+        let body = response_body(alloc, setting, caller.origin.handle, session)?;
         Ok(reply(alloc, caller, body)?)
     }
 }

@@ -26,7 +26,7 @@ fn answer_body(
     match answer {
         Ok(created) => {
             let response = CreateSubscriptionResponse {
-                response_header: ResponseHeader::good(caller.handle, setting.clock),
+                response_header: ResponseHeader::good(caller.origin.handle, setting.clock),
                 subscription_id: created.number,
                 revised_publishing_interval: setting.config.publish_duration,
                 revised_lifetime_count: created.revised.lifetime_count,
@@ -34,7 +34,7 @@ fn answer_body(
             };
             body(alloc, type_ids::CREATE_SUBSCRIPTION_RESPONSE, &response)
         }
-        Err(status) => fault(alloc, caller.handle, status, setting.clock),
+        Err(status) => fault(alloc, caller.origin.handle, status, setting.clock),
     }
 }
 

@@ -32,7 +32,7 @@ impl<'a> Service<'a> for GetEndpoints {
             alloc,
             &setting.config,
             setting.clock,
-            caller.handle,
+            caller.origin.handle,
             request.profile_uris,
         )?;
         Ok(reply(alloc, caller, body)?)

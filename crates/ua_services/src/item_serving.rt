@@ -64,7 +64,12 @@ pub trait ItemService<'a> {
     {
         match Self::change_items(alloc, setting, caller, request, services) {
             Ok(body) => Ok(body),
-            Err(Refusal::Service(status)) => fault(alloc, caller.handle, status, setting.clock),
+            Err(Refusal::Service(status)) => fault(
+                alloc,
+                caller.origin.handle,
+                status,
+                setting.clock,
+            ),
             // No serial is used up by what items are asked for.
             Err(_) => Err(AllocError),
         }

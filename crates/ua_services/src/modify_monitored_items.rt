@@ -45,7 +45,7 @@ impl<'a> ItemService<'a> for ModifyMonitoredItems {
         let number = request.subscription_id;
         let items = &mut services.items;
         let results = items.modify(alloc, number, timestamps, requests)?;
-        let header = ResponseHeader::good(caller.handle, setting.clock);
+        let header = ResponseHeader::good(caller.origin.handle, setting.clock);
         let type_id = type_ids::MODIFY_MONITORED_ITEMS_RESPONSE;
         Ok(results_body(alloc, type_id, &header, results.as_slice())?)
     }

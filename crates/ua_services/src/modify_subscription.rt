@@ -26,14 +26,14 @@ fn answer_body(
     match answer {
         Ok(revised) => {
             let response = ModifySubscriptionResponse {
-                response_header: ResponseHeader::good(caller.handle, setting.clock),
+                response_header: ResponseHeader::good(caller.origin.handle, setting.clock),
                 revised_publishing_interval: setting.config.publish_duration,
                 revised_lifetime_count: revised.lifetime_count,
                 revised_max_keep_alive_count: revised.keep_alive_count,
             };
             body(alloc, type_ids::MODIFY_SUBSCRIPTION_RESPONSE, &response)
         }
-        Err(status) => fault(alloc, caller.handle, status, setting.clock),
+        Err(status) => fault(alloc, caller.origin.handle, status, setting.clock),
     }
 }
 

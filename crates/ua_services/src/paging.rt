@@ -94,7 +94,7 @@ fn head(
 {
     let mut body = MessageBody::new(alloc)?;
     body.write(&NodeId::numeric(0, type_id))?;
-    body.write(&ResponseHeader::good(caller.handle, setting.clock))?;
+    body.write(&ResponseHeader::good(caller.origin.handle, setting.clock))?;
     body.write(&count)?;
     Ok(body)
 }

@@ -30,9 +30,7 @@ fn taken(
     ensures { Judges setting.now caller.now result services.new (told_alone services.old (published session (publish_call caller.now) (or_none acknowledgements.entry) (world_at setting.now services.old))) }
 {
     let publish = PublishCall {
-        conn: caller.conn,
-        id: caller.id,
-        handle: caller.handle,
+        origin: caller.origin,
         results: Listed::new(alloc),
     };
     let items = &mut services.items;

@@ -39,7 +39,7 @@ impl<'a> SessionService<'a> for Read {
             return Err(Refusal::Service(Status::BAD_TIMESTAMPS_TO_RETURN_INVALID));
         };
         let nodes = operations(&setting.config, request.nodes_to_read)?;
-        let header = ResponseHeader::good(caller.handle, setting.clock);
+        let header = ResponseHeader::good(caller.origin.handle, setting.clock);
         let space = &services.space;
         let body = read_body(alloc, space, setting.clock, timestamps, &header, nodes)?;
         Ok(reply(alloc, caller, body)?)

@@ -25,10 +25,10 @@ fn answer_body(
 {
     match answer {
         Ok(message) => {
-            let header = ResponseHeader::good(caller.handle, setting.clock);
+            let header = ResponseHeader::good(caller.origin.handle, setting.clock);
             republish_body(alloc, &header, message.as_slice())
         }
-        Err(status) => fault(alloc, caller.handle, status, setting.clock),
+        Err(status) => fault(alloc, caller.origin.handle, status, setting.clock),
     }
 }
 

@@ -24,9 +24,7 @@ pub(crate) fn reply(alloc: Global, caller: &Caller, body: MessageBody) -> Result
 {
     let mut replies = ShortList::new(alloc);
     replies.push(Reply {
-        conn: caller.conn,
-        id: caller.id,
-        handle: caller.handle,
+        origin: caller.origin,
         body,
     })?;
     Ok(Served {
@@ -54,9 +52,13 @@ pub(crate) fn refuse(
     status: Status,
     clock: Moment,
 ) -> Result<Served, AllocError>
-    ensures { IfOk result (λ served. served ≡ replied (reply_of caller.now (fault_body caller.now.handle status clock))) }
+    ensures { IfOk result (λ served. served ≡ replied (reply_of caller.now (fault_body caller.now.origin.handle status clock))) }
 {
-    reply(alloc, caller, fault(alloc, caller.handle, status, clock)?)
+    reply(
+        alloc,
+        caller,
+        fault(alloc, caller.origin.handle, status, clock)?,
+    )
 }
 
 /// A service: a type of request, which is looked at in the bytes in which it came, and what is done about it.

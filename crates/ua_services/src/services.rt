@@ -29,7 +29,7 @@ use crate::set_publishing_mode::SetPublishingMode;
 use crate::set_triggering::SetTriggering;
 use crate::sub_serving::{end_sessions, fire_timers, joined, served_alone};
 use crate::write::Write;
-use server_messages::{Halt, Request, Served, Setting};
+use server_messages::{Halt, Origin, Request, Served, Setting};
 use std::alloc::{AllocError, Global};
 use ua_history::History;
 use ua_messages::{Headed, header_view, type_ids};
@@ -92,15 +92,17 @@ impl Services {
     {
         let body = request.body.as_slice();
         let mut caller = Caller {
-            conn: request.conn,
+            origin: Origin {
+                conn: request.conn,
+                id: request.id,
+                handle: 0,
+            },
             key: request.key,
-            id: request.id,
-            handle: 0,
         };
         let Ok(headed) = header_view(body) else {
             return Ok(refuse(alloc, &caller, Status::BAD_DECODING_ERROR, setting.clock)?);
         };
-        caller.handle = headed.header.request_handle;
+        caller.origin.handle = headed.header.request_handle;
         match self.pick(alloc, setting, &caller, &headed) {
             Ok(served) => Ok(served),
             Err(Refusal::Service(status)) => Ok(refuse(alloc, &caller, status, setting.clock)?),

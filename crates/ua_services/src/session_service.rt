@@ -55,7 +55,7 @@ impl<'a, S: SessionService<'a>> Service<'a> for S {
         request: S::Request,
         services: &mut Services,
     ) -> Result<Served, Refusal> {
-        let session = services.sessions.find(token, caller.conn)?;
+        let session = services.sessions.find(token, caller.origin.conn)?;
         <S as SessionService<'a>>::serve(alloc, setting, caller, session, request, services)
     }
 }

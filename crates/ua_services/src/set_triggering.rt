@@ -27,7 +27,7 @@ fn links_body(
 {
     let Linked { added, removed } = linked;
     let response = SetTriggeringResponse {
-        response_header: ResponseHeader::good(caller.handle, setting.clock),
+        response_header: ResponseHeader::good(caller.origin.handle, setting.clock),
         add_results: Array::new(added),
         add_diagnostic_infos: DiagnosticInfos,
         remove_results: Array::new(removed),

@@ -20,6 +20,6 @@ pub(crate) fn statuses_body(
     requires { length statuses.now < 2 ^ 31 }
     ensures { IfOk result (λ body. body ≡ statuses_body_spec type_id setting.now caller.now statuses.now) }
 {
-    let header = ResponseHeader::good(caller.handle, setting.clock);
+    let header = ResponseHeader::good(caller.origin.handle, setting.clock);
     results_body(alloc, type_id, &header, statuses)
 }

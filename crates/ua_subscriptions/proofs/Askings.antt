@@ -30,7 +30,7 @@ StandsWith askers session conn = has_asker askers (asker_at conn session) ≡ tr
 
 pub all_weaker : (P Q : ℕ → Type 0) → ((conn : ℕ) → P conn → Q conn) → (calls : List PublishCall) → AllBy P calls → AllBy Q calls
 all_weaker P Q f [] h = tt
-all_weaker P Q f (call ∷ calls) h = (f call.conn h.0, all_weaker P Q f calls h.1)
+all_weaker P Q f (call ∷ calls) h = (f call.origin.conn h.0, all_weaker P Q f calls h.1)
 
 -- one session has other requests, and the others stand with their connections
 pub asked_by : (k : ℕ) (o : Option SessionSubscriptions) (sessions after : Sessions) (askers : List Asker)
@@ -104,11 +104,11 @@ module _ (conn : ℕ) where
         none true = refl
         none false = refl
 
-    kept_by : (call : PublishCall) (calls : List PublishCall) (b : Bool) → came_by_other conn call ≡ b → StandsWith askers s call.conn → AllBy (StandsWith left s) (filter (came_by_other conn) calls)
+    kept_by : (call : PublishCall) (calls : List PublishCall) (b : Bool) → came_by_other conn call ≡ b → StandsWith askers s call.origin.conn → AllBy (StandsWith left s) (filter (came_by_other conn) calls)
         → AllBy (StandsWith left s) (cond b (call ∷ filter (came_by_other conn) calls) (filter (came_by_other conn) calls))
     kept_by call calls true is h rest =
-        let apart : is_at (nat_cmp conn) call.conn ≡ false = grind (arith, is) in
-        (stays_by (asker_at call.conn s) (ap (λ (b : Bool). b && is_at (nat_cmp s) s) apart) ∙ h, rest)
+        let apart : is_at (nat_cmp conn) call.origin.conn ≡ false = grind (arith, is) in
+        (stays_by (asker_at call.origin.conn s) (ap (λ (b : Bool). b && is_at (nat_cmp s) s) apart) ∙ h, rest)
     kept_by call calls false is h rest = rest
 
     kept_asked : (calls : List PublishCall) → AllBy (StandsWith askers s) calls → AllBy (StandsWith left s) (filter (came_by_other conn) calls)
@@ -146,7 +146,7 @@ module _ (conn : ℕ) where
         by : (b : Bool) → came_by_other conn call ≡ b → filter (came_by_other conn) calls ≡ calls → cond b (call ∷ filter (came_by_other conn) calls) (filter (came_by_other conn) calls) ≡ call ∷ calls
         by true is rest = ap (λ (xs : List PublishCall). call ∷ xs) rest
         by false is rest =
-            let it : call.conn ≡ conn = grind (arith, is) in
+            let it : call.origin.conn ≡ conn = grind (arith, is) in
             absurd (false≢true (sym (none k) ∙ subst (λ (c : ℕ). has_asker askers (asker_at c k) ≡ true) it h.0))
 
     none_by : (all es : Sessions) → AreAsked all askers → AreFound all es → es ≡ map (entry_without_conn conn) es

@@ -58,7 +58,7 @@ module _ (Such : ℕ → Type 0) where
       let part : SessionSubscriptions = part_at session w.table.sessions in
       record {
         round = record {
-          replies = all_append (λ (reply : Reply). Such reply.conn) w.round.replies (map (refused_of w.round.clock code) part.requests) h.round.replies (all_refused_to w.round.clock code part.requests (part_only Such session w.table.sessions h.queued));
+          replies = all_append (λ (reply : Reply). Such reply.origin.conn) w.round.replies (map (refused_of w.round.clock code) part.requests) h.round.replies (all_refused_to w.round.clock code part.requests (part_only Such session w.table.sessions h.queued));
           asked = h.round.asked;
         };
         queued = set_only Such session w.table.sessions (without_requests part) h.queued tt;
@@ -104,17 +104,17 @@ module _ (Such : ℕ → Type 0) where
 
   -- ---- Publish
 
-  answered_to_only : (numbers : List ℕ) (call : PublishCall) (w : World) → Such call.conn → OwesOnly Such w → OwesOnly Such (answered_to numbers call w)
+  answered_to_only : (numbers : List ℕ) (call : PublishCall) (w : World) → Such call.origin.conn → OwesOnly Such w → OwesOnly Such (answered_to numbers call w)
   unfolding answered_to
   answered_to_only [] call w a h = record { round = record { replies = one_more Such w.round.replies _ h.round.replies a; asked = h.round.asked }; queued = h.queued }
   answered_to_only (n ∷ ns) call w a h =
       all_met_only Such Publish (asked_numbers w (n ∷ ns)) (asked_by w call) (record { round = record { replies = h.round.replies; asked = a }; queued = h.queued })
 
-  answered_by_only : (note : Option TimeoutNote) (session : ℕ) (call : PublishCall) (w : World) → Such call.conn → OwesOnly Such w → OwesOnly Such (answered_by note session call w)
+  answered_by_only : (note : Option TimeoutNote) (session : ℕ) (call : PublishCall) (w : World) → Such call.origin.conn → OwesOnly Such w → OwesOnly Such (answered_by note session call w)
   answered_by_only (Some note) session call w a h = record { round = record { replies = one_more Such w.round.replies _ h.round.replies a; asked = h.round.asked }; queued = h.queued }
   answered_by_only None session call w a h = answered_to_only (part_at session w.table.sessions).numbers call w a h
 
-  pub published_only : (session : ℕ) (call : PublishCall) (acks : List SubscriptionAcknowledgement) (w : World) → Such call.conn → OwesOnly Such w → OwesOnly Such (published session call acks w)
+  pub published_only : (session : ℕ) (call : PublishCall) (acks : List SubscriptionAcknowledgement) (w : World) → Such call.origin.conn → OwesOnly Such w → OwesOnly Such (published session call acks w)
   unfolding published
   published_only session call acks w a h =
       let part : SessionSubscriptions = part_at session w.table.sessions in
@@ -148,7 +148,7 @@ module _ (Such : ℕ → Type 0) where
       let calls = all_requests (values_of w.table.sessions) in
       record {
         round = record {
-          replies = all_append (λ (reply : Reply). Such reply.conn) w.round.replies (map (refused_of w.round.clock code) calls) h.round.replies (all_refused_to w.round.clock code calls (all_requests_by w.table.sessions h.queued));
+          replies = all_append (λ (reply : Reply). Such reply.origin.conn) w.round.replies (map (refused_of w.round.clock code) calls) h.round.replies (all_refused_to w.round.clock code calls (all_requests_by w.table.sessions h.queued));
           asked = h.round.asked;
         };
         queued = tt;

@@ -33,13 +33,13 @@ module _ (Such : ℕ → Type 0) where
   first_by (call ∷ calls) h = h.0
 
   pub calls_append : (xs ys : List PublishCall) → AllBy Such xs → AllBy Such ys → AllBy Such (xs ++ ys)
-  calls_append = all_append (λ (call : PublishCall). Such call.conn)
+  calls_append = all_append (λ (call : PublishCall). Such call.origin.conn)
 
   pub calls_dropped : (calls : List PublishCall) → AllBy Such calls → AllBy Such (drop 1 calls)
-  calls_dropped = all_dropped (λ (call : PublishCall). Such call.conn)
+  calls_dropped = all_dropped (λ (call : PublishCall). Such call.origin.conn)
 
-  pub one_more : (replies : List Reply) (reply : Reply) → RepliedTo Such replies → Such reply.conn → RepliedTo Such (replies ++ reply ∷ [])
-  one_more replies reply h g = all_append (λ (r : Reply). Such r.conn) replies (reply ∷ []) h (g, tt)
+  pub one_more : (replies : List Reply) (reply : Reply) → RepliedTo Such replies → Such reply.origin.conn → RepliedTo Such (replies ++ reply ∷ [])
+  one_more replies reply h g = all_append (λ (r : Reply). Such r.origin.conn) replies (reply ∷ []) h (g, tt)
 
   -- ---- requests that are queued
 

@@ -70,7 +70,7 @@ module _ (Such : ℕ → Type 0) where
 
   -- ---- Publish, the timers, the end of a session, and the server's shutdown
 
-  pub publish_owes_only : (s : SubscriptionsState) (items : ItemsState) (clock : Moment) (session : ℕ) (call : PublishCall) (acks : List SubscriptionAcknowledgement) → Such call.conn → QueuedBy Such s.table.sessions →
+  pub publish_owes_only : (s : SubscriptionsState) (items : ItemsState) (clock : Moment) (session : ℕ) (call : PublishCall) (acks : List SubscriptionAcknowledgement) → Such call.origin.conn → QueuedBy Such s.table.sessions →
       SaysOnly Such (told s (published session call acks (world_of s items clock)))
   publish_owes_only s items clock session call acks a h = told_only s _ (published_only Such session call acks (world_of s items clock) a (world_of_only s items clock h))
 
@@ -103,13 +103,13 @@ module _ (Such : ℕ → Type 0) (gone : ℕ) where
   apart : (conn : ℕ) → (conn == gone) ≡ false → conn ≢ gone
   apart conn is same = false≢true (sym is ∙ eq-eqb conn gone same)
 
-  calls_if : (call : PublishCall) (calls : List PublishCall) (b : Bool) → (call.conn == gone) ≡ b → Such call.conn → AllBy Others calls → AllBy Others (cond (not b) (call ∷ calls) calls)
+  calls_if : (call : PublishCall) (calls : List PublishCall) (b : Bool) → (call.origin.conn == gone) ≡ b → Such call.origin.conn → AllBy Others calls → AllBy Others (cond (not b) (call ∷ calls) calls)
   calls_if call calls true is h rest = rest
-  calls_if call calls false is h rest = ((h, apart call.conn is), rest)
+  calls_if call calls false is h rest = ((h, apart call.origin.conn is), rest)
 
   calls_left : (calls : List PublishCall) → AllBy Such calls → AllBy Others (filter (came_by_other gone) calls)
   calls_left [] h = tt
-  calls_left (call ∷ calls) h = calls_if call (filter (came_by_other gone) calls) (call.conn == gone) refl h.0 (calls_left calls h.1)
+  calls_left (call ∷ calls) h = calls_if call (filter (came_by_other gone) calls) (call.origin.conn == gone) refl h.0 (calls_left calls h.1)
 
   entries_left : (sessions : List (ℕ × SessionSubscriptions)) → QueuedBy Such sessions → QueuedBy Others (map (entry_without_conn gone) sessions)
   entries_left [] h = tt
@@ -123,7 +123,7 @@ module _ (Such : ℕ → Type 0) (gone : ℕ) where
 module _ (Such More : ℕ → Type 0) (f : (conn : ℕ) → Such conn → More conn) where
   pub calls_more : (calls : List PublishCall) → AllBy Such calls → AllBy More calls
   calls_more [] h = tt
-  calls_more (call ∷ calls) h = (f call.conn h.0, calls_more calls h.1)
+  calls_more (call ∷ calls) h = (f call.origin.conn h.0, calls_more calls h.1)
 
   pub queued_more : (sessions : List (ℕ × SessionSubscriptions)) → QueuedBy Such sessions → QueuedBy More sessions
   queued_more [] h = tt

@@ -13,13 +13,13 @@ abbrev pub number_of : KeptMessage → ℕ
 number_of message = message.number
 
 abbrev pub reply_to : PublishCall → List ℕ → Reply
-reply_to call body = record { conn = call.conn; id = call.id; handle = call.handle; body = body }
+reply_to call body = record { origin = call.origin; body = body }
 
 -- the answer that brings a message of a subscription, which keeps those with these numbers
 abbrev pub published_of : Moment → PublishCall → ℕ → List ℕ → Bool → List ℕ → Reply
 published_of clock call subscription numbers more message =
-    reply_to call (publish_body_around (plain_header call.handle (record { 0 = 0 }) clock) subscription numbers more message call.results)
+    reply_to call (publish_body_around (plain_header call.origin.handle (record { 0 = 0 }) clock) subscription numbers more message call.results)
 
 -- the fault with a status
 abbrev pub refused_of : Moment → Status → PublishCall → Reply
-refused_of clock status call = reply_to call (fault_body call.handle status clock)
+refused_of clock status call = reply_to call (fault_body call.origin.handle status clock)

@@ -25,7 +25,7 @@ session_ended session deleting w =
 -- ---- a connection that is closed or gone
 
 abbrev pub came_by_other : ℕ → PublishCall → Bool
-came_by_other conn call = not (call.conn == conn)
+came_by_other conn call = not (call.origin.conn == conn)
 
 -- the requests that came by a connection wait no more
 abbrev pub part_without_conn : ℕ → SessionSubscriptions → SessionSubscriptions

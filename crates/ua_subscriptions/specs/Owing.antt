@@ -10,7 +10,7 @@ use Rattle.ua_subscriptions.specs.Tables.{World}
 
 -- each request came by such a connection
 abbrev pub AllBy : (ℕ → Type 0) → List PublishCall → Type 0
-AllBy Such calls = AllByRecursion (λ (call : PublishCall). Such call.conn) calls
+AllBy Such calls = AllByRecursion (λ (call : PublishCall). Such call.origin.conn) calls
 
 -- each request that waits came by such a connection
 abbrev pub QueuedBy : (ℕ → Type 0) → List (ℕ × SessionSubscriptions) → Type 0
@@ -18,12 +18,12 @@ QueuedBy Such sessions = AllByRecursion (λ (e : ℕ × SessionSubscriptions). A
 
 -- each reply goes to such a connection
 abbrev pub RepliedTo : (ℕ → Type 0) → List Reply → Type 0
-RepliedTo Such replies = AllByRecursion (λ (reply : Reply). Such reply.conn) replies
+RepliedTo Such replies = AllByRecursion (λ (reply : Reply). Such reply.origin.conn) replies
 
 -- the request that is to be answered, if any, came by such a connection
 abbrev pub AskedBy : (ℕ → Type 0) → Option PublishCall → Type 0
 AskedBy Such None = ⊤
-AskedBy Such (Some call) = Such call.conn
+AskedBy Such (Some call) = Such call.origin.conn
 
 -- what a round has answered, and what it has yet to answer
 pub record RoundOwesOnly (Such : ℕ → Type 0) (round : Round) : Type 0 where

@@ -28,7 +28,7 @@ fn note_asked(
 {
     match asked {
         None => Ok(()),
-        Some(call) => askers.insert(call.conn, session),
+        Some(call) => askers.insert(call.origin.conn, session),
     }
 }
 

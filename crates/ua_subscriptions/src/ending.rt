@@ -148,7 +148,7 @@ fn refuse_sessions(
 fn drop_requests(requests: &mut Queue<PublishCall>, conn: u64)
     ensures { requests.new ≡ filter (came_by_other conn) requests.old }
 {
-    requests.items.retain(|call| call.conn != conn);
+    requests.items.retain(|call| call.origin.conn != conn);
 }
 
 // Those of a session.

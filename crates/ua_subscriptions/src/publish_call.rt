@@ -4,7 +4,7 @@ ghost use Rattle.std.specs.Prelude.{◌≡◌, IfOk, map};
 ghost use Rattle.ua_subscriptions.specs.Answers.{published_of, refused_of, number_of};
 
 use crate::kept::Kept;
-use server_messages::Reply;
+use server_messages::{Origin, Reply};
 use std::alloc::{AllocError, Global};
 use ua_messages::{ResponseHeader, fault};
 use ua_subscription_messages::publish_body;
@@ -14,12 +14,8 @@ use ua_types::{Listed, Moment, Status};
 /// came by.
 #[derive(Debug, Drop)]
 pub struct PublishCall {
-    /// The number of the connection that the request came by.
-    pub conn: u64,
-    /// The request's number on that connection.
-    pub id: u32,
-    /// The handle in the request's header.
-    pub handle: u32,
+    /// Of the request.
+    pub origin: Origin,
     /// What became of each of its acknowledgements, in their order.
     pub results: Listed<Status>,
 }
@@ -43,7 +39,7 @@ impl PublishCall {
         if numbers.len() >= 1 << 31 || results.len() >= 1 << 31 {
             return Err(AllocError);
         }
-        let header = ResponseHeader::good(self.handle, clock);
+        let header = ResponseHeader::good(self.origin.handle, clock);
         let body = publish_body(
             alloc,
             &header,
@@ -54,9 +50,7 @@ impl PublishCall {
             results,
         )?;
         Ok(Reply {
-            conn: self.conn,
-            id: self.id,
-            handle: self.handle,
+            origin: self.origin,
             body,
         })
     }
@@ -70,11 +64,9 @@ impl PublishCall {
     ) -> Result<Reply, AllocError>
         ensures { IfOk result (λ reply. reply ≡ refused_of clock status self) }
     {
-        let body = fault(alloc, self.handle, status, clock)?;
+        let body = fault(alloc, self.origin.handle, status, clock)?;
         Ok(Reply {
-            conn: self.conn,
-            id: self.id,
-            handle: self.handle,
+            origin: self.origin,
             body,
         })
     }

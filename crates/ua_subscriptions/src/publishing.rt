@@ -144,9 +144,7 @@ impl LiveSubscriptions {
         let subscriptions = &mut self.subscriptions;
         let results = acknowledge_all(alloc, subscriptions, session, acknowledgements)?;
         let call = PublishCall {
-            conn: call.conn,
-            id: call.id,
-            handle: call.handle,
+            origin: call.origin,
             results,
         };
         if let Some(note) = take_note(&mut self.sessions, session) {

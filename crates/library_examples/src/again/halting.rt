@@ -4,7 +4,7 @@ use crate::benchmarks::{failed, server_of};
 use scenario_events::assemble;
 use scenario_text::{AsmFault, Cause};
 use server_core::{Event, Server, StepFault};
-use server_messages::Halt;
+use server_messages::{Halt, Origin};
 use std::alloc::Global;
 use std::io::Write;
 use std::rt::Files;
@@ -68,9 +68,11 @@ fn publish(
     id: u32,
 ) -> Result<Answered<()>, Halt> {
     let call = PublishCall {
-        conn: 1,
-        id,
-        handle: id,
+        origin: Origin {
+            conn: 1,
+            id,
+            handle: id,
+        },
         results: Listed::new(alloc),
     };
     match ArrayView::<SubscriptionAcknowledgement>::view(&mut Cursor::new(NULL_LIST)) {

@@ -19,5 +19,5 @@ returns c config space events p channel chunks configured posts has fits other =
     never answer e f = absurd (cc)
 
     by : IsSentBy p (Some channel) → ⊥
-    by (inl goes) = other (goes.sent ∙ ap (sends p.reply.conn) (same (send_of channel p.reply.id p.reply.body).answer (goes.first ∷ goes.more) chunks goes.chunks fits))
-    by (inr late) = never (send_of channel p.reply.id p.reply.body).answer late.0 fits
+    by (inl goes) = other (goes.sent ∙ ap (sends p.reply.origin.conn) (same (send_of channel p.reply.origin.id p.reply.body).answer (goes.first ∷ goes.more) chunks goes.chunks fits))
+    by (inr late) = never (send_of channel p.reply.origin.id p.reply.body).answer late.0 fits

@@ -14,9 +14,9 @@ returns c config space events p configured posts silent =
     by p.channel all.0
   where
     nothing : (s : ChannelState) (body : List ℕ) → GoesBy s p body → ⊥
-    nothing s body goes = let clash : [] ≡ sends p.reply.conn (goes.first ∷ goes.more) = sym silent ∙ goes.sent in absurd (cc)
+    nothing s body goes = let clash : [] ≡ sends p.reply.origin.conn (goes.first ∷ goes.more) = sym silent ∙ goes.sent in absurd (cc)
 
     by : (found : Option ChannelState) → IsSentBy p found → ⊥
     by None sent = sent
     by (Some s) (inl goes) = nothing s p.reply.body goes
-    by (Some s) (inr late) = nothing s (fault_body p.reply.handle status.BAD_RESPONSE_TOO_LARGE p.clock) late.1
+    by (Some s) (inr late) = nothing s (fault_body p.reply.origin.handle status.BAD_RESPONSE_TOO_LARGE p.clock) late.1

@@ -7,6 +7,6 @@ use Rattle.server_connections.proofs.connections.Connections.shut_each.Goals as 
 pub returns-then-len-eq0-clause-shut : goal.returns-then-len-eq0-clause-shut
 returns-then-len-eq0-clause-shut c =
     sym (
-        ap (λ (r : Refusing). refusing_after c.args.outs.now r) (none_shut c.args.self.now (sym c.len.ensures ∙ c.if-len-eq0.true))
-        ∙ ap (λ outs. refusing c.args.self.now outs) (append-nil c.args.outs.now)
+    ap (λ (r : Refusing). refusing_after c.args.outs.now r) (none_shut c.args.self.now (sym c.len.ensures ∙ c.if-len-eq0.true))
+    ∙ ap (λ outs. refusing c.args.self.now outs) (append-nil c.args.outs.now)
     )

@@ -15,7 +15,7 @@ returns-in_err-nonce c =
     let caller = c.args.caller.now in
     let token = c.args.token.now in
     let refusal = c.in_err-nonce.field-0.0 in
-    let takes = subst (λ flag. TakesNonce (Err refusal) state.sessions c.activate.new.self (activate_of state.sessions token caller.conn caller.key flag)) c.is_anonymous-is_anonymous.ensures c.in_err-nonce.ensures.taken in
+    let takes = subst (λ flag. TakesNonce (Err refusal) state.sessions c.activate.new.self (activate_of state.sessions token caller.origin.conn caller.key flag)) c.is_anonymous-is_anonymous.ensures c.in_err-nonce.ensures.taken in
     let p = err_from_is_err_and c.from_residual.result c.from_residual.ensures.1 in
     rw (p.1, p.2) (subst (λ (request : ActivateSessionRequest). Judges setting caller (Err refusal) (with_sessions state c.activate.new.self) (activate_session_meaning setting caller token request state)) c.request.view_is
-    (refused_as state caller setting (activate_session_body setting caller) (activate_of state.sessions token caller.conn caller.key (is_anonymous c.request.inside.user_identity_token)) c.activate.new.self refusal takes))
+    (refused_as state caller setting (activate_session_body setting caller) (activate_of state.sessions token caller.origin.conn caller.key (is_anonymous c.request.inside.user_identity_token)) c.activate.new.self refusal takes))

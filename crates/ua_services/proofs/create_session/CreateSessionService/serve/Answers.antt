@@ -10,4 +10,4 @@ returns-in_err-session c =
     let setting = c.args.setting.now in
     let caller = c.args.caller.now in
     let p = err_from_is_err_and c.from_residual.result c.from_residual.ensures.1 in
-    rw (p.1, p.2) (refused_as state caller setting (create_session_body setting caller) (create_of state.sessions caller.conn caller.key) c.create.new.self c.in_err-session.field-0.0 c.in_err-session.ensures)
+    rw (p.1, p.2) (refused_as state caller setting (create_session_body setting caller) (create_of state.sessions caller.origin.conn caller.key) c.create.new.self c.in_err-session.field-0.0 c.in_err-session.ensures)
