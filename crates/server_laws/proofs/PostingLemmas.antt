@@ -13,6 +13,7 @@ use Rattle.server_messages.specs.declared.setting.Setting.{Setting}
 use Rattle.server_connections.specs.Delivering.{delivered, delivery_of}
 use Rattle.server_connections.specs.declared.connections.Connections.{Connections}
 use Rattle.subscription_laws.specs.Runs.{Move, Ran, start, moved, run}
+use Rattle.subscription_laws.proofs.TellingRuns.{all_are_told}
 use Rattle.ua_services.specs.Services.{serving_of, ticking_of, shutting_of, forgotten}
 use Rattle.ua_services.specs.Serving.{Serving, rows_of}
 use Rattle.ua_services.specs.declared.services.Services.{Services}
@@ -26,7 +27,7 @@ use Rattle.server_core.proofs.EffectLemmas.{fired_of-append, fired_of_doing, fir
 use Rattle.server_laws.specs.Dealings.{Dealing, with_clock, dealings_of}
 use Rattle.server_laws.specs.EventMoves.{serving_moves, ticking_moves, shutting_moves, forgetting_moves, moves_at, moves_of}
 use Rattle.server_laws.specs.Moving.{ran_at, StandIn, ComesOn, ComesOnWith}
-use Rattle.server_laws.specs.Postings.{Posting, reply_posted, postings, posted_at, posted, GoOut, outs_of_run}
+use Rattle.server_laws.specs.Postings.{Posting, reply_posted, postings, posted_at, posted, GoOut, AnswersGoOut}
 use Rattle.server_laws.proofs.ApartLemmas.{CameBy, stays_fresh, tick_fresh, end_fresh}
 use Rattle.server_laws.proofs.MovingLemmas.{still, then_with, goes_on, serving_on, ticking_on, shutting_on}
 use Rattle.server_laws.proofs.OtherSessions.{IsFresh}
@@ -173,5 +174,8 @@ module _ (config : Configuration) (space : SpaceState) (events : List Event) whe
       subst (λ (rs : List Reply). StandIn rs (map reply_posted (posted config space events))) (sym (ap (λ (r : Ran). r.replies) went.left)) went.among
 
   -- and all that is posted goes out, in order
-  pub postings_go_out : GoOut (posted config space events) (outs_of_run (reached config space events))
-  postings_go_out = gone.goes.out
+  pub answers_go_out : AnswersGoOut config space events
+  answers_go_out = record {
+    are_posted = subst (λ (rs : List Reply). StandIn rs (map reply_posted (posted config space events))) (all_are_told config (moves_of config space events)) answers_are_posted;
+    go_out = gone.goes.out;
+  }

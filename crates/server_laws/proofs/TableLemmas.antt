@@ -158,4 +158,4 @@ module _ (config : Configuration) (space : SpaceState) (events : List Event) whe
   answers_stay before m rest is = answers_are_own config before m
 
   pub best_first : ServesTheBestFirst config space events
-  best_first = record { asked = λ before clock session asked acks rest is. comes_to_the_best (run config before) clock session asked acks; due = λ before clock rest is. each_is_met config before clock }
+  best_first = record { asked = λ before clock session asked acks rest is. comes_to_the_best config before clock session asked acks; due = λ before clock rest is. each_is_met config before clock }

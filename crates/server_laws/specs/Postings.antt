@@ -1,5 +1,5 @@
 -- What goes out for each reply of a run.
-use Rattle.std.specs.Prelude.{◌≡◌, ⊤, ◌⊎◌, ℕ, List, [], ◌∷◌, ◌++◌, Option, Some, None, Ok, Err}
+use Rattle.std.specs.Prelude.{◌≡◌, ⊤, ◌⊎◌, ℕ, List, [], ◌∷◌, ◌++◌, map, Option, Some, None, Ok, Err}
 use Rattle.std.specs.FinMap.{get}
 use Rattle.std.specs.List.{flat_map, AllByRecursion}
 use Rattle.ua_types.specs.Configuration.{Configuration}
@@ -20,11 +20,15 @@ use Rattle.server_connections.specs.declared.connection.Phase.{Phase}
 use Rattle.server_connections.specs.declared.connection.Phase.TheVariants.{Talking}
 use Rattle.server_connections.specs.declared.connections.Connections.{Connections}
 use Rattle.ua_services.specs.Services.{serving_of, ticking_of, shutting_of}
+use Rattle.subscription_laws.specs.Tellings.{answer_of}
+use Rattle.server_core.specs.Coherent.{reached}
 use Rattle.server_core.specs.Effects.{outs_of}
 use Rattle.server_core.specs.Running.{Running, joined_effects}
 use Rattle.server_core.specs.declared.event.Event.{Event}
 use Rattle.server_core.specs.declared.parts.Core.{Core}
 use Rattle.server_laws.specs.Dealings.{Asked, Serves, Ticks, Forgets, Ends, Dealing, dealings_of}
+use Rattle.server_laws.specs.Moving.{StandIn}
+use Rattle.server_laws.specs.Tellings.{told_by}
 
 -- only a connection that talks has a channel
 abbrev pub channel_in : Phase → Option ChannelState
@@ -81,6 +85,11 @@ GoOut (p ∷ ps) outs = (front : List Out) × (back : List Out) × (outs ≡ fro
 -- all that a run sends and closes
 abbrev pub outs_of_run : Running → List Out
 outs_of_run r = outs_of (joined_effects r.steps)
+
+-- Each answer to a Publish request is posted, in the order in which they are given; and what is posted goes out, in order
+pub record AnswersGoOut (config : Configuration) (space : SpaceState) (events : List Event) : Type 0 where
+  pub are_posted : StandIn (map answer_of (told_by config space events)) (map reply_posted (posted config space events))
+  pub go_out : GoOut (posted config space events) (outs_of_run (reached config space events))
 
 -- a body goes out by a channel, in one chunk or more
 pub record GoesBy (s : ChannelState) (p : Posting) (body : List ℕ) : Type 0 where

@@ -36,7 +36,7 @@ ghost use Rattle.server_laws.specs.EventMoves.{serving_moves, ticking_moves, for
 ghost use Rattle.server_laws.specs.Fates.{HaveOneFate, StandInMessages, MarksItsLosses};
 ghost use Rattle.server_laws.specs.Messages.{made_by, NumbersItsMessages, GivesTheFirstBytes};
 ghost use Rattle.server_laws.specs.Moving.{ComesOn, ComesOnBy};
-ghost use Rattle.server_laws.specs.Postings.{AnswersAreSent};
+ghost use Rattle.server_laws.specs.Postings.{AnswersAreSent, AnswersGoOut};
 ghost use Rattle.server_laws.specs.Replying.{BringsMessages, SendsReplies};
 ghost use Rattle.server_laws.specs.SessionsApart.{SessionsStayApart};
 ghost use Rattle.server_laws.specs.Tellings.{told_by};
@@ -114,11 +114,10 @@ pub fn table()
 ///   that were made.
 /// - `republish_gives_the_first_bytes`: what Republish and [`Server::kept`](server_core::Server::kept) give is, byte for byte, the
 ///   message that was made under that number, and under each number that is shown there is one.
-/// - `answers_are_sent`: each answer that is posted goes out by the channel of the connection that its request came by, in its
-///   chunks; or, where that channel finds it too large for its client, the fault Bad_ResponseTooLarge does in its place, at the
-///   server's time. None goes out as nothing. That all of it is among what the run sends, in order, is `go_out` of
-///   [`values_reach_their_clients`](reaching::values_reach_their_clients). (That a configuration `IsConfigured` is the invariant of
-///   every [`ua_types::Config`].)
+/// - `answers_go_out`: each answer to a Publish request is posted, in order, and what is posted is among what the run sends, in order.
+/// - `answers_are_sent`: what is posted goes out by the channel of the connection that its request came by, in its chunks; or, where
+///   that channel finds it too large for its client, the fault Bad_ResponseTooLarge does in its place, at the server's time. None
+///   goes out as nothing. (That a configuration `IsConfigured` is the invariant of every [`ua_types::Config`].)
 pub fn losses()
     ensures fates { (config : Configuration) (space : SpaceState) (events : List Event) (number : ℕ) → HaveOneFate config space events number }
     ensures each_in_one_message { (config : Configuration) (space : SpaceState) (events : List Event) (number : ℕ) → StandInMessages config space events number }
@@ -126,6 +125,7 @@ pub fn losses()
     ensures message_numbers { (config : Configuration) (space : SpaceState) (events : List Event) → NumbersItsMessages config space events }
     ensures answers_numbered { (config : Configuration) (space : SpaceState) (events : List Event) → AreInSequence [] (told_by config space events) }
     ensures republish_gives_the_first_bytes { (config : Configuration) (space : SpaceState) (events : List Event) → GivesTheFirstBytes config space events }
+    ensures answers_go_out { (config : Configuration) (space : SpaceState) (events : List Event) → AnswersGoOut config space events }
     ensures answers_are_sent { (config : Configuration) (space : SpaceState) (events : List Event) → IsConfigured config → AnswersAreSent config space events }
 {}
 

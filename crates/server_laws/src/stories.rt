@@ -3,7 +3,8 @@
 //! A body calls the law and does nothing else, so what is proved follows from the law's contract. If a clause said nothing, its
 //! story would be let through, and this module wouldn't be proved.
 
-ghost use Rattle.std.specs.Prelude.{◌≡◌, ◌≢◌, ℕ, true, List, [], ◌∷◌, ◌++◌, Some, None, Ok};
+ghost use Rattle.std.specs.Prelude.{◌≡◌, ◌≢◌, ℕ, true, false, List, [], ◌∷◌, ◌++◌, map, Some, None, Ok};
+ghost use Rattle.std.specs.declared.cmp.Ordering.TheVariants.{Less};
 ghost use Rattle.ua_types.specs.Configuration.{Configuration, IsConfigured};
 ghost use Rattle.ua_types.specs.declared.moment.Moment.{Moment};
 ghost use Rattle.ua_types.specs.declared.node_id.NodeId.{NodeId};
@@ -21,17 +22,18 @@ ghost use Rattle.ua_state_table.specs.declared.row.RowId.TheVariants.{G6};
 ghost use Rattle.ua_subscriptions.specs.declared.subscription.Subscription.{Subscription};
 ghost use Rattle.ua_subscriptions.specs.declared.messages.KeptMessage.{KeptMessage};
 ghost use Rattle.ua_subscriptions.specs.declared.publish_call.PublishCall.{PublishCall};
-ghost use Rattle.ua_subscriptions.specs.declared.ranks.Rank.{Rank};
-ghost use Rattle.ua_subscriptions.specs.Publishing.{note_of, ready};
-ghost use Rattle.ua_subscriptions.specs.Ranks.{is_waiting, waiting_of};
+ghost use Rattle.ua_subscription_messages.specs.declared.publishing.SubscriptionAcknowledgement.{SubscriptionAcknowledgement};
+ghost use Rattle.ua_subscriptions.specs.Publishing.{note_of};
+ghost use Rattle.ua_subscriptions.specs.Ranks.{rank_of, is_due, is_waiting};
 ghost use Rattle.ua_subscriptions.specs.Scenes.{Scene};
-ghost use Rattle.ua_subscriptions.specs.SubscriptionCalls.{world_of};
 ghost use Rattle.ua_subscriptions.specs.Tables.{part_at, subscription_at};
-ghost use Rattle.subscription_laws.specs.Concern.{Concern, concerned, all_concerned};
+ghost use Rattle.subscription_laws.specs.Calm.{is_listed};
+ghost use Rattle.subscription_laws.specs.Concern.{Concern, number_of, concerned, all_concerned};
 ghost use Rattle.subscription_laws.specs.Encounters.{Meets, encounters};
 ghost use Rattle.subscription_laws.specs.Histories.{counts_at, life_at};
 ghost use Rattle.subscription_laws.specs.Messaging.{messages_for};
 ghost use Rattle.subscription_laws.specs.OwnRequests.{CameIn};
+ghost use Rattle.subscription_laws.specs.Precedence.{precedence, WaitsIn};
 ghost use Rattle.subscription_laws.specs.Runs.{Move, run};
 ghost use Rattle.subscription_laws.specs.Tellings.{Telling, told_at};
 ghost use Rattle.subscription_laws.specs.Tellings.Told.{KeepAlive};
@@ -132,14 +134,31 @@ pub fn an_answer_across_sessions()
     table();
 }
 
-/// Two subscriptions of a session wait, and a Publish request comes to the one that comes second.
-pub fn the_second_best_answers()
-    ensures { (config : Configuration) (space : SpaceState) (events : List Event) (before : List Move) (clock : Moment) (session : ℕ) (asked : PublishCall) (rest : List Move) (first second : Rank) (c : Concern) →
-        before ++ Move.Publish clock session asked [] ∷ rest ≡ moves_of config space events → let r = run config before in let t = (ready session [] (world_of r.subs r.items clock)).table in
-        note_of session r.subs.table.sessions ≡ None → waiting_of t.subscriptions (part_at session t.sessions).numbers ≡ first ∷ second ∷ [] →
-        concerned r (Move.Publish clock session asked []) ≡ c ∷ [] → c.subscription ≡ second.number → first.number ≢ second.number → ⊥ }
+/// The time of a subscription has come, and it isn't met as the server is told.
+pub fn a_timer_passed_over()
+    ensures { (config : Configuration) (space : SpaceState) (events : List Event) (before : List Move) (clock : Moment) (rest : List Move) (number : ℕ) (s : Subscription) →
+        before ++ Move.Timers clock ∷ rest ≡ moves_of config space events → let r = run config before in
+        subscription_at number r.subs.table.subscriptions ≡ Some s → is_due clock s ≡ true → is_listed number (map number_of (concerned r (Move.Timers clock))) ≡ false → ⊥ }
 {
     table();
+}
+
+/// Two subscriptions of a session wait, and a Publish request comes to the one that comes second.
+pub fn the_second_best_answers()
+    ensures { (config : Configuration) (space : SpaceState) (events : List Event) (before : List Move) (clock : Moment) (session : ℕ) (asked : PublishCall) (acks : List SubscriptionAcknowledgement) (rest : List Move) (first second : ℕ) (s t : Subscription) (c : Concern) →
+        before ++ Move.Publish clock session asked acks ∷ rest ≡ moves_of config space events → let r = run config before in let live = r.subs.table.subscriptions in
+        note_of session r.subs.table.sessions ≡ None → subscription_at first live ≡ Some s → WaitsIn session first s → subscription_at second live ≡ Some t →
+        precedence (rank_of first s) (rank_of second t) ≡ Less → first ≢ second → concerned r (Move.Publish clock session asked acks) ≡ c ∷ [] → c.subscription ≡ second → ⊥ }
+{
+    table();
+}
+
+/// An answer is given, and nothing is posted.
+pub fn an_answer_that_is_not_posted()
+    ensures { (config : Configuration) (space : SpaceState) (events : List Event) (answer : Telling) →
+        told_by config space events ≡ answer ∷ [] → posted config space events ≡ [] → ⊥ }
+{
+    losses();
 }
 
 /// An answer is posted, and nothing goes out for it.

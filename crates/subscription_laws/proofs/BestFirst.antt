@@ -1,45 +1,58 @@
--- The timers that are due come, the best first, and none is passed over; so it is with the subscriptions that wait for a request.
-use Rattle.std.proofs.Common.{◌≡◌, ◌≢◌, ℕ, Bool, true, false, cond, ◌||◌, List, [], ◌∷◌, ◌++◌, map, fold, Option, Some, None, refl, sym, ap, ◌∙◌, subst}
-use Rattle.std.proofs.lemmas.Bool.{false≢true, or_parts}
+-- Time comes to all that are due, the best first, and a Publish request to the best that waits.
+use Rattle.std.proofs.Common.{◌≡◌, ◌≢◌, ◌⊎◌, inl, inr, ℕ, Bool, true, false, cond, ◌||◌, List, [], ◌∷◌, ◌++◌, map, fold, Option, Some, None, refl, sym, ap, ◌∙◌, subst}
+use Rattle.std.proofs.lemmas.Bool.{false≢true, or_left, or_right, or_parts, false_from_ne_true}
+use Rattle.std.proofs.lemmas.Cmp.{tied_itself}
 use Rattle.std.specs.BTreeMap.{is_at}
 use Rattle.std.specs.BTreeSet.{insert_key}
-use Rattle.std.specs.List.{flat_map}
+use Rattle.std.specs.List.{AllByRecursion, flat_map, list_any}
+use Rattle.std.specs.Map.{set_value}
 use Rattle.std.specs.Option.{is_some}
 use Rattle.std.specs.Prelude.{⊤}
-use Rattle.std.specs.Ordering.{nat_cmp, match_ordering}
+use Rattle.std.specs.Ordering.{nat_cmp, match_ordering, ordering_reverse}
 use Rattle.std.specs.declared.cmp.Ordering.{Ordering}
 use Rattle.std.specs.declared.cmp.Ordering.TheVariants.{Less, Equal, Greater}
 use Rattle.ua_types.specs.Configuration.{Configuration}
 use Rattle.ua_types.specs.declared.moment.Moment.{Moment}
+use Rattle.ua_state_table.specs.Chosen.{Answers, answers, publish_row}
+use Rattle.ua_state_table.specs.Steady.{waits_in}
+use Rattle.ua_state_table.specs.declared.row.RowId.{RowId}
+use Rattle.ua_state_table.specs.declared.row.RowId.TheVariants.{N2, L1, L2}
+use Rattle.ua_state_table.specs.declared.state.State.{State}
+use Rattle.ua_state_table.specs.declared.state.State.TheVariants.{Normal, Late, KeepAlive, Closed}
 use Rattle.ua_subscription_messages.specs.declared.publishing.SubscriptionAcknowledgement.{SubscriptionAcknowledgement}
-use Rattle.number_slots.proofs.NumberMaps.{same_number}
 use Rattle.ua_subscriptions.specs.declared.call.Call.{Call}
 use Rattle.ua_subscriptions.specs.declared.call.Call.TheVariants as call
 use Rattle.ua_subscriptions.specs.declared.publish_call.PublishCall.{PublishCall}
 use Rattle.ua_subscriptions.specs.declared.ranks.Rank.{Rank}
+use Rattle.ua_subscriptions.specs.contracts.ranks.RankOrd.TheImpl.Laws.{total-law}
 use Rattle.ua_subscriptions.specs.declared.session_part.TimeoutNote.{TimeoutNote}
 use Rattle.ua_subscriptions.specs.declared.subscription.Subscription.{Subscription}
-use Rattle.ua_subscriptions.specs.Firing.{fired}
-use Rattle.ua_subscriptions.specs.Publishing.{acknowledged_all, asked_by, with_results, ready, best_or_all}
+use Rattle.ua_subscriptions.specs.Firing.{vars_in, fired}
+use Rattle.ua_subscriptions.specs.Messages.{number_after}
+use Rattle.ua_subscriptions.specs.Publishing.{acknowledged_all, note_of, asked_by, with_results, without_kept, part_without_note, ready, best_or_all}
 use Rattle.ua_subscriptions.specs.Queues.{first_of}
-use Rattle.ua_subscriptions.specs.Ranks.{rank_cmp, rank_of, number_of, with_rank, is_waiting, waiting_by, with_waiting, waiting_of, is_due, due_rank, with_due, due_of, due_numbers}
+use Rattle.ua_subscriptions.specs.Ranks.{rank_cmp, rank_of, number_of, with_rank, is_waiting, waiting_by, with_waiting, waiting_of, is_due, due_rank, due_of, due_numbers}
+use Rattle.ua_subscriptions.specs.Scenes.{Scene, noting, note_sent, life_reset}
 use Rattle.ua_subscriptions.specs.SubscriptionCalls.{world_of}
 use Rattle.ua_subscriptions.specs.Tables.{World, with_call, without_closed, met_found, met, part_at, subscription_at}
-use Rattle.subscription_laws.specs.Calm.{AreAbove, AreRising, is_listed}
+use Rattle.ua_subscriptions.proofs.Choosing.{either}
+use Rattle.subscription_laws.specs.Calm.{AreRising, is_listed}
 use Rattle.subscription_laws.specs.Concern.{concerns_at}
-use Rattle.subscription_laws.specs.Encounters.{Encounter, scene_at, meets_by, all_meet, asked_encounters, noted_encounters}
 use Rattle.subscription_laws.specs.Concern as concern
-use Rattle.subscription_laws.specs.Precedence.{and_then, precedence, IsBeforeFirst, AreBestFirst, ComesToTheBest, ComesBestFirst}
-use Rattle.subscription_laws.specs.Runs.{Move, Ran, run}
-use Rattle.subscription_laws.proofs.Entries.{apart, less, behind, equal_is, above_differs, AreFound, all_found, among, listed_first, some_same}
-use Rattle.subscription_laws.proofs.Folds.{fold_keeps}
-use Rattle.subscription_laws.proofs.Reached.{sessions_list}
+use Rattle.subscription_laws.specs.Encounters.{Asks, Encounter, Meets, Does, scene_at, meets_by, all_meet, asked_encounters, noted_encounters}
+use Rattle.subscription_laws.specs.Precedence.{and_then, precedence, IsBest, AreAllBestFirst, WaitsIn, IsDueAt, IsAnswered, IsGivenToTheBest, ComesToTheBest, ComesBestFirst}
+use Rattle.subscription_laws.specs.Requests.{name_of}
+use Rattle.subscription_laws.specs.Runs.{Move, run}
+use Rattle.subscription_laws.specs.Tellings.{Telling, KeepAlive as KeepAliveTold, if_asked, told_at, note_told, rest_told, notes_told, row_told}
+use Rattle.subscription_laws.proofs.Acknowledgements.{all_acknowledged}
+use Rattle.subscription_laws.proofs.AskedNumbers.{put_are, ranks_are, ranked_waits, first_is, listed_are}
+use Rattle.subscription_laws.proofs.Entries.{at_itself, equal_is, same_or_not, behind_it, all_found, among, listed_first, some_same, set_here, set_other}
+use Rattle.subscription_laws.proofs.Folds.{fold_keeps, all_so}
+use Rattle.subscription_laws.proofs.KeepingParts.{set_fewer}
+use Rattle.subscription_laws.proofs.Reached.{sessions_list, lists_own}
 use Rattle.subscription_laws.proofs.Settling.{back_other}
 
 -- ---- the order
-
-by_precedence : (a b : Rank) → rank_cmp a b ≡ precedence a b
-by_precedence a b = refl
 
 last_equal : (p q r : Ordering) → and_then p (and_then q r) ≡ Equal → r ≡ Equal
 last_equal Equal Equal r e = e
@@ -47,28 +60,17 @@ last_equal p q r e = absurd (cc)
 
 -- equal ones are of one subscription
 equal_number : (a b : Rank) → rank_cmp a b ≡ Equal → a.number ≡ b.number
-equal_number a b e = equal_is a.number b.number (last_equal (nat_cmp b.priority.0 a.priority.0) (nat_cmp a.message_count b.message_count) (nat_cmp a.number b.number) (sym (by_precedence a b) ∙ e))
+equal_number a b e = equal_is a.number b.number (last_equal (nat_cmp b.priority.0 a.priority.0) (nat_cmp a.message_count b.message_count) (nat_cmp a.number b.number) e)
 
--- seen from the other side
-record Flips (o p : Ordering) : Type 0 where
-  greater : o ≡ Greater → p ≡ Less
-  equal : o ≡ Equal → p ≡ Equal
+-- one comes before another
+abbrev IsBefore : Rank → Rank → Type 0
+IsBefore a b = precedence a b ≡ Less
 
-nat_flips : (a b : ℕ) → Flips (nat_cmp a b) (nat_cmp b a)
-nat_flips a b = record {
-  greater = λ e. less b a (behind a b e);
-  equal = λ e. let same = equal_is a b e in subst (λ (n : ℕ). nat_cmp b n ≡ Equal) (sym same) (subst (λ (n : ℕ). nat_cmp n b ≡ Equal) same e);
-}
+before_itself : (a : Rank) → IsBefore a a → ⊥
+before_itself a e = let clash : Equal ≡ Less = sym (tied_itself total-law a) ∙ e in absurd (cc)
 
-both_flip : (o p q r : Ordering) → Flips o p → Flips q r → Flips (and_then o q) (and_then p r)
-both_flip Less p q r f g = record { greater = λ e. absurd (cc); equal = λ e. absurd (cc) }
-both_flip Equal p q r f g = record { greater = λ e. rw (f.equal refl) (g.greater e); equal = λ e. rw (f.equal refl) (g.equal e) }
-both_flip Greater p q r f g = record { greater = λ e. rw (f.greater refl) refl; equal = λ e. absurd (cc) }
-
-flips : (a b : Rank) → Flips (precedence a b) (precedence b a)
-flips a b =
-    both_flip _ _ _ _ (nat_flips b.priority.0 a.priority.0)
-    (both_flip _ _ _ _ (nat_flips a.message_count b.message_count) (nat_flips a.number b.number))
+pub not_both : (a b : Rank) → precedence a b ≡ Less → precedence b a ≡ Less → ⊥
+not_both a b e f = before_itself a (total-law.trans a b a e f)
 
 -- ---- one rank more
 
@@ -78,131 +80,148 @@ put ranks rank = insert_key rank_cmp ranks rank
 abbrev numbers : List Rank → List ℕ
 numbers ranks = map number_of ranks
 
-put_before : (x rank : Rank) (ranks : List Rank) → precedence x rank ≡ Less → IsBeforeFirst x ranks → IsBeforeFirst x (put ranks rank)
-put_before x rank [] e h = e
-put_before x rank (r ∷ rs) e h = by (rank_cmp rank r)
-  where
-    by : (o : Ordering) → IsBeforeFirst x (match_ordering o (rank ∷ r ∷ rs) (r ∷ rs) (r ∷ put rs rank))
-    by Less = e
-    by Equal = h
-    by Greater = h
+-- each comes before all behind it
+abbrev AreInOrder : List Rank → Type 0
+AreInOrder [] = ⊤
+AreInOrder (rank ∷ ranks) = AllByRecursion (IsBefore rank) ranks × AreInOrder ranks
 
-put_best : (ranks : List Rank) (rank : Rank) → AreBestFirst ranks → AreBestFirst (put ranks rank)
-put_best [] rank h = (tt, tt)
-put_best (r ∷ rs) rank h = by (rank_cmp rank r) refl (put_best rs rank h.1)
+put_order : (ranks : List Rank) (rank : Rank) → AreInOrder ranks → AreInOrder (put ranks rank)
+put_order [] rank h = (tt, tt)
+put_order (r ∷ rs) rank h = by (rank_cmp rank r) refl (put_order rs rank h.1)
   where
-    by : (o : Ordering) → rank_cmp rank r ≡ o → AreBestFirst (put rs rank) → AreBestFirst (match_ordering o (rank ∷ r ∷ rs) (r ∷ rs) (r ∷ put rs rank))
-    by Less e rest = (sym (by_precedence rank r) ∙ e, h)
+    by : (o : Ordering) → rank_cmp rank r ≡ o → AreInOrder (put rs rank) → AreInOrder (match_ordering o (rank ∷ r ∷ rs) (r ∷ rs) (r ∷ put rs rank))
+    by Less e rest = ((e, all_so (IsBefore r) (IsBefore rank) (λ x k. total-law.trans rank r x e k) rs h.0), h)
     by Equal e rest = h
-    by Greater e rest = (put_before r rank rs ((flips rank r).greater (sym (by_precedence rank r) ∙ e)) h.0, rest)
+    by Greater e rest = (put_are (IsBefore r) rs rank h.0 (total-law.antisymm r rank ∙ ap ordering_reverse e), rest)
 
-put_self : (ranks : List Rank) (rank : Rank) → is_listed rank.number (numbers (put ranks rank)) ≡ true
-put_self [] rank = listed_first rank.number []
-put_self (r ∷ rs) rank = by (rank_cmp rank r) refl (put_self rs rank)
+twice : (a x : Bool) → (a || (a || x)) ≡ true → (a || x) ≡ true
+twice true x h = refl
+twice false x h = h
+
+either_further : (a b x y : Bool) → ((a || x) ≡ true → y ≡ true) → (a || (b || x)) ≡ true → (b || y) ≡ true
+either_further a true x y f h = refl
+either_further true false x y f h = f refl
+either_further false false x y f h = f h
+
+put_in : (m : ℕ) (ranks : List Rank) (rank : Rank) → is_listed m (numbers (rank ∷ ranks)) ≡ true → is_listed m (numbers (put ranks rank)) ≡ true
+put_in m [] rank h = h
+put_in m (r ∷ rs) rank h = by (rank_cmp rank r) refl (put_in m rs rank)
   where
-    by : (o : Ordering) → rank_cmp rank r ≡ o → is_listed rank.number (numbers (put rs rank)) ≡ true → is_listed rank.number (numbers (match_ordering o (rank ∷ r ∷ rs) (r ∷ rs) (r ∷ put rs rank))) ≡ true
-    by Less e rest = listed_first rank.number (numbers (r ∷ rs))
-    by Equal e rest = subst (λ (n : ℕ). is_listed n (numbers (r ∷ rs)) ≡ true) (sym (equal_number rank r e)) (listed_first r.number (numbers rs))
-    by Greater e rest = among rank.number r.number (numbers (put rs rank)) rest
-
-put_keeps : (m : ℕ) (ranks : List Rank) (rank : Rank) → is_listed m (numbers ranks) ≡ true → is_listed m (numbers (put ranks rank)) ≡ true
-put_keeps m [] rank h = absurd (false≢true h)
-put_keeps m (r ∷ rs) rank h = by (rank_cmp rank r) (λ e. put_keeps m rs rank e)
-  where
-    rest : (b : Bool) → (is_listed m (numbers rs) ≡ true → is_listed m (numbers (put rs rank)) ≡ true) → (b || is_listed m (numbers rs)) ≡ true → (b || is_listed m (numbers (put rs rank))) ≡ true
-    rest true f e = refl
-    rest false f e = f e
-
-    by : (o : Ordering) → (is_listed m (numbers rs) ≡ true → is_listed m (numbers (put rs rank)) ≡ true) → is_listed m (numbers (match_ordering o (rank ∷ r ∷ rs) (r ∷ rs) (r ∷ put rs rank))) ≡ true
-    by Less f = among m rank.number (numbers (r ∷ rs)) h
-    by Equal f = h
-    by Greater f = rest (is_at (nat_cmp m) r.number) f h
-
--- ---- no number twice
-
-abbrev AreApart : List ℕ → Type 0
-AreApart [] = ⊤
-AreApart (n ∷ ns) = (is_listed n ns ≡ false) × AreApart ns
-
-not_first : (m n : ℕ) (ns : List ℕ) → is_listed m (n ∷ ns) ≡ false → m ≢ n
-not_first m n ns h same = false≢true (sym h ∙ subst (λ (k : ℕ). is_listed k (n ∷ ns) ≡ true) (sym same) (listed_first n ns))
-
-out_first : (m n : ℕ) (ns : List ℕ) → m ≢ n → is_listed m ns ≡ false → is_listed m (n ∷ ns) ≡ false
-out_first m n ns other h = rw (apart m n other) h
-
-put_out : (m : ℕ) (ranks : List Rank) (rank : Rank) → m ≢ rank.number → is_listed m (numbers ranks) ≡ false → is_listed m (numbers (put ranks rank)) ≡ false
-put_out m [] rank other h = out_first m rank.number [] other h
-put_out m (r ∷ rs) rank other h = by (rank_cmp rank r) (put_out m rs rank other (or_parts (is_at (nat_cmp m) r.number) (is_listed m (numbers rs)) h).1)
-  where
-    by : (o : Ordering) → is_listed m (numbers (put rs rank)) ≡ false → is_listed m (numbers (match_ordering o (rank ∷ r ∷ rs) (r ∷ rs) (r ∷ put rs rank))) ≡ false
-    by Less rest = out_first m rank.number (numbers (r ∷ rs)) other h
-    by Equal rest = h
-    by Greater rest = out_first m r.number (numbers (put rs rank)) (not_first m r.number (numbers rs) h) rest
-
-put_apart : (ranks : List Rank) (rank : Rank) → AreApart (numbers ranks) → is_listed rank.number (numbers ranks) ≡ false → AreApart (numbers (put ranks rank))
-put_apart [] rank h out = (refl, tt)
-put_apart (r ∷ rs) rank h out = by (rank_cmp rank r) (put_apart rs rank h.1 (or_parts (is_at (nat_cmp rank.number) r.number) (is_listed rank.number (numbers rs)) out).1)
-  where
-    by : (o : Ordering) → AreApart (numbers (put rs rank)) → AreApart (numbers (match_ordering o (rank ∷ r ∷ rs) (r ∷ rs) (r ∷ put rs rank)))
-    by Less rest = (out, h)
-    by Equal rest = h
-    by Greater rest = (put_out r.number rs rank (λ same. not_first rank.number r.number (numbers rs) out (sym same)) h.0, rest)
-
--- ---- those that live
-
-abbrev AllLive : List (ℕ × Subscription) → List ℕ → Type 0
-AllLive subscriptions [] = ⊤
-AllLive subscriptions (n ∷ ns) = (is_some (subscription_at n subscriptions) ≡ true) × AllLive subscriptions ns
-
-put_live : (subscriptions : List (ℕ × Subscription)) (ranks : List Rank) (rank : Rank) → is_some (subscription_at rank.number subscriptions) ≡ true → AllLive subscriptions (numbers ranks) → AllLive subscriptions (numbers (put ranks rank))
-put_live subscriptions [] rank one h = (one, tt)
-put_live subscriptions (r ∷ rs) rank one h = by (rank_cmp rank r) (put_live subscriptions rs rank one h.1)
-  where
-    by : (o : Ordering) → AllLive subscriptions (numbers (put rs rank)) → AllLive subscriptions (numbers (match_ordering o (rank ∷ r ∷ rs) (r ∷ rs) (r ∷ put rs rank)))
-    by Less rest = (one, h)
-    by Equal rest = h
-    by Greater rest = (h.0, rest)
-
--- ---- all that are due
-
--- none of these is among those so far
-abbrev AllNew : List Rank → List (ℕ × Subscription) → Type 0
-AllNew ranks [] = ⊤
-AllNew ranks (e ∷ es) = (is_listed e.0 (numbers ranks) ≡ false) × AllNew ranks es
-
-new_after : (ranks : List Rank) (rank : Rank) (es : List (ℕ × Subscription)) → AreAbove rank.number es → AllNew ranks es → AllNew (put ranks rank) es
-new_after ranks rank [] above h = tt
-new_after ranks rank (e ∷ es) above h = (put_out e.0 ranks rank (above_differs rank.number e.0 above.0) h.0, new_after ranks rank es above.1 h.1)
+    by : (o : Ordering) → rank_cmp rank r ≡ o → (is_listed m (numbers (rank ∷ rs)) ≡ true → is_listed m (numbers (put rs rank)) ≡ true) → is_listed m (numbers (match_ordering o (rank ∷ r ∷ rs) (r ∷ rs) (r ∷ put rs rank))) ≡ true
+    by Less e f = h
+    by Equal e f = twice (is_at (nat_cmp m) r.number) (is_listed m (numbers rs)) (subst (λ (n : ℕ). is_listed m (n ∷ numbers (r ∷ rs)) ≡ true) (equal_number rank r e) h)
+    by Greater e f = either_further (is_at (nat_cmp m) rank.number) (is_at (nat_cmp m) r.number) (is_listed m (numbers rs)) (is_listed m (numbers (put rs rank))) f h
 
 -- ---- all that have a rank
+
+-- a rank, if there is one, is that of a number
+abbrev is_of : ℕ → Option Rank → Bool
+is_of m None = false
+is_of m (Some rank) = is_at (nat_cmp m) rank.number
+
+one_in : (m : ℕ) (o : Option Rank) (ranks : List Rank) → (is_of m o || is_listed m (numbers ranks)) ≡ true → is_listed m (numbers (with_rank ranks o)) ≡ true
+unfolding with_rank
+one_in m None ranks h = h
+one_in m (Some rank) ranks h = put_in m ranks rank h
 
 module _ {A : Type 0} (rank_at : A → Option Rank) where
   abbrev with_one : List Rank → A → List Rank
   with_one ranks e = with_rank ranks (rank_at e)
 
-  best_one : (o : Option Rank) (ranks : List Rank) → AreBestFirst ranks → AreBestFirst (with_rank ranks o)
+  order_one : (o : Option Rank) (ranks : List Rank) → AreInOrder ranks → AreInOrder (with_rank ranks o)
   unfolding with_rank
-  best_one None ranks h = h
-  best_one (Some rank) ranks h = put_best ranks rank h
+  order_one None ranks h = h
+  order_one (Some rank) ranks h = put_order ranks rank h
 
-  best_from : (es : List A) (ranks : List Rank) → AreBestFirst ranks → AreBestFirst (fold with_one ranks es)
-  best_from = fold_keeps AreBestFirst with_one (λ ranks e. best_one (rank_at e) ranks)
-
-  keeps_one : (m : ℕ) (o : Option Rank) (ranks : List Rank) → is_listed m (numbers ranks) ≡ true → is_listed m (numbers (with_rank ranks o)) ≡ true
-  unfolding with_rank
-  keeps_one m None ranks h = h
-  keeps_one m (Some rank) ranks h = put_keeps m ranks rank h
-
-  keeps_from : (m : ℕ) (es : List A) (ranks : List Rank) → is_listed m (numbers ranks) ≡ true → is_listed m (numbers (fold with_one ranks es)) ≡ true
-  keeps_from m = fold_keeps (λ (ranks : List Rank). is_listed m (numbers ranks) ≡ true) with_one (λ ranks e. keeps_one m (rank_at e) ranks)
-
-  put_in : (rank : Rank) (ranks : List Rank) → is_listed rank.number (numbers (with_rank ranks (Some rank))) ≡ true
-  unfolding with_rank
-  put_in rank ranks = put_self ranks rank
+  order_from : (es : List A) (ranks : List Rank) → AreInOrder ranks → AreInOrder (fold with_one ranks es)
+  order_from = fold_keeps AreInOrder with_one (λ ranks e. order_one (rank_at e) ranks)
 
   -- one that has a rank is among them
-  one_in : (e : A) (es : List A) (rank : Rank) (ranks : List Rank) → rank_at e ≡ Some rank → is_listed rank.number (numbers (fold with_one (with_one ranks e) es)) ≡ true
-  one_in e es rank ranks has = keeps_from rank.number es (with_one ranks e) (ap (λ (o : Option Rank). is_listed rank.number (numbers (with_rank ranks o))) has ∙ put_in rank ranks)
+  all_in : (m : ℕ) (es : List A) (ranks : List Rank) → (list_any (λ e. is_of m (rank_at e)) es || is_listed m (numbers ranks)) ≡ true → is_listed m (numbers (fold with_one ranks es)) ≡ true
+  all_in m [] ranks h = h
+  all_in m (e ∷ es) ranks h = all_in m es (with_one ranks e) (further (is_of m (rank_at e)) (list_any (λ x. is_of m (rank_at x)) es) (is_listed m (numbers ranks)) (is_listed m (numbers (with_one ranks e))) (one_in m (rank_at e) ranks) h)
+    where
+      further : (a b x y : Bool) → ((a || x) ≡ true → y ≡ true) → ((a || b) || x) ≡ true → (b || y) ≡ true
+      further a true x y f h = refl
+      further true false x y f h = f refl
+      further false false x y f h = f h
+
+-- ---- the ranks of all that are such, in their order
+
+module _ (subscriptions : List (ℕ × Subscription)) where
+  -- a rank is that of one of them
+  record IsRankOf (Such : ℕ → Subscription → Type 0) (rank : Rank) : Type 0 where
+    its : Subscription
+    found : subscription_at rank.number subscriptions ≡ Some its
+    such : Such rank.number its
+    is : rank ≡ rank_of rank.number its
+
+  record AreRanked (Such : ℕ → Subscription → Type 0) (ranks : List Rank) : Type 0 where
+    all : (m : ℕ) (s : Subscription) → subscription_at m subscriptions ≡ Some s → Such m s → is_listed m (numbers ranks) ≡ true
+    only : AllByRecursion (IsRankOf Such) ranks
+    order : AreInOrder ranks
+
+  module _ (Such : ℕ → Subscription → Type 0) where
+    -- what holds of them holds of the one that is listed
+    of_listed : (P : Rank → Type 0) (m : ℕ) (s : Subscription) (ranks : List Rank) → subscription_at m subscriptions ≡ Some s → AllByRecursion (IsRankOf Such) ranks → AllByRecursion P ranks →
+        is_listed m (numbers ranks) ≡ true → P (rank_of m s)
+    of_listed P m s [] found only h listed = absurd (false≢true listed)
+    of_listed P m s (r ∷ rs) found only h listed = by (same_or_not m r.number) (λ rest. of_listed P m s rs found only.1 h.1 rest)
+      where
+        by : (m ≡ r.number) ⊎ (m ≢ r.number) → (is_listed m (numbers rs) ≡ true → P (rank_of m s)) → P (rank_of m s)
+        by (inl same) rest =
+            let it : only.0.its ≡ s = some_same (sym only.0.found ∙ ap (λ (n : ℕ). subscription_at n subscriptions) (sym same) ∙ found) in
+            subst P (only.0.is ∙ ap (rank_of r.number) it ∙ ap (λ (n : ℕ). rank_of n s) (sym same)) h.0
+        by (inr other) rest = rest (behind_it m r.number (numbers rs) other listed)
+
+    -- one that comes before all others isn't among them
+    not_listed : (r : Rank) (rs : List Rank) → IsRankOf Such r → AllByRecursion (IsRankOf Such) rs → AllByRecursion (IsBefore r) rs → is_listed r.number (numbers rs) ≡ false
+    not_listed r rs x only order =
+        false_from_ne_true (is_listed r.number (numbers rs)) (λ listed. before_itself r (subst (IsBefore r) (sym x.is) (of_listed (IsBefore r) r.number x.its rs x.found only order listed)))
+
+    -- so each other has another number
+    all_others : (r : Rank) (rs : List Rank) → is_listed r.number (numbers rs) ≡ false → AllByRecursion (IsRankOf Such) rs → AllByRecursion (IsRankOf (λ m s. Such m s × (m ≢ r.number))) rs
+    all_others r [] out only = tt
+    all_others r (q ∷ qs) out only = (
+      record {
+        its = only.0.its;
+        found = only.0.found;
+        such = (only.0.such, λ same. false≢true (sym out ∙ subst (λ (n : ℕ). is_listed n (numbers (q ∷ qs)) ≡ true) same (listed_first q.number (numbers qs))));
+        is = only.0.is;
+      },
+      all_others r qs (or_parts (is_at (nat_cmp r.number) q.number) (is_listed r.number (numbers qs)) out).1 only.1,
+    )
+
+  first_best : (Such : ℕ → Subscription → Type 0) (r : Rank) (rs : List Rank) → AreRanked Such (r ∷ rs) → IsBest Such subscriptions r.number
+  first_best Such r rs h = record {
+    best = h.only.0.its;
+    found = h.only.0.found;
+    such = h.only.0.such;
+    before = λ m s found such other.
+        subst (λ (x : Rank). IsBefore x (rank_of m s)) h.only.0.is
+        (of_listed Such (IsBefore r) m s rs found h.only.1 h.order.0 (behind_it m r.number (numbers rs) other (h.all m s found such)));
+  }
+
+  all_best_first : (ranks : List Rank) (Such : ℕ → Subscription → Type 0) → AreRanked Such ranks → AreAllBestFirst Such subscriptions (numbers ranks)
+  all_best_first [] Such h = λ m s found such. false≢true (h.all m s found such)
+  all_best_first (r ∷ rs) Such h = (
+    first_best Such r rs h,
+    all_best_first rs (λ m s. Such m s × (m ≢ r.number)) (record {
+      all = λ m s found such. behind_it m r.number (numbers rs) such.1 (h.all m s found such.0);
+      only = all_others Such r rs (not_listed Such r rs h.only.0 h.only.1 h.order.0) h.only.1;
+      order = h.order.1;
+    }),
+  )
+
+-- and each of them is listed
+pub all_listed : (Such : ℕ → Subscription → Type 0) (subscriptions : List (ℕ × Subscription)) (ns : List ℕ) (number : ℕ) (s : Subscription) → AreAllBestFirst Such subscriptions ns → subscription_at number subscriptions ≡ Some s → Such number s →
+    is_listed number ns ≡ true
+all_listed Such subscriptions [] number s h found such = absurd (h number s found such)
+all_listed Such subscriptions (n ∷ ns) number s h found such = by (same_or_not number n) (λ other. all_listed (λ m t. Such m t × (m ≢ n)) subscriptions ns number s h.1 found (such, other))
+  where
+    by : (number ≡ n) ⊎ (number ≢ n) → (number ≢ n → is_listed number ns ≡ true) → is_listed number (n ∷ ns) ≡ true
+    by (inl same) rest = subst (λ (m : ℕ). is_listed m (n ∷ ns) ≡ true) (sym same) (listed_first n ns)
+    by (inr other) rest = among number n ns (rest other)
 
 -- ---- those that wait
 
@@ -210,81 +229,66 @@ module _ (subscriptions : List (ℕ × Subscription)) where
   abbrev waiting_at : ℕ → Option Rank
   waiting_at n = waiting_by n (subscription_at n subscriptions)
 
-  waiting_in_order : (ns : List ℕ) → AreBestFirst (waiting_of subscriptions ns)
-  waiting_in_order ns = best_from waiting_at ns [] tt
-
-  ranked : (n : ℕ) (s : Subscription) → subscription_at n subscriptions ≡ Some s → is_waiting s ≡ true → waiting_at n ≡ Some (rank_of n s)
+  waiting_in : (number : ℕ) (s : Subscription) (ns : List ℕ) → is_listed number ns ≡ true → subscription_at number subscriptions ≡ Some s → is_waiting s ≡ true → list_any (λ n. is_of number (waiting_at n)) ns ≡ true
   unfolding waiting_by
-  ranked n s found waits = ap (waiting_by n) found ∙ ap (λ (b : Bool). cond b (Some (rank_of n s)) None) waits
-
-  waiting_in : (number : ℕ) (s : Subscription) (ns : List ℕ) (ranks : List Rank) → is_listed number ns ≡ true → subscription_at number subscriptions ≡ Some s → is_waiting s ≡ true →
-      is_listed number (numbers (fold (with_waiting subscriptions) ranks ns)) ≡ true
-  waiting_in number s [] ranks listed found waits = absurd (false≢true listed)
-  waiting_in number s (n ∷ ns) ranks listed found waits = by (is_at (nat_cmp number) n) refl listed (λ rest. waiting_in number s ns (with_waiting subscriptions ranks n) rest found waits)
+  waiting_in number s [] listed found waits = absurd (false≢true listed)
+  waiting_in number s (n ∷ ns) listed found waits = by (same_or_not number n) (λ rest. waiting_in number s ns rest found waits)
     where
-      by : (b : Bool) → is_at (nat_cmp number) n ≡ b → (b || is_listed number ns) ≡ true → (is_listed number ns ≡ true → is_listed number (numbers (fold (with_waiting subscriptions) (with_waiting subscriptions ranks n) ns)) ≡ true) →
-          is_listed number (numbers (fold (with_waiting subscriptions) (with_waiting subscriptions ranks n) ns)) ≡ true
-      by true is here f = let same = same_number number n is in one_in waiting_at n ns (rank_of number s) ranks (subst (λ (m : ℕ). waiting_at m ≡ Some (rank_of number s)) same (ranked number s found waits))
-      by false is rest f = f rest
+      by : (number ≡ n) ⊎ (number ≢ n) → (is_listed number ns ≡ true → list_any (λ k. is_of number (waiting_at k)) ns ≡ true) → list_any (λ k. is_of number (waiting_at k)) (n ∷ ns) ≡ true
+      by (inl same) rest = subst (λ (k : ℕ). list_any (λ x. is_of number (waiting_at x)) (k ∷ ns) ≡ true) same (or_left _ _ (ap (λ (o : Option Subscription). is_of number (waiting_by number o)) found ∙ ap (λ (b : Bool). is_of number (cond b (Some (rank_of number s)) None)) waits ∙ at_itself number))
+      by (inr other) rest = or_right (is_of number (waiting_at n)) _ (rest (behind_it number n ns other listed))
 
-  live_one : (ranks : List Rank) (n : ℕ) (o : Option Subscription) → subscription_at n subscriptions ≡ o → AllLive subscriptions (numbers ranks) → AllLive subscriptions (numbers (with_rank ranks (waiting_by n o)))
-  unfolding with_rank waiting_by
-  live_one ranks n None found h = h
-  live_one ranks n (Some s) found h = by (is_waiting s)
+  -- of a session that lists its own subscriptions and no other
+  all_waiting : (session : ℕ) (ns : List ℕ) → ((n : ℕ) → is_listed n ns ≡ true → (s : Subscription) × (subscription_at n subscriptions ≡ Some s) × (s.session ≡ Some session)) →
+      ((n : ℕ) (s : Subscription) → subscription_at n subscriptions ≡ Some s → s.session ≡ Some session → is_listed n ns ≡ true) → AreRanked subscriptions (WaitsIn session) (waiting_of subscriptions ns)
+  all_waiting session ns own listed = record {
+    all = λ m s found such. all_in waiting_at m ns [] (or_left _ false (waiting_in m s ns (listed m s found such.0) found such.1));
+    only = ranks_are (IsRankOf subscriptions (WaitsIn session)) waiting_at ns []
+        (listed_are (λ (n : ℕ). (rank : Rank) → waiting_at n ≡ Some rank → IsRankOf subscriptions (WaitsIn session) rank) ns one) tt;
+    order = order_from waiting_at ns [] tt;
+  }
     where
-      by : (b : Bool) → AllLive subscriptions (numbers (with_rank ranks (cond b (Some (rank_of n s)) None)))
-      by true = put_live subscriptions ranks (rank_of n s) (ap is_some found) h
-      by false = h
-
-  waiting_live : (ns : List ℕ) (ranks : List Rank) → AllLive subscriptions (numbers ranks) → AllLive subscriptions (numbers (fold (with_waiting subscriptions) ranks ns))
-  waiting_live = fold_keeps (λ (ranks : List Rank). AllLive subscriptions (numbers ranks)) (with_waiting subscriptions) (λ ranks n. live_one ranks n (subscription_at n subscriptions) refl)
+      one : (n : ℕ) → is_listed n ns ≡ true → (rank : Rank) → waiting_at n ≡ Some rank → IsRankOf subscriptions (WaitsIn session) rank
+      one n among_them rank has =
+          let x = ranked_waits n (subscription_at n subscriptions) rank has in
+          let o = own n among_them in
+          let its : o.0 ≡ x.0 = some_same (sym o.1 ∙ x.1) in
+          subst (IsRankOf subscriptions (WaitsIn session)) (sym x.3) (record { its = x.0; found = x.1; such = (sym (ap (λ (s : Subscription). s.session) its) ∙ o.2, x.2); is = refl })
 
 pub no_waiting_passed_over : (subscriptions : List (ℕ × Subscription)) (ns : List ℕ) (number : ℕ) (s : Subscription) → is_listed number ns ≡ true → subscription_at number subscriptions ≡ Some s → is_waiting s ≡ true →
     is_listed number (map number_of (waiting_of subscriptions ns)) ≡ true
-no_waiting_passed_over subscriptions ns number s listed found waits = waiting_in subscriptions number s ns [] listed found waits
+no_waiting_passed_over subscriptions ns number s listed found waits = all_in (waiting_at subscriptions) number ns [] (or_left _ false (waiting_in subscriptions number s ns listed found waits))
 
 -- ---- those that are due
 
 module _ (clock : Moment) where
-  best_first : (subscriptions : List (ℕ × Subscription)) → AreBestFirst (due_of clock subscriptions)
-  best_first subscriptions = best_from (due_rank clock) subscriptions [] tt
-
-  due_in : (number : ℕ) (s : Subscription) (es : List (ℕ × Subscription)) (ranks : List Rank) → subscription_at number es ≡ Some s → is_due clock s ≡ true → is_listed number (numbers (fold (with_due clock) ranks es)) ≡ true
-  due_in number s [] ranks found due = absurd (cc)
-  due_in number s (e ∷ es) ranks found due = by (is_at (nat_cmp number) e.0) refl found (λ rest. due_in number s es (with_due clock ranks e) rest due)
+  due_in : (number : ℕ) (s : Subscription) (es : List (ℕ × Subscription)) → subscription_at number es ≡ Some s → is_due clock s ≡ true → list_any (λ e. is_of number (due_rank clock e)) es ≡ true
+  due_in number s [] found due = absurd (cc)
+  due_in number s (e ∷ es) found due = by (is_at (nat_cmp number) e.0) refl found (λ rest. due_in number s es rest due)
     where
-      by : (b : Bool) → is_at (nat_cmp number) e.0 ≡ b → cond b (Some e.1) (subscription_at number es) ≡ Some s → (subscription_at number es ≡ Some s → is_listed number (numbers (fold (with_due clock) (with_due clock ranks e) es)) ≡ true) →
-          is_listed number (numbers (fold (with_due clock) (with_due clock ranks e) es)) ≡ true
-      by true is here f =
-          let mine : is_due clock e.1 ≡ true = ap (is_due clock) (some_same here) ∙ due in
-          subst (λ (n : ℕ). is_listed n (numbers (fold (with_due clock) (with_due clock ranks e) es)) ≡ true) (sym (same_number number e.0 is))
-          (one_in (due_rank clock) e es (rank_of e.0 e.1) ranks (ap (λ (b : Bool). cond b (Some (rank_of e.0 e.1)) None) mine))
-      by false is rest f = f rest
+      by : (b : Bool) → is_at (nat_cmp number) e.0 ≡ b → cond b (Some e.1) (subscription_at number es) ≡ Some s → (subscription_at number es ≡ Some s → list_any (λ x. is_of number (due_rank clock x)) es ≡ true) →
+          list_any (λ x. is_of number (due_rank clock x)) (e ∷ es) ≡ true
+      by true is here rest = or_left _ _ (ap (λ (b : Bool). is_of number (cond b (Some (rank_of e.0 e.1)) None)) (ap (is_due clock) (some_same here) ∙ due) ∙ is)
+      by false is here rest = or_right (is_of number (due_rank clock e)) _ (rest here)
 
-  -- what is kept as one more is looked at
-  record IsDueSoFar (subscriptions : List (ℕ × Subscription)) (ranks : List Rank) (es : List (ℕ × Subscription)) : Type 0 where
-    twice : AreApart (numbers ranks)
-    live : AllLive subscriptions (numbers ranks)
-    new : AllNew ranks es
-
-  so_far_if : (subscriptions : List (ℕ × Subscription)) (b : Bool) (e : ℕ × Subscription) (es : List (ℕ × Subscription)) (ranks : List Rank) → AreAbove e.0 es → is_some (subscription_at e.0 subscriptions) ≡ true →
-      IsDueSoFar subscriptions ranks (e ∷ es) → IsDueSoFar subscriptions (with_rank ranks (cond b (Some (rank_of e.0 e.1)) None)) es
-  unfolding with_rank
-  so_far_if subscriptions true e es ranks above found h = record {
-    twice = put_apart ranks (rank_of e.0 e.1) h.twice h.new.0;
-    live = put_live subscriptions ranks (rank_of e.0 e.1) found h.live;
-    new = new_after ranks (rank_of e.0 e.1) es above h.new.1;
+  all_due : (subscriptions : List (ℕ × Subscription)) → AreRising subscriptions → AreRanked subscriptions (IsDueAt clock) (due_of clock subscriptions)
+  all_due subscriptions rising = record {
+    all = λ m s found due. all_in (due_rank clock) m subscriptions [] (or_left _ false (due_in m s subscriptions found due));
+    only = ranks_are (IsRankOf subscriptions (IsDueAt clock)) (due_rank clock) subscriptions []
+        (all_so (λ (e : ℕ × Subscription). subscription_at e.0 subscriptions ≡ Some e.1) (λ (e : ℕ × Subscription). (rank : Rank) → due_rank clock e ≡ Some rank → IsRankOf subscriptions (IsDueAt clock) rank) one subscriptions (all_found subscriptions rising)) tt;
+    order = order_from (due_rank clock) subscriptions [] tt;
   }
-  so_far_if subscriptions false e es ranks above found h = record { twice = h.twice; live = h.live; new = h.new.1 }
+    where
+      one : (e : ℕ × Subscription) → subscription_at e.0 subscriptions ≡ Some e.1 → (rank : Rank) → due_rank clock e ≡ Some rank → IsRankOf subscriptions (IsDueAt clock) rank
+      one e found rank = by (is_due clock e.1) refl
+        where
+          by : (b : Bool) → is_due clock e.1 ≡ b → cond b (Some (rank_of e.0 e.1)) None ≡ Some rank → IsRankOf subscriptions (IsDueAt clock) rank
+          by true due has = subst (IsRankOf subscriptions (IsDueAt clock)) (some_same has) (record { its = e.1; found = found; such = due; is = refl })
+          by false due has = absurd (cc)
 
-  so_far : (subscriptions es : List (ℕ × Subscription)) (ranks : List Rank) → AreRising es → AreFound subscriptions es → IsDueSoFar subscriptions ranks es → IsDueSoFar subscriptions (fold (with_due clock) ranks es) []
-  so_far subscriptions [] ranks rising found h = h
-  so_far subscriptions (e ∷ es) ranks rising found h =
-      so_far subscriptions es (with_due clock ranks e) rising.1 found.1 (so_far_if subscriptions (is_due clock e.1) e es ranks rising.0 (ap is_some found.0) h)
-
-all_new : (es : List (ℕ × Subscription)) → AllNew [] es
-all_new [] = tt
-all_new (e ∷ es) = (refl, all_new es)
+pub none_passed_over : (clock : Moment) (subscriptions : List (ℕ × Subscription)) (number : ℕ) (s : Subscription) → subscription_at number subscriptions ≡ Some s → is_due clock s ≡ true →
+    is_listed number (due_numbers clock subscriptions) ≡ true
+none_passed_over clock subscriptions number s found due = all_in (due_rank clock) number subscriptions [] (or_left _ false (due_in clock number s subscriptions found due))
 
 -- ---- each is met
 
@@ -296,50 +300,127 @@ met_other w n asked m other = by (subscription_at n w.table.subscriptions)
     by None = refl
     by (Some s) = back_other n m (fired (scene_at w n asked s)).subscription w.table.subscriptions other
 
-still_live : (n : ℕ) (before after : List (ℕ × Subscription)) (ns : List ℕ) → ((m : ℕ) → m ≢ n → subscription_at m after ≡ subscription_at m before) → is_listed n ns ≡ false → AllLive before ns → AllLive after ns
-still_live n before after [] same out h = tt
-still_live n before after (m ∷ ns) same out h =
-    (ap is_some (same m (λ e. not_first n m ns out (sym e))) ∙ h.0, still_live n before after ns same (or_parts (is_at (nat_cmp n) m) (is_listed n ns) out).1 h.1)
-
 module _ (asked : Call) where
   one_numbered : (n : ℕ) (w : World) (more : List Encounter) (o : Option Subscription) → is_some o ≡ true → map concern.number_of (flat_map concerns_at (meets_by w n asked o ++ more)) ≡ n ∷ map concern.number_of (flat_map concerns_at more)
   one_numbered n w more None e = absurd (false≢true e)
   one_numbered n w more (Some s) e = refl
 
-  all_numbered : (ns : List ℕ) (w : World) → AllLive w.table.subscriptions ns → AreApart ns → map concern.number_of (flat_map concerns_at (all_meet None asked w ns)) ≡ ns
-  all_numbered [] w live h = refl
-  all_numbered (n ∷ ns) w live h =
+  all_numbered : (Such : ℕ → Subscription → Type 0) (subscriptions : List (ℕ × Subscription)) (ns : List ℕ) (w : World) → AreAllBestFirst Such subscriptions ns →
+      ((m : ℕ) (s : Subscription) → subscription_at m subscriptions ≡ Some s → Such m s → is_some (subscription_at m w.table.subscriptions) ≡ true) → map concern.number_of (flat_map concerns_at (all_meet None asked w ns)) ≡ ns
+  all_numbered Such subscriptions [] w h live = refl
+  all_numbered Such subscriptions (n ∷ ns) w h live =
       let next = met w n asked in
-      one_numbered n w (all_meet None asked next ns) (subscription_at n w.table.subscriptions) live.0
-      ∙ ap (λ (ms : List ℕ). n ∷ ms) (all_numbered ns next (still_live n w.table.subscriptions next.table.subscriptions ns (met_other w n asked) h.0 live.1) h.1)
+      one_numbered n w (all_meet None asked next ns) (subscription_at n w.table.subscriptions) (live n h.0.best h.0.found h.0.such)
+      ∙ ap (λ (ms : List ℕ). n ∷ ms) (all_numbered (λ m s. Such m s × (m ≢ n)) subscriptions ns next h.1 (λ m s found such. ap is_some (met_other w n asked m such.1) ∙ live m s found such.0))
 
 pub each_is_met : (config : Configuration) (moves : List Move) (clock : Moment) → ComesBestFirst (run config moves) clock
 each_is_met config moves clock =
     let r = run config moves in
     let subscriptions = r.subs.table.subscriptions in
-    let due = so_far clock subscriptions subscriptions [] (sessions_list config moves).subscriptions (all_found subscriptions (sessions_list config moves).subscriptions) (record { twice = tt; live = tt; new = all_new subscriptions }) in
-    (best_first clock subscriptions, all_numbered call.Timer (due_numbers clock subscriptions) (world_of r.subs r.items clock) due.live due.twice)
-
-pub none_passed_over : (clock : Moment) (subscriptions : List (ℕ × Subscription)) (number : ℕ) (s : Subscription) → subscription_at number subscriptions ≡ Some s → is_due clock s ≡ true →
-    is_listed number (due_numbers clock subscriptions) ≡ true
-none_passed_over clock subscriptions number s found due = due_in clock number s subscriptions [] found due
+    let h = all_best_first subscriptions (due_of clock subscriptions) (IsDueAt clock) (all_due clock subscriptions (sessions_list config moves).subscriptions) in
+    subst (AreAllBestFirst (IsDueAt clock) subscriptions) (sym (all_numbered call.Timer (IsDueAt clock) subscriptions (due_numbers clock subscriptions) (world_of r.subs r.items clock) h (λ m s found due. ap is_some found))) h
 
 -- ---- a Publish request is given to the best that waits
 
-asked_best : (ns : List ℕ) (asked : PublishCall) (w : World) (rank : Rank) (ranks : List Rank) → waiting_of w.table.subscriptions ns ≡ rank ∷ ranks →
-    map concern.number_of (flat_map concerns_at (asked_encounters ns asked w)) ≡ rank.number ∷ []
+-- acknowledgements leave who waits, and who is the best of them
+forgot_waits : (m number : ℕ) (s : Subscription) → waiting_by m (Some (without_kept number s)) ≡ waiting_by m (Some s)
+unfolding waiting_by
+forgot_waits m number s = refl
+
+module _ (session : ℕ) (before : List (ℕ × Subscription)) where
+  abbrev AllWait : List (ℕ × Subscription) → Type 0
+  AllWait after = (m : ℕ) → waiting_at after m ≡ waiting_at before m
+
+  one_waits : (after : List (ℕ × Subscription)) (n number : ℕ) (s : Subscription) → subscription_at n after ≡ Some s → s.session ≡ Some session → AllWait after → AllWait (set_value (is_at (nat_cmp n)) after (without_kept number s))
+  one_waits after n number s found own h m = by (same_or_not m n)
+    where
+      by : (m ≡ n) ⊎ (m ≢ n) → waiting_at (set_value (is_at (nat_cmp n)) after (without_kept number s)) m ≡ waiting_at before m
+      by (inl same) =
+          subst (λ (k : ℕ). waiting_at (set_value (is_at (nat_cmp n)) after (without_kept number s)) k ≡ waiting_at before k) (sym same)
+          (ap (waiting_by n) (set_here n s (without_kept number s) after found) ∙ forgot_waits n number s ∙ ap (waiting_by n) (sym found) ∙ h n)
+      by (inr other) = ap (waiting_by m) (set_other n m (without_kept number s) other after) ∙ h m
+
+  same_ranks : (after : List (ℕ × Subscription)) → AllWait after → (ns : List ℕ) (ranks : List Rank) → fold (with_waiting after) ranks ns ≡ fold (with_waiting before) ranks ns
+  same_ranks after h [] ranks = refl
+  same_ranks after h (n ∷ ns) ranks = ap (λ (o : Option Rank). fold (with_waiting after) (with_rank ranks o) ns) (h n) ∙ same_ranks after h ns (with_waiting before ranks n)
+
+  same_waiting : (acks : List SubscriptionAcknowledgement) (ns : List ℕ) → waiting_of (acknowledged_all session before acks).subscriptions ns ≡ waiting_of before ns
+  same_waiting acks ns = same_ranks (acknowledged_all session before acks).subscriptions (all_acknowledged session AllWait one_waits acks before (λ m. refl)) ns []
+
+-- one that waits answers the request that came
+module _ (asked : PublishCall) (c : Scene) (is : c.round.asked ≡ Some asked) where
+  answers_N2 : IsAnswered asked (row_told N2 c)
+  answers_N2 =
+      let n = noting c.round (life_reset c.subscription) c.items in
+      subst (λ (o : Option PublishCall). IsAnswered asked (notes_told o c.part.requests n)) (sym is) (record { answer = note_told asked n; more = rest_told c.part.requests (note_sent n); first = refl; its = refl })
+
+  answers_L2 : IsAnswered asked (row_told L2 c)
+  answers_L2 = by c.round.asked is
+    where
+      by : (o : Option PublishCall) → o ≡ Some asked → IsAnswered asked (if_asked c.round.clock c.subscription.kept (KeepAliveTold c.round.own (number_after c.subscription.number)) o)
+      by None e = absurd (cc)
+      by (Some x) e = record {
+        answer = record { clock = c.round.clock; call = x; kept = c.subscription.kept; told = KeepAliveTold c.round.own (number_after c.subscription.number) };
+        more = [];
+        first = refl;
+        its = ap name_of (some_same e);
+      }
+
+  waiting_answers : (s : State) (a : Answers) → waits_in s a.enabled_more ≡ true → IsAnswered asked (row_told (publish_row s a) c)
+  waiting_answers Normal a waits = rw waits answers_N2
+  waiting_answers Late a waits = either (λ (r : RowId). IsAnswered asked (row_told r c)) a.enabled_available L1 L2 answers_N2 answers_L2
+  waiting_answers KeepAlive a waits = absurd (cc)
+  waiting_answers Closed a waits = absurd (cc)
+
+and_more : (asked : PublishCall) (ts us : List Telling) → IsAnswered asked ts → IsAnswered asked (ts ++ us)
+and_more asked ts us h = record { answer = h.answer; more = h.more ++ us; first = ap (λ (l : List Telling). l ++ us) h.first; its = h.its }
+
+-- one subscription is met, and answers
+abbrev IsMetAlone : ℕ → PublishCall → List Encounter → Type 0
+IsMetAlone number asked es = (map concern.number_of (flat_map concerns_at es) ≡ number ∷ []) × IsAnswered asked (flat_map told_at es)
+
+met_alone : (u : World) (n : ℕ) (asked : PublishCall) (s : Subscription) → u.round.asked ≡ Some asked → subscription_at n u.table.subscriptions ≡ Some s → is_waiting s ≡ true → IsMetAlone n asked (all_meet None call.Publish u (n ∷ []))
+met_alone u n asked s is found waits =
+    let c = scene_at u n call.Publish s in
+    subst (λ (o : Option Subscription). IsMetAlone n asked (meets_by u n call.Publish o ++ [])) (sym found) (refl, and_more asked (told_at (Meets c)) [] (waiting_answers asked c is s.state (answers (vars_in c)) waits))
+
+asked_best : (ns : List ℕ) (asked : PublishCall) (w : World) (rank : Rank) (ranks : List Rank) → waiting_of w.table.subscriptions ns ≡ rank ∷ ranks → IsMetAlone rank.number asked (asked_encounters ns asked w)
 asked_best [] asked w rank ranks e = absurd (cc)
 asked_best (n ∷ ns) asked w rank ranks e =
-    let live = subst (λ (all : List Rank). AllLive w.table.subscriptions (numbers all)) e (waiting_live w.table.subscriptions (n ∷ ns) [] tt) in
-    ap (λ (all : List Rank). map concern.number_of (flat_map concerns_at (all_meet None call.Publish (asked_by w asked) (best_or_all (first_of all) (n ∷ ns))))) e
-    ∙ all_numbered call.Publish (rank.number ∷ []) (asked_by w asked) (live.0, tt) (refl, tt)
+    let subscriptions = w.table.subscriptions in
+    let best : (s : Subscription) × (subscription_at rank.number subscriptions ≡ Some s) × (is_waiting s ≡ true) =
+    first_is (λ (k : ℕ). (s : Subscription) × (subscription_at k subscriptions ≡ Some s) × (is_waiting s ≡ true)) subscriptions (n ∷ ns) rank (λ k s found waits. (s, found, waits)) (ap first_of e) in
+    let m = met_alone (asked_by w asked) rank.number asked best.0 refl best.1 best.2 in
+    subst (λ (all : List Rank). IsMetAlone rank.number asked (Does w (Asks asked) ∷ all_meet None call.Publish (asked_by w asked) (best_or_all (first_of all) (n ∷ ns)))) (sym e) m
 
-pub comes_to_the_best : (r : Ran) (clock : Moment) (session : ℕ) (asked : PublishCall) (acks : List SubscriptionAcknowledgement) → ComesToTheBest r clock session asked acks
-comes_to_the_best r clock session asked acks rank ranks none e =
-    let w = world_of r.subs r.items clock in
-    let v = ready session acks w in
-    let answered = with_results asked (acknowledged_all session w.table.subscriptions acks).results in
-    let numbers = (part_at session v.table.sessions).numbers in (
-      subst AreBestFirst e (waiting_in_order v.table.subscriptions numbers),
-      ap (λ (o : Option TimeoutNote). map concern.number_of (flat_map concerns_at (noted_encounters o session answered acks w))) none ∙ asked_best numbers answered v rank ranks e,
-    )
+module _ (config : Configuration) (moves : List Move) (clock : Moment) (session : ℕ) (asked : PublishCall) (acks : List SubscriptionAcknowledgement) where
+  abbrev w : World
+  w = world_of (run config moves).subs (run config moves).items clock
+
+  abbrev v : World
+  v = ready session acks w
+
+  -- the request with what became of its acknowledgements
+  abbrev request : PublishCall
+  request = with_results asked (acknowledged_all session w.table.subscriptions acks).results
+
+  abbrev own : List ℕ
+  own = (part_at session w.table.sessions).numbers
+
+  given_to : note_of session w.table.sessions ≡ None → (ranks : List Rank) → waiting_of w.table.subscriptions own ≡ ranks → (number : ℕ) → is_listed number (numbers ranks) ≡ true → AreRanked w.table.subscriptions (WaitsIn session) ranks →
+      IsGivenToTheBest (run config moves) clock session asked acks
+  given_to none [] e number listed h = absurd (false≢true listed)
+  given_to none (best ∷ rest) e number listed h =
+      let same : (part_at session v.table.sessions).numbers ≡ own = (set_fewer session (part_without_note (part_at session w.table.sessions)) w.table.sessions refl (λ f. f)).numbers session in
+      let m = asked_best (part_at session v.table.sessions).numbers request v best rest (ap (waiting_of v.table.subscriptions) same ∙ same_waiting session w.table.subscriptions acks own ∙ e) in
+      record {
+        number = best.number;
+        is_best = first_best w.table.subscriptions (WaitsIn session) best rest h;
+        alone = ap (λ (o : Option TimeoutNote). map concern.number_of (flat_map concerns_at (noted_encounters o session request acks w))) none ∙ m.0;
+        answered = record { answer = m.1.answer; more = m.1.more; first = ap (λ (o : Option TimeoutNote). flat_map told_at (noted_encounters o session request acks w)) none ∙ m.1.first; its = m.1.its };
+      }
+
+  pub comes_to_the_best : ComesToTheBest (run config moves) clock session asked acks
+  comes_to_the_best number s none found such =
+      let h = all_waiting w.table.subscriptions session own (lists_own config moves session) (λ n t at is. (sessions_list config moves).listed n t session at is) in
+      given_to none (waiting_of w.table.subscriptions own) refl number (h.all number s found such) h

@@ -5,6 +5,7 @@ use Rattle.std.proofs.lemmas.Cmp.{ranked}
 use Rattle.std.specs.BTreeMap.{insert_entry, is_at}
 use Rattle.std.specs.BTreeSet.{insert_key}
 use Rattle.std.specs.Cmp.{nat_cmp_is}
+use Rattle.std.specs.List.{AllByRecursion}
 use Rattle.std.specs.Map.{lookup, set_value, remove_entry}
 use Rattle.std.specs.Ordering.{nat_cmp, match_ordering, is_eq}
 use Rattle.std.specs.Set.{remove_key}
@@ -66,8 +67,7 @@ module _ {X : Type 0} where
 
   -- all these entries are found in others
   abbrev pub AreFound : List (ℕ × X) → List (ℕ × X) → Type 0
-  AreFound all [] = Unit {0}
-  AreFound all (e ∷ es) = (at e.0 all ≡ Some e.1) × AreFound all es
+  AreFound all es = AllByRecursion (λ e. at e.0 all ≡ Some e.1) es
 
   found_behind : (e : ℕ × X) (all es : List (ℕ × X)) → AreAbove e.0 es → AreFound all es → AreFound (e ∷ all) es
   found_behind e all [] above found = tt

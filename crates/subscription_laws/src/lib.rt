@@ -48,7 +48,7 @@ ghost use Rattle.subscription_laws.specs.Precedence.{precedence, ComesToTheBest,
 ghost use Rattle.ua_subscriptions.specs.Ranks.{number_of as rank_number, is_waiting, waiting_of, is_due, rank_cmp, due_numbers};
 ghost use Rattle.server_messages.specs.declared.origin.Origin.{Origin};
 ghost use Rattle.subscription_laws.specs.Requests.{such_answers, such_waiting, such_came};
-ghost use Rattle.subscription_laws.specs.Runs.{Move, Ran, run, moved, start};
+ghost use Rattle.subscription_laws.specs.Runs.{Move, run, moved, start};
 ghost use Rattle.ua_subscriptions.specs.Scenes.{Scene, row_done};
 ghost use Rattle.ua_subscriptions.specs.SubscriptionCalls.{world_of};
 ghost use Rattle.subscription_laws.specs.Standings.{Counts, standing_in, row_counts, IsAsked};
@@ -69,20 +69,22 @@ pub fn the_highest_priority_comes_first()
     ensures { (a b : Rank) → rank_cmp a b ≡ precedence a b }
 {}
 
-/// The timers that are due come in that order: each before the next. Every subscription that is due is among them, and once a
-/// time comes, whatever was called, each of them is concerned, so that none is passed over, and no other.
+/// The timers that are due stand in that order, and each of them is among them. Whatever was called, time comes to all subscriptions
+/// that are due, to the best first, and to no other.
 pub fn the_due_come_best_first()
     ensures none_passed_over { (clock : Moment) (subscriptions : List (ℕ × Subscription)) (number : ℕ) (s : Subscription) →
         subscription_at number subscriptions ≡ Some s → is_due clock s ≡ true → is_listed number (due_numbers clock subscriptions) ≡ true }
     ensures each_fires { (config : Configuration) (moves : List Move) (clock : Moment) → ComesBestFirst (run config moves) clock }
 {}
 
-/// The subscriptions of a session that wait for a Publish request stand in that order, too, and each of them is among them. A request
-/// comes to the first of them, and to no other, unless its answer is the note of a time-out.
+/// The subscriptions of a session that wait for a Publish request stand in that order, too, and each of them is among them. Whatever was
+/// called, where some wait, a request comes to the best of them, and to no other, and that one answers it; unless its answer is the note
+/// of a time-out.
 pub fn the_waiting_come_best_first()
     ensures none_passed_over { (subscriptions : List (ℕ × Subscription)) (numbers : List ℕ) (number : ℕ) (s : Subscription) →
         is_listed number numbers ≡ true → subscription_at number subscriptions ≡ Some s → is_waiting s ≡ true → is_listed number (map rank_number (waiting_of subscriptions numbers)) ≡ true }
-    ensures asked { (r : Ran) (clock : Moment) (session : ℕ) (asked : PublishCall) (acks : List SubscriptionAcknowledgement) → ComesToTheBest r clock session asked acks }
+    ensures asked { (config : Configuration) (moves : List Move) (clock : Moment) (session : ℕ) (asked : PublishCall) (acks : List SubscriptionAcknowledgement) →
+        ComesToTheBest (run config moves) clock session asked acks }
 {}
 
 /// Exactly one row fires of what comes to a steady subscription, the one that is chosen.
