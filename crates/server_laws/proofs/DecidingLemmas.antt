@@ -6,18 +6,19 @@ use Rattle.std.proofs.lemmas.List.Sums.{fold-append}
 use Rattle.ua_types.specs.Configuration.{Configuration}
 use Rattle.ua_values.specs.declared.data_value.DataValue.{DataValue}
 use Rattle.ua_item_queue.specs.Causes.{GetsOnly, may_give}
-use Rattle.ua_item_queue.specs.Fates.{Fate, AccountEntry, IsKept, GoesOn, NewLossesAreMarked, account, account_after, accounted, any_marked, entered, first_get, first_marked, is_waiting, is_lost, others_get, settled, waiting, with_fate}
+use Rattle.ua_item_queue.specs.Fates.{Fate, AccountEntry, IsKept, GoesOn, NewLossesAreMarked, account, account_after, accounted, any_marked, is_first_marked, entered, first_get, first_marked, is_waiting, is_lost, others_get, settled, waiting, with_fate}
 use Rattle.ua_item_queue.specs.Fates.Fate.{Waits, WasSent, WasLost, WasCleared}
 use Rattle.ua_item_queue.specs.ItemQueue.{QueueMove, entry}
 use Rattle.ua_item_queue.specs.ItemQueue.QueueChange.{Queued, FrontDropped, NewestReplaced, OnlyReplaced}
 use Rattle.ua_item_queue.specs.ItemQueue.QueueMove.{Sample, Send, Clear, Resize}
-use Rattle.ua_item_queue.specs.Marks.{fate_at}
+use Rattle.ua_item_queue.specs.Marks.{fate_at, is_uncleared}
 use Rattle.ua_monitored_items.specs.Causes.{call_may_give}
 use Rattle.ua_monitored_items.specs.Moves as item_moves
 use Rattle.ua_monitored_items.specs.Moves.{account_of}
 use Rattle.ua_monitored_items.proofs.Causing.{fates_have_their_causes}
 use Rattle.ua_monitored_items.proofs.Runs.{fates_are_final}
-use Rattle.subscription_laws.proofs.ValueFates.{have_their_causes, each_loss_is_marked, stays}
+use Rattle.subscription_laws.proofs.Entries.{some_same}
+use Rattle.subscription_laws.proofs.ValueFates.{have_their_causes, each_loss_is_marked, marks_what_follows, stays}
 use Rattle.server_laws.specs.Reaching.{is_decided, IsCausedBy, IsDrivenOut}
 
 -- ---- the first step after which something holds
@@ -44,23 +45,32 @@ module _ {A : Type 0} (P : List A → Bool) where
 
 -- ---- a place of an account
 
-abbrev fate_or : Fate → Option Fate → Fate
-fate_or f None = f
-fate_or f (Some g) = g
-
-some_same : (f g : Fate) → Some f ≡ Some g → f ≡ g
-some_same f g e = ap (fate_or f) e
-
 no_fate : (f : Fate) → None ≡ Some f → ⊥
 no_fate f e = false≢true (ap is_some e)
 
+uncleared : (f : Fate) → (f ≡ WasCleared → ⊥) → is_uncleared f ≡ true
+uncleared Waits never = refl
+uncleared WasSent never = refl
+uncleared WasLost never = refl
+uncleared WasCleared never = absurd (never refl)
+
 module _ {V : Type 0} where
+  -- where what is cleared was cleared before, nothing becomes cleared
+  gets_others : (ts us : List (AccountEntry V)) → GoesOn ts us → ((other : ℕ) → fate_at other us ≡ Some WasCleared → fate_at other ts ≡ Some WasCleared) → GetsOnly is_uncleared ts us
+  gets_others [] [] goes same = tt
+  gets_others [] (u ∷ us) goes same = ((λ final. uncleared u.fate (λ is. no_fate WasCleared (same 0 (ap Some is)))), gets_others [] us tt (λ other is. same (suc other) is))
+  gets_others (t ∷ ts) [] goes same = absurd goes
+  gets_others (t ∷ ts) (u ∷ us) goes same = (
+    (λ waits final. uncleared u.fate (λ is. false≢true (sym (ap is_waiting (some_same (same 0 (ap Some is)))) ∙ waits))),
+    gets_others ts us goes.1 (λ other is. same (suc other) is),
+  )
+
   -- what is decided at a place stays
   stays_decided : (place : ℕ) (ts us : List (AccountEntry V)) (fate : Fate) → GoesOn ts us → fate_at place ts ≡ Some fate → is_waiting fate ≡ false → fate_at place us ≡ Some fate
   stays_decided place [] us fate goes is w = absurd (no_fate fate is)
   stays_decided place (t ∷ ts) [] fate goes is w = absurd goes
   stays_decided zero (t ∷ ts) (u ∷ us) fate goes is w =
-      let same = some_same t.fate fate is in
+      let same = some_same is in
       let kept : IsKept t u = goes.0 in
       ap Some (kept.last_fate (ap is_waiting same ∙ w) ∙ same)
   stays_decided (suc place) (t ∷ ts) (u ∷ us) fate goes is w = stays_decided place ts us fate goes.1 is w
@@ -68,11 +78,11 @@ module _ {V : Type 0} where
   -- a fate that is new at a place is one that may be given
   is_given : (may : Fate → Bool) (place : ℕ) (ts us : List (AccountEntry V)) (fate : Fate) → GetsOnly may ts us → is_decided (fate_at place ts) ≡ false → fate_at place us ≡ Some fate → is_waiting fate ≡ false → may fate ≡ true
   is_given may place [] [] fate gets before is w = absurd (no_fate fate is)
-  is_given may zero [] (u ∷ us) fate gets before is w = let same = some_same u.fate fate is in ap may (sym same) ∙ gets.0 (ap is_waiting same ∙ w)
+  is_given may zero [] (u ∷ us) fate gets before is w = let same = some_same is in ap may (sym same) ∙ gets.0 (ap is_waiting same ∙ w)
   is_given may (suc place) [] (u ∷ us) fate gets before is w = is_given may place [] us fate gets.1 refl is w
   is_given may place (t ∷ ts) [] fate gets before is w = absurd gets
   is_given may zero (t ∷ ts) (u ∷ us) fate gets before is w =
-      let same = some_same u.fate fate is in ap may (sym same) ∙ gets.0 (not-false (is_waiting t.fate) before) (ap is_waiting same ∙ w)
+      let same = some_same is in ap may (sym same) ∙ gets.0 (not-false (is_waiting t.fate) before) (ap is_waiting same ∙ w)
   is_given may (suc place) (t ∷ ts) (u ∷ us) fate gets before is w = is_given may place ts us fate gets.1 before is w
 
   -- behind one that waited and is lost, a marked one waits
@@ -80,7 +90,7 @@ module _ {V : Type 0} where
   marked_behind place [] us marks waits lost = absurd (no_fate Waits waits)
   marked_behind place (t ∷ ts) [] marks waits lost = absurd marks
   marked_behind zero (t ∷ ts) (u ∷ us) marks waits lost =
-      marks.0 (ap is_waiting (some_same t.fate Waits waits)) (ap is_lost (some_same u.fate WasLost lost))
+      marks.0 (ap is_waiting (some_same waits)) (ap is_lost (some_same lost))
   marked_behind (suc place) (t ∷ ts) (u ∷ us) marks waits lost = marked_behind place ts us marks.1 waits lost
 
   -- ---- a value that comes in waits
@@ -96,7 +106,7 @@ module _ {V : Type 0} where
 
   new_one_waits : (place : ℕ) (ts us : List (AccountEntry V)) (fate : Fate) → NewOnesWait ts us → fate_at place ts ≡ None → fate_at place us ≡ Some fate → is_waiting fate ≡ true
   new_one_waits place [] [] fate new none is = absurd (no_fate fate is)
-  new_one_waits zero [] (u ∷ us) fate new none is = ap is_waiting (sym (some_same u.fate fate is)) ∙ new.0
+  new_one_waits zero [] (u ∷ us) fate new none is = ap is_waiting (sym (some_same is)) ∙ new.0
   new_one_waits (suc place) [] (u ∷ us) fate new none is = new_one_waits place [] us fate new.1 refl is
   new_one_waits place (t ∷ ts) [] fate new none is = absurd new
   new_one_waits zero (t ∷ ts) (u ∷ us) fate new none is = absurd (no_fate t.fate (sym none))
@@ -197,7 +207,7 @@ is_caused_by config calls number place fate is final =
     let whole : (t.before ++ t.step ∷ []) ++ t.after ≡ calls = append_assoc t.before (t.step ∷ []) t.after ∙ sym t.split in
     let later = stays_decided place (account_of config (t.before ++ t.step ∷ []) number) (account_of config calls number) h.fate
     (subst (λ cs. GoesOn (account_of config (t.before ++ t.step ∷ []) number) (account_of config cs number)) whole (fates_are_final config (t.before ++ t.step ∷ []) t.after number)) h.is h.final in
-    let same : h.fate ≡ fate = some_same h.fate fate (sym later ∙ is) in
+    let same : h.fate ≡ fate = some_same (sym later ∙ is) in
     let decided = h.is ∙ ap Some same in
     record {
       before = t.before;
@@ -236,6 +246,13 @@ module _ (all before : List (QueueMove DataValue)) (place : ℕ) (undecided : is
         full = full;
         waited = waited;
         lost = lost;
+        followed = λ large above same.
+            let step = Sample size discard_oldest newer in
+            let mid = account_after (account before) step in
+            let whole : account all ≡ fold account_after mid after = ap account split ∙ fold-append account_after [] before (step ∷ after) in
+            let goes = subst (λ ds. GoesOn (account (before ++ step ∷ [])) (account ds)) (sym split) (stays before step after) in
+            let still = subst (GetsOnly is_uncleared mid) whole (subst (λ ts. GetsOnly is_uncleared ts (account all)) told (gets_others (account (before ++ step ∷ [])) (account all) goes same)) in
+            subst (λ ts. is_first_marked (drop (suc place) ts) ≡ true) (sym whole) (marks_what_follows all before after size discard_oldest newer (sym split) large above place waited (ap (fate_at place) (sym told) ∙ lost) still);
         marked = λ large. marked_behind place (account before) (account (before ++ Sample size discard_oldest newer ∷ [])) (each_loss_is_marked all before after size discard_oldest newer split large).at_once waited lost;
       }
     where
@@ -253,6 +270,6 @@ is_driven_out queue_moves place is =
     let h = has_fate (fate_at place (account (t.before ++ t.step ∷ []))) t.then in
     let later = stays_decided place (account (t.before ++ t.step ∷ [])) (account queue_moves) h.fate
     (subst (λ ds. GoesOn (account (t.before ++ t.step ∷ [])) (account ds)) (sym t.split) (stays t.before t.step t.after)) h.is h.final in
-    let decided : fate_at place (account (t.before ++ t.step ∷ [])) ≡ Some WasLost = h.is ∙ ap Some (some_same h.fate WasLost (sym later ∙ is)) in
+    let decided : fate_at place (account (t.before ++ t.step ∷ [])) ≡ Some WasLost = h.is ∙ ap Some (some_same (sym later ∙ is)) in
     driven_out queue_moves t.before place t.not_yet t.step t.after t.split
     (is_given (may_give (account t.before) t.step) place (account t.before) (account (t.before ++ t.step ∷ [])) WasLost (have_their_causes queue_moves t.before t.after t.step t.split) t.not_yet decided refl) decided

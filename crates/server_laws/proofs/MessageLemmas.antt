@@ -17,13 +17,14 @@ use Rattle.ua_subscriptions.specs.SubscriptionCalls.{SubscriptionsState, world_o
 use Rattle.ua_subscriptions.specs.Tables.{kept_by, subscription_at}
 use Rattle.ua_monitored_items.specs.Items.{ItemsState}
 use Rattle.ua_services.specs.declared.services.Services.{Services}
-use Rattle.subscription_laws.specs.Messaging.{Made, moved_made, run_made, messages_for, IsAmong}
-use Rattle.subscription_laws.specs.Runs.{Move, Ran, moved, start, run}
+use Rattle.subscription_laws.specs.Messaging.{Made, moved_made, run_made, messages_for, IsAmong, NotesComeNext}
+use Rattle.subscription_laws.specs.Runs.{Move, moved, start, run}
+use Rattle.subscription_laws.proofs.Folds.{of_run-append}
 use Rattle.subscription_laws.proofs.RunMessages.{messages_numbered, messages_live, messages_kept, messages_given_again, messages_noted}
 use Rattle.server_laws.specs.Dealings.{Dealing, event_dealings, dealings_then, dealings_from, dealings_of}
 use Rattle.server_laws.specs.EventMoves.{moves_at, moves_of}
 use Rattle.server_core.specs.Coherent.{reached, IfRuns}
-use Rattle.server_laws.specs.Messages.{LastsAreTheirs, NotesComeNext, KeepsWhatItShows, made_by, NumbersItsMessages, GivesTheFirstBytes}
+use Rattle.server_laws.specs.Messages.{LastsAreTheirs, KeepsWhatItShows, made_by, NumbersItsMessages, GivesTheFirstBytes}
 use Rattle.server_core.specs.Stepping.{Served, step_of}
 use Rattle.server_laws.specs.Tables.{rows_of_run, LeadTo}
 use Rattle.server_core.specs.World.{opening}
@@ -53,15 +54,6 @@ pub more_moves : (config : Configuration) (space : SpaceState) (events more : Li
 more_moves config space events more =
     let added = dealings_add events more (opening config space) in
     (flat_map moves_at added.0, ap (flat_map moves_at) added.1 ∙ flat_map-append moves_at (dealings_of config space events) added.0)
-
--- ---- what they make
-
--- calls behind others make their messages behind those of the others
-made-append : (r : Ran) (first rest : List Move) → run_made r (first ++ rest) ≡ run_made r first ++ run_made (fold moved r first) rest
-made-append r [] rest = refl
-made-append r (m ∷ ms) rest =
-    ap (λ (made : List Made). moved_made r m ++ made) (made-append (moved r m) ms rest)
-    ∙ sym (append_assoc (moved_made r m) (run_made (moved r m) ms) (run_made (fold moved (moved r m) ms) rest))
 
 -- ---- under each number that is shown a message is kept
 
@@ -105,7 +97,7 @@ module _ (config : Configuration) (space : SpaceState) (events : List Event) whe
   adds : (more : List Event) → (later : List Made) × (made_by config space (events ++ more) ≡ made ++ later)
   adds more =
       let added = more_moves config space events more in
-      (run_made (fold moved (start config) moves) added.0, ap (run_made (start config)) added.1 ∙ made-append (start config) moves added.0)
+      (run_made (fold moved (start config) moves) added.0, ap (run_made (start config)) added.1 ∙ of_run-append moved_made moves added.0 (start config))
 
   -- what holds of the subscriptions and items after the calls, holds of the server's
   holds : (P : SubscriptionsState → ItemsState → Type 0) → P (run config moves).subs (run config moves).items →

@@ -1,5 +1,6 @@
 -- The answers of a run are posted, and all that is posted goes out.
 use Rattle.std.proofs.Common.{◌≡◌, ℕ, List, [], ◌∷◌, ◌++◌, map, append-nil, append_assoc, fold, refl, sym, ap, subst, ◌∙◌}
+use Rattle.std.proofs.lemmas.List.{map-append}
 use Rattle.std.proofs.lemmas.List.Concat.{flat_map-append}
 use Rattle.std.proofs.lemmas.List.Sums.{fold-append}
 use Rattle.std.specs.List.{flat_map}
@@ -35,15 +36,6 @@ use Rattle.server_laws.proofs.Walking.{effects_served, Follows, HasGone, walked}
 
 -- ---- going out
 
-go_further : (ps : List Posting) (more outs : List Out) → GoOut ps outs → GoOut ps (outs ++ more)
-go_further [] more outs h = tt
-go_further (p ∷ ps) more outs h = (
-  h.0,
-  h.1 ++ more,
-  ap (λ (os : List Out). os ++ more) h.2 ∙ append_assoc h.0 (p.outs ++ h.1) more ∙ ap (λ (os : List Out). h.0 ++ os) (append_assoc p.outs h.1 more),
-  go_further ps more h.1 h.3,
-)
-
 go_behind : (ps : List Posting) (before outs : List Out) → GoOut ps outs → GoOut ps (before ++ outs)
 go_behind [] before outs h = tt
 go_behind (p ∷ ps) before outs h = (before ++ h.0, h.1, ap (λ (os : List Out). before ++ os) h.2 ∙ sym (append_assoc before h.0 (p.outs ++ h.1)), h.3)
@@ -67,10 +59,6 @@ posted_go_out setting (reply ∷ replies) connections =
 all_are_posted : (setting : Setting) (replies : List Reply) (connections : Connections) → map reply_posted (postings setting connections replies) ≡ replies
 all_are_posted setting [] connections = refl
 all_are_posted setting (reply ∷ replies) connections = ap (λ (rs : List Reply). reply ∷ rs) (all_are_posted setting replies (delivered setting connections reply).connections)
-
-replies_both : (ps qs : List Posting) → map reply_posted (ps ++ qs) ≡ map reply_posted ps ++ map reply_posted qs
-replies_both [] qs = refl
-replies_both (p ∷ ps) qs = ap (λ (rs : List Reply). p.reply ∷ rs) (replies_both ps qs)
 
 -- ---- calls whose answers are posted, and what is posted goes out among the effects
 
@@ -100,7 +88,7 @@ came_on before moves after rows p from =
 both_post : (before mid after : Services) (ms ns : List Move) (ps qs : List Posting) (xs ys : List Effect) → Posts before ms mid ps xs → Posts mid ns after qs ys → Posts before (ms ++ ns) after (ps ++ qs) (xs ++ ys)
 both_post before mid after ms ns ps qs xs ys h g = record {
   answers = subst (λ (rows : List Fired). ComesOnWith before (ms ++ ns) after rows (map reply_posted (ps ++ qs))) (sym (fired_of-append xs ys))
-      (subst (λ (rs : List Reply). ComesOnWith before (ms ++ ns) after (fired_of xs ++ fired_of ys) rs) (sym (replies_both ps qs))
+      (subst (λ (rs : List Reply). ComesOnWith before (ms ++ ns) after (fired_of xs ++ fired_of ys) rs) (sym (map-append reply_posted ps qs))
       (then_with before mid after ms ns (fired_of xs) (fired_of ys) (map reply_posted ps) (map reply_posted qs) h.answers g.answers));
   out = subst (λ (outs : List Out). GoOut (ps ++ qs) outs) (sym (outs_of-append xs ys)) (go_both ps qs (outs_of xs) (outs_of ys) h.out g.out);
   fresh = λ from fresh. g.fresh (came_on before ms mid (fired_of xs) (goes before ms mid ps xs h) from) (h.fresh from fresh);
@@ -167,15 +155,11 @@ module _ (config : Configuration) (space : SpaceState) (events : List Event) whe
   pub gone : HasGone Goes (opening config space).core (dealings_of config space events) (reached config space events)
   gone = walked Goes follows config space events
 
-  -- the answers to Publish requests are posted, in order
-  pub answers_are_posted : StandIn (run config (moves_of config space events)).replies (map reply_posted (posted config space events))
-  answers_are_posted =
-      let went = gone.goes.answers [] [] in
-      subst (λ (rs : List Reply). StandIn rs (map reply_posted (posted config space events))) (sym (ap (λ (r : Ran). r.replies) went.left)) went.among
-
-  -- and all that is posted goes out, in order
+  -- the answers to Publish requests are posted, in order, and all that is posted goes out
   pub answers_go_out : AnswersGoOut config space events
   answers_go_out = record {
-    are_posted = subst (λ (rs : List Reply). StandIn rs (map reply_posted (posted config space events))) (all_are_told config (moves_of config space events)) answers_are_posted;
+    are_posted =
+        let went = gone.goes.answers [] [] in
+        subst (λ (rs : List Reply). StandIn rs (map reply_posted (posted config space events))) (sym (ap (λ (r : Ran). r.replies) went.left) ∙ all_are_told config (moves_of config space events)) went.among;
     go_out = gone.goes.out;
   }

@@ -14,7 +14,8 @@ use Rattle.subscription_laws.specs.MessageContents.{Taken, IsMadeOf, AreMadeOf, 
 use Rattle.subscription_laws.specs.Messaging.{Made, IsAmong, messages_for}
 use Rattle.subscription_laws.specs.Runs.{Move, run}
 use Rattle.subscription_laws.specs.Tellings.{Telling, Told, Notifications, KeepAlive, TimedOut, Refused, answer_of, message_in, messages_in}
-use Rattle.subscription_laws.proofs.TellingRuns.{all_are_told, messages_told}
+use Rattle.subscription_laws.proofs.Folds.{all_so}
+use Rattle.subscription_laws.proofs.TellingRuns.{messages_told}
 use Rattle.server_core.specs.Coherent.{reached, IfRuns}
 use Rattle.server_core.specs.declared.event.Event.{Event}
 use Rattle.server_core.specs.declared.world.World.{World}
@@ -25,10 +26,10 @@ use Rattle.server_laws.specs.Moving.{StandIn}
 use Rattle.server_laws.specs.Postings.{Posting, reply_posted, posted}
 use Rattle.server_laws.specs.Reaching.{BroughtValue, brought_value, message_by, messages_by, values_by, brought_values, value_of, brought_in, IsAlone, IsBrought, ValuesHaveCome}
 use Rattle.server_laws.specs.Tellings.{told_by}
-use Rattle.server_laws.proofs.FateLemmas.{have_one_fate, stand_in_messages, marks_losses}
+use Rattle.server_laws.proofs.FateLemmas.{have_one_fate, stand_in_messages}
 use Rattle.server_laws.proofs.DecidingLemmas.{is_caused_by, is_driven_out}
 use Rattle.server_laws.proofs.MessageLemmas.{gives_first_bytes}
-use Rattle.server_laws.proofs.PostingLemmas.{answers_are_posted}
+use Rattle.server_laws.proofs.PostingLemmas.{answers_go_out}
 use Rattle.ua_subscriptions.proofs.OwingRows.{all_append}
 
 -- ---- what answers bring
@@ -39,10 +40,6 @@ record Comes (answers : List Telling) (b : BroughtValue) : Type 0 where
   brings : b.answer.told ≡ Notifications b.message more
   there : IsAmong b.answer answers
   notes : IsMadeOf b.message b.taken
-
-all_so : (P Q : BroughtValue → Type 0) → ((b : BroughtValue) → P b → Q b) → (xs : List BroughtValue) → AllByRecursion P xs → AllByRecursion Q xs
-all_so P Q f [] h = tt
-all_so P Q f (x ∷ xs) h = (f x h.0, all_so P Q f xs h.1)
 
 later : (answer : Telling) (answers : List Telling) (b : BroughtValue) → Comes answers b → Comes (answer ∷ answers) b
 later answer answers b c = record { more = c.more; brings = c.brings; there = inr c.there; notes = c.notes }
@@ -130,9 +127,8 @@ module _ (config : Configuration) (space : SpaceState) (events : List Event) whe
       (b : BroughtValue) → Comes (told_by config space events) b → IsBrought config space events world b
   is_brought world keeps again b c =
       let answer = answer_of b.answer in
-      let answered = subst (λ (rs : List Reply). IsAmong answer rs) (sym (all_are_told config (moves_of config space events))) (mapped answer_of b.answer (told_by config space events) c.there) in
       let ps = posted config space events in
-      let h = posting_of answer ps (stands_among answer (run config (moves_of config space events)).replies (map reply_posted ps) (answers_are_posted config space events) answered) in
+      let h = posting_of answer ps (stands_among answer (map answer_of (told_by config space events)) (map reply_posted ps) (answers_go_out config space events).are_posted (mapped answer_of b.answer (told_by config space events) c.there)) in
       record {
         more = c.more;
         brings = c.brings;
@@ -169,5 +165,4 @@ values_have_come config space events number =
       brought = all_so (Comes (told_by config space events)) (IsBrought config space events world) (is_brought config space events world keeps gives) (brought_in config space events number) come.come;
       lost = λ place e. (is_driven_out (queue_moves_after config space events number) place e, is_caused_by config (item_calls config moves) number place WasLost e refl);
       cleared = λ place e. is_caused_by config (item_calls config moves) number place WasCleared e refl;
-      marked = (marks_losses config space events number).told;
     }

@@ -45,10 +45,7 @@ brought_among (x ∷ xs) (y ∷ ys) (m ∷ ms) p h = by p h (λ rest told. broug
 
 same_behind : (front xs ys : List Reply) → front ++ xs ≡ front ++ ys → xs ≡ ys
 same_behind [] xs ys e = e
-same_behind (f ∷ front) xs ys e = same_behind front xs ys (tail e)
-  where
-    tail : f ∷ front ++ xs ≡ f ∷ front ++ ys → front ++ xs ≡ front ++ ys
-    tail e = cc
+same_behind (f ∷ front) xs ys e = same_behind front xs ys (cc)
 
 -- ---- a serving
 

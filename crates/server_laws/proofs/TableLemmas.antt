@@ -10,10 +10,10 @@ use Rattle.ua_space.specs.Nodes.{SpaceState}
 use Rattle.server_connections.specs.Connecting.{taking_of}
 use Rattle.server_connections.specs.declared.frame_outcome.FrameOutcome.{FrameOutcome}
 use Rattle.ua_state_table.proofs.SteadyLemmas.{steady_is_sound}
-use Rattle.subscription_laws.specs.Calm.{AreSteady}
+use Rattle.subscription_laws.specs.Calm.{AreSteady, NoneWaitsBesideARequest, LivesCountTimers, NoKeepAliveIsSkipped}
 use Rattle.subscription_laws.specs.Histories.{AreLawful}
 use Rattle.subscription_laws.specs.Concern.{concern_of, all_concerned, AreTheRowsFor}
-use Rattle.subscription_laws.specs.Runs.{Move, Ran, moved, start, run}
+use Rattle.subscription_laws.specs.Runs.{Move, Ran, moved, start}
 use Rattle.ua_subscriptions.specs.Tables.{TableState}
 use Rattle.subscription_laws.proofs.BestFirst.{each_is_met, comes_to_the_best}
 use Rattle.subscription_laws.proofs.Concerned.{all_from, one_row_for_each}
@@ -33,7 +33,7 @@ use Rattle.server_core.specs.Handling.{asked_for, handled}
 use Rattle.server_core.specs.Running.{Running, joined_effects}
 use Rattle.server_laws.specs.SessionsApart.{KeepsSessionsApart, ServesByFrames, SessionsStayApart}
 use Rattle.server_core.specs.Stepping.{Served, step_of}
-use Rattle.server_laws.specs.Tables.{rows_of_run, IfShown, LeadTo, StaysSteady, VariablesAreSound, NoneWaitsBesideARequest, LivesCountTimers, NoKeepAliveIsSkipped, FiresOneRow, TimesOutExactly, NoneTimesOutBesideARequest, ItemsAreOfLive, AnswersStayInSessions, ServesTheBestFirst}
+use Rattle.server_laws.specs.Tables.{rows_of_run, IfShown, LeadTo, StaysSteady, VariablesAreSound, FiresOneRow, TimesOutExactly, NoneTimesOutBesideARequest, ItemsAreOfLive, AnswersStayInSessions, ServesTheBestFirst}
 use Rattle.server_laws.specs.Concern.{concerned, FiresFor, FiresForEach}
 use Rattle.server_laws.specs.Dealings.{event_dealings, dealings_of}
 use Rattle.server_laws.specs.EventMoves.{event_moves, moves_of}

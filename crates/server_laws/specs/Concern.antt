@@ -1,6 +1,8 @@
 -- Which subscriptions an event of a server concerns (IEC 62541-4, 5.13: the events of the state table).
 use Rattle.std.specs.Prelude.{⊤, List, [], Result, Ok, Err}
-use Rattle.subscription_laws.specs.Concern.{Concern, concerned_from, AreTheRowsFor}
+use Rattle.subscription_laws.specs.Concern.{Concern, AreTheRowsFor}
+use Rattle.subscription_laws.specs.Concern as calls
+use Rattle.subscription_laws.specs.Runs.{of_run}
 use Rattle.server_laws.specs.EventMoves.{event_moves}
 use Rattle.server_laws.specs.Moving.{ran_at}
 use Rattle.server_core.specs.Effects.{fired_of}
@@ -14,7 +16,7 @@ use Rattle.server_core.specs.declared.out.StepFault.{StepFault}
 -- the session's; of the end of a session, all of its own; of a tick, those of the sessions that end, and then those that are due; of
 -- a shutdown, all that live
 abbrev pub concerned : World → Event → List Concern
-concerned world event = concerned_from (ran_at world.core.services [] []) (event_moves world event)
+concerned world event = of_run calls.concerned (ran_at world.core.services [] []) (event_moves world event)
 
 -- one row fires for each of these, in their order, and no other; a refused event fires none
 abbrev pub FiresFor : List Concern → Result Served StepFault → Type 0

@@ -6,10 +6,10 @@ use Rattle.ua_types.specs.declared.moment.Moment.{Moment}
 use Rattle.ua_space.specs.Nodes.{SpaceState}
 use Rattle.ua_subscriptions.specs.Making.{republished}
 use Rattle.ua_subscriptions.specs.SubscriptionCalls.{world_of}
-use Rattle.ua_subscriptions.specs.Tables.{TableState, part_at, subscription_at}
+use Rattle.ua_subscriptions.specs.Tables.{TableState, subscription_at}
 use Rattle.ua_subscriptions.specs.declared.subscription.Subscription.{Subscription}
-use Rattle.subscription_laws.specs.Messaging.{Made, run_made, messages_for, IsAmong, AreNotes}
-use Rattle.subscription_laws.specs.Numbering.{AreNumbered, last_number}
+use Rattle.subscription_laws.specs.Messaging.{Made, run_made, messages_for, IsAmong, AllAreNumbered, NotesComeNext}
+use Rattle.subscription_laws.specs.Numbering.{last_number}
 use Rattle.subscription_laws.specs.Runs.{start}
 use Rattle.ua_services.specs.declared.services.Services.{Services}
 use Rattle.server_core.specs.Coherent.{reached, IfRuns}
@@ -19,17 +19,9 @@ use Rattle.server_laws.specs.Tables.{IfShown}
 use Rattle.server_core.specs.declared.world.World.{World}
 use Rattle.server_core.specs.declared.event.Event.{Event}
 
--- those of each subscription are numbered from 1 without a gap, after the last of 32 bits comes 1; also once it is no more
-abbrev pub AllAreNumbered : List Made → Type 0
-AllAreNumbered made = (number : ℕ) → AreNumbered 0 (messages_for number made)
-
 -- a live subscription has the number of its last message
 abbrev pub LastsAreTheirs : List Made → TableState → Type 0
 LastsAreTheirs made t = (number : ℕ) (s : Subscription) → subscription_at number t.subscriptions ≡ Some s → last_number 0 (messages_for number made) ≡ s.number
-
--- the note of a time-out has the number that its subscription's next message would have had
-abbrev pub NotesComeNext : List Made → TableState → Type 0
-NotesComeNext made t = (session : ℕ) → AreNotes made (part_at session t.sessions).notes
 
 -- what the server keeps is, byte for byte, a message that was made under that number
 abbrev pub KeepsWhatWasMade : List Made → World → Type 0

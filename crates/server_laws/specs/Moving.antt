@@ -1,8 +1,9 @@
 -- What the services do, told as calls of the subscriptions and their items.
-use Rattle.std.specs.Prelude.{◌≡◌, ⊤, ◌⊎◌, List, [], ◌∷◌, ◌++◌, fold}
+use Rattle.std.specs.Prelude.{◌≡◌, List, ◌++◌, fold}
 use Rattle.server_messages.specs.declared.fired.Fired.{Fired}
 use Rattle.server_messages.specs.declared.reply.Reply.{Reply}
 use Rattle.ua_monitored_items.specs.Items.{ItemsState}
+use Rattle.subscription_laws.specs.Answering.{HaveTheirOwn}
 use Rattle.subscription_laws.specs.Runs.{Move, Ran, moved}
 use Rattle.ua_subscriptions.specs.SubscriptionCalls.{SubscriptionsState}
 use Rattle.ua_services.specs.declared.services.Services.{Services}
@@ -23,9 +24,7 @@ ComesOn before moves after rows = (so_far : List Fired) (replies : List Reply) �
 
 -- these replies stand among those, in order
 abbrev pub StandIn : List Reply → List Reply → Type 0
-StandIn [] given = ⊤
-StandIn (x ∷ xs) [] = ⊥
-StandIn (x ∷ xs) (y ∷ ys) = ((x ≡ y) × StandIn xs ys) ⊎ StandIn (x ∷ xs) ys
+StandIn replies given = HaveTheirOwn (λ (x y : Reply). x ≡ y) replies given
 
 -- these calls lead on to these subscriptions and items, and fire these rows; their answers to Publish requests stand among these replies
 pub record WentOn (from : Ran) (moves : List Move) (subs : SubscriptionsState) (items : ItemsState) (rows : List Fired) (given : List Reply) : Type 0 where

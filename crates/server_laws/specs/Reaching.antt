@@ -5,11 +5,11 @@ use Rattle.ua_types.specs.Configuration.{Configuration}
 use Rattle.ua_types.specs.declared.moment.Moment.{Moment}
 use Rattle.ua_space.specs.Nodes.{SpaceState}
 use Rattle.ua_values.specs.declared.data_value.DataValue.{DataValue}
-use Rattle.ua_item_queue.specs.Fates.{Fate, account, any_marked, is_waiting, waiting, LossesAreMarked}
+use Rattle.ua_item_queue.specs.Fates.{Fate, account, any_marked, is_first_marked, is_waiting, waiting}
 use Rattle.ua_item_queue.specs.Fates.Fate.{Waits, WasLost, WasCleared}
 use Rattle.ua_item_queue.specs.ItemQueue.{QueueMove}
 use Rattle.ua_item_queue.specs.ItemQueue.QueueMove.{Sample}
-use Rattle.ua_item_queue.specs.Marks.{fate_at}
+use Rattle.ua_item_queue.specs.Marks.{AllAboveOne, fate_at}
 use Rattle.ua_item_queue.specs.Sendings.{sent_of}
 use Rattle.ua_item_queue.specs.declared.entry.Entry.{Entry}
 use Rattle.ua_monitored_items.specs.Causes.{call_may_give}
@@ -108,7 +108,7 @@ pub record IsCausedBy (config : Configuration) (calls : List item_moves.Move) (n
   pub decided : fate_at place (account_of config (before ++ call ∷ []) number) ≡ Some fate
 
 -- The value at a place was lost where another one was queued and as many waited as the queue holds. Where that is more than one, a
--- later value carried the mark at once
+-- later value carried the mark at once; and as long as it is and nothing of the item becomes cleared, the first one left behind it does
 pub record IsDrivenOut (queue_moves : List (QueueMove DataValue)) (place : ℕ) : Type 0 where
   pub before : List (QueueMove DataValue)
   pub size : ℕ
@@ -120,12 +120,13 @@ pub record IsDrivenOut (queue_moves : List (QueueMove DataValue)) (place : ℕ) 
   pub waited : fate_at place (account before) ≡ Some Waits
   pub lost : fate_at place (account (before ++ Sample size discard_oldest newer ∷ [])) ≡ Some WasLost
   pub marked : 1 < size → any_marked (drop (suc place) (account (before ++ Sample size discard_oldest newer ∷ []))) ≡ true
+  pub followed : 1 < size → AllAboveOne after → ((other : ℕ) → fate_at other (account queue_moves) ≡ Some WasCleared → fate_at other (account (before ++ Sample size discard_oldest newer ∷ [])) ≡ Some WasCleared) →
+      is_first_marked (drop (suc place) (account queue_moves)) ≡ true
 
 -- ---- what has come of each
 
 -- Of each value that the item of a number queued, as its account has them, in the order of sampling: the queue is those that wait; what
--- answers brought are those that were sent, in order, each with its mark in its message; each that was lost or cleared has its cause,
--- and if nothing was cleared since and the queue holds more than one value, the first one left behind a lost one carries the mark
+-- answers brought are those that were sent, in order, each with its mark in its message; each that was lost or cleared has its cause
 pub record ValuesHaveCome (config : Configuration) (space : SpaceState) (events : List Event) (number : ℕ) (world : World) : Type 0 where
   pub wait : HoldsWhatWaits (account_after config space events number) number world
   pub sent : map value_of (brought_in config space events number) ≡ sent_of (account_after config space events number)
@@ -134,4 +135,3 @@ pub record ValuesHaveCome (config : Configuration) (space : SpaceState) (events 
       IsDrivenOut (queue_moves_after config space events number) place × IsCausedBy config (item_calls config (moves_of config space events)) number place WasLost
   pub cleared : (place : ℕ) → fate_at place (account_after config space events number) ≡ Some WasCleared →
       IsCausedBy config (item_calls config (moves_of config space events)) number place WasCleared
-  pub marked : LossesAreMarked (account_after config space events number)

@@ -1,5 +1,5 @@
 -- What holds of the subscriptions of a server, after any events.
-use Rattle.std.specs.Prelude.{◌≡◌, ◌<◌, ◌+◌, ℕ, true, false, List, [], ◌∷◌, ◌++◌, Option, Some, None}
+use Rattle.std.specs.Prelude.{◌≡◌, ◌+◌, ℕ, true, false, List, [], ◌∷◌, ◌++◌, Option, Some, None}
 use Rattle.ua_types.specs.Configuration.{Configuration}
 use Rattle.server_messages.specs.declared.fired.Fired.{Fired}
 use Rattle.ua_types.specs.declared.moment.Moment.{Moment}
@@ -12,17 +12,16 @@ use Rattle.ua_state_table.specs.StateTable.{fires}
 use Rattle.ua_state_table.specs.declared.event.TableEvent.TheVariants.{Timer}
 use Rattle.ua_state_table.specs.declared.row.RowId.TheVariants.{G6}
 use Rattle.ua_state_table.specs.declared.state.State.TheVariants.{Late}
-use Rattle.subscription_laws.specs.Calm.{AreSteady}
+use Rattle.subscription_laws.specs.Calm.{AreSteady, LivesCountTimers}
 use Rattle.subscription_laws.specs.Concern.{all_concerned, AreTheRowsFor}
 use Rattle.subscription_laws.specs.Histories.{counts_at, life_at}
-use Rattle.ua_subscriptions.specs.Ranks.{is_waiting}
 use Rattle.subscription_laws.specs.LiveItems.{AreOfLive}
 use Rattle.subscription_laws.specs.OwnRequests.{AreOwnAnswers}
 use Rattle.subscription_laws.specs.Precedence.{ComesToTheBest, ComesBestFirst}
 use Rattle.subscription_laws.specs.Runs.{Move, run}
 use Rattle.ua_subscriptions.specs.SubscriptionCalls.{SubscriptionsState}
 use Rattle.ua_subscriptions.specs.Subscriptions.{vars_of}
-use Rattle.ua_subscriptions.specs.Tables.{TableState, part_at, part_of, subscription_at}
+use Rattle.ua_subscriptions.specs.Tables.{TableState, part_of, subscription_at}
 use Rattle.ua_subscriptions.specs.declared.subscription.Subscription.{Subscription}
 use Rattle.ua_services.specs.declared.services.Services.{Services}
 use Rattle.server_core.specs.Coherent.{reached, IfRuns}
@@ -58,22 +57,6 @@ VariablesAreSound world =
     let services : Services = world.core.services in
     let t : TableState = services.subs.table in
     (number : ℕ) (s : Subscription) → subscription_at number t.subscriptions ≡ Some s → IsSound (vars_of s (part_of s.session t.sessions) services.items number)
-
--- a session with a subscription that waits has no queued request
-abbrev pub NoneWaitsBesideARequest : TableState → Type 0
-NoneWaitsBesideARequest t = (number session : ℕ) (s : Subscription) → subscription_at number t.subscriptions ≡ Some s → s.session ≡ Some session →
-    is_waiting s ≡ true → (part_at session t.sessions).requests ≡ []
-
--- the life counter of each subscription was last set to its lifetime count, and lacks of it one for each timer since
-abbrev pub LivesCountTimers : List Fired → TableState → Type 0
-LivesCountTimers rows t = (number : ℕ) (s : Subscription) → subscription_at number t.subscriptions ≡ Some s →
-    (life_at number rows ≡ s.lifetime_count) × (s.lifetime + (counts_at number rows).started ≡ s.lifetime_count)
-
--- the timers of each subscription that found a request, since it sent a message, or one of them found none, or its counts
--- were set, are fewer than its keep-alive count
-abbrev pub NoKeepAliveIsSkipped : List Fired → TableState → Type 0
-NoKeepAliveIsSkipped rows t = (number : ℕ) (s : Subscription) → subscription_at number t.subscriptions ≡ Some s →
-    (counts_at number rows).answerable < s.keep_alive_count
 
 -- each row that fired, with those before it
 abbrev pub OfEachRow : (List Fired → Fired → Type 0) → List Fired → Type 0

@@ -25,6 +25,7 @@ ghost use Rattle.server_messages.specs.declared.request.Request.{Request};
 ghost use Rattle.server_messages.specs.declared.setting.Setting.{Setting};
 ghost use Rattle.ua_space.specs.Nodes.{SpaceState};
 ghost use Rattle.subscription_laws.specs.Answering.{AreBrought};
+ghost use Rattle.subscription_laws.specs.Calm.{NoneWaitsBesideARequest, NoKeepAliveIsSkipped};
 ghost use Rattle.subscription_laws.specs.Runs.{run};
 ghost use Rattle.subscription_laws.specs.Tellings.{AreInSequence};
 ghost use Rattle.ua_services.specs.Services.{serving_of, ticking_of, forgotten};
@@ -40,7 +41,7 @@ ghost use Rattle.server_laws.specs.Postings.{AnswersAreSent, AnswersGoOut};
 ghost use Rattle.server_laws.specs.Replying.{BringsMessages, SendsReplies};
 ghost use Rattle.server_laws.specs.SessionsApart.{SessionsStayApart};
 ghost use Rattle.server_laws.specs.Tellings.{told_by};
-ghost use Rattle.server_laws.specs.Tables.{rows_of_run, IfShown, LeadTo, NoneWaitsBesideARequest, NoKeepAliveIsSkipped, FiresOneRow, TimesOutExactly, NoneTimesOutBesideARequest, ItemsHaveSubscriptions, AnswersStayInSessions, ServesTheBestFirst};
+ghost use Rattle.server_laws.specs.Tables.{rows_of_run, IfShown, LeadTo, FiresOneRow, TimesOutExactly, NoneTimesOutBesideARequest, ItemsHaveSubscriptions, AnswersStayInSessions, ServesTheBestFirst};
 
 /// What the services do is a function of what is asked: each request, served or refused, each tick, and each connection that is
 /// gone comes to the calls of the subscriptions and their items that `EventMoves` lists for it. The subscriptions and items after

@@ -14,8 +14,8 @@ ghost use Rattle.ua_types.specs.Configuration.{Configuration};
 /// for it; the answer is posted to the Publish request that it answers, and what is posted goes out (`answers_go_out` of `losses`); and
 /// while the message is kept, those bytes are what [`Server::kept`](server_core::Server::kept) and Republish give. Each that was lost
 /// was driven out by a newer one of a full queue, and where that holds more than one value, a later one carried the mark at once; and
-/// if nothing was cleared since, the first one behind it that is left does. Each that was cleared was so by a call that clears, which
-/// stands among those of the run.
+/// as long as it does and nothing of the item becomes cleared, the first one behind it that is left carries it. Each that was cleared
+/// was so by a call that clears, which stands among those of the run.
 pub fn values_reach_their_clients()
     ensures { (config : Configuration) (space : SpaceState) (events : List Event) (number : ℕ) →
         IfRuns (ValuesHaveCome config space events number) (reached config space events).server }

@@ -28,7 +28,7 @@ ghost use Rattle.ua_subscriptions.specs.Ranks.{rank_of, is_due, is_waiting};
 ghost use Rattle.ua_subscriptions.specs.Scenes.{Scene};
 ghost use Rattle.ua_subscriptions.specs.Tables.{part_at, subscription_at};
 ghost use Rattle.subscription_laws.specs.Calm.{is_listed};
-ghost use Rattle.subscription_laws.specs.Concern.{Concern, number_of, concerned, all_concerned};
+ghost use Rattle.subscription_laws.specs.Concern.{Concern, subscription_of, concerned, all_concerned};
 ghost use Rattle.subscription_laws.specs.Encounters.{Meets, encounters};
 ghost use Rattle.subscription_laws.specs.Histories.{counts_at, life_at};
 ghost use Rattle.subscription_laws.specs.Messaging.{messages_for};
@@ -138,7 +138,7 @@ pub fn an_answer_across_sessions()
 pub fn a_timer_passed_over()
     ensures { (config : Configuration) (space : SpaceState) (events : List Event) (before : List Move) (clock : Moment) (rest : List Move) (number : ℕ) (s : Subscription) →
         before ++ Move.Timers clock ∷ rest ≡ moves_of config space events → let r = run config before in
-        subscription_at number r.subs.table.subscriptions ≡ Some s → is_due clock s ≡ true → is_listed number (map number_of (concerned r (Move.Timers clock))) ≡ false → ⊥ }
+        subscription_at number r.subs.table.subscriptions ≡ Some s → is_due clock s ≡ true → is_listed number (map subscription_of (concerned r (Move.Timers clock))) ≡ false → ⊥ }
 {
     table();
 }

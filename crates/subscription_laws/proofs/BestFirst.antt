@@ -1,9 +1,8 @@
 -- Time comes to all that are due, the best first, and a Publish request to the best that waits.
-use Rattle.std.proofs.Common.{◌≡◌, ◌≢◌, ◌⊎◌, inl, inr, ℕ, Bool, true, false, cond, ◌||◌, List, [], ◌∷◌, ◌++◌, map, fold, Option, Some, None, refl, sym, ap, ◌∙◌, subst}
+use Rattle.std.proofs.Common.{◌≡◌, ◌≢◌, ◌⊎◌, inl, inr, ℕ, Bool, true, false, cond, List, [], ◌∷◌, ◌++◌, map, fold, Option, Some, None, refl, sym, ap, ◌∙◌, subst}
 use Rattle.std.proofs.lemmas.Bool.{false≢true, or_left, or_right, or_parts, false_from_ne_true}
 use Rattle.std.proofs.lemmas.Cmp.{tied_itself}
 use Rattle.std.specs.BTreeMap.{is_at}
-use Rattle.std.specs.BTreeSet.{insert_key}
 use Rattle.std.specs.List.{AllByRecursion, flat_map, list_any}
 use Rattle.std.specs.Map.{set_value}
 use Rattle.std.specs.Option.{is_some}
@@ -22,45 +21,38 @@ use Rattle.ua_state_table.specs.declared.state.State.TheVariants.{Normal, Late, 
 use Rattle.ua_subscription_messages.specs.declared.publishing.SubscriptionAcknowledgement.{SubscriptionAcknowledgement}
 use Rattle.ua_subscriptions.specs.declared.call.Call.{Call}
 use Rattle.ua_subscriptions.specs.declared.call.Call.TheVariants as call
+use Rattle.ua_subscriptions.specs.declared.messages.KeptMessage.{KeptMessage}
 use Rattle.ua_subscriptions.specs.declared.publish_call.PublishCall.{PublishCall}
 use Rattle.ua_subscriptions.specs.declared.ranks.Rank.{Rank}
 use Rattle.ua_subscriptions.specs.contracts.ranks.RankOrd.TheImpl.Laws.{total-law}
 use Rattle.ua_subscriptions.specs.declared.session_part.TimeoutNote.{TimeoutNote}
 use Rattle.ua_subscriptions.specs.declared.subscription.Subscription.{Subscription}
 use Rattle.ua_subscriptions.specs.Firing.{vars_in, fired}
-use Rattle.ua_subscriptions.specs.Messages.{number_after}
 use Rattle.ua_subscriptions.specs.Publishing.{acknowledged_all, note_of, asked_by, with_results, without_kept, part_without_note, ready, best_or_all}
 use Rattle.ua_subscriptions.specs.Queues.{first_of}
-use Rattle.ua_subscriptions.specs.Ranks.{rank_cmp, rank_of, number_of, with_rank, is_waiting, waiting_by, with_waiting, waiting_of, is_due, due_rank, due_of, due_numbers}
-use Rattle.ua_subscriptions.specs.Scenes.{Scene, noting, note_sent, life_reset}
+use Rattle.ua_subscriptions.specs.Ranks.{rank_cmp, rank_of, with_rank, is_waiting, waiting_by, with_waiting, waiting_of, is_due, due_rank, due_of, due_numbers}
+use Rattle.ua_subscriptions.specs.Messages.{number_after}
+use Rattle.ua_subscriptions.specs.Scenes.{Scene, noting, subscription_noted, note_sent, life_reset}
 use Rattle.ua_subscriptions.specs.SubscriptionCalls.{world_of}
 use Rattle.ua_subscriptions.specs.Tables.{World, with_call, without_closed, met_found, met, part_at, subscription_at}
 use Rattle.ua_subscriptions.proofs.Choosing.{either}
+use Rattle.subscription_laws.specs.Actions.{rest_notings}
 use Rattle.subscription_laws.specs.Calm.{AreRising, is_listed}
-use Rattle.subscription_laws.specs.Concern.{concerns_at}
-use Rattle.subscription_laws.specs.Concern as concern
+use Rattle.subscription_laws.specs.Concern.{subscription_of, concerns_at}
 use Rattle.subscription_laws.specs.Encounters.{Asks, Encounter, Meets, Does, scene_at, meets_by, all_meet, asked_encounters, noted_encounters}
-use Rattle.subscription_laws.specs.Precedence.{and_then, precedence, IsBest, AreAllBestFirst, WaitsIn, IsDueAt, IsAnswered, IsGivenToTheBest, ComesToTheBest, ComesBestFirst}
-use Rattle.subscription_laws.specs.Requests.{name_of}
+use Rattle.subscription_laws.specs.Numbering.{note_made}
+use Rattle.subscription_laws.specs.Precedence.{precedence, IsBest, AreAllBestFirst, WaitsIn, IsDueAt, IsAnswered, IsGivenToTheBest, ComesToTheBest, ComesBestFirst}
 use Rattle.subscription_laws.specs.Runs.{Move, run}
-use Rattle.subscription_laws.specs.Tellings.{Telling, KeepAlive as KeepAliveTold, if_asked, told_at, note_told, rest_told, notes_told, row_told}
+use Rattle.subscription_laws.specs.Tellings.{Telling, Told, Notifications, KeepAlive as KeepAliveTold, if_asked, message_told, told_at, row_told}
 use Rattle.subscription_laws.proofs.Acknowledgements.{all_acknowledged}
-use Rattle.subscription_laws.proofs.AskedNumbers.{put_are, ranks_are, ranked_waits, first_is, listed_are}
-use Rattle.subscription_laws.proofs.Entries.{at_itself, equal_is, same_or_not, behind_it, all_found, among, listed_first, some_same, set_here, set_other}
+use Rattle.subscription_laws.proofs.AskedNumbers.{put_are, ranks_are, put, numbers, is_of, all_in, waiting_at, no_waiting_passed_over, ranked_waits, first_is, listed_are}
+use Rattle.subscription_laws.proofs.Entries.{same_or_not, behind_it, all_found, among, listed_first, some_same, set_here, set_other}
 use Rattle.subscription_laws.proofs.Folds.{fold_keeps, all_so}
 use Rattle.subscription_laws.proofs.KeepingParts.{set_fewer}
 use Rattle.subscription_laws.proofs.Reached.{sessions_list, lists_own}
 use Rattle.subscription_laws.proofs.Settling.{back_other}
 
 -- ---- the order
-
-last_equal : (p q r : Ordering) → and_then p (and_then q r) ≡ Equal → r ≡ Equal
-last_equal Equal Equal r e = e
-last_equal p q r e = absurd (cc)
-
--- equal ones are of one subscription
-equal_number : (a b : Rank) → rank_cmp a b ≡ Equal → a.number ≡ b.number
-equal_number a b e = equal_is a.number b.number (last_equal (nat_cmp b.priority.0 a.priority.0) (nat_cmp a.message_count b.message_count) (nat_cmp a.number b.number) e)
 
 -- one comes before another
 abbrev IsBefore : Rank → Rank → Type 0
@@ -73,12 +65,6 @@ pub not_both : (a b : Rank) → precedence a b ≡ Less → precedence b a ≡ L
 not_both a b e f = before_itself a (total-law.trans a b a e f)
 
 -- ---- one rank more
-
-abbrev put : List Rank → Rank → List Rank
-put ranks rank = insert_key rank_cmp ranks rank
-
-abbrev numbers : List Rank → List ℕ
-numbers ranks = map number_of ranks
 
 -- each comes before all behind it
 abbrev AreInOrder : List Rank → Type 0
@@ -94,35 +80,7 @@ put_order (r ∷ rs) rank h = by (rank_cmp rank r) refl (put_order rs rank h.1)
     by Equal e rest = h
     by Greater e rest = (put_are (IsBefore r) rs rank h.0 (total-law.antisymm r rank ∙ ap ordering_reverse e), rest)
 
-twice : (a x : Bool) → (a || (a || x)) ≡ true → (a || x) ≡ true
-twice true x h = refl
-twice false x h = h
-
-either_further : (a b x y : Bool) → ((a || x) ≡ true → y ≡ true) → (a || (b || x)) ≡ true → (b || y) ≡ true
-either_further a true x y f h = refl
-either_further true false x y f h = f refl
-either_further false false x y f h = f h
-
-put_in : (m : ℕ) (ranks : List Rank) (rank : Rank) → is_listed m (numbers (rank ∷ ranks)) ≡ true → is_listed m (numbers (put ranks rank)) ≡ true
-put_in m [] rank h = h
-put_in m (r ∷ rs) rank h = by (rank_cmp rank r) refl (put_in m rs rank)
-  where
-    by : (o : Ordering) → rank_cmp rank r ≡ o → (is_listed m (numbers (rank ∷ rs)) ≡ true → is_listed m (numbers (put rs rank)) ≡ true) → is_listed m (numbers (match_ordering o (rank ∷ r ∷ rs) (r ∷ rs) (r ∷ put rs rank))) ≡ true
-    by Less e f = h
-    by Equal e f = twice (is_at (nat_cmp m) r.number) (is_listed m (numbers rs)) (subst (λ (n : ℕ). is_listed m (n ∷ numbers (r ∷ rs)) ≡ true) (equal_number rank r e) h)
-    by Greater e f = either_further (is_at (nat_cmp m) rank.number) (is_at (nat_cmp m) r.number) (is_listed m (numbers rs)) (is_listed m (numbers (put rs rank))) f h
-
 -- ---- all that have a rank
-
--- a rank, if there is one, is that of a number
-abbrev is_of : ℕ → Option Rank → Bool
-is_of m None = false
-is_of m (Some rank) = is_at (nat_cmp m) rank.number
-
-one_in : (m : ℕ) (o : Option Rank) (ranks : List Rank) → (is_of m o || is_listed m (numbers ranks)) ≡ true → is_listed m (numbers (with_rank ranks o)) ≡ true
-unfolding with_rank
-one_in m None ranks h = h
-one_in m (Some rank) ranks h = put_in m ranks rank h
 
 module _ {A : Type 0} (rank_at : A → Option Rank) where
   abbrev with_one : List Rank → A → List Rank
@@ -135,16 +93,6 @@ module _ {A : Type 0} (rank_at : A → Option Rank) where
 
   order_from : (es : List A) (ranks : List Rank) → AreInOrder ranks → AreInOrder (fold with_one ranks es)
   order_from = fold_keeps AreInOrder with_one (λ ranks e. order_one (rank_at e) ranks)
-
-  -- one that has a rank is among them
-  all_in : (m : ℕ) (es : List A) (ranks : List Rank) → (list_any (λ e. is_of m (rank_at e)) es || is_listed m (numbers ranks)) ≡ true → is_listed m (numbers (fold with_one ranks es)) ≡ true
-  all_in m [] ranks h = h
-  all_in m (e ∷ es) ranks h = all_in m es (with_one ranks e) (further (is_of m (rank_at e)) (list_any (λ x. is_of m (rank_at x)) es) (is_listed m (numbers ranks)) (is_listed m (numbers (with_one ranks e))) (one_in m (rank_at e) ranks) h)
-    where
-      further : (a b x y : Bool) → ((a || x) ≡ true → y ≡ true) → ((a || b) || x) ≡ true → (b || y) ≡ true
-      further a true x y f h = refl
-      further true false x y f h = f refl
-      further false false x y f h = f h
 
 -- ---- the ranks of all that are such, in their order
 
@@ -226,38 +174,22 @@ all_listed Such subscriptions (n ∷ ns) number s h found such = by (same_or_not
 -- ---- those that wait
 
 module _ (subscriptions : List (ℕ × Subscription)) where
-  abbrev waiting_at : ℕ → Option Rank
-  waiting_at n = waiting_by n (subscription_at n subscriptions)
-
-  waiting_in : (number : ℕ) (s : Subscription) (ns : List ℕ) → is_listed number ns ≡ true → subscription_at number subscriptions ≡ Some s → is_waiting s ≡ true → list_any (λ n. is_of number (waiting_at n)) ns ≡ true
-  unfolding waiting_by
-  waiting_in number s [] listed found waits = absurd (false≢true listed)
-  waiting_in number s (n ∷ ns) listed found waits = by (same_or_not number n) (λ rest. waiting_in number s ns rest found waits)
-    where
-      by : (number ≡ n) ⊎ (number ≢ n) → (is_listed number ns ≡ true → list_any (λ k. is_of number (waiting_at k)) ns ≡ true) → list_any (λ k. is_of number (waiting_at k)) (n ∷ ns) ≡ true
-      by (inl same) rest = subst (λ (k : ℕ). list_any (λ x. is_of number (waiting_at x)) (k ∷ ns) ≡ true) same (or_left _ _ (ap (λ (o : Option Subscription). is_of number (waiting_by number o)) found ∙ ap (λ (b : Bool). is_of number (cond b (Some (rank_of number s)) None)) waits ∙ at_itself number))
-      by (inr other) rest = or_right (is_of number (waiting_at n)) _ (rest (behind_it number n ns other listed))
-
   -- of a session that lists its own subscriptions and no other
   all_waiting : (session : ℕ) (ns : List ℕ) → ((n : ℕ) → is_listed n ns ≡ true → (s : Subscription) × (subscription_at n subscriptions ≡ Some s) × (s.session ≡ Some session)) →
       ((n : ℕ) (s : Subscription) → subscription_at n subscriptions ≡ Some s → s.session ≡ Some session → is_listed n ns ≡ true) → AreRanked subscriptions (WaitsIn session) (waiting_of subscriptions ns)
   all_waiting session ns own listed = record {
-    all = λ m s found such. all_in waiting_at m ns [] (or_left _ false (waiting_in m s ns (listed m s found such.0) found such.1));
-    only = ranks_are (IsRankOf subscriptions (WaitsIn session)) waiting_at ns []
-        (listed_are (λ (n : ℕ). (rank : Rank) → waiting_at n ≡ Some rank → IsRankOf subscriptions (WaitsIn session) rank) ns one) tt;
-    order = order_from waiting_at ns [] tt;
+    all = λ m s found such. no_waiting_passed_over subscriptions ns m s (listed m s found such.0) found such.1;
+    only = ranks_are (IsRankOf subscriptions (WaitsIn session)) (waiting_at subscriptions) ns []
+        (listed_are (λ (n : ℕ). (rank : Rank) → waiting_at subscriptions n ≡ Some rank → IsRankOf subscriptions (WaitsIn session) rank) ns one) tt;
+    order = order_from (waiting_at subscriptions) ns [] tt;
   }
     where
-      one : (n : ℕ) → is_listed n ns ≡ true → (rank : Rank) → waiting_at n ≡ Some rank → IsRankOf subscriptions (WaitsIn session) rank
+      one : (n : ℕ) → is_listed n ns ≡ true → (rank : Rank) → waiting_at subscriptions n ≡ Some rank → IsRankOf subscriptions (WaitsIn session) rank
       one n among_them rank has =
           let x = ranked_waits n (subscription_at n subscriptions) rank has in
           let o = own n among_them in
           let its : o.0 ≡ x.0 = some_same (sym o.1 ∙ x.1) in
           subst (IsRankOf subscriptions (WaitsIn session)) (sym x.3) (record { its = x.0; found = x.1; such = (sym (ap (λ (s : Subscription). s.session) its) ∙ o.2, x.2); is = refl })
-
-pub no_waiting_passed_over : (subscriptions : List (ℕ × Subscription)) (ns : List ℕ) (number : ℕ) (s : Subscription) → is_listed number ns ≡ true → subscription_at number subscriptions ≡ Some s → is_waiting s ≡ true →
-    is_listed number (map number_of (waiting_of subscriptions ns)) ≡ true
-no_waiting_passed_over subscriptions ns number s listed found waits = all_in (waiting_at subscriptions) number ns [] (or_left _ false (waiting_in subscriptions number s ns listed found waits))
 
 -- ---- those that are due
 
@@ -301,12 +233,12 @@ met_other w n asked m other = by (subscription_at n w.table.subscriptions)
     by (Some s) = back_other n m (fired (scene_at w n asked s)).subscription w.table.subscriptions other
 
 module _ (asked : Call) where
-  one_numbered : (n : ℕ) (w : World) (more : List Encounter) (o : Option Subscription) → is_some o ≡ true → map concern.number_of (flat_map concerns_at (meets_by w n asked o ++ more)) ≡ n ∷ map concern.number_of (flat_map concerns_at more)
+  one_numbered : (n : ℕ) (w : World) (more : List Encounter) (o : Option Subscription) → is_some o ≡ true → map subscription_of (flat_map concerns_at (meets_by w n asked o ++ more)) ≡ n ∷ map subscription_of (flat_map concerns_at more)
   one_numbered n w more None e = absurd (false≢true e)
   one_numbered n w more (Some s) e = refl
 
   all_numbered : (Such : ℕ → Subscription → Type 0) (subscriptions : List (ℕ × Subscription)) (ns : List ℕ) (w : World) → AreAllBestFirst Such subscriptions ns →
-      ((m : ℕ) (s : Subscription) → subscription_at m subscriptions ≡ Some s → Such m s → is_some (subscription_at m w.table.subscriptions) ≡ true) → map concern.number_of (flat_map concerns_at (all_meet None asked w ns)) ≡ ns
+      ((m : ℕ) (s : Subscription) → subscription_at m subscriptions ≡ Some s → Such m s → is_some (subscription_at m w.table.subscriptions) ≡ true) → map subscription_of (flat_map concerns_at (all_meet None asked w ns)) ≡ ns
   all_numbered Such subscriptions [] w h live = refl
   all_numbered Such subscriptions (n ∷ ns) w h live =
       let next = met w n asked in
@@ -348,23 +280,22 @@ module _ (session : ℕ) (before : List (ℕ × Subscription)) where
   same_waiting acks ns = same_ranks (acknowledged_all session before acks).subscriptions (all_acknowledged session AllWait one_waits acks before (λ m. refl)) ns []
 
 -- one that waits answers the request that came
+and_more : (asked : PublishCall) (ts us : List Telling) → IsAnswered asked ts → IsAnswered asked (ts ++ us)
+and_more asked ts us h = record { answer = h.answer; more = h.more ++ us; first = ap (λ (l : List Telling). l ++ us) h.first; its = h.its }
+
 module _ (asked : PublishCall) (c : Scene) (is : c.round.asked ≡ Some asked) where
+  first_told : (clock : Moment) (kept : List KeptMessage) (told : Told) (rest : List Telling) → IsAnswered asked (if_asked clock kept told c.round.asked ++ rest)
+  first_told clock kept told rest = subst (λ (o : Option PublishCall). IsAnswered asked (if_asked clock kept told o ++ rest)) (sym is) (record { answer = record { clock = clock; call = asked; kept = kept; told = told }; more = rest; first = refl; its = refl })
+
   answers_N2 : IsAnswered asked (row_told N2 c)
   answers_N2 =
       let n = noting c.round (life_reset c.subscription) c.items in
-      subst (λ (o : Option PublishCall). IsAnswered asked (notes_told o c.part.requests n)) (sym is) (record { answer = note_told asked n; more = rest_told c.part.requests (note_sent n); first = refl; its = refl })
+      let after = subscription_noted n.round n.subscription n.items in
+      let rest = flat_map message_told (rest_notings c.part.requests (note_sent n)) in
+      and_more asked (message_told n ++ rest) [] (first_told c.round.clock after.kept (Notifications (record { subscription = c.round.own; message = note_made n }) after.more) rest)
 
   answers_L2 : IsAnswered asked (row_told L2 c)
-  answers_L2 = by c.round.asked is
-    where
-      by : (o : Option PublishCall) → o ≡ Some asked → IsAnswered asked (if_asked c.round.clock c.subscription.kept (KeepAliveTold c.round.own (number_after c.subscription.number)) o)
-      by None e = absurd (cc)
-      by (Some x) e = record {
-        answer = record { clock = c.round.clock; call = x; kept = c.subscription.kept; told = KeepAliveTold c.round.own (number_after c.subscription.number) };
-        more = [];
-        first = refl;
-        its = ap name_of (some_same e);
-      }
+  answers_L2 = first_told c.round.clock c.subscription.kept (KeepAliveTold c.round.own (number_after c.subscription.number)) []
 
   waiting_answers : (s : State) (a : Answers) → waits_in s a.enabled_more ≡ true → IsAnswered asked (row_told (publish_row s a) c)
   waiting_answers Normal a waits = rw waits answers_N2
@@ -372,12 +303,9 @@ module _ (asked : PublishCall) (c : Scene) (is : c.round.asked ≡ Some asked) w
   waiting_answers KeepAlive a waits = absurd (cc)
   waiting_answers Closed a waits = absurd (cc)
 
-and_more : (asked : PublishCall) (ts us : List Telling) → IsAnswered asked ts → IsAnswered asked (ts ++ us)
-and_more asked ts us h = record { answer = h.answer; more = h.more ++ us; first = ap (λ (l : List Telling). l ++ us) h.first; its = h.its }
-
 -- one subscription is met, and answers
 abbrev IsMetAlone : ℕ → PublishCall → List Encounter → Type 0
-IsMetAlone number asked es = (map concern.number_of (flat_map concerns_at es) ≡ number ∷ []) × IsAnswered asked (flat_map told_at es)
+IsMetAlone number asked es = (map subscription_of (flat_map concerns_at es) ≡ number ∷ []) × IsAnswered asked (flat_map told_at es)
 
 met_alone : (u : World) (n : ℕ) (asked : PublishCall) (s : Subscription) → u.round.asked ≡ Some asked → subscription_at n u.table.subscriptions ≡ Some s → is_waiting s ≡ true → IsMetAlone n asked (all_meet None call.Publish u (n ∷ []))
 met_alone u n asked s is found waits =
@@ -416,7 +344,7 @@ module _ (config : Configuration) (moves : List Move) (clock : Moment) (session 
       record {
         number = best.number;
         is_best = first_best w.table.subscriptions (WaitsIn session) best rest h;
-        alone = ap (λ (o : Option TimeoutNote). map concern.number_of (flat_map concerns_at (noted_encounters o session request acks w))) none ∙ m.0;
+        alone = ap (λ (o : Option TimeoutNote). map subscription_of (flat_map concerns_at (noted_encounters o session request acks w))) none ∙ m.0;
         answered = record { answer = m.1.answer; more = m.1.more; first = ap (λ (o : Option TimeoutNote). flat_map told_at (noted_encounters o session request acks w)) none ∙ m.1.first; its = m.1.its };
       }
 

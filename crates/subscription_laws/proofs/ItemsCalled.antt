@@ -1,5 +1,5 @@
 -- The items come by their calls.
-use Rattle.std.proofs.Common.{◌+◌, ◌≡◌, ℕ, Bool, true, false, cond, List, [], ◌∷◌, ◌++◌, append_assoc, append-nil, fold, refl, sym, ap, ◌∙◌, Some, None}
+use Rattle.std.proofs.Common.{◌+◌, ◌≡◌, ℕ, Bool, true, false, cond, List, [], ◌∷◌, ◌++◌, append-nil, map, fold, refl, sym, ap, ◌∙◌, Some, None}
 use Rattle.std.proofs.lemmas.List.Sums.{fold-append}
 use Rattle.std.proofs.lemmas.List.Concat.{flat_map-append}
 use Rattle.std.specs.List.{flat_map}
@@ -19,9 +19,11 @@ use Rattle.ua_subscriptions.specs.Named.{all_refused}
 use Rattle.ua_subscriptions.specs.Scenes.{Scene, Noting, noting, sending, note_sent, with_asked, rest_sent, notes_sent, done, all_done, row_done}
 use Rattle.ua_subscriptions.specs.Tables.{World}
 use Rattle.subscription_laws.specs.Encounters.{Beside, CallsItems, ShowsItems, beside, Encounter, Meets, Does, scene_at, made_scene}
-use Rattle.subscription_laws.specs.ItemCalls.{note_call, rest_calls, notes_calls, action_calls, actions_calls, row_calls, calls_at, calls_of, calls_from, item_calls, ItemsComeByTheirCalls}
-use Rattle.subscription_laws.specs.Runs.{Move, Ran, start, moved, run}
+use Rattle.subscription_laws.specs.Actions.{of_actions, rest_notings, notings}
+use Rattle.subscription_laws.specs.ItemCalls.{note_call, action_calls, row_calls, calls_at, calls_of, item_calls, ItemsComeByTheirCalls}
+use Rattle.subscription_laws.specs.Runs.{Move, Ran, start, moved, run, of_run}
 use Rattle.ua_subscriptions.specs.SubscriptionCalls.{world_of}
+use Rattle.subscription_laws.proofs.Folds.{of_run-append}
 use Rattle.subscription_laws.proofs.Walks.{left_is, Follows, FollowsMaking, Any, any_begins, walked}
 
 -- the items after a call, and after several
@@ -42,30 +44,30 @@ unfolding note_sent
 note_is n = refl
 
 rest_is_if : (more : Bool) (asked : PublishCall) (calls : List PublishCall) (n : Noting) → let next = note_sent (with_asked n asked) in
-    (rest_sent calls next).noting.items ≡ after_calls next.items (rest_calls calls next) →
-    (cond more (rest_sent calls next) (sending n (asked ∷ calls))).noting.items ≡ after_calls n.items (cond more (note_call (with_asked n asked) ∷ rest_calls calls next) [])
+    (rest_sent calls next).noting.items ≡ after_calls next.items (map note_call (rest_notings calls next)) →
+    (cond more (rest_sent calls next) (sending n (asked ∷ calls))).noting.items ≡ after_calls n.items (map note_call (cond more (with_asked n asked ∷ rest_notings calls next) []))
 rest_is_if true asked calls n h =
     let next = note_sent (with_asked n asked) in
-    h ∙ ap (λ (s : ItemsState). after_calls s (rest_calls calls next)) (note_is (with_asked n asked))
+    h ∙ ap (λ (s : ItemsState). after_calls s (map note_call (rest_notings calls next))) (note_is (with_asked n asked))
 rest_is_if false asked calls n h = refl
 
-rest_is : (calls : List PublishCall) (n : Noting) → (rest_sent calls n).noting.items ≡ after_calls n.items (rest_calls calls n)
+rest_is : (calls : List PublishCall) (n : Noting) → (rest_sent calls n).noting.items ≡ after_calls n.items (map note_call (rest_notings calls n))
 rest_is [] n = refl
 rest_is (asked ∷ calls) n = rest_is_if n.subscription.more asked calls n (rest_is calls (note_sent (with_asked n asked)))
 
-notes_are : (calls : List PublishCall) (n : Noting) → (notes_sent calls n).noting.items ≡ after_calls n.items (notes_calls calls n)
+notes_are : (calls : List PublishCall) (n : Noting) → (notes_sent calls n).noting.items ≡ after_calls n.items (map note_call (notings calls n))
 unfolding notes_sent
-notes_are calls n = rest_is calls (note_sent n) ∙ ap (λ (s : ItemsState). after_calls s (rest_calls calls (note_sent n))) (note_is n)
+notes_are calls n = rest_is calls (note_sent n) ∙ ap (λ (s : ItemsState). after_calls s (map note_call (rest_notings calls (note_sent n)))) (note_is n)
 
 action_is : (c : Scene) (action : Action) → (done c action).items ≡ after_calls c.items (action_calls c action)
 action_is c SendNotifications = notes_are c.part.requests (noting c.round c.subscription c.items)
 action_is c DeleteItems = refl
 action_is c action = refl
 
-actions_are : (actions : List Action) (c : Scene) → (all_done c actions).items ≡ after_calls c.items (actions_calls c actions)
+actions_are : (actions : List Action) (c : Scene) → (all_done c actions).items ≡ after_calls c.items (of_actions action_calls c actions)
 actions_are [] c = refl
 actions_are (action ∷ actions) c =
-    then_calls c.items (done c action).items (all_done (done c action) actions).items (action_calls c action) (actions_calls (done c action) actions)
+    then_calls c.items (done c action).items (all_done (done c action) actions).items (action_calls c action) (of_actions action_calls (done c action) actions)
     (action_is c action) (actions_are actions (done c action))
 
 row_is : (r : RowId) (c : Scene) → (row_done r c).items ≡ after_calls c.items (row_calls r c)
@@ -118,9 +120,9 @@ items_making = record { refuses = items_refused; adds = λ r clock session setti
 pub one_is : (r : Ran) (m : Move) → (moved r m).items ≡ after_calls r.items (calls_of r m)
 one_is r m = (left_is r m).items ∙ walked Any ItemsCome follows_items items_making r m (any_begins r m)
 
-all_from : (moves : List Move) (r : Ran) → (fold moved r moves).items ≡ after_calls r.items (calls_from r moves)
+all_from : (moves : List Move) (r : Ran) → (fold moved r moves).items ≡ after_calls r.items (of_run calls_of r moves)
 all_from [] r = refl
-all_from (m ∷ ms) r = then_calls r.items (moved r m).items (fold moved (moved r m) ms).items (calls_of r m) (calls_from (moved r m) ms) (one_is r m) (all_from ms (moved r m))
+all_from (m ∷ ms) r = then_calls r.items (moved r m).items (fold moved (moved r m) ms).items (calls_of r m) (of_run calls_of (moved r m) ms) (one_is r m) (all_from ms (moved r m))
 
 state_from : (calls : List item_moves.Move) (before : Moved) → (fold moved_on before calls).state ≡ after_calls before.state calls
 state_from [] before = refl
@@ -130,10 +132,5 @@ pub items_come_by_their_calls : ItemsComeByTheirCalls
 items_come_by_their_calls config moves = all_from moves (start config) ∙ sym (state_from (item_calls config moves) (record { state = no_items config; queue_moves = [] }))
 
 -- later calls come behind
-calls_join : (moves more : List Move) (r : Ran) → calls_from r (moves ++ more) ≡ calls_from r moves ++ calls_from (fold moved r moves) more
-calls_join [] more r = refl
-calls_join (m ∷ ms) more r =
-    ap (λ (calls : List item_moves.Move). calls_of r m ++ calls) (calls_join ms more (moved r m)) ∙ sym (append_assoc (calls_of r m) (calls_from (moved r m) ms) (calls_from (fold moved (moved r m) ms) more))
-
-pub calls_go_on : (config : Configuration) (moves more : List Move) → item_calls config (moves ++ more) ≡ item_calls config moves ++ calls_from (run config moves) more
-calls_go_on config moves more = calls_join moves more (start config)
+pub calls_go_on : (config : Configuration) (moves more : List Move) → item_calls config (moves ++ more) ≡ item_calls config moves ++ of_run calls_of (run config moves) more
+calls_go_on config moves more = of_run-append calls_of moves more (start config)

@@ -1,13 +1,10 @@
 -- What every call keeps, while a Publish request is taken.
-use Rattle.std.proofs.Common.{◌≡◌, ◌≢◌, ◌⊎◌, inl, inr, ℕ, Bool, true, false, ◌||◌, ◌&&◌, cond, List, [], ◌∷◌, ◌++◌, fold, Option, Some, None, refl, sym, ap, ◌∙◌, subst}
-use Rattle.std.proofs.lemmas.Bool.{or_right}
+use Rattle.std.proofs.Common.{◌≡◌, ◌≢◌, ◌⊎◌, inl, inr, ℕ, true, false, ◌||◌, ◌&&◌, List, [], ◌∷◌, ◌++◌, map, Option, Some, None, refl, sym, ap, ◌∙◌, subst}
+use Rattle.std.proofs.lemmas.Bool.{false≢true, false_from_ne_true, or_right}
 use Rattle.std.specs.BTreeMap.{is_at}
-use Rattle.std.specs.BTreeSet.{insert_key}
 use Rattle.std.specs.Map.{set_value}
 use Rattle.std.specs.Option.{is_some}
-use Rattle.std.specs.Ordering.{nat_cmp, match_ordering}
-use Rattle.std.specs.declared.cmp.Ordering.{Ordering}
-use Rattle.std.specs.declared.cmp.Ordering.TheVariants.{Less, Equal, Greater}
+use Rattle.std.specs.Ordering.{nat_cmp}
 use Rattle.server_messages.specs.declared.fired.Fired.{Fired}
 use Rattle.ua_subscription_messages.specs.declared.publishing.SubscriptionAcknowledgement.{SubscriptionAcknowledgement}
 use Rattle.ua_state_table.specs.Chosen.{answers, publish_row}
@@ -27,16 +24,16 @@ use Rattle.ua_subscriptions.specs.Firing.{vars_in, row_of, fired}
 use Rattle.ua_subscriptions.specs.Publishing.{forgotten, without_kept, acknowledged_all, part_without_note, asked_by, ready, best_or_all, asked_numbers}
 use Rattle.ua_subscriptions.specs.Queues.{first_of}
 use Rattle.ua_state_table.specs.Steady.{waits_in}
-use Rattle.ua_subscriptions.specs.Ranks.{rank_cmp, rank_of, with_rank, is_waiting, waiting_by, with_waiting, waiting_of}
+use Rattle.ua_subscriptions.specs.Ranks.{number_of, is_waiting, waiting_of}
 use Rattle.ua_subscriptions.specs.Scenes.{Scene, row_done}
 use Rattle.subscription_laws.specs.Standings.{IsAsked}
 use Rattle.subscription_laws.specs.Encounters.{scene_at, is_meant, met_if}
 use Rattle.ua_subscriptions.specs.Subscriptions.{is_any}
 use Rattle.ua_subscriptions.specs.Tables.{TableState, World, with_call, without_closed, met_found, met, part_at, part_of, set_part, subscription_at}
 use Rattle.subscription_laws.proofs.Acknowledgements.{all_acknowledged}
-use Rattle.subscription_laws.proofs.AskedNumbers.{first_is}
+use Rattle.subscription_laws.proofs.AskedNumbers.{no_waiting_passed_over, first_is}
 use Rattle.subscription_laws.proofs.ChosenRows.{publish_stays, waiting_none, live_fits}
-use Rattle.subscription_laws.proofs.Entries.{listed_first, behind_it, among, some_same, same_or_not}
+use Rattle.subscription_laws.proofs.Entries.{listed_first, among, some_same}
 use Rattle.subscription_laws.proofs.Keeping.{IsKept, its_own, world_after, live_kept, unasked, is_live, fired_stays}
 use Rattle.subscription_laws.proofs.KeepingParts.{parts_kept, set_fewer, kept_calm, kept_own}
 use Rattle.subscription_laws.proofs.RowLinks.{enqueued_any}
@@ -72,36 +69,13 @@ Waits subscriptions n = (s : Subscription) → subscription_at n subscriptions �
 best_waits : (subscriptions : List (ℕ × Subscription)) (ns : List ℕ) (rank : Rank) → first_of (waiting_of subscriptions ns) ≡ Some rank → Waits subscriptions rank.number
 best_waits subscriptions ns rank is = first_is (Waits subscriptions) subscriptions ns rank (λ n s found waits u there. ap is_waiting (sym (some_same (sym found ∙ there))) ∙ waits) is
 
--- where none is first, none was put among them
-rank_none : (ranks : List Rank) (o : Option Rank) → first_of (with_rank ranks o) ≡ None → (o ≡ None) × (first_of ranks ≡ None)
-unfolding with_rank
-rank_none ranks None e = (refl, e)
-rank_none [] (Some rank) e = absurd (cc)
-rank_none (r ∷ rs) (Some rank) e = by (rank_cmp rank r) e
+-- where none is first, none of those waits
+none_wait : (subscriptions : List (ℕ × Subscription)) (ns : List ℕ) → first_of (waiting_of subscriptions ns) ≡ None → (m : ℕ) (s : Subscription) → is_listed m ns ≡ true → subscription_at m subscriptions ≡ Some s → is_waiting s ≡ false
+none_wait subscriptions ns none m s listed found = false_from_ne_true (is_waiting s) (λ waits. by (waiting_of subscriptions ns) none (no_waiting_passed_over subscriptions ns m s listed found waits))
   where
-    by : (o : Ordering) → first_of (match_ordering o (rank ∷ r ∷ rs) (r ∷ rs) (r ∷ insert_key rank_cmp rs rank)) ≡ None → (Some rank ≡ None) × (first_of (r ∷ rs) ≡ None)
-    by Less f = absurd (cc)
-    by Equal f = absurd (cc)
-    by Greater f = absurd (cc)
-
--- so none of those waits
-none_wait : (subscriptions : List (ℕ × Subscription)) (ns : List ℕ) (ranks : List Rank) → first_of (fold (with_waiting subscriptions) ranks ns) ≡ None →
-    (first_of ranks ≡ None) × ((m : ℕ) (s : Subscription) → is_listed m ns ≡ true → subscription_at m subscriptions ≡ Some s → is_waiting s ≡ false)
-unfolding waiting_by
-none_wait subscriptions [] ranks e = (e, λ m s listed found. absurd (cc))
-none_wait subscriptions (n ∷ ns) ranks e =
-    let rest = none_wait subscriptions ns (with_waiting subscriptions ranks n) e in
-    let here = rank_none ranks (waiting_by n (subscription_at n subscriptions)) rest.0 in
-    (here.1, λ m s listed found. by m s listed found here.0 rest.1 (same_or_not m n))
-  where
-    calm : (s : Subscription) (b : Bool) → cond b (Some (rank_of n s)) None ≡ None → b ≡ false
-    calm s true none = absurd (cc)
-    calm s false none = refl
-
-    by : (m : ℕ) (s : Subscription) → is_listed m (n ∷ ns) ≡ true → subscription_at m subscriptions ≡ Some s → waiting_by n (subscription_at n subscriptions) ≡ None →
-        ((k : ℕ) (u : Subscription) → is_listed k ns ≡ true → subscription_at k subscriptions ≡ Some u → is_waiting u ≡ false) → (m ≡ n) ⊎ (m ≢ n) → is_waiting s ≡ false
-    by m s listed found none more (inl same) = calm s (is_waiting s) (ap (waiting_by n) (sym found ∙ ap (λ (k : ℕ). subscription_at k subscriptions) same) ∙ none)
-    by m s listed found none more (inr other) = more m s (behind_it m n ns other listed) found
+    by : (ranks : List Rank) → first_of ranks ≡ None → is_listed m (map number_of ranks) ≡ true → ⊥
+    by [] none listed = false≢true listed
+    by (r ∷ rs) none listed = absurd (cc)
 
 publish_session : (w : World) (n : ℕ) (s : Subscription) → (fired (scene_at w n Publish s)).subscription.session ≡ s.session
 publish_session w n s = fired_stays (scene_at w n Publish s) (publish_stays s.state (answers (vars_in (scene_at w n Publish s))))
@@ -212,7 +186,7 @@ none_asked session made past w ns call are k is = record {
   asking = record {
     kept = record { calm = k.calm; own = k.own; within = k.within };
     none = λ m s found own.
-        (none_wait w.table.subscriptions ns [] is).1 m s (ap (is_listed m) (sym are) ∙ k.calm.listed.listed m s session found own) found;
+        none_wait w.table.subscriptions ns is m s (ap (is_listed m) (sym are) ∙ k.calm.listed.listed m s session found own) found;
     asked = refl;
   };
   of = λ m s listed found. its_own w.table session m s (k.own session (λ e. absurd (cc))) (ap (is_listed m) are ∙ listed) found;

@@ -1,5 +1,5 @@
 -- Each value that was sent stands in one message that a row made.
-use Rattle.std.proofs.Common.{◌≡◌, ℕ, Bool, true, false, cond, List, [], ◌∷◌, ◌++◌, append_assoc, append-nil, drop, refl, sym, ap, ◌∙◌, subst, Some}
+use Rattle.std.proofs.Common.{◌≡◌, ℕ, Bool, true, false, cond, List, [], ◌∷◌, ◌++◌, append_assoc, append-nil, map, drop, refl, sym, ap, ◌∙◌, subst, Some}
 use Rattle.ua_types.specs.Configuration.{Configuration}
 use Rattle.ua_values.specs.declared.data_value.DataValue.{DataValue}
 use Rattle.ua_subscription_messages.specs.DataChangeMessages.{data_change_message}
@@ -13,6 +13,7 @@ use Rattle.ua_monitored_items.specs.Items.{ItemsState, no_items}
 use Rattle.ua_monitored_items.specs.ItemTables.{numbers_of}
 use Rattle.ua_monitored_items.specs.Moves as item_moves
 use Rattle.ua_monitored_items.proofs.Sent.{entries-append, notes_are_of_givings, givings_are_what_was_sent}
+use Rattle.ua_subscriptions.specs.declared.messages.KeptMessage.{KeptMessage}
 use Rattle.ua_subscriptions.specs.declared.publish_call.PublishCall.{PublishCall}
 use Rattle.ua_subscriptions.specs.Firing.{row_of}
 use Rattle.ua_subscriptions.specs.Messages.{number_after}
@@ -22,11 +23,13 @@ use Rattle.subscription_laws.specs.Fates.{account_at}
 use Rattle.std.specs.List.{flat_map}
 use Rattle.std.proofs.lemmas.List.Concat.{flat_map-append}
 use Rattle.subscription_laws.specs.Encounters.{Beside, CallsItems, Encounter, Meets, Does, scene_at}
-use Rattle.subscription_laws.specs.ItemCalls.{note_call, rest_calls, notes_calls, row_calls, calls_at, calls_of, calls_from, item_calls}
+use Rattle.subscription_laws.specs.Actions.{rest_notings, notings}
+use Rattle.subscription_laws.specs.ItemCalls.{note_call, row_calls, calls_at, calls_of, item_calls}
 use Rattle.subscription_laws.specs.Messaging.{Made, made_of, made_at, moved_made, run_made}
-use Rattle.subscription_laws.specs.Numbering.{note_made, rest_made, notes_made, messages_of}
-use Rattle.subscription_laws.specs.Runs.{ItemsCall, Move, Ran, start, moved}
+use Rattle.subscription_laws.specs.Numbering.{note_made, messages_of}
+use Rattle.subscription_laws.specs.Runs.{ItemsCall, Move, Ran, start, moved, of_run}
 use Rattle.subscription_laws.specs.MessageContents.{Taken, taken_by, taken_from, all_taken, IsMadeOf, AreMadeOf, entries_sent}
+use Rattle.subscription_laws.proofs.Folds.{alone}
 use Rattle.subscription_laws.proofs.ItemsCalled.{after_call, after_calls, note_is, one_is, ItemsCome, follows_items, items_making}
 use Rattle.subscription_laws.proofs.Walks.{Follows, FollowsMaking, Any, any_begins, walked}
 use Rattle.subscription_laws.proofs.Owners.{note_own}
@@ -63,26 +66,27 @@ note_told n own is = record {
 after_note : (n : Noting) (ms : List Made) (xs : List item_moves.Move) → AreMadeOf ms (taken_from (note_sent n).items xs) → AreMadeOf ms (taken_from (after_call n.items (note_call n)) xs)
 after_note n ms xs h = subst (λ (s : ItemsState). AreMadeOf ms (taken_from s xs)) (note_is n) h
 
-rest_told : (calls : List PublishCall) (n : Noting) (own : ℕ) → n.round.own ≡ own → AreMadeOf (made_of own (rest_made calls n)) (taken_from n.items (rest_calls calls n))
+rest_told : (calls : List PublishCall) (n : Noting) (own : ℕ) → n.round.own ≡ own → AreMadeOf (made_of own (map note_made (rest_notings calls n))) (taken_from n.items (map note_call (rest_notings calls n)))
 rest_told [] n own is = tt
 rest_told (asked ∷ calls) n own is = by n.subscription.more (rest_told calls (note_sent (with_asked n asked)) own (note_own (with_asked n asked) ∙ is))
   where
     next : Noting
     next = note_sent (with_asked n asked)
 
-    by : (more : Bool) → AreMadeOf (made_of own (rest_made calls next)) (taken_from next.items (rest_calls calls next)) →
-        AreMadeOf (made_of own (cond more (note_made (with_asked n asked) ∷ rest_made calls next) [])) (taken_from n.items (cond more (note_call (with_asked n asked) ∷ rest_calls calls next) []))
-    by true h = (note_told (with_asked n asked) own is, after_note (with_asked n asked) (made_of own (rest_made calls next)) (rest_calls calls next) h)
+    by : (more : Bool) → AreMadeOf (made_of own (map note_made (rest_notings calls next))) (taken_from next.items (map note_call (rest_notings calls next))) →
+        (let ns = cond more (with_asked n asked ∷ rest_notings calls next) [] in AreMadeOf (made_of own (map note_made ns)) (taken_from n.items (map note_call ns)))
+    by true h = (note_told (with_asked n asked) own is, after_note (with_asked n asked) (made_of own (map note_made (rest_notings calls next))) (map note_call (rest_notings calls next)) h)
     by false h = tt
 
-notes_told : (calls : List PublishCall) (n : Noting) (own : ℕ) → n.round.own ≡ own → AreMadeOf (made_of own (notes_made calls n)) (taken_from n.items (notes_calls calls n))
+notes_told : (calls : List PublishCall) (n : Noting) (own : ℕ) → n.round.own ≡ own → AreMadeOf (made_of own (map note_made (notings calls n))) (taken_from n.items (map note_call (notings calls n)))
 notes_told calls n own is =
-    (note_told n own is, after_note n (made_of own (rest_made calls (note_sent n))) (rest_calls calls (note_sent n)) (rest_told calls (note_sent n) own (note_own n ∙ is)))
+    (note_told n own is, after_note n (made_of own (map note_made (rest_notings calls (note_sent n)))) (map note_call (rest_notings calls (note_sent n))) (rest_told calls (note_sent n) own (note_own n ∙ is)))
 
 -- and nothing behind them
-notes_alone : (calls : List PublishCall) (n : Noting) → AreMadeOf (made_of n.round.own (notes_made calls n)) (taken_from n.items (notes_calls calls n ++ []))
+notes_alone : (calls : List PublishCall) (n : Noting) → AreMadeOf (made_of n.round.own (map note_made (notings calls n) ++ [])) (taken_from n.items (map note_call (notings calls n) ++ []))
 notes_alone calls n =
-    subst (λ (xs : List item_moves.Move). AreMadeOf (made_of n.round.own (notes_made calls n)) (taken_from n.items xs)) (sym (append-nil (notes_calls calls n))) (notes_told calls n n.round.own refl)
+    alone (λ (ms : List KeptMessage). AreMadeOf (made_of n.round.own ms) (taken_from n.items (map note_call (notings calls n) ++ []))) (map note_made (notings calls n))
+    (alone (λ (xs : List item_moves.Move). AreMadeOf (made_of n.round.own (map note_made (notings calls n))) (taken_from n.items xs)) (map note_call (notings calls n)) (notes_told calls n n.round.own refl))
 
 row_told : (r : RowId) (c : Scene) → AreMadeOf (made_of c.round.own (messages_of r c)) (taken_from c.items (row_calls r c))
 row_told N2 c = notes_alone c.part.requests (noting c.round (life_reset c.subscription) c.items)
@@ -139,10 +143,10 @@ tell_making = record {
 one_told : (r : Ran) (m : Move) → AreMadeOf (moved_made r m) (taken_from r.items (calls_of r m))
 one_told r m = (walked Any Tell follows_tell tell_making r m (any_begins r m)).1
 
-all_from : (moves : List Move) (r : Ran) → AreMadeOf (run_made r moves) (taken_from r.items (calls_from r moves))
+all_from : (moves : List Move) (r : Ran) → AreMadeOf (run_made r moves) (taken_from r.items (of_run calls_of r moves))
 all_from [] r = tt
 all_from (m ∷ ms) r =
-    told_then (moved_made r m) (run_made (moved r m) ms) r.items (moved r m).items (calls_of r m) (calls_from (moved r m) ms) (one_is r m) (one_told r m) (all_from ms (moved r m))
+    told_then (moved_made r m) (run_made (moved r m) ms) r.items (moved r m).items (calls_of r m) (of_run calls_of (moved r m) ms) (one_is r m) (one_told r m) (all_from ms (moved r m))
 
 pub messages_tell_takings : (config : Configuration) (moves : List Move) → AreMadeOf (run_made (start config) moves) (all_taken config moves)
 messages_tell_takings config moves = all_from moves (start config)

@@ -9,6 +9,8 @@ use Rattle.subscription_laws.specs.Messaging.{Made, made_of, messages_for, IsAmo
 use Rattle.subscription_laws.specs.Numbering.{AreNumbered, last_number, all_kept}
 use Rattle.ua_subscriptions.specs.Publishing.{without_at, forgotten}
 use Rattle.ua_subscriptions.specs.Scenes.{kept_with}
+use Rattle.ua_subscriptions.proofs.OwingRows.{all_append}
+use Rattle.subscription_laws.proofs.Folds.{all_so}
 
 -- ---- more numbers
 
@@ -59,25 +61,18 @@ among_right : (m : KeptMessage) (xs ys : List KeptMessage) → IsAmong m ys → 
 among_right m [] ys h = h
 among_right m (x ∷ xs) ys h = inr (among_right m xs ys h)
 
-pub all_left : (ms xs ys : List KeptMessage) → AreAmong ms xs → AreAmong ms (xs ++ ys)
-all_left [] xs ys h = tt
-all_left (m ∷ ms) xs ys h = (among_left m xs ys h.0, all_left ms xs ys h.1)
+all_left : (ms xs ys : List KeptMessage) → AreAmong ms xs → AreAmong ms (xs ++ ys)
+all_left ms xs ys = all_so (λ m. IsAmong m xs) (λ m. IsAmong m (xs ++ ys)) (λ m h. among_left m xs ys h) ms
 
 all_right : (ms xs ys : List KeptMessage) → AreAmong ms ys → AreAmong ms (xs ++ ys)
-all_right [] xs ys h = tt
-all_right (m ∷ ms) xs ys h = (among_right m xs ys h.0, all_right ms xs ys h.1)
-
-behind_one : (x : KeptMessage) (ms xs : List KeptMessage) → AreAmong ms xs → AreAmong ms (x ∷ xs)
-behind_one x [] xs h = tt
-behind_one x (m ∷ ms) xs h = (inr h.0, behind_one x ms xs h.1)
+all_right ms xs ys = all_so (λ m. IsAmong m ys) (λ m. IsAmong m (xs ++ ys)) (λ m h. among_right m xs ys h) ms
 
 all_itself : (ms : List KeptMessage) → AreAmong ms ms
 all_itself [] = tt
-all_itself (m ∷ ms) = (inl refl, behind_one m ms ms (all_itself ms))
+all_itself (m ∷ ms) = (inl refl, all_so (λ k. IsAmong k ms) (λ k. IsAmong k (m ∷ ms)) (λ k h. inr h) ms (all_itself ms))
 
 both_among : (ks ls xs : List KeptMessage) → AreAmong ks xs → AreAmong ls xs → AreAmong (ks ++ ls) xs
-both_among [] ls xs h k = k
-both_among (a ∷ ks) ls xs h k = (h.0, both_among ks ls xs h.1 k)
+both_among ks ls xs = all_append (λ m. IsAmong m xs) ks ls
 
 drop_among : (i : ℕ) (ms xs : List KeptMessage) → AreAmong ms xs → AreAmong (drop i ms) xs
 drop_among zero ms xs h = h

@@ -2,7 +2,7 @@
 use Rattle.std.proofs.Common.{◌+◌, ◌≡◌, ◌≢◌, ◌⊎◌, inl, inr, ℕ, Bool, true, false, cond, nat_le, length, List, [], ◌∷◌, ◌++◌, map, filter, drop, fold, append_assoc, Option, Some, None, refl, sym, ap, ◌∙◌, subst}
 use Rattle.std.proofs.lemmas.Bool.{false≢true}
 use Rattle.std.specs.BTreeMap.{is_at}
-use Rattle.std.specs.List.{AllByRecursion}
+use Rattle.std.specs.List.{AllByRecursion, flat_map}
 use Rattle.std.specs.Map.{remove_entry}
 use Rattle.std.specs.Ordering.{nat_cmp}
 use Rattle.ua_types.specs.Configuration.{Configuration}
@@ -33,7 +33,7 @@ use Rattle.ua_subscriptions.specs.Making.{refused_one, added}
 use Rattle.ua_subscriptions.specs.Named.{all_refused, without_requests}
 use Rattle.ua_subscriptions.specs.Publishing.{acknowledged_all, part_without_note, asked_by, with_results, ready, asked_numbers}
 use Rattle.ua_subscriptions.specs.Queues.{first_of}
-use Rattle.ua_subscriptions.specs.Scenes.{Sending, Scene, Noting, noting, sending, Queueing, with_refused, enqueued_by, enqueued, answered_by, note_sent, rest_sent, notes_sent, with_asked, done, row_done}
+use Rattle.ua_subscriptions.specs.Scenes.{Sending, Scene, Noting, noting, sending, Queueing, with_refused, enqueued_by, enqueued, answered_by, note_sent, rest_sent, notes_sent, with_asked, dequeued, started, life_reset, done, row_done}
 use Rattle.ua_subscriptions.specs.SubscriptionCalls.{world_of}
 use Rattle.ua_subscriptions.specs.Subscriptions.{no_part}
 use Rattle.ua_subscriptions.specs.Tables.{TableState, World, with_call, without_closed, met_found, met, part_at, part_of, set_part, subscription_at}
@@ -42,15 +42,16 @@ use Rattle.ua_subscriptions.proofs.MapEntries.{entries_found, entries_set, entri
 use Rattle.ua_subscriptions.proofs.OwingRows.{all_append, all_dropped}
 use Rattle.subscription_laws.specs.Answering.{is_dequeueing, dequeues}
 use Rattle.subscription_laws.specs.Calm.{AreRising}
-use Rattle.subscription_laws.specs.Encounters.{Beside, Acknowledges, TellsNote, Refuses, Leaves, LeavesAll, Loses, beside, Encounter, Meets, Does, scene_at, is_meant, met_if, made_scene, encounters, encounters_from, all_encounters}
+use Rattle.subscription_laws.specs.Encounters.{Beside, Acknowledges, TellsNote, Refuses, Leaves, LeavesAll, Loses, beside, Encounter, Meets, Does, scene_at, is_meant, met_if, made_scene, encounters, all_encounters}
 use Rattle.subscription_laws.specs.OwnRequests.{CameIn, WasOf, AnswersItsOwn, AreOwnAnswers}
+use Rattle.subscription_laws.specs.Actions.{rest_notings, notings}
 use Rattle.subscription_laws.specs.Numbering.{messages_of}
-use Rattle.subscription_laws.specs.Runs.{Move, Ran, start, moved, run}
-use Rattle.subscription_laws.specs.Tellings.{Told, Telling, told_at, if_asked, queued_told, note_told, rest_told, notes_told, row_told}
+use Rattle.subscription_laws.specs.Runs.{Move, Ran, start, moved, run, of_run}
+use Rattle.subscription_laws.specs.Tellings.{Told, Telling, told_at, if_asked, queued_told, message_told, row_told}
 use Rattle.subscription_laws.proofs.Entries.{some_same}
 use Rattle.subscription_laws.proofs.AskedNumbers.{asked_are, listed_are}
 use Rattle.subscription_laws.proofs.ChosenRows.{publish_stays, timer_is_none}
-use Rattle.subscription_laws.proofs.Folds.{all_so}
+use Rattle.subscription_laws.proofs.Folds.{all_so, alone}
 use Rattle.subscription_laws.proofs.Keeping.{its_own, world_after, fired_stays}
 use Rattle.subscription_laws.proofs.KeepingPublish.{ready_kept}
 use Rattle.subscription_laws.proofs.MessageNotes.{note_left, fired_notes}
@@ -102,26 +103,28 @@ module _ (Q : PublishCall → Type 0) where
   queued_of (Some asked) round part h =
       either (AllByRecursion Of) (nat_le round.bounds.publish_queue (length part.requests)) _ [] (if_asked_of round.clock [] _ (first_of part.requests) (λ x e. first_is Q part.requests x h e)) tt
 
-  rest_of : (calls : List PublishCall) (n : Noting) → AllByRecursion Q calls → AllByRecursion Of (rest_told calls n)
+  note_of : (n : Noting) → Came n.round.asked → AllByRecursion Of (message_told n)
+  note_of n k = if_asked_of n.round.clock _ _ n.round.asked k
+
+  rest_of : (calls : List PublishCall) (n : Noting) → AllByRecursion Q calls → AllByRecursion Of (flat_map message_told (rest_notings calls n))
   rest_of [] n h = tt
   rest_of (asked ∷ calls) n h =
       let m = with_asked n asked in
-      either (AllByRecursion Of) n.subscription.more (note_told asked m ∷ rest_told calls (note_sent m)) [] (h.0, rest_of calls (note_sent m) h.1) tt
+      either (λ (ns : List Noting). AllByRecursion Of (flat_map message_told ns)) n.subscription.more (m ∷ rest_notings calls (note_sent m)) [] (h.0, rest_of calls (note_sent m) h.1) tt
 
-  notes_of : (o : Option PublishCall) (calls : List PublishCall) (n : Noting) → Came o → AllByRecursion Q calls → AllByRecursion Of (notes_told o calls n)
-  notes_of None calls n k h = tt
-  notes_of (Some asked) calls n k h = (k asked refl, rest_of calls (note_sent n) h)
+  notes_of : (calls : List PublishCall) (n : Noting) → Came n.round.asked → AllByRecursion Q calls → AllByRecursion Of (flat_map message_told (notings calls n) ++ [])
+  notes_of calls n k h = alone (AllByRecursion Of) _ (all_append Of (message_told n) (flat_map message_told (rest_notings calls (note_sent n))) (note_of n k) (rest_of calls (note_sent n) h))
 
   row_tells : (r : RowId) (c : Scene) → AllByRecursion Q c.part.requests → (uses_asked r ≡ true → Came c.round.asked) → AllByRecursion Of (row_told r c)
-  row_tells N1 c h k = queued_of c.round.asked c.round c.part h
-  row_tells K1 c h k = queued_of c.round.asked c.round c.part h
-  row_tells N2 c h k = notes_of c.round.asked c.part.requests _ (k refl) h
-  row_tells L1 c h k = notes_of c.round.asked c.part.requests _ (k refl) h
-  row_tells N3 c h k = notes_of (first_of c.part.requests) (drop 1 c.part.requests) _ (λ x e. first_is Q c.part.requests x h e) (all_dropped Q c.part.requests h)
-  row_tells K2 c h k = notes_of (first_of c.part.requests) (drop 1 c.part.requests) _ (λ x e. first_is Q c.part.requests x h e) (all_dropped Q c.part.requests h)
-  row_tells N4 c h k = if_asked_of _ _ _ (first_of c.part.requests) (λ x e. first_is Q c.part.requests x h e)
-  row_tells K3 c h k = if_asked_of _ _ _ (first_of c.part.requests) (λ x e. first_is Q c.part.requests x h e)
-  row_tells L2 c h k = if_asked_of _ _ _ c.round.asked (k refl)
+  row_tells N1 c h k = alone (AllByRecursion Of) _ (queued_of c.round.asked c.round c.part h)
+  row_tells K1 c h k = alone (AllByRecursion Of) _ (queued_of c.round.asked c.round c.part h)
+  row_tells N2 c h k = notes_of c.part.requests (noting c.round (life_reset c.subscription) c.items) (k refl) h
+  row_tells L1 c h k = notes_of c.part.requests (noting c.round (life_reset c.subscription) c.items) (k refl) h
+  row_tells N3 c h k = notes_of (drop 1 c.part.requests) (noting (dequeued c.round c.part).round (started c.round (life_reset c.subscription)) c.items) (λ x e. first_is Q c.part.requests x h e) (all_dropped Q c.part.requests h)
+  row_tells K2 c h k = notes_of (drop 1 c.part.requests) (noting (dequeued c.round c.part).round (started c.round (life_reset c.subscription)) c.items) (λ x e. first_is Q c.part.requests x h e) (all_dropped Q c.part.requests h)
+  row_tells N4 c h k = alone (AllByRecursion Of) _ (if_asked_of _ _ _ (first_of c.part.requests) (λ x e. first_is Q c.part.requests x h e))
+  row_tells K3 c h k = alone (AllByRecursion Of) _ (if_asked_of _ _ _ (first_of c.part.requests) (λ x e. first_is Q c.part.requests x h e))
+  row_tells L2 c h k = alone (AllByRecursion Of) _ (if_asked_of _ _ _ c.round.asked (k refl))
   row_tells r c h k = tt
 
   -- and what waits afterwards is what waited, or the request that came
@@ -518,10 +521,10 @@ met_here P front (Meets c ∷ es) rest whole is =
     ((λ k own. subst (λ (all : List Encounter). WasOf k c.round.own all) (sym is) (was_here front c (es ++ rest) k own)), met_here P (front ++ Meets c ∷ []) es rest whole (is ∙ sym (append_assoc front (Meets c ∷ []) (es ++ rest))))
 met_here P front (Does w b ∷ es) rest whole is = (tt, met_here P (front ++ Does w b ∷ []) es rest whole (is ∙ sym (append_assoc front (Does w b ∷ []) (es ++ rest))))
 
-all_met : (P : ℕ → PublishCall → Type 0) (front : List Encounter) (ms : List Move) (r : Ran) (whole : List Encounter) → whole ≡ front ++ encounters_from r ms → AllMet P (WasAmong whole) r ms
+all_met : (P : ℕ → PublishCall → Type 0) (front : List Encounter) (ms : List Move) (r : Ran) (whole : List Encounter) → whole ≡ front ++ of_run encounters r ms → AllMet P (WasAmong whole) r ms
 all_met P front [] r whole is = tt
 all_met P front (m ∷ ms) r whole is =
-    (met_here P front (encounters r m) (encounters_from (moved r m) ms) whole is, all_met P (front ++ encounters r m) ms (moved r m) whole (is ∙ sym (append_assoc front (encounters r m) (encounters_from (moved r m) ms))))
+    (met_here P front (encounters r m) (of_run encounters (moved r m) ms) whole is, all_met P (front ++ encounters r m) ms (moved r m) whole (is ∙ sym (append_assoc front (encounters r m) (of_run encounters (moved r m) ms))))
 
 answers_so : (moves : List Move) (es : List Encounter) (e : Encounter) → Own (CameAmong moves) (WasAmong es) e → AnswersItsOwn es moves e
 answers_so moves es (Meets c) h = h

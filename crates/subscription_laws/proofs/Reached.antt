@@ -13,7 +13,6 @@ use Rattle.subscription_laws.specs.Runs.{Move, run}
 use Rattle.ua_subscriptions.specs.Subscriptions.{is_any}
 use Rattle.ua_subscriptions.specs.Tables.{part_at, part_of, subscription_at}
 use Rattle.subscription_laws.proofs.RunsKept.{run_kept}
-use Rattle.subscription_laws.proofs.Settling.{waits_same}
 
 pub rows_are_lawful : (config : Configuration) (moves : List Move) → AreLawful (run config moves).rows
 rows_are_lawful config moves = (run_kept config moves).calm.lawful
@@ -42,7 +41,7 @@ none_beside config moves number session s found own waits =
     let t = (run config moves).subs.table in
     none_left (part_at session t.sessions).requests (false_from_ne_true (is_any (part_at session t.sessions).requests) (λ e.
     let queued : (is_some s.session && is_any (part_of s.session t.sessions).requests) ≡ true = ap (λ (o : Option ℕ). is_some o && is_any (part_of o t.sessions).requests) own ∙ e in
-    false≢true (sym ((all_steady config moves number s found).calm queued) ∙ waits_same s.state (s.enabled && s.more) ∙ waits)))
+    false≢true (sym ((all_steady config moves number s found).calm queued) ∙ waits)))
 
 -- ---- the counts
 

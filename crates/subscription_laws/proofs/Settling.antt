@@ -7,10 +7,7 @@ use Rattle.std.specs.Option.{is_some}
 use Rattle.std.specs.Ordering.{nat_cmp}
 use Rattle.std.specs.Set.{remove_key}
 use Rattle.server_messages.specs.declared.fired.Fired.{Fired}
-use Rattle.ua_state_table.specs.Steady as table
 use Rattle.ua_state_table.specs.Steady.{IsSteady, waits_in}
-use Rattle.ua_state_table.specs.declared.state.State.{State}
-use Rattle.ua_state_table.specs.declared.state.State.TheVariants.{Closed, Normal, Late, KeepAlive}
 use Rattle.ua_monitored_items.specs.Items.{ItemsState, is_available}
 use Rattle.ua_subscriptions.specs.declared.session_part.SessionSubscriptions.{SessionSubscriptions}
 use Rattle.ua_subscriptions.specs.declared.subscription.Subscription.{Subscription}
@@ -28,12 +25,6 @@ use Rattle.subscription_laws.proofs.Remains.{AreApart}
 use Rattle.subscription_laws.proofs.RowCounts.{counts_other, life_other}
 
 -- ---- one that meets nothing itself
-
-pub waits_same : (state : State) (left : Bool) → table.waits_in state left ≡ waits_in state left
-waits_same Closed left = refl
-waits_same Normal left = refl
-waits_same Late left = refl
-waits_same KeepAlive left = refl
 
 -- whether a request of its session waits
 abbrev pub asks : Subscription → SessionSubscriptions → Bool
@@ -58,9 +49,9 @@ still s n part part2 items items2 counts counts2 same up fewer h = subst (λ (k 
   calm = λ e. by (fewer e);
 })
   where
-    by : (asks s part ≡ true) ⊎ (is_waiting s ≡ false) → table.waits_in s.state (s.enabled && s.more) ≡ false
+    by : (asks s part ≡ true) ⊎ (is_waiting s ≡ false) → waits_in s.state (s.enabled && s.more) ≡ false
     by (inl e) = h.calm e
-    by (inr e) = waits_same s.state (s.enabled && s.more) ∙ e
+    by (inr e) = e
 
 -- ---- look-ups
 

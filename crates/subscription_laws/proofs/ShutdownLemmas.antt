@@ -21,7 +21,7 @@ use Rattle.ua_subscriptions.specs.SubscriptionCalls.{world_of}
 use Rattle.ua_subscriptions.specs.Subscriptions.{no_part}
 use Rattle.ua_subscriptions.specs.Tables.{TableState, World, no_table, with_call, without_closed, met_found, met, all_met, part_at, part_of, set_part, subscription_at}
 use Rattle.ua_subscriptions.proofs.Shutdowns.{nothing_left, first_found, first_gone}
-use Rattle.subscription_laws.specs.Concern.{number_of, concerns_at, concerned}
+use Rattle.subscription_laws.specs.Concern.{subscription_of, concerns_at, concerned}
 use Rattle.subscription_laws.specs.Encounters.{Beside, Acknowledges, beside, Encounter, Meets, scene_at, meets_by, meets, all_meet}
 use Rattle.subscription_laws.specs.Runs.{Move, Ran, moved, run}
 use Rattle.subscription_laws.proofs.Acknowledgements.{all_acknowledged}
@@ -115,14 +115,14 @@ first_is w n s es is =
 
 -- whatever is done behind
 each_is : (es : List (ℕ × Subscription)) (w : World) (behind : List Encounter) → flat_map concerns_at behind ≡ [] → w.table.subscriptions ≡ es →
-    map number_of (flat_map concerns_at (all_meet None call.Shutdown w (keys_of es) ++ behind)) ≡ keys_of es
-each_is [] w behind none is = ap (map number_of) none
+    map subscription_of (flat_map concerns_at (all_meet None call.Shutdown w (keys_of es) ++ behind)) ≡ keys_of es
+each_is [] w behind none is = ap (map subscription_of) none
 each_is (e ∷ es) w behind none is =
-    ap (λ (fs : List Encounter). map number_of (flat_map concerns_at ((fs ++ all_meet None call.Shutdown (met w e.0 call.Shutdown) (keys_of es)) ++ behind))) (first_is w e.0 e.1 es is)
+    ap (λ (fs : List Encounter). map subscription_of (flat_map concerns_at ((fs ++ all_meet None call.Shutdown (met w e.0 call.Shutdown) (keys_of es)) ++ behind))) (first_is w e.0 e.1 es is)
     ∙ ap (λ (ns : List ℕ). e.0 ∷ ns) (each_is es (met w e.0 call.Shutdown) behind none (first_gone w e.0 e.1 es is))
 
 pub all_are_concerned : (config : Configuration) (moves : List Move) (clock : Moment) → let r = run config moves in
-    map number_of (concerned r (Move.Shutdown clock)) ≡ keys_of r.subs.table.subscriptions
+    map subscription_of (concerned r (Move.Shutdown clock)) ≡ keys_of r.subs.table.subscriptions
 all_are_concerned config moves clock = let r = run config moves in each_is r.subs.table.subscriptions (world_of r.subs r.items clock) _ refl refl
 
 -- ---- and none comes back, but by a call that makes one

@@ -1,6 +1,8 @@
 -- What rows answer is told: each answer in its place, the messages that it brings, and the numbers that it has.
 use Rattle.std.proofs.Common.{◌≡◌, ℕ, Bool, true, false, cond, List, [], ◌∷◌, ◌++◌, append-nil, append_assoc, map, drop, nat_le, length, Option, Some, None, refl, sym, ap, ◌∙◌, subst}
 use Rattle.std.proofs.lemmas.List.{map-append}
+use Rattle.std.proofs.lemmas.List.Concat.{flat_map-append}
+use Rattle.std.specs.List.{flat_map}
 use Rattle.ua_types.specs.declared.status.TheConstants.Status as status
 use Rattle.server_messages.specs.declared.reply.Reply.{Reply}
 use Rattle.ua_state_table.specs.declared.row.RowId.{RowId}
@@ -10,22 +12,21 @@ use Rattle.ua_subscriptions.specs.Messages.{number_after, keep_alive_message}
 use Rattle.ua_subscriptions.specs.Queues.{first_of}
 use Rattle.ua_subscriptions.specs.Scenes as scenes
 use Rattle.ua_subscriptions.specs.Scenes.{Scene, Noting, noting, sending, note_sent, rest_sent, notes_sent, with_asked, with_refused, Queueing, enqueued, enqueued_by, dequeued, started, life_reset, placed, counted, subscription_noted, message_made, row_done}
+use Rattle.ua_subscriptions.specs.declared.messages.KeptMessage.{KeptMessage}
 use Rattle.ua_subscriptions.specs.declared.publish_call.PublishCall.{PublishCall}
 use Rattle.ua_subscriptions.specs.declared.round.Round.{Round}
 use Rattle.ua_subscriptions.specs.declared.session_part.SessionSubscriptions.{SessionSubscriptions}
 use Rattle.ua_subscriptions.specs.declared.subscription.Subscription.{Subscription}
 use Rattle.subscription_laws.specs.Messaging.{Made, made_of, messages_for, AreAmong, AreItsMessages}
-use Rattle.subscription_laws.specs.Numbering.{note_made, rest_made, notes_made, messages_of}
-use Rattle.subscription_laws.specs.Tellings.{Telling, answer_of, message_in, messages_in, if_asked, KeepAlive, Refused, queued_told, note_told, rest_told, notes_told, row_told, AreInSequence}
+use Rattle.subscription_laws.specs.Actions.{rest_notings, notings}
+use Rattle.subscription_laws.specs.Numbering.{note_made, messages_of}
+use Rattle.subscription_laws.specs.Tellings.{Telling, answer_of, message_in, messages_in, if_asked, Notifications, KeepAlive, Refused, queued_told, message_told, row_told, AreInSequence}
+use Rattle.subscription_laws.proofs.Folds.{alone}
 use Rattle.subscription_laws.proofs.RowRequests.{IsGiven}
 use Rattle.subscription_laws.proofs.MessageLists.{last_on, more_own, more_kept}
 use Rattle.subscription_laws.proofs.Owners.{note_own}
 
 -- ---- answers behind others
-
-pub messages_join : (xs ys : List Telling) → messages_in (xs ++ ys) ≡ messages_in xs ++ messages_in ys
-messages_join [] ys = refl
-messages_join (x ∷ xs) ys = ap (λ (l : List Made). message_in x.told ++ l) (messages_join xs ys) ∙ sym (append_assoc (message_in x.told) (messages_in xs) (messages_in ys))
 
 sequence_join : (ms : List Made) (xs ys : List Telling) → AreInSequence ms xs → AreInSequence (ms ++ messages_in xs) ys → AreInSequence ms (xs ++ ys)
 sequence_join ms [] ys h k = subst (λ (l : List Made). AreInSequence l ys) (append-nil ms) k
@@ -44,7 +45,7 @@ tells_none ms before = record { so = sym (append-nil before); brings = refl; seq
 pub tells_then : (ms : List Made) (a b c : List Reply) (ns ks : List Made) (xs ys : List Telling) → Tells ms a b ns xs → Tells (ms ++ ns) b c ks ys → Tells ms a c (ns ++ ks) (xs ++ ys)
 tells_then ms a b c ns ks xs ys h k = record {
   so = k.so ∙ ap (λ (rs : List Reply). rs ++ map answer_of ys) h.so ∙ append_assoc a (map answer_of xs) (map answer_of ys) ∙ ap (λ (rs : List Reply). a ++ rs) (sym (map-append answer_of xs ys));
-  brings = messages_join xs ys ∙ ap (λ (l : List Made). l ++ messages_in ys) h.brings ∙ ap (λ (l : List Made). ns ++ l) k.brings;
+  brings = flat_map-append (λ (t : Telling). message_in t.told) xs ys ∙ ap (λ (l : List Made). l ++ messages_in ys) h.brings ∙ ap (λ (l : List Made). ns ++ l) k.brings;
   sequence = sequence_join ms xs ys h.sequence (subst (λ (l : List Made). AreInSequence (ms ++ l) ys) (sym h.brings) k.sequence);
 }
 
@@ -64,12 +65,12 @@ note_at own ms n h =
     })
 
 note_tells : (ms : List Made) (n : Noting) (asked : PublishCall) → n.round.asked ≡ Some asked → IsAt n.round.own ms n.subscription →
-    Tells ms n.round.replies (note_sent n).round.replies (made_of n.round.own (note_made n ∷ [])) (note_told asked n ∷ [])
+    Tells ms n.round.replies (note_sent n).round.replies (made_of n.round.own (note_made n ∷ [])) (message_told n)
 unfolding note_sent
 note_tells ms n asked is h =
     let after = subscription_noted n.round n.subscription n.items in
     let m = note_made n in
-    record {
+    subst (λ (o : Option PublishCall). Tells ms n.round.replies (note_sent n).round.replies (made_of n.round.own (m ∷ [])) (if_asked n.round.clock after.kept (Notifications (record { subscription = n.round.own; message = m }) after.more) o)) (sym is) (record {
       so = ap (λ (o : Option PublishCall). (scenes.answered_by o (counted n.round) after after.more (message_made n.round n.subscription n.items)).replies) is;
       brings = refl;
       sequence = (
@@ -79,11 +80,11 @@ note_tells ms n asked is h =
         ),
         tt,
       );
-    }
+    })
 
 -- each further message answers a request that waited
 rest_tells : (calls : List PublishCall) (ms : List Made) (n : Noting) (own : ℕ) → n.round.own ≡ own → IsAt own ms n.subscription →
-    Tells ms n.round.replies (rest_sent calls n).noting.round.replies (made_of own (rest_made calls n)) (rest_told calls n)
+    Tells ms n.round.replies (rest_sent calls n).noting.round.replies (made_of own (map note_made (rest_notings calls n))) (flat_map message_told (rest_notings calls n))
 rest_tells [] ms n own is h = tells_none ms n.round.replies
 rest_tells (asked ∷ calls) ms n own is h =
     by n.subscription.more (rest_tells calls (ms ++ made_of own (note_made (with_asked n asked) ∷ [])) next own (note_own (with_asked n asked) ∙ is) (note_at own ms (with_asked n asked) (record { last = h.last; kept = h.kept })))
@@ -91,27 +92,25 @@ rest_tells (asked ∷ calls) ms n own is h =
     next : Noting
     next = note_sent (with_asked n asked)
 
-    one : Tells ms n.round.replies next.round.replies (made_of own (note_made (with_asked n asked) ∷ [])) (note_told asked (with_asked n asked) ∷ [])
+    one : Tells ms n.round.replies next.round.replies (made_of own (note_made (with_asked n asked) ∷ [])) (message_told (with_asked n asked))
     one =
-        subst (λ (k : ℕ). Tells ms n.round.replies next.round.replies (made_of k (note_made (with_asked n asked) ∷ [])) (note_told asked (with_asked n asked) ∷ [])) is
+        subst (λ (k : ℕ). Tells ms n.round.replies next.round.replies (made_of k (note_made (with_asked n asked) ∷ [])) (message_told (with_asked n asked))) is
         (note_tells ms (with_asked n asked) asked refl (subst (λ (k : ℕ). IsAt k ms n.subscription) (sym is) h))
 
-    by : (more : Bool) → Tells (ms ++ made_of own (note_made (with_asked n asked) ∷ [])) next.round.replies (rest_sent calls next).noting.round.replies (made_of own (rest_made calls next)) (rest_told calls next) →
-        Tells ms n.round.replies (cond more (rest_sent calls next) (sending n (asked ∷ calls))).noting.round.replies (made_of own (cond more (note_made (with_asked n asked) ∷ rest_made calls next) []))
-        (cond more (note_told asked (with_asked n asked) ∷ rest_told calls next) [])
+    by : (more : Bool) → Tells (ms ++ made_of own (note_made (with_asked n asked) ∷ [])) next.round.replies (rest_sent calls next).noting.round.replies (made_of own (map note_made (rest_notings calls next))) (flat_map message_told (rest_notings calls next)) →
+        (let ns = cond more (with_asked n asked ∷ rest_notings calls next) [] in Tells ms n.round.replies (cond more (rest_sent calls next) (sending n (asked ∷ calls))).noting.round.replies (made_of own (map note_made ns)) (flat_map message_told ns))
     by true k =
-        tells_then ms n.round.replies next.round.replies (rest_sent calls next).noting.round.replies (made_of own (note_made (with_asked n asked) ∷ [])) (made_of own (rest_made calls next))
-        (note_told asked (with_asked n asked) ∷ []) (rest_told calls next) one k
+        tells_then ms n.round.replies next.round.replies (rest_sent calls next).noting.round.replies (made_of own (note_made (with_asked n asked) ∷ [])) (made_of own (map note_made (rest_notings calls next)))
+        (message_told (with_asked n asked)) (flat_map message_told (rest_notings calls next)) one k
     by false k = tells_none ms n.round.replies
 
-notes_tell : (ms : List Made) (calls : List PublishCall) (n : Noting) (o : Option PublishCall) (asked : PublishCall) → o ≡ Some asked → n.round.asked ≡ o → IsAt n.round.own ms n.subscription →
-    Tells ms n.round.replies (notes_sent calls n).noting.round.replies (made_of n.round.own (notes_made calls n)) (notes_told o calls n)
+notes_tell : (ms : List Made) (calls : List PublishCall) (n : Noting) (asked : PublishCall) → n.round.asked ≡ Some asked → IsAt n.round.own ms n.subscription →
+    Tells ms n.round.replies (notes_sent calls n).noting.round.replies (made_of n.round.own (map note_made (notings calls n))) (flat_map message_told (notings calls n))
 unfolding notes_sent
-notes_tell ms calls n o asked is there h =
-    subst (Tells ms n.round.replies (rest_sent calls (note_sent n)).noting.round.replies (made_of n.round.own (notes_made calls n))) (ap (λ (x : Option PublishCall). notes_told x calls n) (sym is))
-    (tells_then ms n.round.replies (note_sent n).round.replies (rest_sent calls (note_sent n)).noting.round.replies (made_of n.round.own (note_made n ∷ [])) (made_of n.round.own (rest_made calls (note_sent n)))
-    (note_told asked n ∷ []) (rest_told calls (note_sent n))
-    (note_tells ms n asked (there ∙ is) h) (rest_tells calls (ms ++ made_of n.round.own (note_made n ∷ [])) (note_sent n) n.round.own (note_own n) (note_at n.round.own ms n h)))
+notes_tell ms calls n asked is h =
+    tells_then ms n.round.replies (note_sent n).round.replies (rest_sent calls (note_sent n)).noting.round.replies (made_of n.round.own (note_made n ∷ [])) (made_of n.round.own (map note_made (rest_notings calls (note_sent n))))
+    (message_told n) (flat_map message_told (rest_notings calls (note_sent n)))
+    (note_tells ms n asked is h) (rest_tells calls (ms ++ made_of n.round.own (note_made n ∷ [])) (note_sent n) n.round.own (note_own n) (note_at n.round.own ms n h))
 
 -- ---- keep-alives, and requests that are queued
 
@@ -139,26 +138,34 @@ queued_tells ms round part = by round.asked
 
 -- ---- a row
 
+-- with nothing behind it
+both_alone : (ms : List Made) (before after : List Reply) (own : ℕ) (made : List KeptMessage) (told : List Telling) → Tells ms before after (made_of own made) told → Tells ms before after (made_of own (made ++ [])) (told ++ [])
+both_alone ms before after own made told h = alone (λ (ks : List KeptMessage). Tells ms before after (made_of own ks) (told ++ [])) made (alone (Tells ms before after (made_of own made)) told h)
+
 row_tells : (ms : List Made) (r : RowId) (c : Scene) → IsGiven r c → IsAt c.round.own ms c.subscription →
     Tells ms c.round.replies (row_done r c).round.replies (made_of c.round.own (messages_of r c)) (row_told r c)
 unfolding row_done
 row_tells ms N2 c given h =
     let g = given refl in
-    notes_tell ms c.part.requests (noting c.round (life_reset c.subscription) c.items) c.round.asked g.0 g.1 refl (record { last = h.last; kept = h.kept })
+    let n = noting c.round (life_reset c.subscription) c.items in
+    both_alone ms c.round.replies _ c.round.own (map note_made (notings c.part.requests n)) (flat_map message_told (notings c.part.requests n)) (notes_tell ms c.part.requests n g.0 g.1 (record { last = h.last; kept = h.kept }))
 row_tells ms L1 c given h =
     let g = given refl in
-    notes_tell ms c.part.requests (noting c.round (life_reset c.subscription) c.items) c.round.asked g.0 g.1 refl (record { last = h.last; kept = h.kept })
+    let n = noting c.round (life_reset c.subscription) c.items in
+    both_alone ms c.round.replies _ c.round.own (map note_made (notings c.part.requests n)) (flat_map message_told (notings c.part.requests n)) (notes_tell ms c.part.requests n g.0 g.1 (record { last = h.last; kept = h.kept }))
 row_tells ms N3 c given h =
     let g = given refl in
-    notes_tell ms (drop 1 c.part.requests) (noting (dequeued c.round c.part).round (started c.round (life_reset c.subscription)) c.items) (first_of c.part.requests) g.0 g.1 refl (record { last = h.last; kept = h.kept })
+    let n = noting (dequeued c.round c.part).round (started c.round (life_reset c.subscription)) c.items in
+    both_alone ms c.round.replies _ c.round.own (map note_made (notings (drop 1 c.part.requests) n)) (flat_map message_told (notings (drop 1 c.part.requests) n)) (notes_tell ms (drop 1 c.part.requests) n g.0 g.1 (record { last = h.last; kept = h.kept }))
 row_tells ms K2 c given h =
     let g = given refl in
-    notes_tell ms (drop 1 c.part.requests) (noting (dequeued c.round c.part).round (started c.round (life_reset c.subscription)) c.items) (first_of c.part.requests) g.0 g.1 refl (record { last = h.last; kept = h.kept })
-row_tells ms N4 c given h = alive_tells ms c (first_of c.part.requests) (counted (dequeued c.round c.part).round) (placed (counted c.round) (started c.round (life_reset c.subscription))) refl refl refl refl h
-row_tells ms K3 c given h = alive_tells ms c (first_of c.part.requests) (counted (dequeued c.round c.part).round) (placed (counted c.round) (started c.round (life_reset c.subscription))) refl refl refl refl h
-row_tells ms L2 c given h = alive_tells ms c c.round.asked (counted c.round) (placed (counted c.round) (life_reset c.subscription)) refl refl refl refl h
-row_tells ms N1 c given h = queued_tells ms c.round c.part
-row_tells ms K1 c given h = queued_tells ms c.round c.part
+    let n = noting (dequeued c.round c.part).round (started c.round (life_reset c.subscription)) c.items in
+    both_alone ms c.round.replies _ c.round.own (map note_made (notings (drop 1 c.part.requests) n)) (flat_map message_told (notings (drop 1 c.part.requests) n)) (notes_tell ms (drop 1 c.part.requests) n g.0 g.1 (record { last = h.last; kept = h.kept }))
+row_tells ms N4 c given h = both_alone ms c.round.replies _ c.round.own [] _ (alive_tells ms c (first_of c.part.requests) (counted (dequeued c.round c.part).round) (placed (counted c.round) (started c.round (life_reset c.subscription))) refl refl refl refl h)
+row_tells ms K3 c given h = both_alone ms c.round.replies _ c.round.own [] _ (alive_tells ms c (first_of c.part.requests) (counted (dequeued c.round c.part).round) (placed (counted c.round) (started c.round (life_reset c.subscription))) refl refl refl refl h)
+row_tells ms L2 c given h = both_alone ms c.round.replies _ c.round.own [] _ (alive_tells ms c c.round.asked (counted c.round) (placed (counted c.round) (life_reset c.subscription)) refl refl refl refl h)
+row_tells ms N1 c given h = both_alone ms c.round.replies _ c.round.own [] _ (queued_tells ms c.round c.part)
+row_tells ms K1 c given h = both_alone ms c.round.replies _ c.round.own [] _ (queued_tells ms c.round c.part)
 row_tells ms r c given h = tells_none ms c.round.replies
 
 pub fired_tells : (ms : List Made) (c : Scene) → IsGiven (row_of c) c → IsAt c.round.own ms c.subscription →

@@ -19,9 +19,9 @@ use Rattle.ua_monitored_items.specs.Moves.{queue_at}
 use Rattle.ua_monitored_items.proofs.Causing.{fates_have_their_causes}
 use Rattle.ua_monitored_items.proofs.Runs.{queues_are_what_waits, fates_are_final, accounts_are_in_order, accounts_mark_losses}
 use Rattle.subscription_laws.specs.Fates.{queue_moves_at, account_at, AreCaused, HaveTheirCauses, EachLossIsMarked}
-use Rattle.subscription_laws.specs.ItemCalls.{calls_from, item_calls}
+use Rattle.subscription_laws.specs.ItemCalls.{calls_of, item_calls}
 use Rattle.subscription_laws.specs.Marks.{MarksWhatFollows}
-use Rattle.subscription_laws.specs.Runs.{Move, run}
+use Rattle.subscription_laws.specs.Runs.{Move, run, of_run}
 use Rattle.subscription_laws.proofs.ItemsCalled.{items_come_by_their_calls, calls_go_on}
 
 module _ (config : Configuration) (moves : List Move) (number : ℕ) where
@@ -34,7 +34,7 @@ module _ (config : Configuration) (moves : List Move) (number : ℕ) where
   pub they_stay : (more : List Move) → GoesOn (account_at config moves number) (account_at config (moves ++ more) number)
   they_stay more =
       subst (λ (calls : List item_moves.Move). GoesOn (account_at config moves number) (item_moves.account_of config calls number)) (sym (calls_go_on config moves more))
-      (fates_are_final config (item_calls config moves) (calls_from (run config moves) more) number)
+      (fates_are_final config (item_calls config moves) (of_run calls_of (run config moves) more) number)
 
   pub sent_in_order : IsInOrder (account_at config moves number)
   sent_in_order = accounts_are_in_order config (item_calls config moves) number

@@ -48,8 +48,12 @@ pub record Brings (reply : Reply) (m : Made) : Type 0 where
   pub more : Bool
   pub so : reply ≡ published_of clock call m.subscription kept more m.message.bytes
 
--- each message is brought by an answer of its own, in order; answers that bring none may stand between
+-- each of some has one of its own among others, in their order; more may stand between
+abbrev pub HaveTheirOwn : {A B : Type 0} → (A → B → Type 0) → List A → List B → Type 0
+HaveTheirOwn Is [] ys = ⊤
+HaveTheirOwn Is (x ∷ xs) [] = ⊥
+HaveTheirOwn Is (x ∷ xs) (y ∷ ys) = (Is x y × HaveTheirOwn Is xs ys) ⊎ HaveTheirOwn Is (x ∷ xs) ys
+
+-- each message is brought by an answer of its own; answers that bring none may stand between
 abbrev pub AreBrought : List Reply → List Made → Type 0
-AreBrought replies [] = ⊤
-AreBrought [] (m ∷ ms) = ⊥
-AreBrought (r ∷ rs) (m ∷ ms) = (Brings r m × AreBrought rs ms) ⊎ AreBrought rs (m ∷ ms)
+AreBrought replies made = HaveTheirOwn (λ m reply. Brings reply m) made replies

@@ -1,5 +1,5 @@
 -- What holds of the subscriptions of a server after any calls.
-use Rattle.std.specs.Prelude.{◌≡◌, ◌<◌, ◌≤◌, ⊤, ℕ, Bool, true, List, [], ◌∷◌, Some}
+use Rattle.std.specs.Prelude.{◌≡◌, ◌<◌, ◌≤◌, ◌+◌, ⊤, ℕ, Bool, true, List, [], ◌∷◌, Some}
 use Rattle.std.specs.BTreeMap.{is_at}
 use Rattle.std.specs.List.{AllByRecursion, list_any}
 use Rattle.std.specs.Ordering.{nat_cmp}
@@ -12,6 +12,7 @@ use Rattle.ua_monitored_items.specs.Moves.{Move, run}
 use Rattle.ua_subscriptions.specs.declared.subscription.Subscription.{Subscription}
 use Rattle.subscription_laws.specs.Histories.{counts_at, life_at, AreLawful}
 use Rattle.subscription_laws.specs.Standings.{standing}
+use Rattle.ua_subscriptions.specs.Ranks.{is_waiting}
 use Rattle.ua_subscriptions.specs.Subscriptions.{vars_of}
 use Rattle.ua_subscriptions.specs.Tables.{TableState, part_at, part_of, subscription_at}
 
@@ -66,6 +67,22 @@ AreSteady t items rows = (number : ℕ) (s : Subscription) → subscription_at n
 -- the life counter of each was last set to its lifetime count
 abbrev pub LivesAreSet : TableState → List Fired → Type 0
 LivesAreSet t rows = (number : ℕ) (s : Subscription) → subscription_at number t.subscriptions ≡ Some s → life_at number rows ≡ s.lifetime_count
+
+-- a session with a subscription that waits has no queued request
+abbrev pub NoneWaitsBesideARequest : TableState → Type 0
+NoneWaitsBesideARequest t = (number session : ℕ) (s : Subscription) → subscription_at number t.subscriptions ≡ Some s → s.session ≡ Some session →
+    is_waiting s ≡ true → (part_at session t.sessions).requests ≡ []
+
+-- the life counter of each subscription was last set to its lifetime count, and lacks of it one for each timer since
+abbrev pub LivesCountTimers : List Fired → TableState → Type 0
+LivesCountTimers rows t = (number : ℕ) (s : Subscription) → subscription_at number t.subscriptions ≡ Some s →
+    (life_at number rows ≡ s.lifetime_count) × (s.lifetime + (counts_at number rows).started ≡ s.lifetime_count)
+
+-- the timers of each subscription that found a request, since it sent a message, or one of them found none, or its counts
+-- were set, are fewer than its keep-alive count
+abbrev pub NoKeepAliveIsSkipped : List Fired → TableState → Type 0
+NoKeepAliveIsSkipped rows t = (number : ℕ) (s : Subscription) → subscription_at number t.subscriptions ≡ Some s →
+    (counts_at number rows).answerable < s.keep_alive_count
 
 -- items that some calls of theirs left
 pub record AreReached (items : ItemsState) : Type 0 where

@@ -1,5 +1,5 @@
 -- Which subscriptions a call concerns, and what comes to each (IEC 62541-4, 5.13: the events of the state table).
-use Rattle.std.specs.Prelude.{◌≡◌, ℕ, List, [], ◌∷◌, ◌++◌, map}
+use Rattle.std.specs.Prelude.{◌≡◌, ℕ, List, [], ◌∷◌, map}
 use Rattle.std.specs.List.{flat_map}
 use Rattle.ua_types.specs.Configuration.{Configuration}
 use Rattle.server_messages.specs.declared.fired.Fired.{Fired}
@@ -9,7 +9,7 @@ use Rattle.ua_subscriptions.specs.Calls.{event_of}
 use Rattle.ua_subscriptions.specs.Firing.{before_of}
 use Rattle.ua_subscriptions.specs.Scenes.{Scene}
 use Rattle.subscription_laws.specs.Encounters.{Encounter, Meets, Does, encounters}
-use Rattle.subscription_laws.specs.Runs.{Move, Ran, start, moved}
+use Rattle.subscription_laws.specs.Runs.{Move, Ran, start, of_run}
 
 -- a subscription, what comes to it, and the variables at which it is met
 pub record Concern : Type 0 where
@@ -20,8 +20,8 @@ pub record Concern : Type 0 where
 abbrev pub concern : ℕ → TableEvent → Vars → Concern
 concern number event before = record { subscription = number; event = event; before = before }
 
-abbrev pub number_of : Concern → ℕ
-number_of c = c.subscription
+abbrev pub subscription_of : Concern → ℕ
+subscription_of c = c.subscription
 
 -- what a row that fired tells of it
 abbrev pub concern_of : Fired → Concern
@@ -40,14 +40,9 @@ concerns_at (Does w b) = []
 abbrev pub concerned : Ran → Move → List Concern
 concerned r m = flat_map concerns_at (encounters r m)
 
--- several calls, each met by what those before it left
-abbrev pub concerned_from : Ran → List Move → List Concern
-concerned_from r [] = []
-concerned_from r (m ∷ ms) = concerned r m ++ concerned_from (moved r m) ms
-
--- all calls, from the first on
+-- what all calls concern, from the first on
 abbrev pub all_concerned : Configuration → List Move → List Concern
-all_concerned config moves = concerned_from (start config) moves
+all_concerned config moves = of_run concerned (start config) moves
 
 -- one row fires for each of these, in their order, and no other
 abbrev pub AreTheRowsFor : List Concern → List Fired → Type 0

@@ -32,7 +32,7 @@ use Rattle.ua_subscriptions.specs.Scenes.{Scene, scene, with_reply, row_done}
 use Rattle.ua_subscriptions.specs.SubscriptionCalls.{world_of, is_full}
 use Rattle.ua_subscriptions.specs.Subscriptions.{unborn, no_part}
 use Rattle.ua_subscriptions.specs.Tables.{World, with_call, met, part_of, part_at, subscription_at, vars_found}
-use Rattle.subscription_laws.specs.Runs.{ItemsCall, items_asked, Move, Ran, start, moved}
+use Rattle.subscription_laws.specs.Runs.{ItemsCall, items_asked, Move, Ran, start, of_run}
 
 -- ---- what is done beside
 
@@ -178,14 +178,9 @@ encounters r (Move.Gone conn) = Does (world_of r.subs r.items any_time) (Loses c
 encounters r (Move.Items clock number asked) = served_encounters number asked (world_of r.subs r.items clock) (vars_found number r.items r.subs.table)
 encounters r (Move.Show changed) = Does (world_of r.subs r.items any_time) (ShowsItems changed) ∷ []
 
--- several calls, each met by what those before it left
-abbrev pub encounters_from : Ran → List Move → List Encounter
-encounters_from r [] = []
-encounters_from r (m ∷ ms) = encounters r m ++ encounters_from (moved r m) ms
-
--- all calls, from the first on
+-- those of all calls, from the first on
 abbrev pub all_encounters : Configuration → List Move → List Encounter
-all_encounters config moves = encounters_from (start config) moves
+all_encounters config moves = of_run encounters (start config) moves
 
 -- ---- the rows
 

@@ -1,4 +1,5 @@
 pub mod Standings
+pub mod Actions
 pub mod Numbering
 pub mod Histories
 pub mod Calm

@@ -1,5 +1,6 @@
 -- What messages tell: each message, and the values that items gave to it.
 use Rattle.std.specs.Prelude.{◌≡◌, ⊤, ℕ, List, [], ◌∷◌, ◌++◌}
+use Rattle.std.specs.List.{flat_map}
 use Rattle.ua_types.specs.Configuration.{Configuration}
 use Rattle.ua_types.specs.declared.moment.Moment.{Moment}
 use Rattle.ua_values.specs.declared.data_value.DataValue.{DataValue}
@@ -45,5 +46,4 @@ AreMadeOf (m ∷ ms) (t ∷ ts) = IsMadeOf m t × AreMadeOf ms ts
 
 -- the values that the item of a number gave, message after message
 abbrev pub entries_sent : ℕ → List Taken → List (Entry DataValue)
-entries_sent number [] = []
-entries_sent number (t ∷ ts) = entries_of number t.givings ++ entries_sent number ts
+entries_sent number ts = flat_map (λ (t : Taken). entries_of number t.givings) ts

@@ -1,27 +1,18 @@
 -- The messages that a row makes, and their numbers (IEC 62541-4, 5.13: SequenceNumber and the retransmission queue).
-use Rattle.std.specs.Prelude.{◌≡◌, ⊤, ℕ, Bool, true, false, List, [], ◌∷◌, fold, if◌then◌else◌}
-use Rattle.ua_state_table.specs.StateTable.{actions_of}
+use Rattle.std.specs.Prelude.{◌≡◌, ⊤, ℕ, Bool, true, false, List, [], ◌∷◌, fold, map}
 use Rattle.ua_state_table.specs.declared.action.Action.{Action}
 use Rattle.ua_state_table.specs.declared.action.Action.TheVariants.{SendNotifications}
 use Rattle.ua_state_table.specs.declared.row.RowId.{RowId}
 use Rattle.ua_state_table.specs.declared.row.RowId.TheVariants.{C2, G5, G6, G8, G10}
 use Rattle.ua_subscriptions.specs.declared.messages.KeptMessage.{KeptMessage}
-use Rattle.ua_subscriptions.specs.declared.publish_call.PublishCall.{PublishCall}
 use Rattle.ua_subscriptions.specs.declared.subscription.Subscription.{Subscription}
 use Rattle.ua_subscriptions.specs.Messages.{number_after}
-use Rattle.ua_subscriptions.specs.Scenes.{Scene, Noting, noting, note_sent, with_asked, message_made, kept_with, done}
+use Rattle.ua_subscriptions.specs.Scenes.{Scene, Noting, message_made, kept_with}
+use Rattle.subscription_laws.specs.Actions.{of_row, notings_at}
 
 -- the message that is made next
 abbrev pub note_made : Noting → KeptMessage
 note_made n = record { number = number_after n.subscription.number; bytes = message_made n.round n.subscription n.items }
-
-abbrev pub rest_made : List PublishCall → Noting → List KeptMessage
-rest_made [] n = []
-rest_made (call ∷ calls) n = if n.subscription.more then note_made (with_asked n call) ∷ rest_made calls (note_sent (with_asked n call)) else []
-
--- the messages that are made while notifications are sent
-abbrev pub notes_made : List PublishCall → Noting → List KeptMessage
-notes_made calls n = note_made n ∷ rest_made calls (note_sent n)
 
 -- each number follows the one before it
 abbrev pub AreNumbered : ℕ → List KeptMessage → Type 0
@@ -42,14 +33,13 @@ pub record IsMade (bound : ℕ) (before after : Subscription) (made : List KeptM
   pub number : after.number ≡ last_number before.number made
   pub kept : after.kept ≡ all_kept bound before.kept made
 
--- the messages that a row makes: those of its action that sends notifications, after the actions before it
-abbrev pub messages_by : Scene → List Action → List KeptMessage
-messages_by c [] = []
-messages_by c (SendNotifications ∷ actions) = notes_made c.part.requests (noting c.round c.subscription c.items)
-messages_by c (action ∷ actions) = messages_by (done c action) actions
+-- the messages that a row makes, by its action that sends notifications
+abbrev pub action_made : Scene → Action → List KeptMessage
+action_made c SendNotifications = map note_made (notings_at c)
+action_made c action = []
 
 abbrev pub messages_of : RowId → Scene → List KeptMessage
-messages_of r c = messages_by c (actions_of r)
+messages_of r c = of_row action_made r c
 
 -- a row begins or ends a subscription
 abbrev pub begins_or_ends : RowId → Bool

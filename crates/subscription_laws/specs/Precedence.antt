@@ -11,7 +11,7 @@ use Rattle.ua_subscriptions.specs.declared.subscription.Subscription.{Subscripti
 use Rattle.ua_subscriptions.specs.Publishing.{note_of}
 use Rattle.ua_subscriptions.specs.Ranks.{rank_of, is_waiting, is_due}
 use Rattle.ua_subscriptions.specs.Tables.{subscription_at}
-use Rattle.subscription_laws.specs.Concern.{number_of, concerned}
+use Rattle.subscription_laws.specs.Concern.{subscription_of, concerned}
 use Rattle.subscription_laws.specs.Requests.{name_of}
 use Rattle.subscription_laws.specs.Runs.{Move, Ran}
 use Rattle.subscription_laws.specs.Tellings.{Telling, moved_told}
@@ -57,7 +57,7 @@ pub record IsAnswered (asked : PublishCall) (told : List Telling) : Type 0 where
 pub record IsGivenToTheBest (r : Ran) (clock : Moment) (session : ℕ) (asked : PublishCall) (acks : List SubscriptionAcknowledgement) : Type 0 where
   pub number : ℕ
   pub is_best : IsBest (WaitsIn session) r.subs.table.subscriptions number
-  pub alone : map number_of (concerned r (Move.Publish clock session asked acks)) ≡ number ∷ []
+  pub alone : map subscription_of (concerned r (Move.Publish clock session asked acks)) ≡ number ∷ []
   pub answered : IsAnswered asked (moved_told r (Move.Publish clock session asked acks))
 
 -- so it is where any of them waits, and no note of a time-out is the answer
@@ -68,4 +68,4 @@ ComesToTheBest r clock session asked acks =
 
 -- time comes to all subscriptions that are due, the best first, and to no other
 abbrev pub ComesBestFirst : Ran → Moment → Type 0
-ComesBestFirst r clock = AreAllBestFirst (IsDueAt clock) r.subs.table.subscriptions (map number_of (concerned r (Move.Timers clock)))
+ComesBestFirst r clock = AreAllBestFirst (IsDueAt clock) r.subs.table.subscriptions (map subscription_of (concerned r (Move.Timers clock)))

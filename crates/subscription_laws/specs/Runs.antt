@@ -1,5 +1,5 @@
 -- Any calls, one after the other.
-use Rattle.std.specs.Prelude.{ℕ, Bool, List, [], ◌++◌, fold, Option, Some, None}
+use Rattle.std.specs.Prelude.{ℕ, Bool, List, [], ◌∷◌, ◌++◌, fold, Option, Some, None}
 use Rattle.ua_types.specs.Configuration.{Configuration}
 use Rattle.ua_types.specs.declared.moment.Moment.{Moment}
 use Rattle.server_messages.specs.declared.fired.Fired.{Fired}
@@ -101,3 +101,8 @@ moved r (Move.Show changed) = record r { items = (item_moves.moved r.items (item
 -- what any calls leave, from the first on
 abbrev pub run : Configuration → List Move → Ran
 run config moves = fold moved (start config) moves
+
+-- what comes of several calls, each met by what those before it left
+abbrev pub of_run : {A : Type 0} → (Ran → Move → List A) → Ran → List Move → List A
+of_run each r [] = []
+of_run each r (m ∷ ms) = each r m ++ of_run each (moved r m) ms

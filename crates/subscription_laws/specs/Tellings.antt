@@ -7,7 +7,6 @@ use Rattle.ua_types.specs.declared.moment.Moment.{Moment}
 use Rattle.ua_types.specs.declared.status.Status.{Status}
 use Rattle.ua_types.specs.declared.status.TheConstants.Status as status
 use Rattle.server_messages.specs.declared.reply.Reply.{Reply}
-use Rattle.ua_state_table.specs.StateTable.{actions_of}
 use Rattle.ua_state_table.specs.declared.action.Action.{Action}
 use Rattle.ua_state_table.specs.declared.action.Action.TheVariants.{Enqueue, SendNotifications, SendKeepAlive}
 use Rattle.ua_state_table.specs.declared.row.RowId.{RowId}
@@ -16,7 +15,8 @@ use Rattle.ua_subscriptions.specs.Ending.{all_requests}
 use Rattle.ua_subscriptions.specs.Firing.{row_of}
 use Rattle.ua_subscriptions.specs.Messages.{number_after, keep_alive_message, timeout_message}
 use Rattle.ua_subscriptions.specs.Queues.{first_of}
-use Rattle.ua_subscriptions.specs.Scenes.{Scene, Noting, noting, subscription_noted, note_sent, with_asked, done}
+use Rattle.ua_subscriptions.specs.Scenes.{Scene, Noting, subscription_noted}
+use Rattle.subscription_laws.specs.Actions.{of_row, notings_at}
 use Rattle.ua_subscriptions.specs.Tables.{World, part_at}
 use Rattle.subscription_laws.specs.Encounters.{Beside, TellsNote, TellsNone, Refuses, LeavesAll, Encounter, Meets, Does, encounters}
 use Rattle.ua_subscriptions.specs.declared.messages.KeptMessage.{KeptMessage}
@@ -26,7 +26,7 @@ use Rattle.ua_subscriptions.specs.declared.session_part.SessionSubscriptions.{Se
 use Rattle.ua_subscriptions.specs.declared.session_part.TimeoutNote.{TimeoutNote}
 use Rattle.subscription_laws.specs.Messaging.{Made, messages_for, AreAmong}
 use Rattle.subscription_laws.specs.Numbering.{note_made, last_number}
-use Rattle.subscription_laws.specs.Runs.{Move, Ran, moved}
+use Rattle.subscription_laws.specs.Runs.{Move, Ran, of_run}
 
 pub data Told : Type 0 where
   -- a message with notifications, and whether values are left
@@ -61,8 +61,7 @@ message_in told = []
 
 -- the messages with notifications among what is told
 abbrev pub messages_in : List Telling → List Made
-messages_in [] = []
-messages_in (t ∷ ts) = message_in t.told ++ messages_in ts
+messages_in ts = flat_map (λ (t : Telling). message_in t.told) ts
 
 -- ---- a row
 
@@ -80,30 +79,20 @@ queued_told None round part = []
 queued_told (Some asked) round part = if nat_le round.bounds.publish_queue (length part.requests) then if_asked round.clock [] (Refused status.BAD_TOO_MANY_PUBLISH_REQUESTS) (first_of part.requests) else []
 
 -- a message with notifications; it is kept then
-abbrev pub note_told : PublishCall → Noting → Telling
-note_told asked n =
+abbrev pub message_told : Noting → List Telling
+message_told n =
     let after = subscription_noted n.round n.subscription n.items in
-    record { clock = n.round.clock; call = asked; kept = after.kept; told = Notifications (record { subscription = n.round.own; message = note_made n }) after.more }
+    if_asked n.round.clock after.kept (Notifications (record { subscription = n.round.own; message = note_made n }) after.more) n.round.asked
 
-abbrev pub rest_told : List PublishCall → Noting → List Telling
-rest_told [] n = []
-rest_told (asked ∷ calls) n = if n.subscription.more then note_told asked (with_asked n asked) ∷ rest_told calls (note_sent (with_asked n asked)) else []
-
-abbrev pub notes_told : Option PublishCall → List PublishCall → Noting → List Telling
-notes_told None calls n = []
-notes_told (Some asked) calls n = note_told asked n ∷ rest_told calls (note_sent n)
-
--- what a row tells: by its action that queues the request, sends notifications, or sends a keep-alive, with the number that comes next; after
--- the actions before it
-abbrev pub told_by : Scene → List Action → List Telling
-told_by c [] = []
-told_by c (Enqueue ∷ actions) = queued_told c.round.asked c.round c.part
-told_by c (SendNotifications ∷ actions) = notes_told c.round.asked c.part.requests (noting c.round c.subscription c.items)
-told_by c (SendKeepAlive ∷ actions) = if_asked c.round.clock c.subscription.kept (KeepAlive c.round.own (number_after c.subscription.number)) c.round.asked
-told_by c (action ∷ actions) = told_by (done c action) actions
+-- what a row tells: by its action that queues the request, sends notifications, or sends a keep-alive, with the number that comes next
+abbrev pub action_told : Scene → Action → List Telling
+action_told c Enqueue = queued_told c.round.asked c.round c.part
+action_told c SendNotifications = flat_map message_told (notings_at c)
+action_told c SendKeepAlive = if_asked c.round.clock c.subscription.kept (KeepAlive c.round.own (number_after c.subscription.number)) c.round.asked
+action_told c action = []
 
 abbrev pub row_told : RowId → Scene → List Telling
-row_told r c = told_by c (actions_of r)
+row_told r c = of_row action_told r c
 
 -- ---- any call
 
@@ -126,8 +115,7 @@ moved_told r m = flat_map told_at (encounters r m)
 
 -- by any calls
 abbrev pub run_told : Ran → List Move → List Telling
-run_told r [] = []
-run_told r (m ∷ ms) = moved_told r m ++ run_told (moved r m) ms
+run_told r moves = of_run moved_told r moves
 
 -- ---- numbers
 

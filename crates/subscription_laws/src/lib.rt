@@ -4,7 +4,8 @@
 //! list of calls and what it comes to, from no subscription on; `Standings` how a subscription stands, and `Histories` what
 //! the rows that fired count; `Precedence` which subscription comes first. `Encounters` has the one list of what comes of a call:
 //! the subscriptions that are met, each at a scene, and what is done beside. Maps of it are the rows (`Concern`), the messages that
-//! are made (`Messaging`, by the numbers of `Numbering`), the calls of the items (`ItemCalls`) and the answers (`Tellings`).
+//! are made (`Messaging`, by the numbers of `Numbering`), the calls of the items (`ItemCalls`) and the answers (`Tellings`); `Actions`
+//! has what comes of a row's actions, one after the other.
 //! `Answering` has the answers that bring messages, `Requests` and `OwnRequests` the requests that are answered, `Calm` what always
 //! holds, `Apartness` what is of other sessions, `LiveItems` whose the items are; `Fates`, `Marks` and `MessageContents` what becomes
 //! of values and which messages tell them, and `Bounds` how many there are of each thing. The module [`shutdowns`] says what is left
@@ -20,7 +21,7 @@ pub mod encounters;
 pub mod shutdowns;
 pub mod tellings;
 
-ghost use Rattle.std.specs.Prelude.{◌≡◌, ◌<◌, ◌≤◌, ◌+◌, ℕ, Bool, true, false, List, [], ◌∷◌, ◌++◌, map, is_some, Some, Ok};
+ghost use Rattle.std.specs.Prelude.{◌≡◌, ◌≤◌, ◌+◌, ℕ, Bool, true, false, List, [], ◌∷◌, ◌++◌, map, is_some, Some, Ok};
 ghost use Rattle.ua_item_queue.specs.Fates.{waiting, GoesOn, IsInOrder, LossesAreMarked};
 ghost use Rattle.ua_item_queue.specs.Sendings.{values_of, sampled_by, sent_of};
 ghost use Rattle.ua_monitored_items.specs.Moves.{queue_at};
@@ -33,17 +34,16 @@ ghost use Rattle.subscription_laws.specs.Answering.{sends, sends_keep_alive, ans
 ghost use Rattle.subscription_laws.specs.Apartness.{IsRequestOf, OthersStay};
 ghost use Rattle.ua_subscriptions.specs.Answers.{number_of, published_of};
 ghost use Rattle.ua_subscriptions.specs.Calls.{event_of};
-ghost use Rattle.subscription_laws.specs.Calm.{is_listed, IsListed, ListsItsOwn, AreLists, AreSteady};
+ghost use Rattle.subscription_laws.specs.Calm.{is_listed, IsListed, ListsItsOwn, AreLists, AreSteady, NoneWaitsBesideARequest, LivesCountTimers, NoKeepAliveIsSkipped};
 ghost use Rattle.ua_subscriptions.specs.Firing.{fired, before_of, vars_in, row_of};
 ghost use Rattle.subscription_laws.specs.Concern.{concern_of, concerned, all_concerned, AreTheRowsFor};
-ghost use Rattle.subscription_laws.specs.Concern as concern;
 ghost use Rattle.subscription_laws.specs.Fates.{queue_moves_at, account_at, AreCaused, HaveTheirCauses, EachLossIsMarked};
-ghost use Rattle.subscription_laws.specs.Histories.{counts_at, life_at, AreLawful};
+ghost use Rattle.subscription_laws.specs.Histories.{AreLawful};
 ghost use Rattle.subscription_laws.specs.ItemCalls.{ItemsComeByTheirCalls, item_calls};
 ghost use Rattle.ua_subscriptions.specs.Making.{kept_at, republished};
 ghost use Rattle.ua_subscriptions.specs.Messages.{number_after, keep_alive_message};
-ghost use Rattle.subscription_laws.specs.Messaging.{messages_for, run_made, IsAmong, AreNotes, AreItsMessages};
-ghost use Rattle.subscription_laws.specs.Numbering.{AreNumbered, IsMade, messages_of, begins_or_ends};
+ghost use Rattle.subscription_laws.specs.Messaging.{messages_for, run_made, IsAmong, AllAreNumbered, NotesComeNext, AreItsMessages};
+ghost use Rattle.subscription_laws.specs.Numbering.{IsMade, messages_of, begins_or_ends};
 ghost use Rattle.subscription_laws.specs.Precedence.{precedence, ComesToTheBest, ComesBestFirst};
 ghost use Rattle.ua_subscriptions.specs.Ranks.{number_of as rank_number, is_waiting, waiting_of, is_due, rank_cmp, due_numbers};
 ghost use Rattle.server_messages.specs.declared.origin.Origin.{Origin};
@@ -52,7 +52,7 @@ ghost use Rattle.subscription_laws.specs.Runs.{Move, run, moved, start};
 ghost use Rattle.ua_subscriptions.specs.Scenes.{Scene, row_done};
 ghost use Rattle.ua_subscriptions.specs.SubscriptionCalls.{world_of};
 ghost use Rattle.subscription_laws.specs.Standings.{Counts, standing_in, row_counts, IsAsked};
-ghost use Rattle.ua_subscriptions.specs.Tables.{part_at, subscription_at};
+ghost use Rattle.ua_subscriptions.specs.Tables.{subscription_at};
 ghost use Rattle.subscription_laws.specs.Marks.{MarksWhatFollows};
 ghost use Rattle.subscription_laws.specs.MessageContents.{all_taken, AreMadeOf, entries_sent};
 ghost use Rattle.ua_subscription_messages.specs.declared.publishing.SubscriptionAcknowledgement.{SubscriptionAcknowledgement};
@@ -159,24 +159,19 @@ pub fn sessions_list_their_subscriptions()
 
 /// Whatever is called, a session with a subscription that waits has no queued request.
 pub fn none_waits_beside_a_request()
-    ensures { (config : Configuration) (moves : List Move) (number session : ℕ) (s : Subscription) → let r = run config moves in
-        subscription_at number r.subs.table.subscriptions ≡ Some s → s.session ≡ Some session → is_waiting s ≡ true →
-        (part_at session r.subs.table.sessions).requests ≡ [] }
+    ensures { (config : Configuration) (moves : List Move) → NoneWaitsBesideARequest (run config moves).subs.table }
 {}
 
 /// Whatever is called, the life counter of a subscription was last set to its lifetime count, and lacks of it one for each
 /// timer that was started since.
 pub fn life_counters_count_timers()
-    ensures { (config : Configuration) (moves : List Move) (number : ℕ) (s : Subscription) → let r = run config moves in
-        subscription_at number r.subs.table.subscriptions ≡ Some s →
-        (life_at number r.rows ≡ s.lifetime_count) × (s.lifetime + (counts_at number r.rows).started ≡ s.lifetime_count) }
+    ensures { (config : Configuration) (moves : List Move) → let r = run config moves in LivesCountTimers r.rows r.subs.table }
 {}
 
 /// Whatever is called, no keep-alive is skipped: the timers of a subscription that found a request, since it sent a message,
 /// or one of them found none, or its counts were set, are fewer than its keep-alive count.
 pub fn no_keep_alive_is_skipped()
-    ensures { (config : Configuration) (moves : List Move) (number : ℕ) (s : Subscription) → let r = run config moves in
-        subscription_at number r.subs.table.subscriptions ≡ Some s → (counts_at number r.rows).answerable < s.keep_alive_count }
+    ensures { (config : Configuration) (moves : List Move) → let r = run config moves in NoKeepAliveIsSkipped r.rows r.subs.table }
 {}
 
 /// Whatever is called, the messages of a subscription are numbered from 1 without a gap, after the last of 32 bits comes 1,
@@ -184,8 +179,7 @@ pub fn no_keep_alive_is_skipped()
 /// [`ua_subscriptions::Subscriptions::kept`] give is, byte for byte, a message that was made, under the number that is wanted. The note of a
 /// time-out has the number that would have come next.
 pub fn all_messages_are_numbered()
-    ensures numbered { (config : Configuration) (moves : List Move) (number : ℕ) →
-        AreNumbered 0 (messages_for number (run_made (start config) moves)) }
+    ensures numbered { (config : Configuration) (moves : List Move) → AllAreNumbered (run_made (start config) moves) }
     ensures live { (config : Configuration) (moves : List Move) (number : ℕ) (s : Subscription) →
         subscription_at number (run config moves).subs.table.subscriptions ≡ Some s →
         AreItsMessages s (messages_for number (run_made (start config) moves)) }
@@ -195,8 +189,7 @@ pub fn all_messages_are_numbered()
     ensures republished { (config : Configuration) (moves : List Move) (clock : Moment) (session number wanted : ℕ) (bytes : List ℕ) → let r = run config moves in
         (republished session number wanted (world_of r.subs r.items clock)).answer ≡ Ok bytes →
         IsAmong (record { number = wanted; bytes = bytes }) (messages_for number (run_made (start config) moves)) }
-    ensures notes { (config : Configuration) (moves : List Move) (session : ℕ) →
-        AreNotes (run_made (start config) moves) (part_at session (run config moves).subs.table.sessions).notes }
+    ensures notes { (config : Configuration) (moves : List Move) → NotesComeNext (run_made (start config) moves) (run config moves).subs.table }
 {}
 
 /// Whatever is called, each message that a row makes goes out: it answers a Publish request, one message a request, in the

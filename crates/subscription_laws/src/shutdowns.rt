@@ -2,7 +2,7 @@
 
 ghost use Rattle.std.specs.Prelude.{◌≡◌, List, ◌++◌, map};
 ghost use Rattle.std.specs.Map.{keys_of, values_of};
-ghost use Rattle.subscription_laws.specs.Concern.{concerned as concerned_spec, number_of};
+ghost use Rattle.subscription_laws.specs.Concern.{concerned as concerned_spec, subscription_of};
 ghost use Rattle.subscription_laws.specs.Runs.{Move, run, moved};
 ghost use Rattle.ua_subscriptions.specs.Answers.{refused_of};
 ghost use Rattle.ua_subscriptions.specs.Ending.{all_requests};
@@ -22,5 +22,5 @@ pub fn a_shutdown_leaves_nothing()
     ensures nothing { (config : Configuration) (moves : List Move) (clock : Moment) →
         (moved (run config moves) (Move.Shutdown clock)).subs.table ≡ no_table }
     ensures concerned { (config : Configuration) (moves : List Move) (clock : Moment) → let r = run config moves in
-        map number_of (concerned_spec r (Move.Shutdown clock)) ≡ keys_of r.subs.table.subscriptions }
+        map subscription_of (concerned_spec r (Move.Shutdown clock)) ≡ keys_of r.subs.table.subscriptions }
 {}

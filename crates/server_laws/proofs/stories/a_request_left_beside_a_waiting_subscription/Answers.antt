@@ -1,6 +1,7 @@
 use Rattle.std.proofs.Common.{Option, subst}
 use Rattle.server_core.specs.declared.world.World.{World}
-use Rattle.server_laws.specs.Tables.{IfShown, NoneWaitsBesideARequest}
+use Rattle.subscription_laws.specs.Calm.{NoneWaitsBesideARequest}
+use Rattle.server_laws.specs.Tables.{IfShown}
 use Rattle.server_laws.proofs.stories.a_request_left_beside_a_waiting_subscription.Goals as goal
 
 pub returns : goal.returns
