@@ -1,7 +1,7 @@
 -- Each request leaves what is of other sessions as it was: the walk through all services, of which each is no call or one call
 -- of its own session.
-use Rattle.std.proofs.Common.{◌≡◌, ℕ, ◌==◌, arith, Bool, true, false, not, cond, List, [], ◌∷◌, length, fold, Option, Some, None, Result, Ok, Err, refl, sym, subst}
-use Rattle.std.proofs.lemmas.Bool.{false≢true, eqb-true}
+use Rattle.std.proofs.Common.{◌≡◌, ℕ, arith, Bool, true, false, not, cond, List, [], ◌∷◌, length, fold, Option, Some, None, Result, Ok, Err, refl, sym, subst}
+use Rattle.std.proofs.lemmas.Bool.{false≢true}
 use Rattle.std.specs.Prelude.{nat_lt, IfOk, IfSome}
 use Rattle.std.specs.FinMap.{get-empty}
 use Rattle.std.specs.Ordering.{nat_cmp}
@@ -10,14 +10,13 @@ use Rattle.ua_types.specs.declared.moment.Moment.{Moment}
 use Rattle.ua_types.specs.declared.node_id.NodeId.{NodeId}
 use Rattle.ua_types.specs.NodeIds.{is_null_id}
 use Rattle.ua_types.specs.declared.status.Status.{Status}
-use Rattle.ua_types.specs.declared.status.TheConstants.Status as status
 use Rattle.ua_binary.specs.declared.fault.TakeFault.{TakeFault}
 use Rattle.ua_messages.specs.Bodies.{message_id_of}
 use Rattle.ua_messages.specs.GetEndpoints.{get_endpoints_request_reading}
 use Rattle.ua_messages.specs.Requests.{Headed, headed_of, fields_of}
 use Rattle.ua_messages.specs.declared.headers.RequestHeader.{RequestHeader}
 use Rattle.ua_messages.specs.declared.read_value_ids.ReadValueId.{ReadValueId}
-use Rattle.ua_messages.specs.declared.type_ids.TheConstants.{BROWSE_RESPONSE, BROWSE_NEXT_RESPONSE, HISTORY_READ_RESPONSE, SET_PUBLISHING_MODE_RESPONSE, DELETE_SUBSCRIPTIONS_RESPONSE, WRITE_REQUEST}
+use Rattle.ua_messages.specs.declared.type_ids.TheConstants.{BROWSE_RESPONSE, BROWSE_NEXT_RESPONSE, HISTORY_READ_RESPONSE, SET_PUBLISHING_MODE_RESPONSE, DELETE_SUBSCRIPTIONS_RESPONSE}
 use Rattle.server_messages.specs.declared.fired.Fired.{Fired}
 use Rattle.server_messages.specs.declared.reply.Reply.{Reply}
 use Rattle.server_messages.specs.declared.request.Request.{Request}
@@ -67,7 +66,7 @@ use Rattle.ua_subscriptions.specs.declared.call.Call.TheVariants as sub_call
 use Rattle.ua_browse.specs.Browsing.{page_size, browse_of}
 use Rattle.ua_session.specs.Sessions.{SessionsState, Named, named, points_of, with_points, create_of, activate_of, find_of, close_of, ticked, ended_by}
 use Rattle.ua_services.specs.ActivateSession.{is_anonymous, activate_session_body, activate_session_meaning}
-use Rattle.server_laws.specs.Apart.{NamesOnly, accepted_listed, accepted_found, accepted_read, accepted_by, accepted, is_write_id, is_write, KeepsApart}
+use Rattle.server_laws.specs.Apart.{NamesOnly, accepted_listed, accepted_found, accepted_read, accepted_by, accepted, is_write_id, is_write, KeepsApart, is_write_service}
 use Rattle.ua_services.specs.Browse.{browse_listed, browse_meaning}
 use Rattle.ua_services.specs.BrowseNext.{go_on_of, browse_next_listed, browse_next_meaning}
 use Rattle.ua_services.specs.BrowseResults.{browse_told}
@@ -92,9 +91,9 @@ use Rattle.ua_views.specs.Views.{or_none}
 use Rattle.ua_services.specs.Publish.{publish_call, publish_meaning}
 use Rattle.ua_services.specs.Read.{read_listed, read_timed, read_meaning}
 use Rattle.ua_services.specs.Republish.{republish_answer, republish_meaning}
-use Rattle.ua_services.specs.Services.{call_of, picked_of_subscriptions, picked_of_items, picked, serving_by, serving_of, ticking_of, shutting_of}
+use Rattle.ua_services.specs.Services.{call_of, Service, service_of, served_as, serving_by, serving_of, ticking_of, shutting_of}
 use Rattle.ua_services.specs.declared.services.Services.{Services}
-use Rattle.ua_services.specs.Serving.{Occurrence, Serving, reply_of, faulted, served_by}
+use Rattle.ua_services.specs.Serving.{Occurrence, Serving, reply_of, served_by}
 use Rattle.ua_services.specs.SessionServing.{spent_by, taken, with_sessions}
 use Rattle.ua_services.specs.SetMonitoringMode.{items_moded, set_monitoring_mode_meaning}
 use Rattle.ua_services.specs.SetPublishingMode.{set_publishing_listed, set_publishing_mode_meaning}
@@ -359,43 +358,32 @@ module _ (session : ℕ) (setting : Setting) (caller : Caller) (number : ℕ) (s
 -- ---- all services but Write
 
 module _ (session : ℕ) (setting : Setting) (caller : Caller) (token : NodeId) (fields : List ℕ) (state : Services) (from : CameBy state.subs state.items) (only : NamesIn session state token) where
-  of_subscriptions_stay : (id : ℕ) → Apart session state (picked_of_subscriptions setting caller token fields state id)
-  of_subscriptions_stay id =
-      let last : Apart session state (faulted state caller status.BAD_SERVICE_UNSUPPORTED setting.clock) = record { stays = none_stays session state } in
-      either session state _ _ _ (by_session session create_subscription_meaning setting caller token state from only (create_subscription_stays session setting caller) (fields_of create_subscription_request_reading fields))
-      (either session state _ _ _ (by_session session modify_subscription_meaning setting caller token state from only (modify_subscription_stays session setting caller) (fields_of modify_subscription_request_reading fields))
-      (either session state _ _ _ (by_session session set_publishing_mode_meaning setting caller token state from only (set_publishing_mode_stays session setting caller) (fields_of set_publishing_mode_request_reading fields))
-      (either session state _ _ _ (by_session session delete_subscriptions_meaning setting caller token state from only (delete_subscriptions_stays session setting caller) (fields_of delete_subscriptions_request_reading fields))
-      (either session state _ _ _ (by_session session publish_meaning setting caller token state from only (publish_stays session setting caller) (fields_of publish_request_reading fields))
-      (either session state _ _ _ (by_session session republish_meaning setting caller token state from only (republish_stays session setting caller) (fields_of republish_request_reading fields))
-      last)))))
+  -- where the service isn't Write
+  abbrev Stays : Option Service → Type 0
+  Stays service = Apart session state (served_as setting caller token fields state service)
 
-  of_items_stay : (id : ℕ) → Apart session state (picked_of_items setting caller token fields state id)
-  of_items_stay id =
-      either session state _ _ _ (by_session session create_monitored_items_meaning setting caller token state from only (λ request after came. items_stay session setting caller request.subscription_id after came (items_created setting caller request after) (create_asked setting request after) (created_asks setting caller request after)) (fields_of create_monitored_items_request_reading fields))
-      (either session state _ _ _ (by_session session modify_monitored_items_meaning setting caller token state from only (λ request after came. items_stay session setting caller request.subscription_id after came (items_modified setting caller request after) (modify_asked setting request after) (modified_asks setting caller request after)) (fields_of modify_monitored_items_request_reading fields))
-      (either session state _ _ _ (by_session session set_monitoring_mode_meaning setting caller token state from only (λ request after came. items_stay session setting caller request.subscription_id after came (items_moded setting caller request after) (mode_asked setting request after) (moded_asks setting caller request after)) (fields_of set_monitoring_mode_request_reading fields))
-      (either session state _ _ _ (by_session session set_triggering_meaning setting caller token state from only (λ request after came. items_stay session setting caller request.subscription_id after came (items_linked setting caller request after) (link_asked setting request after) (linked_asks setting caller request after)) (fields_of set_triggering_request_reading fields))
-      (either session state _ _ _ (by_session session delete_monitored_items_meaning setting caller token state from only (λ request after came. items_stay session setting caller request.subscription_id after came (items_deleted setting caller request after) (delete_asked setting request after) (deleted_asks setting caller request after)) (fields_of delete_monitored_items_request_reading fields))
-      (of_subscriptions_stay id)))))
-
-  -- where the type isn't that of a Write
-  unless_write : (b : Bool) (x y : Serving) → b ≡ false → Apart session state y → Apart session state (cond b x y)
-  unless_write true x y e q = absurd (false≢true (sym e))
-  unless_write false x y e q = q
-
-  picked_stays : (id : ℕ) → (id == WRITE_REQUEST) ≡ false → Apart session state (picked setting caller token fields state id)
-  picked_stays id other =
-      either session state _ _ _ (by_fields session get_endpoints_meaning setting caller token state (λ request. none_stays session state) (fields_of get_endpoints_request_reading fields))
-      (either session state _ _ _ (by_fields session create_session_meaning setting caller token state (create_session_stays session setting caller token state) (fields_of create_session_request_reading fields))
-      (either session state _ _ _ (by_fields session activate_session_meaning setting caller token state (λ request. activate_session_stays session setting caller token state request only) (fields_of activate_session_request_reading fields))
-      (either session state _ _ _ (by_fields session close_session_meaning setting caller token state (λ request. close_session_stays session setting caller token state from request only) (fields_of close_session_request_reading fields))
-      (either session state _ _ _ (by_session session read_meaning setting caller token state from only (λ request after came. read_stays session setting caller request after) (fields_of read_request_reading fields))
-      (unless_write (id == WRITE_REQUEST) _ _ other
-      (either session state _ _ _ (by_session session browse_meaning setting caller token state from only (λ request after came. browse_stays session setting caller request after) (fields_of browse_request_reading fields))
-      (either session state _ _ _ (by_session session browse_next_meaning setting caller token state from only (λ request after came. browse_next_stays session setting caller request after) (fields_of browse_next_request_reading fields))
-      (either session state _ _ _ (by_session session history_read_meaning setting caller token state from only (λ request after came. history_read_stays session setting caller request after) (fields_of history_read_request_reading fields))
-      (of_items_stay id)))))))))
+  picked_stays : (service : Option Service) → is_write_service service ≡ false → Stays service
+  picked_stays (Some Service.GetEndpoints) other = by_fields session get_endpoints_meaning setting caller token state (λ request. none_stays session state) (fields_of get_endpoints_request_reading fields)
+  picked_stays (Some Service.CreateSession) other = by_fields session create_session_meaning setting caller token state (create_session_stays session setting caller token state) (fields_of create_session_request_reading fields)
+  picked_stays (Some Service.ActivateSession) other = by_fields session activate_session_meaning setting caller token state (λ request. activate_session_stays session setting caller token state request only) (fields_of activate_session_request_reading fields)
+  picked_stays (Some Service.CloseSession) other = by_fields session close_session_meaning setting caller token state (λ request. close_session_stays session setting caller token state from request only) (fields_of close_session_request_reading fields)
+  picked_stays (Some Service.Read) other = by_session session read_meaning setting caller token state from only (λ request after came. read_stays session setting caller request after) (fields_of read_request_reading fields)
+  picked_stays (Some Service.Write) other = absurd (cc)
+  picked_stays (Some Service.Browse) other = by_session session browse_meaning setting caller token state from only (λ request after came. browse_stays session setting caller request after) (fields_of browse_request_reading fields)
+  picked_stays (Some Service.BrowseNext) other = by_session session browse_next_meaning setting caller token state from only (λ request after came. browse_next_stays session setting caller request after) (fields_of browse_next_request_reading fields)
+  picked_stays (Some Service.HistoryRead) other = by_session session history_read_meaning setting caller token state from only (λ request after came. history_read_stays session setting caller request after) (fields_of history_read_request_reading fields)
+  picked_stays (Some Service.CreateMonitoredItems) other = by_session session create_monitored_items_meaning setting caller token state from only (λ request after came. items_stay session setting caller request.subscription_id after came (items_created setting caller request after) (create_asked setting request after) (created_asks setting caller request after)) (fields_of create_monitored_items_request_reading fields)
+  picked_stays (Some Service.ModifyMonitoredItems) other = by_session session modify_monitored_items_meaning setting caller token state from only (λ request after came. items_stay session setting caller request.subscription_id after came (items_modified setting caller request after) (modify_asked setting request after) (modified_asks setting caller request after)) (fields_of modify_monitored_items_request_reading fields)
+  picked_stays (Some Service.SetMonitoringMode) other = by_session session set_monitoring_mode_meaning setting caller token state from only (λ request after came. items_stay session setting caller request.subscription_id after came (items_moded setting caller request after) (mode_asked setting request after) (moded_asks setting caller request after)) (fields_of set_monitoring_mode_request_reading fields)
+  picked_stays (Some Service.SetTriggering) other = by_session session set_triggering_meaning setting caller token state from only (λ request after came. items_stay session setting caller request.subscription_id after came (items_linked setting caller request after) (link_asked setting request after) (linked_asks setting caller request after)) (fields_of set_triggering_request_reading fields)
+  picked_stays (Some Service.DeleteMonitoredItems) other = by_session session delete_monitored_items_meaning setting caller token state from only (λ request after came. items_stay session setting caller request.subscription_id after came (items_deleted setting caller request after) (delete_asked setting request after) (deleted_asks setting caller request after)) (fields_of delete_monitored_items_request_reading fields)
+  picked_stays (Some Service.CreateSubscription) other = by_session session create_subscription_meaning setting caller token state from only (create_subscription_stays session setting caller) (fields_of create_subscription_request_reading fields)
+  picked_stays (Some Service.ModifySubscription) other = by_session session modify_subscription_meaning setting caller token state from only (modify_subscription_stays session setting caller) (fields_of modify_subscription_request_reading fields)
+  picked_stays (Some Service.SetPublishingMode) other = by_session session set_publishing_mode_meaning setting caller token state from only (set_publishing_mode_stays session setting caller) (fields_of set_publishing_mode_request_reading fields)
+  picked_stays (Some Service.DeleteSubscriptions) other = by_session session delete_subscriptions_meaning setting caller token state from only (delete_subscriptions_stays session setting caller) (fields_of delete_subscriptions_request_reading fields)
+  picked_stays (Some Service.Publish) other = by_session session publish_meaning setting caller token state from only (publish_stays session setting caller) (fields_of publish_request_reading fields)
+  picked_stays (Some Service.Republish) other = by_session session republish_meaning setting caller token state from only (republish_stays session setting caller) (fields_of republish_request_reading fields)
+  picked_stays None other = record { stays = none_stays session state }
 
 -- ---- Write
 
@@ -418,7 +406,7 @@ module _ (setting : Setting) (request : Request) (state : Services) (from : Came
   others_by : (session : ℕ) (id : Result ℕ TakeFault) (headed : Result Headed TakeFault) → Only session headed → is_write_id id ≡ false →
       KeepsRest session state (serving_by setting request state id headed).state
   others_by session (Ok id) (Ok headed) only other =
-      (picked_stays session setting (call_of request headed.header.request_handle) headed.header.authentication_token headed.fields state from only id other).stays
+      (picked_stays session setting (call_of request headed.header.request_handle) headed.header.authentication_token headed.fields state from only (service_of id) other).stays
   others_by session (Ok id) (Err fault) only other = none_stays session state
   others_by session (Err fault) headed only other = none_stays session state
 
@@ -430,16 +418,15 @@ module _ (setting : Setting) (request : Request) (state : Services) (from : Came
       write_found session setting (call_of request header.request_handle) state write s.answer s.state (find_leaves session state.sessions header.authentication_token request.conn only).stay
   write_served session header only (Err fault) = not_shown session state
 
-  picked_written : (session : ℕ) (headed : Headed) → NamesIn session state headed.header.authentication_token → (id : ℕ) → id ≡ WRITE_REQUEST →
+  picked_written : (session : ℕ) (headed : Headed) → NamesIn session state headed.header.authentication_token → (service : Option Service) → is_write_service service ≡ true →
       KeepsShown session (accepted_by setting request state (Ok headed)) state
-      (picked setting (call_of request headed.header.request_handle) headed.header.authentication_token headed.fields state id).state
-  picked_written session headed only id is =
-      subst (λ (n : ℕ). KeepsShown session (accepted_by setting request state (Ok headed)) state (picked setting (call_of request headed.header.request_handle) headed.header.authentication_token headed.fields state n).state) (sym is)
-      (write_served session headed.header only (fields_of write_request_reading headed.fields))
+      (served_as setting (call_of request headed.header.request_handle) headed.header.authentication_token headed.fields state service).state
+  picked_written session headed only (Some Service.Write) is = write_served session headed.header only (fields_of write_request_reading headed.fields)
+  picked_written session headed only service is = absurd (cc)
 
   written_by : (session : ℕ) (id : Result ℕ TakeFault) (headed : Result Headed TakeFault) → Only session headed → is_write_id id ≡ true →
       KeepsShown session (accepted_by setting request state headed) state (serving_by setting request state id headed).state
-  written_by session (Ok id) (Ok headed) only is = picked_written session headed only id (eqb-true id WRITE_REQUEST is)
+  written_by session (Ok id) (Ok headed) only is = picked_written session headed only (service_of id) is
   written_by session (Ok id) (Err fault) only is = not_shown session state
   written_by session (Err fault) headed only is = absurd (false≢true is)
 

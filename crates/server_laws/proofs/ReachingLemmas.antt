@@ -12,7 +12,7 @@ use Rattle.server_messages.specs.declared.reply.Reply.{Reply}
 use Rattle.subscription_laws.specs.ItemCalls.{item_calls}
 use Rattle.subscription_laws.specs.MessageContents.{Taken, IsMadeOf, AreMadeOf, all_taken, entries_sent}
 use Rattle.subscription_laws.specs.Messaging.{Made, IsAmong, messages_for}
-use Rattle.subscription_laws.specs.Runs.{Move, run}
+use Rattle.subscription_laws.specs.Runs.{Move}
 use Rattle.subscription_laws.specs.Tellings.{Telling, Told, Notifications, KeepAlive, TimedOut, Refused, answer_of, message_in, messages_in}
 use Rattle.subscription_laws.proofs.Folds.{all_so}
 use Rattle.subscription_laws.proofs.TellingRuns.{messages_told}

@@ -73,14 +73,14 @@ use Rattle.ua_services.specs.ModifyMonitoredItems.{modify_listed, modify_timed, 
 use Rattle.ua_services.specs.ModifySubscription.{settings_wanted, modify_subscription_body, modify_subscription_meaning}
 use Rattle.server_laws.specs.Moving.{ran_at}
 use Rattle.server_laws.specs.EventMoves as of_events
-use Rattle.server_laws.specs.EventMoves.{if_read, in_session, if_listed, close_moves, close_session_moves, write_moves, create_subscription_moves, modify_subscription_moves, set_publishing_mode_moves, delete_subscriptions_moves, publish_moves, republish_moves, create_listed_asked, create_timed_asked, create_asked, modify_listed_asked, modify_timed_asked, modify_asked, mode_asked_by, mode_listed_asked, mode_asked, link_counted_asked, link_asked, delete_listed_asked, delete_asked, items_moves_by, items_moves, moves_of_subscriptions, moves_of_items, moves_picked, serving_moves_by, serving_moves, end_move, ticking_moves, shutting_moves}
+use Rattle.server_laws.specs.EventMoves.{if_read, in_session, if_listed, close_moves, close_session_moves, write_moves, create_subscription_moves, modify_subscription_moves, set_publishing_mode_moves, delete_subscriptions_moves, publish_moves, republish_moves, create_listed_asked, create_timed_asked, create_asked, modify_listed_asked, modify_timed_asked, modify_asked, mode_asked_by, mode_listed_asked, mode_asked, link_counted_asked, link_asked, delete_listed_asked, delete_asked, items_moves_by, items_moves, moves_as, serving_moves_by, serving_moves, end_move, ticking_moves, shutting_moves}
 use Rattle.ua_services.specs.Operations.{count_judged, operations_of}
 use Rattle.ua_services.specs.Paging.{all_done}
 use Rattle.ua_views.specs.Views.{or_none}
 use Rattle.ua_services.specs.Publish.{publish_call, publish_meaning}
 use Rattle.ua_services.specs.Read.{read_listed, read_timed, read_meaning}
 use Rattle.ua_services.specs.Republish.{republish_answer, republish_meaning}
-use Rattle.ua_services.specs.Services.{call_of, picked_of_subscriptions, picked_of_items, picked, serving_by, serving_of, ticking_of, shutting_of}
+use Rattle.ua_services.specs.Services.{call_of, Service, service_of, served_as, serving_by, serving_of, ticking_of, shutting_of}
 use Rattle.ua_services.specs.declared.services.Services.{Services}
 use Rattle.ua_services.specs.Serving.{Serving, reply_of, answered, served_by}
 use Rattle.ua_services.specs.SessionServing.{taken, with_sessions}
@@ -384,20 +384,6 @@ module _ (setting : Setting) (R : Services → List Move → Serving → Type 0)
     none_by_session meaning g (Ok request) = none_found (λ number. meaning setting caller number request) (λ number. g number request) (find_of state.sessions token caller.origin.conn).answer
     none_by_session meaning g (Err fault) = refused state _
 
-    of_subscriptions_so : (fields : List ℕ) (id : ℕ) → R state (moves_of_subscriptions setting caller token fields state id) (picked_of_subscriptions setting caller token fields state id)
-    of_subscriptions_so fields id =
-        either _ _ _ _ _ (by_session create_subscription_meaning (create_subscription_moves setting)
-        (λ session request after. f.calls _ after (λ answer. reply_of caller (create_subscription_body setting caller answer) ∷ []) (created session (settings_asked request) request.publishing_enabled after.subs after.items setting.clock) _ (λ so_far replies. refl)) (fields_of create_subscription_request_reading fields))
-        (either _ _ _ _ _ (by_session modify_subscription_meaning (modify_subscription_moves setting)
-        (λ session request after. f.calls _ after (λ answer. reply_of caller (modify_subscription_body setting caller answer) ∷ []) (said after.subs (modified session request.subscription_id (settings_wanted request) (world_at setting after))) _ (λ so_far replies. refl)) (fields_of modify_subscription_request_reading fields))
-        (either _ _ _ _ _ (by_session set_publishing_mode_meaning (set_publishing_mode_moves setting)
-        (λ session request after. publishing_listed_so caller session request.publishing_enabled after (operations_of setting.config request.subscription_ids)) (fields_of set_publishing_mode_request_reading fields))
-        (either _ _ _ _ _ (by_session delete_subscriptions_meaning (delete_subscriptions_moves setting) (λ session request after. deleted_so caller session after (operations_of setting.config request.subscription_ids)) (fields_of delete_subscriptions_request_reading fields))
-        (either _ _ _ _ _ (by_session publish_meaning (publish_moves setting caller) (publish_so caller) (fields_of publish_request_reading fields))
-        (either _ _ _ _ _ (by_session republish_meaning (republish_moves setting)
-        (λ session request after. f.calls _ after (λ answer. reply_of caller (republish_answer setting caller answer) ∷ []) (said after.subs (republished session request.subscription_id request.retransmit_sequence_number (world_at setting after))) _ (λ so_far replies. refl)) (fields_of republish_request_reading fields))
-        (refused state _))))))
-
     by_items : {A : Type 0} (number : A → ℕ) (done : Setting → Caller → A → Services → Itemed) (asked : Setting → A → Services → Option ItemsCall) →
         ((request : A) (after : Services) → Asks (number request) after.items (done setting caller request after).items (asked setting request after)) → (r : Result A TakeFault) →
         R state (if_read (in_session (λ session request at. items_moves setting session (number request) (asked setting request at) at) caller token state) r)
@@ -406,35 +392,31 @@ module _ (setting : Setting) (R : Services → List Move → Serving → Type 0)
         by_session (λ (set : Setting) (c : Caller) session request at. items_called set c session (number request) at (done set c request at)) (λ session request at. items_moves setting session (number request) (asked setting request at) at)
         (λ session request after. items_so caller (number request) after (done setting caller request after) (asked setting request after) (asks request after) session)
 
-    of_items_so : (fields : List ℕ) (id : ℕ) → R state (moves_of_items setting caller token fields state id) (picked_of_items setting caller token fields state id)
-    of_items_so fields id =
-        either _ _ _ _ _ (by_items (λ (r : CreateMonitoredItemsRequest). r.subscription_id) items_created create_asked (created_asks setting caller) (fields_of create_monitored_items_request_reading fields))
-        (either _ _ _ _ _ (by_items (λ (r : ModifyMonitoredItemsRequest). r.subscription_id) items_modified modify_asked (modified_asks setting caller) (fields_of modify_monitored_items_request_reading fields))
-        (either _ _ _ _ _ (by_items (λ (r : SetMonitoringModeRequest). r.subscription_id) items_moded mode_asked (moded_asks setting caller) (fields_of set_monitoring_mode_request_reading fields))
-        (either _ _ _ _ _ (by_items (λ (r : SetTriggeringRequest). r.subscription_id) items_linked link_asked (linked_asks setting caller) (fields_of set_triggering_request_reading fields))
-        (either _ _ _ _ _ (by_items (λ (r : DeleteMonitoredItemsRequest). r.subscription_id) items_deleted delete_asked (deleted_asks setting caller) (fields_of delete_monitored_items_request_reading fields))
-        (of_subscriptions_so fields id)))))
-
-    picked_so : OfWrites → (fields : List ℕ) (id : ℕ) → R state (moves_picked setting caller token fields state id) (picked setting caller token fields state id)
-    picked_so writes fields id =
-        either _ _ _ _ _ (none_by_fields get_endpoints_meaning (λ request. f.still state _ false false) (fields_of get_endpoints_request_reading fields))
-        (either _ _ _ _ _ (none_by_fields create_session_meaning
-        (λ request. taken_so (SessionStep.Create caller.origin.conn caller.key) (is_spent state.sessions) (create_session_body setting caller) (create_of state.sessions caller.origin.conn caller.key).answer) (fields_of create_session_request_reading fields))
-        (either _ _ _ _ _ (none_by_fields activate_session_meaning
-        (λ request. let is_free = is_anonymous request.user_identity_token in
-        taken_so (SessionStep.Activate token caller.origin.conn caller.key is_free) (is_spent state.sessions) (activate_session_body setting caller) (activate_of state.sessions token caller.origin.conn caller.key is_free).answer) (fields_of activate_session_request_reading fields))
-        (either _ _ _ _ _ (by_fields close_session_meaning (close_session_moves setting caller token state)
-        (λ request. closed_so request.delete_subscriptions (close_of state.sessions token caller.origin.conn).answer) (fields_of close_session_request_reading fields))
-        (either _ _ _ _ _ (none_by_session read_meaning (λ session request after. read_timed_so caller after request.nodes_to_read (timestamps_of request.timestamps_to_return)) (fields_of read_request_reading fields))
-        (either _ _ _ _ _ (by_session write_meaning (write_moves setting) (λ session request after. write_listed_so caller writes after (operations_of setting.config request.nodes_to_write)) (fields_of write_request_reading fields))
-        (either _ _ _ _ _ (none_by_session browse_meaning (browse_so caller) (fields_of browse_request_reading fields))
-        (either _ _ _ _ _ (none_by_session browse_next_meaning
-        (λ session request after. browse_next_so caller session request.release_continuation_points after (operations_of setting.config request.continuation_points)) (fields_of browse_next_request_reading fields))
-        (either _ _ _ _ _ (none_by_session history_read_meaning (λ session request after. history_timed_so caller session request after (some_times (timestamps_of request.timestamps_to_return))) (fields_of history_read_request_reading fields))
-        (of_items_so fields id)))))))))
+    picked_so : OfWrites → (fields : List ℕ) (service : Option Service) → R state (moves_as setting caller token fields state service) (served_as setting caller token fields state service)
+    picked_so writes fields (Some Service.GetEndpoints) = none_by_fields get_endpoints_meaning (λ request. f.still state _ false false) (fields_of get_endpoints_request_reading fields)
+    picked_so writes fields (Some Service.CreateSession) = none_by_fields create_session_meaning (λ request. taken_so (SessionStep.Create caller.origin.conn caller.key) (is_spent state.sessions) (create_session_body setting caller) (create_of state.sessions caller.origin.conn caller.key).answer) (fields_of create_session_request_reading fields)
+    picked_so writes fields (Some Service.ActivateSession) = none_by_fields activate_session_meaning (λ request. let is_free = is_anonymous request.user_identity_token in taken_so (SessionStep.Activate token caller.origin.conn caller.key is_free) (is_spent state.sessions) (activate_session_body setting caller) (activate_of state.sessions token caller.origin.conn caller.key is_free).answer) (fields_of activate_session_request_reading fields)
+    picked_so writes fields (Some Service.CloseSession) = by_fields close_session_meaning (close_session_moves setting caller token state) (λ request. closed_so request.delete_subscriptions (close_of state.sessions token caller.origin.conn).answer) (fields_of close_session_request_reading fields)
+    picked_so writes fields (Some Service.Read) = none_by_session read_meaning (λ session request after. read_timed_so caller after request.nodes_to_read (timestamps_of request.timestamps_to_return)) (fields_of read_request_reading fields)
+    picked_so writes fields (Some Service.Write) = by_session write_meaning (write_moves setting) (λ session request after. write_listed_so caller writes after (operations_of setting.config request.nodes_to_write)) (fields_of write_request_reading fields)
+    picked_so writes fields (Some Service.Browse) = none_by_session browse_meaning (browse_so caller) (fields_of browse_request_reading fields)
+    picked_so writes fields (Some Service.BrowseNext) = none_by_session browse_next_meaning (λ session request after. browse_next_so caller session request.release_continuation_points after (operations_of setting.config request.continuation_points)) (fields_of browse_next_request_reading fields)
+    picked_so writes fields (Some Service.HistoryRead) = none_by_session history_read_meaning (λ session request after. history_timed_so caller session request after (some_times (timestamps_of request.timestamps_to_return))) (fields_of history_read_request_reading fields)
+    picked_so writes fields (Some Service.CreateMonitoredItems) = by_items (λ (r : CreateMonitoredItemsRequest). r.subscription_id) items_created create_asked (created_asks setting caller) (fields_of create_monitored_items_request_reading fields)
+    picked_so writes fields (Some Service.ModifyMonitoredItems) = by_items (λ (r : ModifyMonitoredItemsRequest). r.subscription_id) items_modified modify_asked (modified_asks setting caller) (fields_of modify_monitored_items_request_reading fields)
+    picked_so writes fields (Some Service.SetMonitoringMode) = by_items (λ (r : SetMonitoringModeRequest). r.subscription_id) items_moded mode_asked (moded_asks setting caller) (fields_of set_monitoring_mode_request_reading fields)
+    picked_so writes fields (Some Service.SetTriggering) = by_items (λ (r : SetTriggeringRequest). r.subscription_id) items_linked link_asked (linked_asks setting caller) (fields_of set_triggering_request_reading fields)
+    picked_so writes fields (Some Service.DeleteMonitoredItems) = by_items (λ (r : DeleteMonitoredItemsRequest). r.subscription_id) items_deleted delete_asked (deleted_asks setting caller) (fields_of delete_monitored_items_request_reading fields)
+    picked_so writes fields (Some Service.CreateSubscription) = by_session create_subscription_meaning (create_subscription_moves setting) (λ session request after. f.calls _ after (λ answer. reply_of caller (create_subscription_body setting caller answer) ∷ []) (created session (settings_asked request) request.publishing_enabled after.subs after.items setting.clock) _ (λ so_far replies. refl)) (fields_of create_subscription_request_reading fields)
+    picked_so writes fields (Some Service.ModifySubscription) = by_session modify_subscription_meaning (modify_subscription_moves setting) (λ session request after. f.calls _ after (λ answer. reply_of caller (modify_subscription_body setting caller answer) ∷ []) (said after.subs (modified session request.subscription_id (settings_wanted request) (world_at setting after))) _ (λ so_far replies. refl)) (fields_of modify_subscription_request_reading fields)
+    picked_so writes fields (Some Service.SetPublishingMode) = by_session set_publishing_mode_meaning (set_publishing_mode_moves setting) (λ session request after. publishing_listed_so caller session request.publishing_enabled after (operations_of setting.config request.subscription_ids)) (fields_of set_publishing_mode_request_reading fields)
+    picked_so writes fields (Some Service.DeleteSubscriptions) = by_session delete_subscriptions_meaning (delete_subscriptions_moves setting) (λ session request after. deleted_so caller session after (operations_of setting.config request.subscription_ids)) (fields_of delete_subscriptions_request_reading fields)
+    picked_so writes fields (Some Service.Publish) = by_session publish_meaning (publish_moves setting caller) (publish_so caller) (fields_of publish_request_reading fields)
+    picked_so writes fields (Some Service.Republish) = by_session republish_meaning (republish_moves setting) (λ session request after. f.calls _ after (λ answer. reply_of caller (republish_answer setting caller answer) ∷ []) (said after.subs (republished session request.subscription_id request.retransmit_sequence_number (world_at setting after))) _ (λ so_far replies. refl)) (fields_of republish_request_reading fields)
+    picked_so writes fields None = refused state _
 
   by_header : OfWrites → (request : Request) (state : Services) (id : Result ℕ TakeFault) (headed : Result Headed TakeFault) → R state (serving_moves_by setting request state id headed) (serving_by setting request state id headed)
-  by_header writes request state (Ok id) (Ok headed) = picked_so (call_of request headed.header.request_handle) headed.header.authentication_token state writes headed.fields id
+  by_header writes request state (Ok id) (Ok headed) = picked_so (call_of request headed.header.request_handle) headed.header.authentication_token state writes headed.fields (service_of id)
   by_header writes request state (Ok id) (Err fault) = refused state _
   by_header writes request state (Err fault) headed = refused state _
 

@@ -1,12 +1,11 @@
 -- A request of one session, and what is of others.
-use Rattle.std.specs.Prelude.{◌≡◌, ◌≢◌, ◌⊎◌, ◌<◌, ℕ, ◌==◌, Bool, true, false, List, [], Some, Result, Ok, Err, IfOk, IfSome}
+use Rattle.std.specs.Prelude.{◌≡◌, ◌≢◌, ◌⊎◌, ◌<◌, ℕ, Bool, true, false, List, [], Option, Some, Result, Ok, Err, IfOk, IfSome}
 use Rattle.std.specs.FinMap.{get}
 use Rattle.ua_types.specs.declared.status.Status.{Status}
 use Rattle.ua_binary.specs.declared.fault.TakeFault.{TakeFault}
 use Rattle.ua_messages.specs.Bodies.{message_id_of}
 use Rattle.ua_messages.specs.Requests.{Headed, headed_of, fields_of}
 use Rattle.ua_messages.specs.declared.headers.RequestHeader.{RequestHeader}
-use Rattle.ua_messages.specs.declared.type_ids.TheConstants.{WRITE_REQUEST}
 use Rattle.ua_service_messages.specs.Writing.{write_request_reading}
 use Rattle.ua_service_messages.specs.declared.writing.WriteRequest.{WriteRequest}
 use Rattle.ua_service_messages.specs.declared.writing.WriteValue.{WriteValue}
@@ -18,7 +17,7 @@ use Rattle.ua_session.specs.Sessions.{SessionsState, Named, named, find_of}
 use Rattle.ua_session.specs.declared.session.Session.{Session}
 use Rattle.subscription_laws.specs.Apartness.{OthersStay}
 use Rattle.ua_services.specs.Operations.{operations_of}
-use Rattle.ua_services.specs.Services.{serving_of}
+use Rattle.ua_services.specs.Services.{Service, service_of, serving_of}
 use Rattle.ua_services.specs.Write.{sampled}
 use Rattle.ua_services.specs.declared.services.Services.{Services}
 
@@ -71,8 +70,12 @@ pub record SamplesItems (session : ℕ) (changed : List Change) (before after : 
   pub subs : after.subs ≡ before.subs
   pub items : after.items ≡ sampled before.items changed
 
+abbrev pub is_write_service : Option Service → Bool
+is_write_service (Some Service.Write) = true
+is_write_service service = false
+
 abbrev pub is_write_id : Result ℕ TakeFault → Bool
-is_write_id (Ok id) = id == WRITE_REQUEST
+is_write_id (Ok id) = is_write_service (service_of id)
 is_write_id (Err fault) = false
 
 abbrev pub is_write : Request → Bool

@@ -1,5 +1,5 @@
 -- The calls of subscriptions and items that the server comes to: a case for each kind of request, tick, and connection that is no more.
-use Rattle.std.specs.Prelude.{ℕ, ◌==◌, if◌then◌else◌, Bool, false, List, [], ◌∷◌, ◌++◌, map, length, nat_lt, Option, Some, None, Result, Ok, Err}
+use Rattle.std.specs.Prelude.{ℕ, if◌then◌else◌, Bool, false, List, [], ◌∷◌, ◌++◌, map, length, nat_lt, Option, Some, None, Result, Ok, Err}
 use Rattle.std.specs.List.{flat_map}
 use Rattle.ua_types.specs.Configuration.{Configuration}
 use Rattle.ua_types.specs.declared.node_id.NodeId.{NodeId}
@@ -7,7 +7,6 @@ use Rattle.ua_types.specs.declared.status.Status.{Status}
 use Rattle.ua_binary.specs.declared.fault.TakeFault.{TakeFault}
 use Rattle.ua_messages.specs.Bodies.{message_id_of}
 use Rattle.ua_messages.specs.Requests.{Headed, headed_of, fields_of}
-use Rattle.ua_messages.specs.declared.type_ids.TheConstants.{GET_ENDPOINTS_REQUEST, CREATE_SESSION_REQUEST, ACTIVATE_SESSION_REQUEST, CLOSE_SESSION_REQUEST, READ_REQUEST, WRITE_REQUEST, BROWSE_REQUEST, BROWSE_NEXT_REQUEST, HISTORY_READ_REQUEST, CREATE_MONITORED_ITEMS_REQUEST, MODIFY_MONITORED_ITEMS_REQUEST, SET_MONITORING_MODE_REQUEST, SET_TRIGGERING_REQUEST, DELETE_MONITORED_ITEMS_REQUEST, CREATE_SUBSCRIPTION_REQUEST, MODIFY_SUBSCRIPTION_REQUEST, SET_PUBLISHING_MODE_REQUEST, DELETE_SUBSCRIPTIONS_REQUEST, PUBLISH_REQUEST, REPUBLISH_REQUEST}
 use Rattle.server_messages.specs.declared.request.Request.{Request}
 use Rattle.server_messages.specs.declared.setting.Setting.{Setting}
 use Rattle.ua_service_messages.specs.Sessions.{close_session_request_reading}
@@ -48,7 +47,7 @@ use Rattle.ua_services.specs.SetTriggering.{links_asked}
 use Rattle.ua_services.specs.Operations.{count_judged, operations_of}
 use Rattle.ua_views.specs.Views.{or_none}
 use Rattle.ua_services.specs.Publish.{publish_call}
-use Rattle.ua_services.specs.Services.{call_of}
+use Rattle.ua_services.specs.Services.{call_of, Service, service_of}
 use Rattle.ua_services.specs.SessionServing.{with_sessions}
 use Rattle.ua_services.specs.declared.caller.Caller.{Caller}
 use Rattle.ua_services.specs.declared.services.Services.{Services}
@@ -180,42 +179,25 @@ items_moves setting session number asked state = items_moves_by setting number a
 
 -- ---- a request
 
--- by its type id: what is watched, and what is told of it
-abbrev pub moves_of_subscriptions : Setting → Caller → NodeId → List ℕ → Services → ℕ → List Move
-moves_of_subscriptions setting caller token fields state id =
-    if id == CREATE_SUBSCRIPTION_REQUEST then if_read (in_session (create_subscription_moves setting) caller token state) (fields_of create_subscription_request_reading fields)
-    else if id == MODIFY_SUBSCRIPTION_REQUEST then if_read (in_session (modify_subscription_moves setting) caller token state) (fields_of modify_subscription_request_reading fields)
-    else if id == SET_PUBLISHING_MODE_REQUEST then if_read (in_session (set_publishing_mode_moves setting) caller token state) (fields_of set_publishing_mode_request_reading fields)
-    else if id == DELETE_SUBSCRIPTIONS_REQUEST then if_read (in_session (delete_subscriptions_moves setting) caller token state) (fields_of delete_subscriptions_request_reading fields)
-    else if id == PUBLISH_REQUEST then if_read (in_session (publish_moves setting caller) caller token state) (fields_of publish_request_reading fields)
-    else if id == REPUBLISH_REQUEST then if_read (in_session (republish_moves setting) caller token state) (fields_of republish_request_reading fields)
-    else []
-
-abbrev pub moves_of_items : Setting → Caller → NodeId → List ℕ → Services → ℕ → List Move
-moves_of_items setting caller token fields state id =
-    if id == CREATE_MONITORED_ITEMS_REQUEST then if_read (in_session (λ session request at. items_moves setting session request.subscription_id (create_asked setting request at) at) caller token state) (fields_of create_monitored_items_request_reading fields)
-    else if id == MODIFY_MONITORED_ITEMS_REQUEST then if_read (in_session (λ session request at. items_moves setting session request.subscription_id (modify_asked setting request at) at) caller token state) (fields_of modify_monitored_items_request_reading fields)
-    else if id == SET_MONITORING_MODE_REQUEST then if_read (in_session (λ session request at. items_moves setting session request.subscription_id (mode_asked setting request at) at) caller token state) (fields_of set_monitoring_mode_request_reading fields)
-    else if id == SET_TRIGGERING_REQUEST then if_read (in_session (λ session request at. items_moves setting session request.subscription_id (link_asked setting request at) at) caller token state) (fields_of set_triggering_request_reading fields)
-    else if id == DELETE_MONITORED_ITEMS_REQUEST then if_read (in_session (λ session request at. items_moves setting session request.subscription_id (delete_asked setting request at) at) caller token state) (fields_of delete_monitored_items_request_reading fields)
-    else moves_of_subscriptions setting caller token fields state id
-
--- discovery, sessions other than one that ends, and what only reads come to none
-abbrev pub moves_picked : Setting → Caller → NodeId → List ℕ → Services → ℕ → List Move
-moves_picked setting caller token fields state id =
-    if id == GET_ENDPOINTS_REQUEST then []
-    else if id == CREATE_SESSION_REQUEST then []
-    else if id == ACTIVATE_SESSION_REQUEST then []
-    else if id == CLOSE_SESSION_REQUEST then if_read (close_session_moves setting caller token state) (fields_of close_session_request_reading fields)
-    else if id == READ_REQUEST then []
-    else if id == WRITE_REQUEST then if_read (in_session (write_moves setting) caller token state) (fields_of write_request_reading fields)
-    else if id == BROWSE_REQUEST then []
-    else if id == BROWSE_NEXT_REQUEST then []
-    else if id == HISTORY_READ_REQUEST then []
-    else moves_of_items setting caller token fields state id
+-- by its service: discovery, sessions other than one that ends, and what only reads come to none
+abbrev pub moves_as : Setting → Caller → NodeId → List ℕ → Services → Option Service → List Move
+moves_as setting caller token fields state (Some Service.CloseSession) = if_read (close_session_moves setting caller token state) (fields_of close_session_request_reading fields)
+moves_as setting caller token fields state (Some Service.Write) = if_read (in_session (write_moves setting) caller token state) (fields_of write_request_reading fields)
+moves_as setting caller token fields state (Some Service.CreateMonitoredItems) = if_read (in_session (λ session request at. items_moves setting session request.subscription_id (create_asked setting request at) at) caller token state) (fields_of create_monitored_items_request_reading fields)
+moves_as setting caller token fields state (Some Service.ModifyMonitoredItems) = if_read (in_session (λ session request at. items_moves setting session request.subscription_id (modify_asked setting request at) at) caller token state) (fields_of modify_monitored_items_request_reading fields)
+moves_as setting caller token fields state (Some Service.SetMonitoringMode) = if_read (in_session (λ session request at. items_moves setting session request.subscription_id (mode_asked setting request at) at) caller token state) (fields_of set_monitoring_mode_request_reading fields)
+moves_as setting caller token fields state (Some Service.SetTriggering) = if_read (in_session (λ session request at. items_moves setting session request.subscription_id (link_asked setting request at) at) caller token state) (fields_of set_triggering_request_reading fields)
+moves_as setting caller token fields state (Some Service.DeleteMonitoredItems) = if_read (in_session (λ session request at. items_moves setting session request.subscription_id (delete_asked setting request at) at) caller token state) (fields_of delete_monitored_items_request_reading fields)
+moves_as setting caller token fields state (Some Service.CreateSubscription) = if_read (in_session (create_subscription_moves setting) caller token state) (fields_of create_subscription_request_reading fields)
+moves_as setting caller token fields state (Some Service.ModifySubscription) = if_read (in_session (modify_subscription_moves setting) caller token state) (fields_of modify_subscription_request_reading fields)
+moves_as setting caller token fields state (Some Service.SetPublishingMode) = if_read (in_session (set_publishing_mode_moves setting) caller token state) (fields_of set_publishing_mode_request_reading fields)
+moves_as setting caller token fields state (Some Service.DeleteSubscriptions) = if_read (in_session (delete_subscriptions_moves setting) caller token state) (fields_of delete_subscriptions_request_reading fields)
+moves_as setting caller token fields state (Some Service.Publish) = if_read (in_session (publish_moves setting caller) caller token state) (fields_of publish_request_reading fields)
+moves_as setting caller token fields state (Some Service.Republish) = if_read (in_session (republish_moves setting) caller token state) (fields_of republish_request_reading fields)
+moves_as setting caller token fields state service = []
 
 abbrev pub serving_moves_by : Setting → Request → Services → Result ℕ TakeFault → Result Headed TakeFault → List Move
-serving_moves_by setting request state (Ok id) (Ok headed) = moves_picked setting (call_of request headed.header.request_handle) headed.header.authentication_token headed.fields state id
+serving_moves_by setting request state (Ok id) (Ok headed) = moves_as setting (call_of request headed.header.request_handle) headed.header.authentication_token headed.fields state (service_of id)
 serving_moves_by setting request state id headed = []
 
 -- the calls that a request comes to, served or refused

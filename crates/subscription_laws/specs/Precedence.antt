@@ -12,7 +12,6 @@ use Rattle.ua_subscriptions.specs.Publishing.{note_of}
 use Rattle.ua_subscriptions.specs.Ranks.{rank_of, is_waiting, is_due}
 use Rattle.ua_subscriptions.specs.Tables.{subscription_at}
 use Rattle.subscription_laws.specs.Concern.{subscription_of, concerned}
-use Rattle.subscription_laws.specs.Requests.{name_of}
 use Rattle.subscription_laws.specs.Runs.{Move, Ran}
 use Rattle.subscription_laws.specs.Tellings.{Telling, moved_told}
 
@@ -51,7 +50,7 @@ pub record IsAnswered (asked : PublishCall) (told : List Telling) : Type 0 where
   pub answer : Telling
   pub more : List Telling
   pub first : told ≡ answer ∷ more
-  pub its : name_of answer.call ≡ name_of asked
+  pub its : answer.call.origin ≡ asked.origin
 
 -- a Publish request comes to the best of the subscriptions of its session that wait, and to no other; and that one answers it
 pub record IsGivenToTheBest (r : Ran) (clock : Moment) (session : ℕ) (asked : PublishCall) (acks : List SubscriptionAcknowledgement) : Type 0 where

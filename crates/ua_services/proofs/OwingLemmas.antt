@@ -1,7 +1,6 @@
 -- The services answer no connections but those that asked them.
 use Rattle.std.proofs.Common.{◌≡◌, ◌≢◌, ℕ, Bool, true, false, not, cond, List, [], ◌∷◌, ◌++◌, length, fold, Option, Some, None, Result, Ok, Err, refl, ◌∙◌}
 use Rattle.std.specs.Prelude.{nat_lt}
-use Rattle.ua_types.specs.declared.status.TheConstants.Status as status
 use Rattle.ua_binary.specs.declared.fault.TakeFault.{TakeFault}
 use Rattle.ua_messages.specs.Bodies.{message_id_of}
 use Rattle.ua_messages.specs.GetEndpoints.{get_endpoints_request_reading}
@@ -11,8 +10,8 @@ use Rattle.server_messages.specs.declared.request.Request.{Request}
 use Rattle.server_messages.specs.declared.setting.Setting.{Setting}
 use Rattle.ua_services.specs.ServicesState.{Services}
 use Rattle.ua_messages.specs.declared.type_ids.TheConstants.{SET_PUBLISHING_MODE_RESPONSE, DELETE_SUBSCRIPTIONS_RESPONSE}
-use Rattle.ua_services.specs.Serving.{Occurrence, Serving, reply_of, answered, faulted, served_by}
-use Rattle.ua_services.specs.Services.{call_of, picked_of_subscriptions, picked_of_items, picked, serving_by, serving_of, ticking_of, shutting_of, forgotten}
+use Rattle.ua_services.specs.Serving.{Occurrence, Serving, reply_of, answered, served_by}
+use Rattle.ua_services.specs.Services.{call_of, Service, service_of, served_as, serving_by, serving_of, ticking_of, shutting_of, forgotten}
 use Rattle.ua_service_messages.specs.Sessions.{create_session_request_reading, activate_session_request_reading, close_session_request_reading}
 use Rattle.ua_service_messages.specs.Browsing.{browse_request_reading, browse_next_request_reading}
 use Rattle.ua_service_messages.specs.declared.browsing.BrowseDescription.{BrowseDescription}
@@ -276,42 +275,32 @@ module _ (Such : ℕ → Type 0) where
   items_called_only setting caller number state done p q (Some before) =
       first_only (with_items state done.items) caller (λ (x : Unit {0}). done.body) (told state.subs (met (world_at setting (with_items state done.items)) number (Items before))) q (items_owes_only Such state.subs done.items setting.clock number before p.0) p.1
 
-  subscriptions_only : (setting : Setting) (caller : Caller) (token : NodeId) (fields : List ℕ) (state : Services) (id : ℕ) → OwesOnly Such state → Such caller.origin.conn → ServesOnly Such (picked_of_subscriptions setting caller token fields state id)
-  subscriptions_only setting caller token fields state id p q =
-      let none : ServesOnly Such (faulted state caller status.BAD_SERVICE_UNSUPPORTED setting.clock) = record { state = p; replies = (q, tt) } in
-      either _ _ _ (by_session create_subscription_meaning setting caller token state p q (create_subscription_only setting caller q) (fields_of create_subscription_request_reading fields))
-      (either _ _ _ (by_session modify_subscription_meaning setting caller token state p q (modify_subscription_only setting caller q) (fields_of modify_subscription_request_reading fields))
-      (either _ _ _ (by_session set_publishing_mode_meaning setting caller token state p q (set_publishing_mode_only setting caller q) (fields_of set_publishing_mode_request_reading fields))
-      (either _ _ _ (by_session delete_subscriptions_meaning setting caller token state p q (delete_subscriptions_only setting caller q) (fields_of delete_subscriptions_request_reading fields))
-      (either _ _ _ (by_session publish_meaning setting caller token state p q (publish_only setting caller q) (fields_of publish_request_reading fields))
-      (either _ _ _ (by_session republish_meaning setting caller token state p q (republish_only setting caller q) (fields_of republish_request_reading fields))
-      none)))))
-
-  items_only : (setting : Setting) (caller : Caller) (token : NodeId) (fields : List ℕ) (state : Services) (id : ℕ) → OwesOnly Such state → Such caller.origin.conn → ServesOnly Such (picked_of_items setting caller token fields state id)
-  items_only setting caller token fields state id p q =
-      either _ _ _ (by_session create_monitored_items_meaning setting caller token state p q (λ session request after owes. items_called_only setting caller request.subscription_id after (items_created setting caller request after) owes q (own_vars session request.subscription_id after)) (fields_of create_monitored_items_request_reading fields))
-      (either _ _ _ (by_session modify_monitored_items_meaning setting caller token state p q (λ session request after owes. items_called_only setting caller request.subscription_id after (items_modified setting caller request after) owes q (own_vars session request.subscription_id after)) (fields_of modify_monitored_items_request_reading fields))
-      (either _ _ _ (by_session set_monitoring_mode_meaning setting caller token state p q (λ session request after owes. items_called_only setting caller request.subscription_id after (items_moded setting caller request after) owes q (own_vars session request.subscription_id after)) (fields_of set_monitoring_mode_request_reading fields))
-      (either _ _ _ (by_session set_triggering_meaning setting caller token state p q (λ session request after owes. items_called_only setting caller request.subscription_id after (items_linked setting caller request after) owes q (own_vars session request.subscription_id after)) (fields_of set_triggering_request_reading fields))
-      (either _ _ _ (by_session delete_monitored_items_meaning setting caller token state p q (λ session request after owes. items_called_only setting caller request.subscription_id after (items_deleted setting caller request after) owes q (own_vars session request.subscription_id after)) (fields_of delete_monitored_items_request_reading fields))
-      (subscriptions_only setting caller token fields state id p q)))))
-
-  picked_only : (setting : Setting) (caller : Caller) (token : NodeId) (fields : List ℕ) (state : Services) (id : ℕ) → OwesOnly Such state → Such caller.origin.conn → ServesOnly Such (picked setting caller token fields state id)
-  picked_only setting caller token fields state id p q =
-      either _ _ _ (by_fields get_endpoints_meaning setting caller token state p q (get_endpoints_only setting caller token state p q) (fields_of get_endpoints_request_reading fields))
-      (either _ _ _ (by_fields create_session_meaning setting caller token state p q (create_session_only setting caller token state p q) (fields_of create_session_request_reading fields))
-      (either _ _ _ (by_fields activate_session_meaning setting caller token state p q (activate_session_only setting caller token state p q) (fields_of activate_session_request_reading fields))
-      (either _ _ _ (by_fields close_session_meaning setting caller token state p q (close_session_only setting caller token state p q) (fields_of close_session_request_reading fields))
-      (either _ _ _ (by_session read_meaning setting caller token state p q (read_only setting caller q) (fields_of read_request_reading fields))
-      (either _ _ _ (by_session write_meaning setting caller token state p q (write_only setting caller q) (fields_of write_request_reading fields))
-      (either _ _ _ (by_session browse_meaning setting caller token state p q (browse_only setting caller q) (fields_of browse_request_reading fields))
-      (either _ _ _ (by_session browse_next_meaning setting caller token state p q (browse_next_only setting caller q) (fields_of browse_next_request_reading fields))
-      (either _ _ _ (by_session history_read_meaning setting caller token state p q (history_read_only setting caller q) (fields_of history_read_request_reading fields))
-      (items_only setting caller token fields state id p q)))))))))
+  picked_only : (setting : Setting) (caller : Caller) (token : NodeId) (fields : List ℕ) (state : Services) (service : Option Service) → OwesOnly Such state → Such caller.origin.conn → ServesOnly Such (served_as setting caller token fields state service)
+  picked_only setting caller token fields state (Some Service.GetEndpoints) p q = by_fields get_endpoints_meaning setting caller token state p q (get_endpoints_only setting caller token state p q) (fields_of get_endpoints_request_reading fields)
+  picked_only setting caller token fields state (Some Service.CreateSession) p q = by_fields create_session_meaning setting caller token state p q (create_session_only setting caller token state p q) (fields_of create_session_request_reading fields)
+  picked_only setting caller token fields state (Some Service.ActivateSession) p q = by_fields activate_session_meaning setting caller token state p q (activate_session_only setting caller token state p q) (fields_of activate_session_request_reading fields)
+  picked_only setting caller token fields state (Some Service.CloseSession) p q = by_fields close_session_meaning setting caller token state p q (close_session_only setting caller token state p q) (fields_of close_session_request_reading fields)
+  picked_only setting caller token fields state (Some Service.Read) p q = by_session read_meaning setting caller token state p q (read_only setting caller q) (fields_of read_request_reading fields)
+  picked_only setting caller token fields state (Some Service.Write) p q = by_session write_meaning setting caller token state p q (write_only setting caller q) (fields_of write_request_reading fields)
+  picked_only setting caller token fields state (Some Service.Browse) p q = by_session browse_meaning setting caller token state p q (browse_only setting caller q) (fields_of browse_request_reading fields)
+  picked_only setting caller token fields state (Some Service.BrowseNext) p q = by_session browse_next_meaning setting caller token state p q (browse_next_only setting caller q) (fields_of browse_next_request_reading fields)
+  picked_only setting caller token fields state (Some Service.HistoryRead) p q = by_session history_read_meaning setting caller token state p q (history_read_only setting caller q) (fields_of history_read_request_reading fields)
+  picked_only setting caller token fields state (Some Service.CreateMonitoredItems) p q = by_session create_monitored_items_meaning setting caller token state p q (λ session request after owes. items_called_only setting caller request.subscription_id after (items_created setting caller request after) owes q (own_vars session request.subscription_id after)) (fields_of create_monitored_items_request_reading fields)
+  picked_only setting caller token fields state (Some Service.ModifyMonitoredItems) p q = by_session modify_monitored_items_meaning setting caller token state p q (λ session request after owes. items_called_only setting caller request.subscription_id after (items_modified setting caller request after) owes q (own_vars session request.subscription_id after)) (fields_of modify_monitored_items_request_reading fields)
+  picked_only setting caller token fields state (Some Service.SetMonitoringMode) p q = by_session set_monitoring_mode_meaning setting caller token state p q (λ session request after owes. items_called_only setting caller request.subscription_id after (items_moded setting caller request after) owes q (own_vars session request.subscription_id after)) (fields_of set_monitoring_mode_request_reading fields)
+  picked_only setting caller token fields state (Some Service.SetTriggering) p q = by_session set_triggering_meaning setting caller token state p q (λ session request after owes. items_called_only setting caller request.subscription_id after (items_linked setting caller request after) owes q (own_vars session request.subscription_id after)) (fields_of set_triggering_request_reading fields)
+  picked_only setting caller token fields state (Some Service.DeleteMonitoredItems) p q = by_session delete_monitored_items_meaning setting caller token state p q (λ session request after owes. items_called_only setting caller request.subscription_id after (items_deleted setting caller request after) owes q (own_vars session request.subscription_id after)) (fields_of delete_monitored_items_request_reading fields)
+  picked_only setting caller token fields state (Some Service.CreateSubscription) p q = by_session create_subscription_meaning setting caller token state p q (create_subscription_only setting caller q) (fields_of create_subscription_request_reading fields)
+  picked_only setting caller token fields state (Some Service.ModifySubscription) p q = by_session modify_subscription_meaning setting caller token state p q (modify_subscription_only setting caller q) (fields_of modify_subscription_request_reading fields)
+  picked_only setting caller token fields state (Some Service.SetPublishingMode) p q = by_session set_publishing_mode_meaning setting caller token state p q (set_publishing_mode_only setting caller q) (fields_of set_publishing_mode_request_reading fields)
+  picked_only setting caller token fields state (Some Service.DeleteSubscriptions) p q = by_session delete_subscriptions_meaning setting caller token state p q (delete_subscriptions_only setting caller q) (fields_of delete_subscriptions_request_reading fields)
+  picked_only setting caller token fields state (Some Service.Publish) p q = by_session publish_meaning setting caller token state p q (publish_only setting caller q) (fields_of publish_request_reading fields)
+  picked_only setting caller token fields state (Some Service.Republish) p q = by_session republish_meaning setting caller token state p q (republish_only setting caller q) (fields_of republish_request_reading fields)
+  picked_only setting caller token fields state None p q = record { state = p; replies = (q, tt) }
 
   by_header : (setting : Setting) (request : Request) (state : Services) (id : Result ℕ TakeFault) (headed : Result Headed TakeFault) → OwesOnly Such state → Such request.conn →
       ServesOnly Such (serving_by setting request state id headed)
-  by_header setting request state (Ok id) (Ok headed) p q = picked_only setting (call_of request headed.header.request_handle) headed.header.authentication_token headed.fields state id p q
+  by_header setting request state (Ok id) (Ok headed) p q = picked_only setting (call_of request headed.header.request_handle) headed.header.authentication_token headed.fields state (service_of id) p q
   by_header setting request state (Ok id) (Err fault) p q = record { state = p; replies = (q, tt) }
   by_header setting request state (Err fault) headed p q = record { state = p; replies = (q, tt) }
 

@@ -27,7 +27,7 @@ use Rattle.server_messages.specs.declared.fired.Fired.{Fired}
 use Rattle.server_messages.specs.declared.reply.Reply.{Reply}
 use Rattle.server_messages.specs.declared.stored.Stored.{Stored}
 use Rattle.ua_services.specs.ServicesState.{Services}
-use Rattle.ua_services.specs.Serving.{Occurrence, Serving, Given, given, given_of, rows_of, stored_of, is_spent}
+use Rattle.ua_services.specs.Serving.{Given, given, given_of, rows_of, stored_of, is_spent}
 use Rattle.ua_services.specs.Serving.Occurrence.{Store}
 use Rattle.ua_services.specs.Write.{is_historizing, with_change, all_kept, stored_by, stored_change, stored_changes, for_store, stored_written, stored_judged, sampled, with_written, with_accepted, with_judged}
 

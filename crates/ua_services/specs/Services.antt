@@ -1,5 +1,5 @@
 -- All services.
-use Rattle.std.specs.Prelude.{ℕ, ◌==◌, ◌&&◌, Bool, not, List, Result, Ok, if◌then◌else◌}
+use Rattle.std.specs.Prelude.{ℕ, ◌==◌, ◌&&◌, Bool, not, List, Option, Some, None, Result, Ok, if◌then◌else◌}
 use Rattle.std.specs.Option.{is_some}
 use Rattle.ua_types.specs.declared.node_id.NodeId.{NodeId}
 use Rattle.ua_types.specs.declared.status.TheConstants.Status as status
@@ -54,39 +54,62 @@ use Rattle.ua_services.specs.declared.caller.Caller.{Caller}
 abbrev pub call_of : Request → ℕ → Caller
 call_of request handle = record { origin = record { conn = request.conn; id = request.id; handle = handle }; key = request.key }
 
--- by its type id, from the token in its header and the bytes behind that: what is watched, and what is told of it
-abbrev pub picked_of_subscriptions : Setting → Caller → NodeId → List ℕ → Services → ℕ → Serving
-picked_of_subscriptions setting caller token fields state id =
-    if id == CREATE_SUBSCRIPTION_REQUEST then served_in_session create_subscription_meaning setting caller token state (fields_of create_subscription_request_reading fields)
-    else if id == MODIFY_SUBSCRIPTION_REQUEST then served_in_session modify_subscription_meaning setting caller token state (fields_of modify_subscription_request_reading fields)
-    else if id == SET_PUBLISHING_MODE_REQUEST then served_in_session set_publishing_mode_meaning setting caller token state (fields_of set_publishing_mode_request_reading fields)
-    else if id == DELETE_SUBSCRIPTIONS_REQUEST then served_in_session delete_subscriptions_meaning setting caller token state (fields_of delete_subscriptions_request_reading fields)
-    else if id == PUBLISH_REQUEST then served_in_session publish_meaning setting caller token state (fields_of publish_request_reading fields)
-    else if id == REPUBLISH_REQUEST then served_in_session republish_meaning setting caller token state (fields_of republish_request_reading fields)
-    else faulted state caller status.BAD_SERVICE_UNSUPPORTED setting.clock
+pub data Service : Type 0 where
+  GetEndpoints CreateSession ActivateSession CloseSession Read Write Browse BrowseNext HistoryRead : Service
+  CreateMonitoredItems ModifyMonitoredItems SetMonitoringMode SetTriggering DeleteMonitoredItems : Service
+  CreateSubscription ModifySubscription SetPublishingMode DeleteSubscriptions Publish Republish : Service
 
-abbrev pub picked_of_items : Setting → Caller → NodeId → List ℕ → Services → ℕ → Serving
-picked_of_items setting caller token fields state id =
-    if id == CREATE_MONITORED_ITEMS_REQUEST then served_in_session create_monitored_items_meaning setting caller token state (fields_of create_monitored_items_request_reading fields)
-    else if id == MODIFY_MONITORED_ITEMS_REQUEST then served_in_session modify_monitored_items_meaning setting caller token state (fields_of modify_monitored_items_request_reading fields)
-    else if id == SET_MONITORING_MODE_REQUEST then served_in_session set_monitoring_mode_meaning setting caller token state (fields_of set_monitoring_mode_request_reading fields)
-    else if id == SET_TRIGGERING_REQUEST then served_in_session set_triggering_meaning setting caller token state (fields_of set_triggering_request_reading fields)
-    else if id == DELETE_MONITORED_ITEMS_REQUEST then served_in_session delete_monitored_items_meaning setting caller token state (fields_of delete_monitored_items_request_reading fields)
-    else picked_of_subscriptions setting caller token fields state id
+-- that of a type id: all that is served
+abbrev pub service_of : ℕ → Option Service
+service_of id =
+    if id == GET_ENDPOINTS_REQUEST then Some Service.GetEndpoints
+    else if id == CREATE_SESSION_REQUEST then Some Service.CreateSession
+    else if id == ACTIVATE_SESSION_REQUEST then Some Service.ActivateSession
+    else if id == CLOSE_SESSION_REQUEST then Some Service.CloseSession
+    else if id == READ_REQUEST then Some Service.Read
+    else if id == WRITE_REQUEST then Some Service.Write
+    else if id == BROWSE_REQUEST then Some Service.Browse
+    else if id == BROWSE_NEXT_REQUEST then Some Service.BrowseNext
+    else if id == HISTORY_READ_REQUEST then Some Service.HistoryRead
+    else if id == CREATE_MONITORED_ITEMS_REQUEST then Some Service.CreateMonitoredItems
+    else if id == MODIFY_MONITORED_ITEMS_REQUEST then Some Service.ModifyMonitoredItems
+    else if id == SET_MONITORING_MODE_REQUEST then Some Service.SetMonitoringMode
+    else if id == SET_TRIGGERING_REQUEST then Some Service.SetTriggering
+    else if id == DELETE_MONITORED_ITEMS_REQUEST then Some Service.DeleteMonitoredItems
+    else if id == CREATE_SUBSCRIPTION_REQUEST then Some Service.CreateSubscription
+    else if id == MODIFY_SUBSCRIPTION_REQUEST then Some Service.ModifySubscription
+    else if id == SET_PUBLISHING_MODE_REQUEST then Some Service.SetPublishingMode
+    else if id == DELETE_SUBSCRIPTIONS_REQUEST then Some Service.DeleteSubscriptions
+    else if id == PUBLISH_REQUEST then Some Service.Publish
+    else if id == REPUBLISH_REQUEST then Some Service.Republish
+    else None
 
--- all that is served
+-- what it comes to, from the token in the request's header and the bytes behind that
+abbrev pub served_as : Setting → Caller → NodeId → List ℕ → Services → Option Service → Serving
+served_as setting caller token fields state (Some Service.GetEndpoints) = served_by get_endpoints_meaning setting caller token state (fields_of get_endpoints_request_reading fields)
+served_as setting caller token fields state (Some Service.CreateSession) = served_by create_session_meaning setting caller token state (fields_of create_session_request_reading fields)
+served_as setting caller token fields state (Some Service.ActivateSession) = served_by activate_session_meaning setting caller token state (fields_of activate_session_request_reading fields)
+served_as setting caller token fields state (Some Service.CloseSession) = served_by close_session_meaning setting caller token state (fields_of close_session_request_reading fields)
+served_as setting caller token fields state (Some Service.Read) = served_in_session read_meaning setting caller token state (fields_of read_request_reading fields)
+served_as setting caller token fields state (Some Service.Write) = served_in_session write_meaning setting caller token state (fields_of write_request_reading fields)
+served_as setting caller token fields state (Some Service.Browse) = served_in_session browse_meaning setting caller token state (fields_of browse_request_reading fields)
+served_as setting caller token fields state (Some Service.BrowseNext) = served_in_session browse_next_meaning setting caller token state (fields_of browse_next_request_reading fields)
+served_as setting caller token fields state (Some Service.HistoryRead) = served_in_session history_read_meaning setting caller token state (fields_of history_read_request_reading fields)
+served_as setting caller token fields state (Some Service.CreateMonitoredItems) = served_in_session create_monitored_items_meaning setting caller token state (fields_of create_monitored_items_request_reading fields)
+served_as setting caller token fields state (Some Service.ModifyMonitoredItems) = served_in_session modify_monitored_items_meaning setting caller token state (fields_of modify_monitored_items_request_reading fields)
+served_as setting caller token fields state (Some Service.SetMonitoringMode) = served_in_session set_monitoring_mode_meaning setting caller token state (fields_of set_monitoring_mode_request_reading fields)
+served_as setting caller token fields state (Some Service.SetTriggering) = served_in_session set_triggering_meaning setting caller token state (fields_of set_triggering_request_reading fields)
+served_as setting caller token fields state (Some Service.DeleteMonitoredItems) = served_in_session delete_monitored_items_meaning setting caller token state (fields_of delete_monitored_items_request_reading fields)
+served_as setting caller token fields state (Some Service.CreateSubscription) = served_in_session create_subscription_meaning setting caller token state (fields_of create_subscription_request_reading fields)
+served_as setting caller token fields state (Some Service.ModifySubscription) = served_in_session modify_subscription_meaning setting caller token state (fields_of modify_subscription_request_reading fields)
+served_as setting caller token fields state (Some Service.SetPublishingMode) = served_in_session set_publishing_mode_meaning setting caller token state (fields_of set_publishing_mode_request_reading fields)
+served_as setting caller token fields state (Some Service.DeleteSubscriptions) = served_in_session delete_subscriptions_meaning setting caller token state (fields_of delete_subscriptions_request_reading fields)
+served_as setting caller token fields state (Some Service.Publish) = served_in_session publish_meaning setting caller token state (fields_of publish_request_reading fields)
+served_as setting caller token fields state (Some Service.Republish) = served_in_session republish_meaning setting caller token state (fields_of republish_request_reading fields)
+served_as setting caller token fields state None = faulted state caller status.BAD_SERVICE_UNSUPPORTED setting.clock
+
 abbrev pub picked : Setting → Caller → NodeId → List ℕ → Services → ℕ → Serving
-picked setting caller token fields state id =
-    if id == GET_ENDPOINTS_REQUEST then served_by get_endpoints_meaning setting caller token state (fields_of get_endpoints_request_reading fields)
-    else if id == CREATE_SESSION_REQUEST then served_by create_session_meaning setting caller token state (fields_of create_session_request_reading fields)
-    else if id == ACTIVATE_SESSION_REQUEST then served_by activate_session_meaning setting caller token state (fields_of activate_session_request_reading fields)
-    else if id == CLOSE_SESSION_REQUEST then served_by close_session_meaning setting caller token state (fields_of close_session_request_reading fields)
-    else if id == READ_REQUEST then served_in_session read_meaning setting caller token state (fields_of read_request_reading fields)
-    else if id == WRITE_REQUEST then served_in_session write_meaning setting caller token state (fields_of write_request_reading fields)
-    else if id == BROWSE_REQUEST then served_in_session browse_meaning setting caller token state (fields_of browse_request_reading fields)
-    else if id == BROWSE_NEXT_REQUEST then served_in_session browse_next_meaning setting caller token state (fields_of browse_next_request_reading fields)
-    else if id == HISTORY_READ_REQUEST then served_in_session history_read_meaning setting caller token state (fields_of history_read_request_reading fields)
-    else picked_of_items setting caller token fields state id
+picked setting caller token fields state id = served_as setting caller token fields state (service_of id)
 
 abbrev pub serving_by : Setting → Request → Services → Result ℕ TakeFault → Result Headed TakeFault → Serving
 serving_by setting request state (Ok id) (Ok headed) = picked setting (call_of request headed.header.request_handle) headed.header.authentication_token headed.fields state id
