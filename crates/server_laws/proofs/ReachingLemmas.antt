@@ -26,7 +26,7 @@ use Rattle.server_laws.specs.Moving.{StandIn}
 use Rattle.server_laws.specs.Postings.{Posting, reply_posted, posted}
 use Rattle.server_laws.specs.Reaching.{BroughtValue, brought_value, message_by, messages_by, values_by, brought_values, value_of, brought_in, IsAlone, IsBrought, ValuesHaveCome}
 use Rattle.server_laws.specs.Tellings.{told_by}
-use Rattle.server_laws.proofs.FateLemmas.{have_one_fate, stand_in_messages}
+use Rattle.server_laws.proofs.FateLemmas.{have_one_fate, stand_in_messages, marks_losses}
 use Rattle.server_laws.proofs.DecidingLemmas.{is_caused_by, is_driven_out}
 use Rattle.server_laws.proofs.MessageLemmas.{gives_first_bytes}
 use Rattle.server_laws.proofs.PostingLemmas.{answers_go_out}
@@ -165,4 +165,5 @@ values_have_come config space events number =
       brought = all_so (Comes (told_by config space events)) (IsBrought config space events world) (is_brought config space events world keeps gives) (brought_in config space events number) come.come;
       lost = λ place e. (is_driven_out (queue_moves_after config space events number) place e, is_caused_by config (item_calls config moves) number place WasLost e refl);
       cleared = λ place e. is_caused_by config (item_calls config moves) number place WasCleared e refl;
+      marked = (marks_losses config space events number).told;
     }

@@ -5,7 +5,7 @@ use Rattle.ua_types.specs.Configuration.{Configuration}
 use Rattle.ua_types.specs.declared.moment.Moment.{Moment}
 use Rattle.ua_space.specs.Nodes.{SpaceState}
 use Rattle.ua_values.specs.declared.data_value.DataValue.{DataValue}
-use Rattle.ua_item_queue.specs.Fates.{Fate, account, any_marked, is_first_marked, is_waiting, waiting}
+use Rattle.ua_item_queue.specs.Fates.{Fate, account, any_marked, is_first_marked, is_waiting, waiting, LossesAreMarked}
 use Rattle.ua_item_queue.specs.Fates.Fate.{Waits, WasLost, WasCleared}
 use Rattle.ua_item_queue.specs.ItemQueue.{QueueMove}
 use Rattle.ua_item_queue.specs.ItemQueue.QueueMove.{Sample}
@@ -126,7 +126,8 @@ pub record IsDrivenOut (queue_moves : List (QueueMove DataValue)) (place : ℕ) 
 -- ---- what has come of each
 
 -- Of each value that the item of a number queued, as its account has them, in the order of sampling: the queue is those that wait; what
--- answers brought are those that were sent, in order, each with its mark in its message; each that was lost or cleared has its cause
+-- answers brought are those that were sent, in order, each with its mark in its message; each that was lost or cleared has its cause,
+-- and if nothing was cleared since and the queue holds more than one value, the first one left behind a lost one carries the mark
 pub record ValuesHaveCome (config : Configuration) (space : SpaceState) (events : List Event) (number : ℕ) (world : World) : Type 0 where
   pub wait : HoldsWhatWaits (account_after config space events number) number world
   pub sent : map value_of (brought_in config space events number) ≡ sent_of (account_after config space events number)
@@ -135,3 +136,4 @@ pub record ValuesHaveCome (config : Configuration) (space : SpaceState) (events 
       IsDrivenOut (queue_moves_after config space events number) place × IsCausedBy config (item_calls config (moves_of config space events)) number place WasLost
   pub cleared : (place : ℕ) → fate_at place (account_after config space events number) ≡ Some WasCleared →
       IsCausedBy config (item_calls config (moves_of config space events)) number place WasCleared
+  pub marked : LossesAreMarked (account_after config space events number)
