@@ -1,6 +1,6 @@
 -- What the loop hands to the server, what it keeps for each socket, and what it puts out.
 use Rattle.std.specs.Prelude.{◌≡◌, ◌⊎◌, ⊤, ℕ, ◌+◌, ◌<◌, ◌≤◌, ◌==◌, ◌||◌, zero, suc, Bool, true, false, List, [], ◌∷◌, length, Option, None, if◌then◌else◌, fold}
-use Rattle.std.specs.List.{concat}
+use Rattle.std.specs.List.{concat, list_any}
 use Rattle.mio.specs.declared.net.stream.TcpStream.{TcpStream}
 use Rattle.mio.specs.declared.event.event.Event as ready
 use Rattle.mio.specs.Event.{event_token, is_writable, is_write_closed, is_read_closed, is_error}
@@ -370,6 +370,14 @@ reported_event p event = if is_of_listener event then p else reported p (event_t
 
 abbrev pub reported_events : {S : Type 0} → PeersState S → List ready.Event → PeersState S
 reported_events p events = fold reported_event p events
+
+-- the listening socket is among what the system reports
+abbrev pub is_listener_among : List ready.Event → Bool
+is_listener_among events = list_any is_of_listener events
+
+-- What the system reports is passed on: sockets are to be looked at, and where the listening socket is reported, too, one may have connected
+abbrev pub with_reports : {S : Type 0} → Sockets S → List ready.Event → Sockets S
+with_reports s events = record s { may_accept = s.may_accept || is_listener_among events; peers = reported_events s.peers events }
 
 -- a server, and sockets as they are kept
 abbrev pub begun : Sockets TcpStream → Keeping → Output → Scene TcpStream

@@ -1,6 +1,6 @@
 -- What the loop keeps between its turns.
-use Rattle.std.specs.Prelude.{◌≡◌, ℕ, ◌+◌, List, [], ◌∷◌, refl}
-use Rattle.std.specs.Coded.{Coded, code_by, coded×, coded_ℕ, coded_list}
+use Rattle.std.specs.Prelude.{◌≡◌, ℕ, ◌+◌, Bool, true, List, [], ◌∷◌, refl}
+use Rattle.std.specs.Coded.{Coded, code_by, coded×, coded_ℕ, coded_bool, coded_list}
 use Rattle.std.specs.declared.net.ip_addr.IpAddr.{IpAddr}
 use Rattle.std.specs.declared.net.ip_addr.IpAddr.TheVariants.{V4, V6}
 use Rattle.std.specs.Net.Addr.{ipv4_bits, ipv6_bits}
@@ -11,12 +11,13 @@ use Rattle.rand_chacha.specs.ChaCha.{ChaCha, next_word}
 use Rattle.socket_peers.specs.declared.limits.Limits.{Limits}
 use Rattle.socket_peers.specs.Peers.{PeersState, peers_code, nobody}
 
--- the address and the port that it was asked to listen at, the generator of keys, the sockets, and how many events the server was
--- handed
+-- the address and the port that it was asked to listen at, the generator of keys, whether a socket may have connected that isn't taken
+-- in yet, the sockets that are, and how many events the server was handed
 pub record Sockets (S : Type 0) : Type 0 where
   pub address : IpAddr
   pub port : ℕ
   pub keys : ChaCha
+  pub may_accept : Bool
   pub peers : PeersState S
   pub events : ℕ
 
@@ -28,10 +29,10 @@ keys_code =
 module _ {S : Type 0} where
   abbrev pub sockets_code : Coded IpAddr → Coded S → Coded (Sockets S)
   sockets_code address stream =
-      code_by (IpAddr × (ℕ × (ChaCha × (PeersState S × ℕ))))
-      (coded× address (coded× coded_ℕ (coded× keys_code (coded× (peers_code stream) coded_ℕ))))
-      (λ s. (s.address, (s.port, (s.keys, (s.peers, s.events)))))
-      (λ t. record { address = t.0; port = t.1.0; keys = t.1.1.0; peers = t.1.1.1.0; events = t.1.1.1.1 })
+      code_by (IpAddr × (ℕ × (ChaCha × (Bool × (PeersState S × ℕ)))))
+      (coded× address (coded× coded_ℕ (coded× keys_code (coded× coded_bool (coded× (peers_code stream) coded_ℕ)))))
+      (λ s. (s.address, (s.port, (s.keys, (s.may_accept, (s.peers, s.events))))))
+      (λ t. record { address = t.0; port = t.1.0; keys = t.1.1.0; may_accept = t.1.1.1.0; peers = t.1.1.1.1.0; events = t.1.1.1.1.1 })
       (λ _. refl)
 
 -- what a generator gives, call after call
@@ -44,7 +45,7 @@ ServeState = Sockets TcpStream
 
 -- it was asked to listen there, for sockets that keep to these limits, and nobody has connected yet
 abbrev pub unserved : IpAddr → ℕ → Limits → ChaCha → ServeState
-unserved address port limits keys = record { address = address; port = port; keys = keys; peers = nobody limits; events = 0 }
+unserved address port limits keys = record { address = address; port = port; keys = keys; may_accept = true; peers = nobody limits; events = 0 }
 
 abbrev pub IsUnserved : IpAddr → ℕ → Limits → ServeState → Type 0
 IsUnserved address port limits sockets = sockets ≡ unserved address port limits sockets.keys

@@ -1,6 +1,6 @@
 //! The loop over `mio`.
 
-ghost use Rattle.std.specs.Prelude.{◌≡◌, ℕ, List, OnOk, IfOk, IfErr, MatchResult};
+ghost use Rattle.std.specs.Prelude.{◌≡◌, ℕ, List, OnOk, IfOk, IfErr, IfSome, false, true, MatchResult};
 ghost use Rattle.std.specs.FinMap as map;
 ghost use Rattle.std.specs.Duration.{as_nanos};
 ghost use Rattle.std.specs.Net.Socket.{socket_ip};
@@ -10,7 +10,7 @@ ghost use Rattle.socket_server.specs.Keeping.{keeping};
 ghost use Rattle.server_core.specs.declared.event.Event.TheVariants as ending;
 ghost use Rattle.socket_server.specs.Moments.{moment_since_1970};
 ghost use Rattle.socket_server.specs.Sockets.{IsUnserved, IsLocal, unlimited, origin_of as origin_of_spec, key_stream};
-ghost use Rattle.socket_server.specs.Serving.{scene, unknown, uncounted, is_of_listener, readiness_of as readiness_of_spec, reported_event, reported_events, Passes, Does, IsOutside, Takes, HandsIn, Fails, Stops, GivesUp, MayTakeIn, TakesInSome, SweepsIfDue, TakesTurn, Turns, IsTurns, ServesUntil, Drawn};
+ghost use Rattle.socket_server.specs.Serving.{scene, unknown, uncounted, is_of_listener, is_listener_among, with_reports, readiness_of as readiness_of_spec, reported_event, reported_events, Passes, Does, IsOutside, Takes, HandsIn, Fails, Stops, GivesUp, MayTakeIn, TakesInSome, SweepsIfDue, TakesTurn, Turns, IsTurns, ServesUntil, Drawn};
 ghost use Rattle.socket_peers.specs.Peers.{is_sweep_due};
 
 use crate::events::{Arrival, attend_all, hand_in, join_socket, send_out, sweep, wind_up};
@@ -88,6 +88,7 @@ impl Model for Serve {
       address = s.asked_address;
       port = s.asked_port;
       keys = s.keys;
+      may_accept = s.may_accept;
       peers = s.peers;
       events = s.events_so_far;
     } };
@@ -118,7 +119,8 @@ fn report_event(peers: &mut Peers<TcpStream>, event: &Event) -> Result<bool, All
 
 // Wakes the sockets that are reported as ready, and says whether one may have connected.
 fn report_all(peers: &mut Peers<TcpStream>, events: &Events) -> Result<bool, AllocError>
-    ensures { OnOk result (peers.new ≡ reported_events peers.old (items events.now)) }
+    ensures peers { OnOk result (peers.new ≡ reported_events peers.old (items events.now)) }
+    ensures connected { IfOk result (λ connected. connected ≡ is_listener_among (items events.now)) }
 {
     let mut connected = false;
     for event in events.iter() {
@@ -473,7 +475,7 @@ impl Serve {
 
     // Waits until a socket is ready, and wakes those that are.
     fn wait(&mut self) -> Result<(), ServeFault>
-        ensures ok { OnOk result ((events : List ready.Event) × (self.new ≡ record self.old { peers = reported_events self.old.peers events })) }
+        ensures ok { OnOk result ((events : List ready.Event) × (self.new ≡ with_reports self.old events)) }
         ensures outside { IfErr result IsOutside }
     {
         let wait = if self.is_backlogged || self.peers.is_any_awake() {
@@ -539,7 +541,9 @@ impl Serve {
     // The next who has connected. A connection that is gone again is passed over. Where there are no more
     // descriptors, or no memory, it is tried again in the next turn.
     fn accept(&mut self) -> Option<(TcpStream, SocketAddr)>
-        ensures { self.new ≡ self.old }
+        ensures still { self.new ≡ record self.old { may_accept = self.new.may_accept } }
+        ensures more { IfSome result (λ _. self.new.may_accept ≡ true) }
+        ensures none { self.old.may_accept ≡ false → self.new.may_accept ≡ false }
     {
         for _try in 0..ACCEPTS {
             if !self.may_accept {

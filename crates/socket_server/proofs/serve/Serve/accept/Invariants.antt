@@ -8,6 +8,7 @@ invariant-loop-try l = ◌≡◌ {A = Sockets TcpStream} (record {
   address = l.self-inside.asked_address;
   port = l.self-inside.asked_port;
   keys = l.self-inside.keys;
+  may_accept = l.self-inside.may_accept;
   peers = l.self-inside.peers;
   events = l.self-inside.events_so_far;
 })
