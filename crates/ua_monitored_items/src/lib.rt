@@ -2,10 +2,14 @@
 //! which nodes, what becomes of them in each item's queue, and what of them goes into a message.
 //!
 //! [`Items`] has all items of the server. Its calls `create`, `modify`, `set_mode`, `link` and `delete` serve
-//! the whole list of a request, entry by entry, in the bytes that it stands in (`ua_subscription_views`).
+//! the whole list of a request, entry by entry, in the bytes that it stands in ([`ua_views`]).
 //! `show` shows them a value that was written, and `available` and `send` are for the crate that makes the
 //! messages; `take_notes` gives what `send` writes as values. It knows no session, no subscription but by its
 //! number, and no clock: whose request it is, and when a message is due, is the business of the crates above.
+//!
+//! ```text
+//! a value is written ── which items see it? ── is it to be told? ── the item's queue ── a message ── sent
+//! ```
 //!
 //! ```text
 //! let results = items.create(alloc, &space, clock, subscription, timestamps, requests)?;

@@ -1,20 +1,33 @@
 //! The OPC UA services that are served, and what they keep between requests.
 //!
+//! ```text
+//! a request ── its type: which service? ── its token: which session? ── its fields ── the service ── a reply, or none yet
+//! ```
+//!
 //! [`Services::serve`] answers a request, now or at a later event; [`Services::tick`] does what is due
 //! as time passes; [`Services::forget`] drops what a closed connection still waited for. Nothing here
-//! knows of frames, channels and sizes.
+//! knows of frames, channels and sizes. What drives it:
 //!
-//! Each service is a type that is a [`Service`], by being a [`SessionService`] where it is one of a session, in a file of its
+//! ```text
+//! let mut services = Services::new(alloc, &config, space)?;
+//! let served = services.serve(alloc, &setting, &request)?;   // each request, as it is complete
+//! let served = services.tick(alloc, &setting)?;              // whenever time has passed
+//! deliver(served.replies);                                   // each by the connection that its request came by
+//! keep(served.stored);                                       // before that, where there is a store
+//! services.forget(conn);                                     // once a connection is gone
+//! ```
+//!
+//! Read [`Services`] first, and `service.rt`, then `browse.rt` for a whole service. Each service is a type that is a
+//! [`Service`], by being a [`SessionService`] where it is one of a session, in a file of its
 //! own, and its meaning is a file of `specs/` with the same name. Each looks at its requests in the bytes that came. Those of
 //! monitored items are services of a session by what they do with the items (`item_serving.rt`), and those with continuation
-//! points say how they answer one thing (`paging.rt`). `specs/Serving` has what all of them share, `InSession` what those of a
+//! points say how they answer one thing (`paging.rt`).
+//!
+//! What a contract sees: the address space, the sessions, the histories, the items and the subscriptions. `specs/Serving` has
+//! what all services share, `InSession` what those of a
 //! session begin with, `Services` the order in which a request is judged, and `Owing` to whom replies go. What the services leave of
 //! other sessions, and that each comes by calls of subscriptions and items, the crate `server_laws` says;
 //! `worked_examples` drives them.
-//!
-//! What a contract sees: the address space, the sessions, the histories, the items and the subscriptions.
-//!
-//! Read [`Services`] first, and `service.rt`, then `browse.rt` for a whole service.
 #![tactic(auto)]
 
 mod activate_session;

@@ -11,13 +11,26 @@
 //!           variables ── the table's row ── its actions, one after the other ── next state
 //! ```
 //!
+//! What drives it: requests as they come, the timers as time passes, and each call of the items that may change what a
+//! subscription has to send. What is answered to Publish requests comes with each:
+//!
+//! ```text
+//! let made = subscriptions.create(alloc, &mut items, clock, session, settings, true)?;
+//! let told = subscriptions.publish(alloc, &mut items, clock, session, request, acknowledgements)?;
+//! let told = subscriptions.timers(alloc, &mut items, clock)?;        // those that are due, the best first
+//! send(told.replies);                                                // each by the connection that its request came by
+//! let before = subscriptions.vars(number, &items);
+//! items.delete(alloc, number, item_numbers)?;
+//! let told = subscriptions.items(alloc, &mut items, clock, number, before)?;
+//! ```
+//!
+//! Read docs/SUBSCRIPTIONS.md first, then [`Subscriptions`], then `src/acting.rt`.
+//!
 //! What a contract sees: the live subscriptions, and what each session has of subscriptions, under their numbers
 //! (`specs/Tables`). `Scenes` has the actions as definitions; `Firing` a row; `Making`, `Named`, `Publishing` and `Ending`
 //! the calls, `Ranks` who comes first, and `Subscriptions` what a call leaves. `DueLists`, `Kept` and `Askers` have what no
 //! call shows: the moments of the timers in their order, where a kept message stands, and by which connections the requests
 //! of a session came. What follows from any calls, one after the other, the crate `subscription_laws` says.
-//!
-//! Read docs/SUBSCRIPTIONS.md first, then [`Subscriptions`], then `src/acting.rt`.
 #![tactic(auto)]
 
 mod acting;
